@@ -1,0 +1,9 @@
+pub mod Nest
+pub mod Access
+pub mod Chunk
+pub mod Arrangement
+pub mod Operator
+pub mod Piece
+pub mod Joined
+pub mod Scan
+pub mod Order

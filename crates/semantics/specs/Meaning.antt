@@ -1,0 +1,9 @@
+pub mod State
+pub mod Value
+pub mod Places
+pub mod Runs
+pub mod Steps
+pub mod Output
+pub mod InputFault
+pub mod Definite
+pub mod Agrees

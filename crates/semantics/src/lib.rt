@@ -1,0 +1,4 @@
+//! What an OpenMP kernel means.
+#![tactic(auto)]
+
+pub mod laws;
