@@ -2,6 +2,8 @@
 use Rattle.std.specs.Prelude.{ℕ, ◌≡◌, ◌≢◌, ◌↔◌, ◌<◌, Bool, true, List, [], ◌∷◌, length, All, Some, Contains}
 use Rattle.semantics.specs.Tree.{Variable, Stmt, Kernel, strip}
 use Rattle.semantics.specs.Source.Text.{erase}
+use Rattle.semantics.specs.Source.Token.{Token}
+use Rattle.semantics.specs.Source.Cuts.{Tokens}
 use Rattle.semantics.specs.Source.Grammar.{ReadsText}
 use Rattle.semantics.specs.Meaning.State.{State, Write, with_cell}
 use Rattle.semantics.specs.Meaning.Runs.{run, Runs}
@@ -55,3 +57,7 @@ abbrev pub TicketsArrive : Type 0
 TicketsArrive =
     (job : Job) (events : List Event) → is_by_ticket job.kind ≡ true → 0 < job.workers → IsWhole job (after job events)
     → EachOnceBelow (length job.pieces) (after job events).merge.arrived
+
+-- a text has one cut into tokens
+abbrev pub CutsAreUnique : Type 0
+CutsAreUnique = (text : List ℕ) (ts us : List Token) → Tokens text ts → Tokens text us → ts ≡ us

@@ -1,6 +1,7 @@
 pub mod Text
 pub mod Token
 pub mod Cuts
+pub mod Spans
 pub mod Scope
 pub mod Typing
 pub mod Expressions

@@ -1,0 +1,148 @@
+//! Directives and their clauses.
+
+ghost use Rattle.std.specs.Prelude.{◌≡◌, ◌≤◌, ◌^◌};
+ghost use Rattle.std.specs.Option.{SomeIff};
+
+use std::marker::Model;
+
+use crate::place::{Place, VarId};
+use crate::statement::Kernel;
+
+/// The size of a chunk, 1 to 2^24 iterations.
+#[derive(Clone, Copy, Debug, PartialEq, Eq)]
+pub struct ChunkSize {
+    iterations: u64,
+}
+
+impl Model for ChunkSize {
+    ghost use Rattle.std.specs.Prelude.{ℕ, ◌≤◌, ◌^◌};
+
+    ghost Value = { ℕ };
+
+    ghost view = { λ s. s.iterations };
+
+    ghost invariant = { λ s. (1 ≤ s.iterations) × (s.iterations ≤ 2 ^ 24) };
+
+    ghost inverse = { λ n. record { iterations = n } };
+}
+
+impl ChunkSize {
+    /// A size, where it is 1 to 2^24.
+    pub fn new(iterations: u64) -> Option<ChunkSize>
+        ensures { SomeIff result ((1 ≤ iterations) × (iterations ≤ 2 ^ 24)) iterations }
+    {
+        if 1 <= iterations && iterations <= 1 << 24 { Some(ChunkSize { iterations }) } else { None }
+    }
+
+    /// How many iterations.
+    pub fn get(self) -> u64
+        ensures value { result ≡ self }
+        ensures least { 1 ≤ result }
+        ensures most { result ≤ 2 ^ 24 }
+    {
+        self.iterations
+    }
+}
+
+/// A reduction operator (OpenMP 5.2 5.5.1).
+#[derive(Clone, Copy, Debug, PartialEq, Eq)]
+pub enum ReductionOperator {
+    Sum,
+    Product,
+    And,
+    Or,
+    Xor,
+    LogicalAnd,
+    LogicalOr,
+    Max,
+    Min,
+}
+
+/// What a `schedule` clause says (OpenMP 5.2 11.5.3); a size that is left out after `dynamic` or `guided` is 1.
+#[derive(Clone, Copy, Debug, PartialEq, Eq)]
+pub enum Schedule {
+    Static,
+    StaticChunks(ChunkSize),
+    Dynamic(ChunkSize),
+    Guided(ChunkSize),
+    Auto,
+    Runtime,
+}
+
+/// A name as it stands in a directive.
+#[derive(Drop)]
+pub struct Written {
+    pub name: String,
+    pub place: Place,
+}
+
+/// The variable that a name of a directive stands for, with the name and its place.
+#[derive(Drop)]
+pub struct Resolved {
+    pub variable: VarId,
+    pub name: String,
+    pub place: Place,
+}
+
+/// A clause over names, written or resolved (OpenMP 5.2 4.4.3, 4.4.4, 5.4, 5.5.8, 11.5.3, 15.6).
+#[derive(Drop)]
+pub enum Clause<N> {
+    DefaultShared,
+    DefaultNone,
+    Shared(Vec<N>),
+    Private(Vec<N>),
+    Firstprivate(Vec<N>),
+    Lastprivate(Vec<N>),
+    /// `lastprivate(conditional: ..)`.
+    LastConditional(Vec<N>),
+    Reduction(ReductionOperator, Vec<N>),
+    /// `reduction(inscan, ..)`.
+    Inscan(ReductionOperator, N),
+    Schedule(Schedule),
+    Collapse(u32),
+    Ordered,
+    /// `ordered(n)`: a doacross nest of so many loops.
+    OrderedLoops(u32),
+    Nowait,
+}
+
+/// How far a sink lies from the iteration that names it, along one loop.
+#[derive(Clone, Copy, Debug, PartialEq, Eq)]
+pub enum Offset {
+    Forward(u64),
+    Back(u64),
+}
+
+/// An element of a sink's vector (OpenMP 5.2 15.9.6).
+#[derive(Drop)]
+pub struct SinkElement<N> {
+    pub variable: N,
+    pub offset: Offset,
+}
+
+/// A directive over names, written or resolved.
+#[derive(Drop)]
+pub enum Directive<N> {
+    ParallelFor(Vec<Clause<N>>),
+    Parallel(Vec<Clause<N>>),
+    For(Vec<Clause<N>>),
+    ScanInclusive(N),
+    ScanExclusive(N),
+    Ordered,
+    DoacrossSource,
+    DoacrossSink(Vec<SinkElement<N>>),
+}
+
+/// A directive line: where its `#` stands, and its directive.
+#[derive(Drop)]
+pub struct DirectiveLine {
+    pub place: Place,
+    pub directive: Directive<Resolved>,
+}
+
+/// A kernel with its directives, in text order.
+#[derive(Drop)]
+pub struct Annotated {
+    pub kernel: Kernel,
+    pub directives: Vec<DirectiveLine>,
+}

@@ -1,0 +1,131 @@
+//! What may be refused, and why.
+
+ghost use Rattle.std.specs.Prelude.{◌≡◌};
+ghost use Rattle.ktree.specs.Numbers.{number_of};
+
+use std::alloc::{AllocError, AllocFailed};
+
+use crate::place::Place;
+
+/// Two accesses of one array, by their places, that are not shown to be independent.
+#[derive(Drop)]
+pub struct NotShown {
+    pub array: String,
+    pub first: Place,
+    pub second: Place,
+}
+
+/// Two accesses of one array, two iterations in which they touch one element, and its indexes.
+#[derive(Drop)]
+pub struct Conflict {
+    pub accesses: NotShown,
+    pub earlier: u64,
+    pub later: u64,
+    pub indexes: Vec<u64>,
+}
+
+/// What is wrong with a line of an input, in the order in which it is looked for.
+#[derive(Clone, Copy, Debug, PartialEq, Eq)]
+pub enum Cause {
+    Form,
+    Name,
+    Twice,
+    Count,
+    Number,
+}
+
+/// The first faulty line of an input, from 1, and its first cause.
+#[derive(Clone, Copy, Debug, PartialEq, Eq)]
+pub struct InputFault {
+    pub line: u64,
+    pub cause: Cause,
+}
+
+/// Why a text, an input or a run is refused, in the order of the refusals' numbers, 1 to 24.
+#[derive(Drop)]
+pub enum Refusal {
+    Syntax(Place),
+    NumberOutOfRange(Place),
+    UnknownName(Place),
+    NameTwice(Place),
+    /// The number of subscripts or arguments, a condition in arithmetic, an enumeration constant assigned, operands
+    /// without a type of 64 bits, or a literal with `ull` in an argument of printf.
+    Operands(Place),
+    LoopNotCanonical(Place),
+    LoopMayWrap(Place),
+    NotAffine(Place),
+    SubscriptOutOfRange(Place),
+    MayBeUnassigned(Place),
+    /// A directive or clause that is unknown, malformed or misplaced.
+    Directive(Place),
+    /// A nest that is not perfect, not rectangular or not deep enough.
+    NestNotPerfect(Place),
+    /// A variable in two clauses, or in none under `default(none)`.
+    ClauseForVariable(Place),
+    SharedScalarWritten(Place),
+    PrivateVariable(Place),
+    Reduction(Place),
+    Scan(Place),
+    Ordered(Place),
+    Conflict(Conflict),
+    NotShown(NotShown),
+    Limit(Place),
+    Input(InputFault),
+    /// A growth was refused, or a thread did not start.
+    OutOfMemory,
+    OutputFailed,
+}
+
+impl Refusal {
+    /// The refusal's number, 1 to 24: `Knn` in its message.
+    pub fn number(&self) -> u8
+        ensures { result ≡ number_of self.now }
+    {
+        match self {
+            Refusal::Syntax(_) => 1,
+            Refusal::NumberOutOfRange(_) => 2,
+            Refusal::UnknownName(_) => 3,
+            Refusal::NameTwice(_) => 4,
+            Refusal::Operands(_) => 5,
+            Refusal::LoopNotCanonical(_) => 6,
+            Refusal::LoopMayWrap(_) => 7,
+            Refusal::NotAffine(_) => 8,
+            Refusal::SubscriptOutOfRange(_) => 9,
+            Refusal::MayBeUnassigned(_) => 10,
+            Refusal::Directive(_) => 11,
+            Refusal::NestNotPerfect(_) => 12,
+            Refusal::ClauseForVariable(_) => 13,
+            Refusal::SharedScalarWritten(_) => 14,
+            Refusal::PrivateVariable(_) => 15,
+            Refusal::Reduction(_) => 16,
+            Refusal::Scan(_) => 17,
+            Refusal::Ordered(_) => 18,
+            Refusal::Conflict(_) => 19,
+            Refusal::NotShown(_) => 20,
+            Refusal::Limit(_) => 21,
+            Refusal::Input(_) => 22,
+            Refusal::OutOfMemory => 23,
+            Refusal::OutputFailed => 24,
+        }
+    }
+}
+
+impl From<AllocError> for Refusal {
+    ghost use Rattle.ktree.specs.declared.refusal.Refusal.TheVariants.{OutOfMemory};
+
+    ghost from_gives = { λ _ refusal. refusal ≡ OutOfMemory };
+
+    fn from(_error: AllocError) -> Refusal {
+        Refusal::OutOfMemory
+    }
+}
+
+impl<T: Drop> From<AllocFailed<T>> for Refusal {
+    ghost use Rattle.ktree.specs.declared.refusal.Refusal.TheVariants.{OutOfMemory};
+
+    ghost from_gives = { λ _ refusal. refusal ≡ OutOfMemory };
+
+    fn from(_error: AllocFailed<T>) -> Refusal {
+        Refusal::OutOfMemory
+    }
+}
