@@ -1,4 +1,6 @@
 pub mod RulesRun
+pub mod EraseOnce
+pub mod Levels
 pub mod Commute
 pub mod CutLaw
 pub mod EraseLaw
@@ -11,8 +13,5 @@ pub mod StripLaw
 pub mod StripTextLaw
 pub mod SymbolLaw
 pub mod TicketLaw
-pub mod Rows
-pub mod LoopRows
-pub mod RowsReader
-pub mod RowsText
 pub mod LawAnswers
+pub mod Rows

@@ -9,7 +9,8 @@ use Rattle.std.specs.Prelude.{option_and_then}
 use Rattle.semantics.specs.Meaning.State.{State, Slot, Holds, Assigned, with_local, look, look_in, is_object_in, assign_at, overwritten}
 use Rattle.semantics.specs.Meaning.Runs.{incremented, assigned, one_write}
 use Rattle.semantics.specs.Meaning.Value.{value, holds, both, both_then, by_test, operate}
-use Rattle.semantics.specs.Loops.Nest.{Loop, values_from, at_value}
+use Rattle.semantics.specs.Loops.Nest.{Loop, values_from, at_value, counting, rising_loop}
+use Rattle.semantics.specs.Laws.{RisingLoopsCount}
 
 -- what was set is read
 pub local_same : (s : State) (x : Variable) (slot : Slot) → (with_local s x slot).locals x ≡ slot
@@ -23,14 +24,9 @@ local_twice s x a b = λ i. record { cells = s.cells; locals = fun_ext (λ y. tw
     twice true c = refl
     twice false c = refl
 
--- m numbers from v on, each s above the one before
-abbrev pub counting : ℕ → ℕ → ℕ → List ℕ
-counting v s zero = []
-counting v s (suc m) = v ∷ counting (v + s) s m
-
 module _ (st : State) (x : Variable) (u s : ℕ) (start : Source) (bound : Expr) (fixed : (v : ℕ) → value (at_value st x v) bound ≡ Some u) (room : u + s ≤ 2 ^ 64) where
   abbrev loop : Loop
-  loop = record { variable = x; start = start; test = Compare Less (Object x no_exprs) bound; step = Change x Plus (Literal s Bare) }
+  loop = rising_loop x start bound s
 
   seen : (v : ℕ) → value (at_value st x v) (Object x no_exprs) ≡ Some v
   seen v = ap (λ slot. look_in slot (at_value st x v) x []) (local_same st x (Holds v))
@@ -67,3 +63,6 @@ module _ (st : State) (x : Variable) (u s : ℕ) (start : Source) (bound : Expr)
   rising (suc m) (suc n) v le before end =
       let rest = rising m n (v + s) (omega arith) (λ k lt. omega (arith, before (suc k) (omega arith), suc-mul k s)) (omega (arith, suc-mul m s)) in
       goes_on n v (omega (arith, before 0 (omega arith))) ∙ ap (λ o. both (λ w ws. w ∷ ws) (Some v) o) rest
+
+pub rising_loops_count : RisingLoopsCount
+rising_loops_count st x u s m n v start bound fixed room le before end = rising st x u s start bound fixed room m n v le before end

@@ -1,16 +1,20 @@
 -- The laws of the definitions: each is the contract of a function of this crate.
-use Rattle.std.specs.Prelude.{ℕ, ◌≡◌, ◌≢◌, ◌↔◌, ◌<◌, Bool, true, List, [], ◌∷◌, length, All, Some, Contains}
-use Rattle.semantics.specs.Tree.{Variable, Stmt, Kernel, strip}
+use Rattle.std.specs.Prelude.{ℕ, ◌≡◌, ◌≢◌, ◌↔◌, ◌<◌, ◌≤◌, ◌+◌, ◌*◌, ◌^◌, Bool, true, List, [], ◌∷◌, length, All, Some, Contains}
+use Rattle.std.specs.List.{list_all}
+use Rattle.semantics.specs.Tree.{Variable, Source, Expr, Stmt, Kernel, strip}
 use Rattle.semantics.specs.Source.Text.{erase}
 use Rattle.semantics.specs.Source.Token.{Token}
 use Rattle.semantics.specs.Source.Cuts.{Tokens}
 use Rattle.semantics.specs.Source.Grammar.{ReadsText}
 use Rattle.semantics.specs.Meaning.State.{State, Write, with_cell}
+use Rattle.semantics.specs.Meaning.Value.{value}
 use Rattle.semantics.specs.Meaning.Runs.{run, Runs}
 use Rattle.semantics.specs.Meaning.Steps.{Steps, effect}
 use Rattle.semantics.specs.Loops.Arrangement.{EachOnceBelow}
 use Rattle.semantics.specs.Loops.Chunk.{Kind, IsSized, cut, owner}
 use Rattle.semantics.specs.Loops.Operator.{ReduceOp, IsLawful}
+use Rattle.semantics.specs.Loops.Nest.{Vector, at_value, values_from, rising_loop, counting}
+use Rattle.semantics.specs.Loops.Order.{Distance, is_ahead, among, Sink, Before, level, wave, wave_count}
 use Rattle.semantics.specs.Teams.Machine.{Job, Event, IsWhole}
 use Rattle.semantics.specs.Teams.WholeRuns.{after, is_by_ticket}
 
@@ -61,3 +65,28 @@ TicketsArrive =
 -- a text has one cut into tokens
 abbrev pub CutsAreUnique : Type 0
 CutsAreUnique = (text : List ℕ) (ts us : List Token) → Tokens text ts → Tokens text us → ts ≡ us
+
+-- where all sinks lie earlier, each iteration's level is above its sinks'
+abbrev pub LevelsLieAboveSinks : Type 0
+LevelsLieAboveSinks =
+    (space : List Vector) (ds : List Distance) (u v : Vector) → list_all is_ahead ds ≡ true
+    → Sink space ds u v → level space ds u < level space ds v
+
+-- and none comes before itself
+abbrev pub NothingBeforeItself : Type 0
+NothingBeforeItself =
+    (space : List Vector) (ds : List Distance) (u : Vector) → list_all is_ahead ds ≡ true → Before space ds u u → ⊥
+
+-- each iteration stands in the wave of its level, which is one of the waves, and in no other
+abbrev pub OneWaveEach : Type 0
+OneWaveEach =
+    (space : List Vector) (ds : List Distance) (u : Vector) → among space u ≡ true
+    → (level space ds u < wave_count space ds) × ((i : ℕ) → (among (wave space ds i) u ≡ true) ↔ (i ≡ level space ds u))
+
+-- a rising loop takes the values v, v + s, .. below a fixed bound u, as far as its room goes
+abbrev pub RisingLoopsCount : Type 0
+RisingLoopsCount =
+    (state : State) (x : Variable) (u s m n v : ℕ) (start : Source) (bound : Expr)
+    → ((w : ℕ) → value (at_value state x w) bound ≡ Some u) → u + s ≤ 2 ^ 64
+    → m ≤ n → ((k : ℕ) → k < m → v + k * s < u) → u ≤ v + m * s
+    → values_from n (rising_loop x start bound s) (at_value state x v) ≡ Some (counting v s m)

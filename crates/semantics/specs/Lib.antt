@@ -6,3 +6,4 @@ pub mod Teams
 pub mod Directives
 pub mod Theorems
 pub mod Laws
+pub mod Rows

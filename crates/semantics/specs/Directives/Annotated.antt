@@ -11,10 +11,12 @@ use Rattle.semantics.specs.Directives.DirectiveGrammar.{ReadsLine}
 abbrev pub Directives : Type 0
 Directives = List (ℕ × Directive Name)
 
+-- the directive on a line
 abbrev pub directive_at : Directives → ℕ → Option (Directive Name)
 directive_at [] n = None
 directive_at (d ∷ ds) n = if d.0 == n then Some d.1 else directive_at ds n
 
+-- file-scope variables by name, from a number on
 abbrev pub variables_from : Variable → List Declaration → Scope
 variables_from x [] = []
 variables_from x (d ∷ ds) = (d.name, AVariable x (length d.lengths)) ∷ variables_from (suc x) ds
@@ -34,15 +36,18 @@ abbrev mutual
   lines_in scope (Block items) = lines_among scope items
   lines_in scope (Print parts) = []
 
+  -- those of a block's items
   pub lines_among : Scope → Items → List (ℕ × Scope)
   lines_among scope no_items = []
   lines_among scope (mark n rest) = (n, scope) ∷ lines_among scope rest
   lines_among scope (local x name start rest) = lines_among ((name, AVariable x 0) ∷ scope) rest
   lines_among scope (stmt s rest) = lines_in scope s ++ lines_among scope rest
 
+-- those of a text
 abbrev pub lines_of : Kernel → List (ℕ × Scope)
 lines_of k = lines_among (file_scope k) k.body
 
+-- what is visible at a directive line
 abbrev pub scope_at : List (ℕ × Scope) → ℕ → Scope
 scope_at [] n = []
 scope_at (l ∷ ls) n = if l.0 == n then l.1 else scope_at ls n
@@ -52,6 +57,7 @@ pub record ReadsDirectives (text : List ℕ) (tree : Kernel) (directives : Direc
   pub lines : map (λ d. d.0) directives ≡ map (λ l. l.0) (lines_of tree)
   pub each : All (λ d. ReadsLine (line_at text d.0) d.1) directives
 
+-- an enum constant is no variable
 abbrev pub variable_of : Option Entity → Option Variable
 variable_of None = None
 variable_of (Some (AVariable x n)) = Some x
@@ -61,10 +67,12 @@ variable_of (Some (AConstant n)) = None
 abbrev pub resolve : Scope → Name → Option Variable
 resolve scope name = variable_of (find scope name)
 
+-- all of a list, or none
 abbrev pub resolve_all : Scope → List Name → Option (List Variable)
 resolve_all scope [] = Some []
 resolve_all scope (w ∷ ws) = both (λ x xs. x ∷ xs) (resolve scope w) (resolve_all scope ws)
 
+-- a clause with its names resolved
 abbrev pub resolve_clause : Scope → Clause Name → Option (Clause Variable)
 resolve_clause scope DefaultShared = Some DefaultShared
 resolve_clause scope DefaultNone = Some DefaultNone
@@ -81,6 +89,7 @@ resolve_clause scope (ScheduledBy kind) = Some (ScheduledBy kind)
 resolve_clause scope (Collapse c) = Some (Collapse c)
 resolve_clause scope (OrderedLoops n) = Some (OrderedLoops n)
 
+-- all of a directive
 abbrev pub resolve_clauses : Scope → List (Clause Name) → Option (List (Clause Variable))
 resolve_clauses scope [] = Some []
 resolve_clauses scope (c ∷ cs) = both (λ d ds. d ∷ ds) (resolve_clause scope c) (resolve_clauses scope cs)
@@ -96,6 +105,7 @@ clauses_of OrderedRegion = []
 clauses_of DoacrossSource = []
 clauses_of (DoacrossSink es) = []
 
+-- of no directive there are none
 abbrev pub clauses_there : Option (Directive Name) → List (Clause Name)
 clauses_there None = []
 clauses_there (Some d) = clauses_of d

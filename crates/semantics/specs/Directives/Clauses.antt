@@ -10,32 +10,32 @@ use Rattle.semantics.specs.Directives.Directive.{Schedule, StaticPlain, StaticSi
 use Rattle.semantics.specs.Meaning.Definite.{Privates}
 use Rattle.semantics.specs.Directives.Annotated.{Directives, clauses_at}
 
--- OpenMP 5.2 5.4.3
+-- OpenMP 5.2, 5.4.3
 abbrev pub private_of : {A : Type 0} → Clause A → List A
 private_of (Private xs) = xs
 private_of _ = []
 
--- OpenMP 5.2 5.4.4
+-- OpenMP 5.2, 5.4.4
 abbrev pub first_of : {A : Type 0} → Clause A → List A
 first_of (Firstprivate xs) = xs
 first_of _ = []
 
--- OpenMP 5.2 5.4.5
+-- OpenMP 5.2, 5.4.5
 abbrev pub last_of : {A : Type 0} → Clause A → List A
 last_of (Lastprivate xs) = xs
 last_of _ = []
 
--- OpenMP 5.2 5.4.5, with the modifier conditional
+-- OpenMP 5.2, 5.4.5, with the modifier conditional
 abbrev pub conditional_of : {A : Type 0} → Clause A → List A
 conditional_of (LastConditional xs) = xs
 conditional_of _ = []
 
--- OpenMP 5.2 5.5.8
+-- OpenMP 5.2, 5.5.8
 abbrev pub reduction_of : {A : Type 0} → Clause A → List (A × ReduceOp)
 reduction_of (Reduction op xs) = map (λ x. (x, op)) xs
 reduction_of _ = []
 
--- OpenMP 5.2 5.6
+-- OpenMP 5.2, 5.6
 abbrev pub inscan_of : {A : Type 0} → Clause A → List (A × ReduceOp)
 inscan_of (Inscan op x) = (x, op) ∷ []
 inscan_of _ = []
@@ -51,7 +51,7 @@ roles_of cs =
       reductions = flat_map (λ c. reduction_of c ++ inscan_of c) cs;
     }
 
--- how many loops a clause joins (OpenMP 5.2 4.4.3 and 4.4.4)
+-- how many loops a clause joins (OpenMP 5.2, 4.4.3 and 4.4.4)
 abbrev pub loops_of : {A : Type 0} → Clause A → ℕ
 loops_of (Collapse c) = c
 loops_of (OrderedLoops n) = n
@@ -66,7 +66,7 @@ depth_of (c ∷ cs) = max (loops_of c) (depth_of cs)
 abbrev pub shared_loop : List (Clause Variable) → Stmt → Option SharedLoop
 shared_loop cs s = map_option (λ nest. record { loops = nest.0; body = nest.1; roles = roles_of cs }) (nest_of (depth_of cs) s)
 
--- OpenMP 5.2 11.5.3; no clause means plain static
+-- OpenMP 5.2, 11.5.3; no clause means plain static
 abbrev pub schedule_of : {A : Type 0} → List (Clause A) → Schedule
 schedule_of [] = StaticPlain
 schedule_of (ScheduledBy kind ∷ cs) = kind
@@ -87,6 +87,7 @@ doacross_of [] = None
 doacross_of (OrderedLoops n ∷ cs) = Some n
 doacross_of (_ ∷ cs) = doacross_of cs
 
+-- a loop with an inscan reduction (OpenMP 5.2, 5.6)
 abbrev pub is_scan : {A : Type 0} → List (Clause A) → Bool
 is_scan [] = false
 is_scan (Inscan op x ∷ cs) = true

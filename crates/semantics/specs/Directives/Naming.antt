@@ -1,4 +1,4 @@
--- Which variables a construct names, and the clauses that they stand in (OpenMP 5.2 5.1.1 and 5.4.1).
+-- Which variables a construct names, and the clauses that they stand in (OpenMP 5.2, 5.1.1 and 5.4.1).
 use Rattle.std.specs.Prelude.{ℕ, Bool, true, false, not, ◌&&◌, ◌||◌, ◌≡◌, List, [], ◌∷◌, ◌++◌, filter, flat_map, All, Option, Some, None}
 use Rattle.std.specs.List.{list_any, list_all}
 use Rattle.semantics.specs.Tree.{Variable, Expr, Literal, Constant, Object, Unary, Binary, Choose, Exprs, no_exprs, more_exprs, Cond, NotZero, Compare, Not, Both, Either, Source, Number, Truth, Increment, Up, Down, Set, Change, PrintPart, Characters, Decimal, Stmt, Assign, Update, If, IfElse, For, Block, Print, Items, no_items, mark, local, stmt, Kernel}
@@ -17,10 +17,12 @@ abbrev mutual
   named_expr (Binary op a b) = named_expr a ++ named_expr b
   named_expr (Choose c a b) = named_cond c ++ named_expr a ++ named_expr b
 
+  -- those of subscripts
   pub named_exprs : Exprs → List Variable
   named_exprs no_exprs = []
   named_exprs (more_exprs e es) = named_expr e ++ named_exprs es
 
+  -- those of a condition
   pub named_cond : Cond → List Variable
   named_cond (NotZero a) = named_expr a
   named_cond (Compare op a b) = named_expr a ++ named_expr b
@@ -28,20 +30,24 @@ abbrev mutual
   named_cond (Both c d) = named_cond c ++ named_cond d
   named_cond (Either c d) = named_cond c ++ named_cond d
 
+-- those of a right side
 abbrev pub named_source : Source → List Variable
 named_source (Number a) = named_expr a
 named_source (Truth c) = named_cond c
 
+-- those of an initialiser
 abbrev pub named_start : Option Source → List Variable
 named_start None = []
 named_start (Some a) = named_source a
 
+-- those of a loop's step
 abbrev pub named_step : Increment → List Variable
 named_step (Up x) = x ∷ []
 named_step (Down x) = x ∷ []
 named_step (Set x a) = x ∷ named_source a
 named_step (Change x op a) = x ∷ named_expr a
 
+-- those of printf's arguments
 abbrev pub named_part : PrintPart → List Variable
 named_part (Characters bs) = []
 named_part (Decimal a) = named_expr a
@@ -57,6 +63,7 @@ abbrev mutual
   named_in (Block items) = named_among items
   named_in (Print parts) = flat_map named_part parts
 
+  -- those of a block's items
   pub named_among : Items → List Variable
   named_among no_items = []
   named_among (mark line rest) = named_among rest
@@ -67,6 +74,7 @@ abbrev mutual
 abbrev pub outside_of : Stmt → List Variable
 outside_of s = filter (λ x. not (is_among (declared_in s) x)) (named_in s)
 
+-- the names that a clause lists
 abbrev pub variables_in : {A : Type 0} → Clause A → List A
 variables_in (Shared xs) = xs
 variables_in (Private xs) = xs
@@ -77,10 +85,12 @@ variables_in (Reduction op xs) = xs
 variables_in (Inscan op x) = x ∷ []
 variables_in _ = []
 
+-- OpenMP 5.2, 5.4.1
 abbrev pub is_none : {A : Type 0} → Clause A → Bool
 is_none DefaultNone = true
 is_none _ = false
 
+-- no variable stands twice
 abbrev pub are_distinct : List Variable → Bool
 are_distinct [] = true
 are_distinct (x ∷ xs) = not (is_among xs x) && are_distinct xs
@@ -108,12 +118,14 @@ abbrev mutual
   constructs_in (Block items) = constructs_among None items
   constructs_in (Print parts) = []
 
+  -- those of a block's items
   pub constructs_among : Option ℕ → Items → List (ℕ × Stmt)
   constructs_among before no_items = []
   constructs_among before (mark n rest) = constructs_among (Some n) rest
   constructs_among before (local x name start rest) = constructs_among None rest
   constructs_among before (stmt s rest) = behind_line before s ++ constructs_in s ++ constructs_among None rest
 
+-- the names in all clauses of a directive
 abbrev pub variables_there : Option (List (Clause Variable)) → List Variable
 variables_there None = []
 variables_there (Some cs) = flat_map variables_in cs

@@ -4,6 +4,7 @@ use Rattle.semantics.specs.Tree.{Name, Stmt, Assign, Update, If, IfElse, For, Bl
 use Rattle.semantics.specs.Directives.Directive.{Directive, ParallelFor, Parallel, Worksharing}
 use Rattle.semantics.specs.Directives.Annotated.{Directives, directive_at}
 
+-- a loop, without braces round it
 abbrev pub is_for : Stmt → Bool
 is_for (For x name start test step body) = true
 is_for _ = false
@@ -15,21 +16,23 @@ opens (Some (Parallel cs)) = true
 opens (Some (Worksharing cs)) = true
 opens _ = false
 
+-- a `for` directive
 abbrev pub is_worksharing : Option (Directive Name) → Bool
 is_worksharing (Some (Worksharing cs)) = true
 is_worksharing _ = false
 
--- the items of a `parallel` block: `for` directives, each with its loop (OpenMP 5.2 11.5.2)
+-- the items of a `parallel` block: `for` directives, each with its loop (OpenMP 5.2, 11.5.1)
 abbrev pub are_pairs : Directives → Items → Bool
 are_pairs ds no_items = true
 are_pairs ds (mark n (stmt s rest)) = is_worksharing (directive_at ds n) && (is_for s && are_pairs ds rest)
 are_pairs ds _ = false
 
+-- a block that is not empty
 abbrev pub holds_items : Items → Bool
 holds_items no_items = false
 holds_items _ = true
 
--- one pair at least (OpenMP 5.2 10.1)
+-- one pair at least (OpenMP 5.2, 10.1)
 abbrev pub is_team_block : Directives → Stmt → Bool
 is_team_block ds (Block items) = holds_items items && are_pairs ds items
 is_team_block ds _ = false
@@ -45,6 +48,7 @@ fits_behind ds may in_team _ s = true
 abbrev pub may_inside : Bool → Option (Directive Name) → Bool
 may_inside may before = may && not (opens before)
 
+-- a `parallel` directive
 abbrev pub is_team : Option (Directive Name) → Bool
 is_team (Some (Parallel cs)) = true
 is_team _ = false

@@ -7,17 +7,19 @@ use Rattle.semantics.specs.Directives.Annotated.{Directives, directive_at}
 use Rattle.semantics.specs.Directives.Clauses.{depth_of, schedule_of, doacross_of, reduction_of, is_scan}
 use Rattle.semantics.specs.Directives.Listing.{ListedLoop, listing}
 
+-- of a sink, and of no other directive
 abbrev pub offsets_of : Option (Directive Name) → List (List ℤ)
 offsets_of (Some (DoacrossSink es)) = map (λ e. e.1) es ∷ []
 offsets_of _ = []
 
--- the sinks of a nest's body, by their offsets, in text order (OpenMP 5.2 15.9)
+-- the sinks of a nest's body, by their offsets, in text order (OpenMP 5.2, 15.9)
 abbrev pub sinks_among : Directives → Items → List (List ℤ)
 sinks_among ds no_items = []
 sinks_among ds (mark n rest) = offsets_of (directive_at ds n) ++ sinks_among ds rest
 sinks_among ds (local x name start rest) = sinks_among ds rest
 sinks_among ds (stmt s rest) = sinks_among ds rest
 
+-- of a nest whose body is a block
 abbrev pub sinks_in : Directives → Option (List Loop × Stmt) → List (List ℤ)
 sinks_in ds (Some (loops, Block items)) = sinks_among ds items
 sinks_in ds _ = []
@@ -38,17 +40,19 @@ abbrev pub shared_by : Directives → Option (Directive Name) → Stmt → List 
 shared_by ds (Some (Worksharing cs)) s = listed ds cs s ∷ []
 shared_by ds _ s = []
 
+-- each loop behind its own directive
 abbrev pub loops_among : Directives → Option (Directive Name) → Items → List ListedLoop
 loops_among ds before no_items = []
 loops_among ds before (mark n rest) = loops_among ds (directive_at ds n) rest
 loops_among ds before (local x name start rest) = loops_among ds None rest
 loops_among ds before (stmt s rest) = shared_by ds before s ++ loops_among ds None rest
 
+-- of a block alone
 abbrev pub loops_in : Directives → Stmt → List ListedLoop
 loops_in ds (Block items) = loops_among ds None items
 loops_in ds _ = []
 
--- a region (OpenMP 5.2 10.1 and 17), or those that stand in a statement without such a directive
+-- a region (OpenMP 5.2, 10.1 and 17), or those that stand in a statement without such a directive
 abbrev pub region_by : Directives → Option (Directive Name) → Stmt → List (List ListedLoop) → List (List ListedLoop)
 region_by ds (Some (ParallelFor cs)) s inside = (listed ds cs s ∷ []) ∷ []
 region_by ds (Some (Parallel cs)) s inside = loops_in ds s ∷ []

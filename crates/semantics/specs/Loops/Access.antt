@@ -1,4 +1,4 @@
--- The element accesses of a loop's body, guards ignored, and the conflicts of iterations. (C11 5.1.2.4, 4; OpenMP 5.2 1.4.1)
+-- The element accesses of a loop's body, guards ignored, and the conflicts of iterations. (C11 5.1.2.4, 4; OpenMP 5.2, 1.4.1)
 use Rattle.std.specs.Prelude.{ℕ, ◌≡◌, ◌≢◌, ◌⊎◌, List, [], ◌∷◌, ◌++◌, Option, Some, None, Contains}
 use Rattle.semantics.specs.Tree.{Variable, Expr, Literal, Constant, Object, Unary, Binary, Choose, Exprs, no_exprs, more_exprs, Cond, NotZero, Compare, Not, Both, Either, Source, Number, Truth, PrintPart, Characters, Decimal, Stmt, Assign, Update, If, IfElse, For, Block, Print, Items, no_items, mark, local, stmt}
 use Rattle.semantics.specs.Meaning.State.{State}

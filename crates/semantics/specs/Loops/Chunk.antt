@@ -1,4 +1,4 @@
--- The chunks of a worksharing loop. (OpenMP 5.2 11.5.3)
+-- The chunks of a worksharing loop. (OpenMP 5.2, 11.5.3)
 use Rattle.std.specs.Prelude.{ℕ, zero, suc, ◌≡◌, ◌<◌, ◌≤◌, length, flat_map, ◌+◌, ◌-◌, ◌/◌, ◌%◌, min, max, nat_lt, if◌then◌else◌, List, [], ◌∷◌, map, Option, Some, None}
 use Rattle.semantics.specs.Meaning.Places.{below}
 

@@ -34,7 +34,7 @@ abbrev pub given : State → Variable → Option ℕ → State
 given s x None = s
 given s x (Some v) = written s (Assigned x [] v)
 
--- each reduction variable: its value before, combined with the updated partials in the order of arrival (OpenMP 5.2 5.5.5)
+-- each reduction variable: its value before, combined with the updated partials in the order of arrival (OpenMP 5.2, 5.5.5)
 abbrev pub with_reductions : ℕ → List (Variable × ReduceOp) → List Piece → State → State → State
 with_reductions i [] ps before s = s
 with_reductions i (r ∷ rs) ps before s =
@@ -46,11 +46,11 @@ abbrev pub with_values : (ℕ → Option ℕ) → ℕ → List Variable → Stat
 with_values value i [] s = s
 with_values value i (x ∷ xs) s = with_values value (suc i) xs (given s x (value i))
 
--- each lastprivate: its value in the piece with the last iteration, which is the last chunk's (OpenMP 5.2 5.4.5)
+-- each lastprivate: its value in the piece with the last iteration, which is the last chunk's (OpenMP 5.2, 5.4.5)
 abbrev pub with_lasts : List Variable → List Piece → State → State
 with_lasts xs ps s = with_values (λ i. option_and_then (λ p. value_at i p.lasts) (last_piece ps)) 0 xs s
 
--- each conditional one: its value in the piece with the greatest chunk number that has one (OpenMP 5.2 5.4.5, conditional)
+-- each conditional one: its value in the piece with the greatest chunk number that has one (OpenMP 5.2, 5.4.5, conditional)
 abbrev pub with_conditionals : List Variable → List Piece → State → State
 with_conditionals xs ps s = with_values (λ i. last_some (map (λ p. value_at i p.conditionals) ps)) 0 xs s
 
@@ -68,7 +68,7 @@ joined_state roles before ps order =
     let arrived = picked ps order in
     with_last_values roles ps (with_reductions 0 roles.reductions arrived before (with_writes arrived before))
 
--- and the text, in chunk order (OpenMP 5.2 15.10.2)
+-- and the text, in chunk order (OpenMP 5.2, 15.10.2)
 abbrev pub joined_text : List Piece → List ℕ
 joined_text ps = flat_map (λ p. p.text) ps
 

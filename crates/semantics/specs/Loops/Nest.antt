@@ -1,6 +1,6 @@
--- Loop nests: the vectors at which C's starts, tests and increments enter the innermost body, in order. (OpenMP 5.2 4.4.2)
-use Rattle.std.specs.Prelude.{ℕ, zero, suc, Bool, true, false, if◌then◌else◌, List, [], ◌∷◌, ◌++◌, map, Option, Some, None, option_and_then}
-use Rattle.semantics.specs.Tree.{Variable, Source, Cond, Increment, Stmt, For, Block, Items, no_items, mark, local, stmt}
+-- Loop nests: the vectors at which C's starts, tests and increments enter the innermost body, in order. (OpenMP 5.2, 4.4.2)
+use Rattle.std.specs.Prelude.{ℕ, zero, suc, Bool, true, false, if◌then◌else◌, List, [], ◌∷◌, ◌++◌, ◌+◌, map, Option, Some, None, option_and_then}
+use Rattle.semantics.specs.Tree.{Variable, Bare, Literal, Object, Expr, no_exprs, Plus, Less, Compare, Change, Source, Cond, Increment, Stmt, For, Block, Items, no_items, mark, local, stmt}
 use Rattle.semantics.specs.Meaning.State.{State, Holds, with_local, overwritten, look}
 use Rattle.semantics.specs.Meaning.Value.{source_value, holds, both, by_test, map_option}
 use Rattle.semantics.specs.Meaning.Runs.{incremented, most_turns}
@@ -12,11 +12,11 @@ pub record Loop : Type 0 where
   pub test : Cond
   pub step : Increment
 
--- the values of the associated loops, the outermost first (OpenMP 5.2 4.4.2)
+-- the values of the associated loops, the outermost first (OpenMP 5.2, 4.4.2)
 abbrev pub Vector : Type 0
 Vector = List ℕ
 
--- a loop and what it runs; a block of one statement counts as the statement, and a directive line or a local beside it is one too many (OpenMP 5.2 4.4.1)
+-- a loop and what it runs; a block of one statement counts as the statement, and a directive line or a local beside it is one too many (OpenMP 5.2, 4.4.1)
 abbrev mutual
   -- a for, or a block that is one
   pub as_loop : Stmt → Option (Loop × Stmt)
@@ -38,7 +38,7 @@ abbrev mutual
   holds_none (local x name start rest) = false
   holds_none (stmt s rest) = false
 
--- the outermost n loops of a perfect nest, and the innermost body (OpenMP 5.2 4.4.3 and 4.4.4)
+-- the outermost n loops of a perfect nest, and the innermost body (OpenMP 5.2, 4.4.3 and 4.4.4)
 abbrev pub nest_of : ℕ → Stmt → Option (List Loop × Stmt)
 nest_of zero s = Some ([], s)
 nest_of (suc n) s = option_and_then (λ found. map_option (λ inner. (found.0 ∷ inner.0, inner.1)) (nest_of n found.1)) (as_loop s)
@@ -77,3 +77,13 @@ abbrev pub at_vector : List Loop → Vector → State → State
 at_vector (l ∷ ls) (v ∷ vs) s = at_vector ls vs (at_value s l.variable v)
 at_vector [] vs s = s
 at_vector (l ∷ ls) [] s = s
+
+-- for (x = start; x < bound; x += step)
+abbrev pub rising_loop : Variable → Source → Expr → ℕ → Loop
+rising_loop x start bound step =
+    record { variable = x; start = start; test = Compare Less (Object x no_exprs) bound; step = Change x Plus (Literal step Bare) }
+
+-- m numbers from v on, each s above the one before
+abbrev pub counting : ℕ → ℕ → ℕ → List ℕ
+counting v s zero = []
+counting v s (suc m) = v ∷ counting (v + s) s m

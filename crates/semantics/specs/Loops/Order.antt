@@ -1,4 +1,4 @@
--- The order of doacross iterations, their levels, and the run wave by wave. (OpenMP 5.2 15.9.6 and 15.10.1)
+-- The order of doacross iterations, their levels, and the run wave by wave. (OpenMP 5.2, 15.9.6 and 15.10.1)
 use Rattle.std.specs.Prelude.{ℕ, zero, suc, Bool, true, false, ◌≡◌, ◌+◌, ◌==◌, nat_eq, max, if◌then◌else◌, List, [], ◌∷◌, ◌++◌, map, filter, length, Option, Some, None, ℤ, pos, negsuc, ◌-ℤ◌, neg_ℤ}
 use Rattle.std.specs.List.{list_any, filter_map}
 use lib.Pointwise.{pointwise}

@@ -8,7 +8,7 @@ use Rattle.semantics.specs.Meaning.Runs.{Effect, nothing, then_from, run}
 use Rattle.semantics.specs.Loops.Nest.{Loop, Vector, at_vector}
 use Rattle.semantics.specs.Loops.Operator.{ReduceOp, identity}
 
--- what the clauses of a loop say of variables: private, firstprivate, lastprivate, lastprivate(conditional:) and reduction (OpenMP 5.2 5.4.3 to 5.4.5, 5.5.8)
+-- what the clauses of a loop say of variables: private, firstprivate, lastprivate, lastprivate(conditional:) and reduction (OpenMP 5.2, 5.4.3 to 5.4.5, 5.5.8)
 pub record Roles : Type 0 where
   pub privates : List Variable
   pub firsts : List Variable
@@ -16,13 +16,13 @@ pub record Roles : Type 0 where
   pub conditionals : List Variable
   pub reductions : List (Variable × ReduceOp)
 
--- a worksharing loop: its associated loops, its body, and the roles of its variables (OpenMP 5.2 11.5)
+-- a worksharing loop: its associated loops, its body, and the roles of its variables (OpenMP 5.2, 11.5)
 pub record SharedLoop : Type 0 where
   pub loops : List Loop
   pub body : Stmt
   pub roles : Roles
 
--- a chunk's own copies: each stands as a local, also where the original is at file scope (OpenMP 5.2 5.3)
+-- a chunk's own copies: each stands as a local, also where the original is at file scope (OpenMP 5.2, 5.3)
 abbrev pub with_empty : List Variable → State → State
 with_empty [] s = s
 with_empty (x ∷ xs) s = with_empty xs (with_local s x Empty)

@@ -1,4 +1,4 @@
--- Scans in two passes: what a chunk's scan variable starts with. (OpenMP 5.2 5.6)
+-- Scans in two passes: what a chunk's scan variable starts with. (OpenMP 5.2, 5.6)
 use Rattle.std.specs.Prelude.{ℕ, suc, ◌≡◌, List, [], ◌∷◌, length, map, take, Option, Some}
 use Rattle.semantics.specs.Tree.{Variable}
 use Rattle.semantics.specs.Meaning.State.{State, slot_of, with_local, look}

@@ -37,7 +37,7 @@ pub record Agrees (visible : Variable → Bool) (known : Variable → Bool) (s t
 abbrev pub visible_behind : Stmt → Variable → Bool
 visible_behind loop x = not (is_among (declared_in loop) x)
 
--- the same state behind a loop: locals in a private list are left out (C11 6.2.1 and 6.2.4; OpenMP 5.2 5.4.3)
+-- the same state behind a loop: locals in a private list are left out (C11 6.2.1 and 6.2.4; OpenMP 5.2, 5.4.3)
 abbrev pub AgreesBehind : Stmt → Roles → State → State → Type 0
 AgreesBehind loop roles s t =
     Agrees (visible_behind loop) (λ x. visible_behind loop x && not (is_among roles.privates x)) s t

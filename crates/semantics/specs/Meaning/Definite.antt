@@ -10,9 +10,11 @@ Known = Variable → Bool
 abbrev pub Privates : Type 0
 Privates = ℕ → List Variable
 
+-- one variable is known, or is not
 abbrev pub known_with : Known → Variable → Bool → Known
 known_with k x b y = if y == x then b else k y
 
+-- these are not known
 abbrev pub without : Known → List Variable → Known
 without k [] = k
 without k (x ∷ xs) = without (known_with k x false) xs
@@ -27,10 +29,12 @@ abbrev mutual
   may_read k (Binary op a b) = may_read k a && may_read k b
   may_read k (Choose c a b) = may_test k c && may_read k a && may_read k b
 
+  -- of subscripts
   pub may_read_all : Known → Exprs → Bool
   may_read_all k no_exprs = true
   may_read_all k (more_exprs e es) = may_read k e && may_read_all k es
 
+  -- of a condition
   pub may_test : Known → Cond → Bool
   may_test k (NotZero e) = may_read k e
   may_test k (Compare op a b) = may_read k a && may_read k b
@@ -38,21 +42,25 @@ abbrev mutual
   may_test k (Both c d) = may_test k c && may_test k d
   may_test k (Either c d) = may_test k c && may_test k d
 
+-- of a right side
 abbrev pub may_take : Known → Source → Bool
 may_take k (Number e) = may_read k e
 may_take k (Truth c) = may_test k c
 
+-- of a loop's step
 abbrev pub may_step : Known → Increment → Bool
 may_step k (Up x) = k x
 may_step k (Down x) = k x
 may_step k (Set x e) = may_take k e
 may_step k (Change x op e) = k x && may_read k e
 
+-- of printf's arguments
 abbrev pub may_print : Known → List PrintPart → Bool
 may_print k [] = true
 may_print k (Characters bs ∷ ps) = may_print k ps
 may_print k (Decimal e ∷ ps) = may_read k e && may_print k ps
 
+-- what is known stays, where nothing wrong is read
 abbrev pub where_ok : Bool → Known → Option Known
 where_ok b k = if b then Some k else None
 
@@ -73,12 +81,14 @@ abbrev mutual
   privates_in P (Block items) = privates_among P items
   privates_in P (Print parts) = []
 
+  -- those of a block's items
   pub privates_among : Privates → Items → List Variable
   privates_among P no_items = []
   privates_among P (mark line rest) = P line ++ privates_among P rest
   privates_among P (local x name start rest) = privates_among P rest
   privates_among P (stmt s rest) = privates_in P s ++ privates_among P rest
 
+-- a local is known from its initialiser on (C11 6.7.9)
 abbrev pub declared_known : Known → Variable → Option Source → Option Known
 declared_known k x None = Some (known_with k x false)
 declared_known k x (Some e) = where_ok (may_take k e) (known_with k x true)

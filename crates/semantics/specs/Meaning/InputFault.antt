@@ -20,6 +20,7 @@ abbrev pub split_from : List ℕ → List ℕ → List (List ℕ)
 split_from word [] = word ∷ []
 split_from word (b ∷ bs) = if b == 32 then word ∷ split_from [] bs else split_from (word ++ b ∷ []) bs
 
+-- no byte
 abbrev pub is_empty : List ℕ → Bool
 is_empty [] = true
 is_empty (b ∷ bs) = false
@@ -44,14 +45,17 @@ judged_values seen found values =
     else (if not (length values == found.1) then Faulty WrongCount
     else (if list_all is_value values then Right found.0 else Faulty WrongNumber))
 
+-- a name that no file-scope variable has
 abbrev pub judged_at : List Variable → Option (Variable × ℕ) → List (List ℕ) → Judged
 judged_at seen None values = Faulty UnknownName
 judged_at seen (Some found) values = judged_values seen found values
 
+-- the first word is the name
 abbrev pub judged_words : List Declaration → List Variable → List (List ℕ) → Judged
 judged_words ds seen [] = Faulty WrongForm
 judged_words ds seen (name ∷ values) = judged_at seen (declared_from 0 ds name) values
 
+-- a line, without its end
 abbrev pub judged : List Declaration → List Variable → List ℕ → Judged
 judged ds seen line = if is_formed line then judged_words ds seen (split_from [] line) else Faulty WrongForm
 

@@ -16,9 +16,11 @@ abbrev pub name_of : Option Declaration → List ℕ
 name_of None = []
 name_of (Some d) = d.name
 
+-- the line for a variable
 abbrev pub input_line : List Declaration → Variable × List ℕ → List ℕ
 input_line ds given = name_of (slice_get ds given.0) ++ flat_map (λ v. 32 ∷ decimal v) given.1 ++ 10 ∷ []
 
+-- all lines, in any order of the variables
 abbrev pub input_text : List Declaration → Given → List ℕ
 input_text ds given = flat_map (input_line ds) given
 
@@ -31,6 +33,7 @@ abbrev pub NotAmong : Variable → Given → Type 0
 NotAmong x [] = Unit {0}
 NotAmong x (g ∷ gs) = (x ≢ g.0) × NotAmong x gs
 
+-- each line is right, and no variable has two
 abbrev pub AreGiven : List Declaration → Given → Type 0
 AreGiven ds [] = Unit {0}
 AreGiven ds (g ∷ gs) = IsGiven ds g × NotAmong g.0 gs × AreGiven ds gs
@@ -40,6 +43,7 @@ pub record IsInput (ds : List Declaration) (bytes : List ℕ) (given : Given) : 
   pub text : bytes ≡ input_text ds given
   pub each : AreGiven ds given
 
+-- the values of a variable that has a line
 abbrev pub values_at : Given → Variable → Option (List ℕ)
 values_at [] x = None
 values_at (g ∷ gs) x = if g.0 == x then Some g.1 else values_at gs x
@@ -49,6 +53,7 @@ abbrev pub first_value : Option (List ℕ) → ℕ → Option ℕ
 first_value None k = Some 0
 first_value (Some vs) k = slice_get vs k
 
+-- an object that is declared, and no other
 abbrev pub first_cell : Option Declaration → Option (List ℕ) → List ℕ → Option ℕ
 first_cell None vs is = None
 first_cell (Some d) vs is = if within d.lengths is then first_value vs (place d.lengths is) else None
@@ -62,9 +67,11 @@ abbrev pub cell_text : Option ℕ → List ℕ
 cell_text None = []
 cell_text (Some v) = 32 ∷ decimal v
 
+-- a variable's line
 abbrev pub dump_line : State → Variable → Declaration → List ℕ
 dump_line s x d = d.name ++ 32 ∷ 61 ∷ flat_map (λ is. cell_text (s.cells x is)) (all_indexes d.lengths) ++ 10 ∷ []
 
+-- from a variable on
 abbrev pub dump_from : State → Variable → List Declaration → List ℕ
 dump_from s x [] = []
 dump_from s x (d ∷ ds) = dump_line s x d ++ dump_from s (suc x) ds

@@ -6,9 +6,11 @@ use Rattle.semantics.specs.Tree.{Suffix, Bare, Ull}
 use Rattle.semantics.specs.Source.Text.{is_blank, skip_blanks, starts_with, behind, is_directive_line}
 use Rattle.semantics.specs.Source.Token.{Token, Word, Digits, Quoted, Sign, Header, Line, Symbol, Semicolon, Comma, OpenParen, CloseParen, OpenBracket, CloseBracket, OpenBrace, CloseBrace, PlusPlus, MinusMinus, Becomes, PlusBecomes, MinusBecomes, TimesBecomes, AndBecomes, OrBecomes, XorBecomes, PlusSign, MinusSign, Star, Slash, Percent, Amp, Bar, Caret, Tilde, Bang, Question, Colon, DoubleLess, DoubleGreater, LessSign, LessEqualSign, GreaterSign, GreaterEqualSign, DoubleEqual, BangEqual, DoubleAmp, DoubleBar}
 
+-- C11 6.4.2.1, digit
 abbrev pub is_digit : ℕ → Bool
 is_digit b = nat_le 48 b && nat_le b 57
 
+-- C11 6.4.2.1, nondigit without the underscore
 abbrev pub is_letter : ℕ → Bool
 is_letter b = (nat_le 97 b && nat_le b 122) || (nat_le 65 b && nat_le b 90)
 
@@ -16,9 +18,11 @@ is_letter b = (nat_le 97 b && nat_le b 122) || (nat_le 65 b && nat_le b 90)
 abbrev pub is_word_byte : ℕ → Bool
 is_word_byte b = is_letter b || (is_digit b || (b == 95))
 
+-- 0x20 to 0x7e
 abbrev pub is_printable : ℕ → Bool
 is_printable b = nat_le 32 b && nat_le b 126
 
+-- C11 6.4.2.1; no name begins with an underscore here
 abbrev pub is_name : List ℕ → Bool
 is_name [] = false
 is_name (b ∷ bs) = is_letter b && list_all is_word_byte bs
@@ -28,6 +32,7 @@ abbrev pub stops : (ℕ → Bool) → List ℕ → Bool
 stops goes_on [] = true
 stops goes_on (b ∷ bs) = not (goes_on b)
 
+-- digits behind a number
 abbrev pub decimal_from : ℕ → List ℕ → ℕ
 decimal_from n [] = n
 decimal_from n (b ∷ bs) = decimal_from (n * 10 + (b - 48)) bs
@@ -38,10 +43,12 @@ is_decimal [] = false
 is_decimal (b ∷ []) = is_digit b
 is_decimal (b ∷ c ∷ bs) = is_digit b && (not (b == 48) && list_all is_digit (c ∷ bs))
 
+-- C11 6.4.4.1, integer-suffix
 abbrev pub suffix_text : Suffix → List ℕ
 suffix_text Bare = []
 suffix_text Ull = codes "ull"
 
+-- C11 6.4.6
 abbrev pub symbol_text : Symbol → List ℕ
 symbol_text Semicolon = codes ";"
 symbol_text Comma = codes ","
@@ -123,20 +130,25 @@ is_plain_directive line = list_all (λ b. not ((b == 35) || (b == 92))) (drop 1 
 abbrev pub is_line : List ℕ → Bool
 is_line bs = list_all (λ b. not (b == 10)) bs
 
+-- C11 7.20, 7.8, 7.21
 abbrev pub header_names : List (List ℕ)
 header_names = codes "<stdint.h>" ∷ codes "<inttypes.h>" ∷ codes "<stdio.h>" ∷ []
 
+-- nothing is left
 abbrev pub is_end : List ℕ → Bool
 is_end [] = true
 is_end (c ∷ cs) = false
 
+-- a header by its place among these
 abbrev pub header_number : ℕ → List (List ℕ) → List ℕ → Option ℕ
 header_number n [] bs = None
 header_number n (h ∷ hs) bs = if starts_with h bs && is_end (skip_blanks (behind h bs)) then Some n else header_number (suc n) hs bs
 
+-- behind the `#`
 abbrev pub include_rest : List ℕ → Option ℕ
 include_rest bs = if starts_with (codes "include") bs then header_number 0 header_names (skip_blanks (behind (codes "include") bs)) else None
 
+-- an include line begins with `#`
 abbrev pub after_hash : List ℕ → Option ℕ
 after_hash [] = None
 after_hash (b ∷ bs) = if b == 35 then include_rest (skip_blanks bs) else None
@@ -175,6 +187,7 @@ abbrev pub has_trigraph : List ℕ → Bool
 has_trigraph [] = false
 has_trigraph (b ∷ bs) = starts_with (codes "??") (b ∷ bs) || has_trigraph bs
 
+-- an include line
 abbrev pub is_header : Token → Bool
 is_header (Word w) = false
 is_header (Digits n suffix) = false
@@ -188,6 +201,7 @@ abbrev pub headers_first : List ℕ → List Token → Bool
 headers_first seen (Header h ∷ ts) = not (list_any (nat_eq h) seen) && headers_first (h ∷ seen) ts
 headers_first seen ts = not (list_any is_header ts)
 
+-- `PRIu64` comes next
 abbrev pub starts_with_place : List Token → Bool
 starts_with_place (Word w ∷ ts) = pointwise nat_eq w (codes "PRIu64")
 starts_with_place _ = false

@@ -10,6 +10,7 @@ pub data UnarySign : Symbol → UnaryOp → Type 0 where
   minus : UnarySign MinusSign Negate
   tilde : UnarySign Tilde Complement
 
+-- a binary operator with its level
 pub data BinarySign : ℕ → Symbol → BinaryOp → Type 0 where
   bar : BinarySign 3 Bar BitOr
   caret : BinarySign 4 Caret BitXor
@@ -22,6 +23,7 @@ pub data BinarySign : ℕ → Symbol → BinaryOp → Type 0 where
   divide : BinarySign 10 Slash Divide
   remainder : BinarySign 10 Percent Remainder
 
+-- C11 6.5.8 and 6.5.9
 pub data CompareSign : ℕ → Symbol → CompareOp → Type 0 where
   equal : CompareSign 6 DoubleEqual Equal
   not_equal : CompareSign 6 BangEqual NotEqual
@@ -30,6 +32,7 @@ pub data CompareSign : ℕ → Symbol → CompareOp → Type 0 where
   greater : CompareSign 7 GreaterSign Greater
   greater_equal : CompareSign 7 GreaterEqualSign GreaterEqual
 
+-- C11 6.5.16.2
 pub data UpdateSign : Symbol → BinaryOp → Type 0 where
   plus : UpdateSign PlusBecomes Plus
   minus : UpdateSign MinusBecomes Minus

@@ -9,6 +9,7 @@ pub data Entity : Type 0 where
   AVariable : Variable → ℕ → Entity
   AConstant : ℕ → Entity
 
+-- visible names, the innermost first
 abbrev pub Scope : Type 0
 Scope = List (Name × Entity)
 
@@ -17,13 +18,16 @@ abbrev pub with_constants : List (Name × ℕ) → Scope → Scope
 with_constants [] scope = scope
 with_constants (c ∷ cs) scope = with_constants cs ((c.0, AConstant c.1) ∷ scope)
 
+-- the same bytes
 abbrev pub same_name : Name → Name → Bool
 same_name a b = pointwise nat_eq a b
 
+-- what a visible name stands for
 abbrev pub find : Scope → Name → Option Entity
 find [] name = None
 find (e ∷ es) name = if same_name e.0 name then Some e.1 else find es name
 
+-- how many subscripts
 abbrev pub count : Exprs → ℕ
 count no_exprs = 0
 count (more_exprs e es) = suc (count es)
@@ -38,6 +42,7 @@ reserved_words =
     ∷ codes "unsigned" ∷ codes "void" ∷ codes "volatile" ∷ codes "while" ∷ codes "uint64_t" ∷ codes "printf" ∷ codes "PRIu64"
     ∷ codes "kernel" ∷ []
 
+-- a word that is no name
 abbrev pub is_reserved : Name → Bool
 is_reserved name = list_any (same_name name) reserved_words
 

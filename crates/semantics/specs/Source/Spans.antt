@@ -18,6 +18,7 @@ line_ends (b ∷ bs) = if b == 10 then suc (line_ends bs) else line_ends bs
 abbrev pub spanned : List ℕ → Span → List ℕ
 spanned text s = take s.count (drop s.first text)
 
+-- the bytes behind it
 abbrev pub behind_span : List ℕ → Span → List ℕ
 behind_span text s = drop (s.first + s.count) text
 

@@ -35,6 +35,7 @@ abbrev mutual
   stmt_count (Block items) = 1 + statement_count items
   stmt_count (Print parts) = 1
 
+  -- those of a block's items; a declaration and a directive line are none
   pub statement_count : Items → ℕ
   statement_count no_items = 0
   statement_count (mark n items) = statement_count items

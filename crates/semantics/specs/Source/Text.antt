@@ -1,10 +1,11 @@
--- Lines of a text, and what is left of it where its directive lines are dropped (C11 6.10.6, OpenMP 5.2 3.1).
+-- Lines of a text, and what is left of it where its directive lines are dropped (C11 6.10.6, OpenMP 5.2, 3.1).
 use Rattle.std.specs.Prelude.{ℕ, Bool, true, false, ◌&&◌, ◌||◌, ◌==◌, if◌then◌else◌, List, [], ◌∷◌, zero, suc, ◌-◌, drop}
 
 -- a blank is a space or a tab
 abbrev pub is_blank : ℕ → Bool
 is_blank b = (b == 32) || (b == 9)
 
+-- behind leading blanks
 abbrev pub skip_blanks : List ℕ → List ℕ
 skip_blanks [] = []
 skip_blanks (b ∷ bs) = if is_blank b then skip_blanks bs else b ∷ bs
@@ -14,25 +15,29 @@ abbrev pub first_line : List ℕ → List ℕ
 first_line [] = []
 first_line (b ∷ bs) = if b == 10 then [] else b ∷ first_line bs
 
+-- a text begins with a word
 abbrev pub starts_with : List ℕ → List ℕ → Bool
 starts_with [] bs = true
 starts_with (w ∷ ws) [] = false
 starts_with (w ∷ ws) (b ∷ bs) = (w == b) && starts_with ws bs
 
+-- behind that word
 abbrev pub behind : List ℕ → List ℕ → List ℕ
 behind [] bs = bs
 behind (w ∷ ws) [] = []
 behind (w ∷ ws) (b ∷ bs) = behind ws bs
 
+-- a blank comes next
 abbrev pub starts_blank : List ℕ → Bool
 starts_blank [] = false
 starts_blank (b ∷ bs) = is_blank b
 
+-- a blank or the end comes next
 abbrev pub ends_word : List ℕ → Bool
 ends_word [] = true
 ends_word (b ∷ bs) = is_blank b
 
--- "pragma" and "omp"
+-- the word `pragma`, and the word `omp`
 abbrev pub pragma_word : List ℕ
 pragma_word = 112 ∷ 114 ∷ 97 ∷ 103 ∷ 109 ∷ 97 ∷ []
 
@@ -43,9 +48,11 @@ omp_word = 111 ∷ 109 ∷ 112 ∷ []
 abbrev pub is_omp_rest : List ℕ → Bool
 is_omp_rest bs = starts_blank bs && (starts_with omp_word (skip_blanks bs) && ends_word (behind omp_word (skip_blanks bs)))
 
+-- behind the `#` and blanks
 abbrev pub is_pragma_rest : List ℕ → Bool
 is_pragma_rest bs = starts_with pragma_word bs && is_omp_rest (behind pragma_word bs)
 
+-- behind leading blanks
 abbrev pub is_hash_rest : List ℕ → Bool
 is_hash_rest [] = false
 is_hash_rest (b ∷ bs) = (b == 35) && is_pragma_rest (skip_blanks bs)

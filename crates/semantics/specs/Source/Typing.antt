@@ -20,15 +20,18 @@ typed (Binary ShiftRight a b) = typed a
 typed (Binary op a b) = typed a || typed b
 typed (Choose c a b) = typed a || typed b
 
+-- the range of `int` without its negative half
 abbrev pub in_int : ℕ → Option ℕ
 in_int n = if nat_lt n (2 ^ 31) then Some n else None
 
+-- + - * alone, within that range
 abbrev pub int_operate : BinaryOp → ℕ → ℕ → Option ℕ
 int_operate Plus a b = in_int (a + b)
 int_operate Minus a b = if nat_le b a then Some (a - b) else None
 int_operate Times a b = in_int (a * b)
 int_operate _ a b = None
 
+-- there only where both are
 abbrev pub flat : {A : Type 0} → Option (Option A) → Option A
 flat None = None
 flat (Some o) = o
@@ -43,6 +46,7 @@ constant (Unary op a) = None
 constant (Binary op a b) = flat (both (int_operate op) (constant a) (constant b))
 constant (Choose c a b) = None
 
+-- there, and not 0
 abbrev pub not_zero : Option ℕ → Bool
 not_zero None = false
 not_zero (Some n) = not (n == 0)
@@ -81,6 +85,7 @@ abbrev mutual
   plain (Binary op a b) = plain a && plain b
   plain (Choose c a b) = plain_cond c && plain a && plain b
 
+  -- of a condition
   pub plain_cond : Cond → Bool
   plain_cond (NotZero e) = plain e
   plain_cond (Compare op a b) = plain a && plain b

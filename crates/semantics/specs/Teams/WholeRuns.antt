@@ -96,6 +96,7 @@ WholeListsJoin =
 abbrev pub without_reductions : Roles → Roles
 without_reductions roles = record roles { reductions = [] }
 
+-- every whole list of a second pass ends in the scan
 abbrev pub WholeListsScan : Type 0
 WholeListsScan =
     (job : Job) (events : List Event) (loop : SharedLoop) (x : Variable) (op : ReduceOp) (state : State) (chunks : List (List Vector)) (firsts : List Piece)

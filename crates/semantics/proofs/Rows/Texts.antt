@@ -1,4 +1,4 @@
--- A whole text and the tree that it is read as, and directive lines.
+-- They hold by computation.
 use Rattle.std.specs.Prelude.{ℕ, List, [], ◌∷◌, ◌++◌, pos, negsuc, codes}
 use Rattle.std.proofs.Common.{refl, arith}
 use Rattle.semantics.specs.Tree.{Bare, Literal, no_exprs, Number, Assign, mark, stmt, no_items, Kernel}
@@ -12,24 +12,7 @@ use Rattle.semantics.specs.Source.Grammar.{Reads, ReadsText, no_decls, object, n
 use Rattle.semantics.specs.Directives.Directive.{ParallelFor, DoacrossSink, ScheduledBy, DynamicSize, Private}
 use Rattle.semantics.specs.Directives.DirectiveGrammar.{ReadsLine, parallel_for, first, next_behind_comma, no_further, schedule, dynamic_size, private, further, only, sink, element, only_element, here, below}
 use Rattle.semantics.specs.Directives.DirectiveGrammar.{number as a_size}
-
--- a declaration, a directive line, and an assignment
-abbrev small : List ℕ
-small = codes "uint64_t s;" ++ 10 ∷ (codes "void kernel(void) {" ++ 10 ∷ (codes "#pragma omp x" ++ 10 ∷ (codes "s=1; }" ++ 10 ∷ [])))
-
-abbrev small_tokens : List Token
-small_tokens =
-    Word (codes "uint64_t") ∷ Word (codes "s") ∷ Sign Semicolon
-    ∷ Word (codes "void") ∷ Word (codes "kernel") ∷ Sign OpenParen ∷ Word (codes "void") ∷ Sign CloseParen ∷ Sign OpenBrace
-    ∷ Line 3 ∷ Word (codes "s") ∷ Sign Becomes ∷ Digits 1 Bare ∷ Sign Semicolon ∷ Sign CloseBrace ∷ []
-
-abbrev small_tree : Kernel
-small_tree =
-    record {
-      constants = [];
-      variables = record { name = codes "s"; lengths = [] } ∷ [];
-      body = mark 3 (stmt (Assign 0 no_exprs (Number (Literal 1 Bare))) no_items);
-    }
+use Rattle.semantics.specs.Rows.Texts.{small, small_tokens, small_tree, TextRows}
 
 small_cut : Tokens small small_tokens
 small_cut =
@@ -37,12 +20,12 @@ small_cut =
       bytes = refl;
       plain = refl;
       cut =
-        token (word {w = codes "uint64_t"} refl refl) (blank refl (token (word {w = codes "s"} refl refl) (token (symbol {s = Semicolon} refl) (line_end
-        (token (word {w = codes "void"} refl refl) (blank refl (token (word {w = codes "kernel"} refl refl) (token (symbol {s = OpenParen} refl)
-        (token (word {w = codes "void"} refl refl) (token (symbol {s = CloseParen} refl) (blank refl (token (symbol {s = OpenBrace} refl) (line_end
-        (directive (codes "#pragma omp x") refl refl refl
-        (token (word {w = codes "s"} refl refl) (token (symbol {s = Becomes} refl) (token (number (codes "1") Bare refl refl) (token (symbol {s = Semicolon} refl)
-        (blank refl (token (symbol {s = CloseBrace} refl) (line_end end)))))))))))))))))))));
+          token (word {w = codes "uint64_t"} refl refl) (blank refl (token (word {w = codes "s"} refl refl) (token (symbol {s = Semicolon} refl) (line_end
+          (token (word {w = codes "void"} refl refl) (blank refl (token (word {w = codes "kernel"} refl refl) (token (symbol {s = OpenParen} refl)
+          (token (word {w = codes "void"} refl refl) (token (symbol {s = CloseParen} refl) (blank refl (token (symbol {s = OpenBrace} refl) (line_end
+          (directive (codes "#pragma omp x") refl refl refl
+          (token (word {w = codes "s"} refl refl) (token (symbol {s = Becomes} refl) (token (number (codes "1") Bare refl refl) (token (symbol {s = Semicolon} refl)
+          (blank refl (token (symbol {s = CloseBrace} refl) (line_end end)))))))))))))))))))));
       headers = refl;
       places = refl;
     }
@@ -58,26 +41,33 @@ small_reads =
       all = refl;
       declared = object (record { word = refl; unused = refl }) (omega arith) no_lengths no_decls;
       items =
-        a_line (statement (assign (target refl no_subscripts) (a_number
-        (tighter (tighter (tighter (tighter (tighter (tighter (tighter (tighter (tighter (tighter (tighter (tighter (literal refl))))))))))))))) no_more);
+          a_line (statement (assign (target refl no_subscripts) (a_number
+          (tighter (tighter (tighter (tighter (tighter (tighter (tighter (tighter (tighter (tighter (tighter (tighter (literal refl))))))))))))))) no_more);
       statements = omega arith;
       within = omega arith;
     }
 
-pub small_text : ReadsText small small_tree
+small_text : ReadsText small small_tree
 small_text = record { tokens = small_tokens; cut = small_cut; reads = small_reads; length = omega arith }
 
--- a directive line with two clauses and a comma between them
 row_line_read : ReadsLine (codes "#pragma omp parallel for schedule(dynamic, 3), private(x, y)")
     (ParallelFor (ScheduledBy (DynamicSize 3) ∷ Private (codes "x" ∷ codes "y" ∷ []) ∷ []))
 row_line_read =
     record {
       is_line = refl;
       reads =
-        parallel_for
-        (first (schedule (dynamic_size (a_size {ds = codes "3"} refl refl)))
-        (next_behind_comma (private (further {w = codes "x"} refl (only {w = codes "y"} refl))) no_further)) refl refl;
+          parallel_for
+          (first (schedule (dynamic_size (a_size {ds = codes "3"} refl refl)))
+          (next_behind_comma (private (further {w = codes "x"} refl (only {w = codes "y"} refl))) no_further)) refl refl;
     }
 
 row_sink_read : ReadsLine (codes " # pragma omp ordered doacross( sink : i-1,j )") (DoacrossSink ((codes "i", negsuc 0) ∷ (codes "j", pos 0) ∷ []))
 row_sink_read = record { is_line = refl; reads = sink (element (below {w = codes "i"} (codes "1") Bare refl refl refl) (only_element (here {w = codes "j"} refl))) }
+
+pub rows : TextRows
+rows =
+    record {
+      small_text = small_text;
+      line_read = row_line_read;
+      sink_read = row_sink_read;
+    }

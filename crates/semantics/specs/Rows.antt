@@ -1,0 +1,5 @@
+pub mod Numbers
+pub mod Loops
+pub mod Reader
+pub mod Texts
+pub mod Outputs
