@@ -22,14 +22,17 @@ use Rattle.ktree.specs.declared.statement.Kernel.{Kernel}
 use Rattle.ktree.specs.declared.statement.Stmt.{Stmt, Assign, Update, If', For', Block', Print, Held-Stmt-If-2, None', Some', Row_of-Item, end_of-Item, more_of-Item}
 use Rattle.ktree.specs.declared.statement.Item.{Item, Directive, Local, Statement'}
 
+-- a literal's suffix
 abbrev pub suffix_of : Suffix → Tree.Suffix
 suffix_of Bare = Tree.Bare
 suffix_of Ull = Tree.Ull
 
+-- a unary operator
 abbrev pub unary_of : UnaryOp → Tree.UnaryOp
 unary_of Negate = Tree.Negate
 unary_of Complement = Tree.Complement
 
+-- a binary operator
 abbrev pub binary_of : BinaryOp → Tree.BinaryOp
 binary_of Plus = Tree.Plus
 binary_of Minus = Tree.Minus
@@ -42,6 +45,7 @@ binary_of BitXor = Tree.BitXor
 binary_of ShiftLeft = Tree.ShiftLeft
 binary_of ShiftRight = Tree.ShiftRight
 
+-- a comparison
 abbrev pub compare_of : CompareOp → Tree.CompareOp
 compare_of Less = Tree.Less
 compare_of LessEqual = Tree.LessEqual
@@ -51,6 +55,7 @@ compare_of Equal = Tree.Equal
 compare_of NotEqual = Tree.NotEqual
 
 abbrev mutual
+  -- an arithmetic expression
   pub expr_of : Expr → Tree.Expr
   expr_of (Literal n suffix) = Tree.Literal n (suffix_of suffix)
   expr_of (Constant name n) = Tree.Constant (string_bytes name) n
@@ -59,10 +64,12 @@ abbrev mutual
   expr_of (Binary' op p a q b) = Tree.Binary (binary_of op) (expr_of a) (expr_of b)
   expr_of (Choose' p c q a r b) = Tree.Choose (cond_of c) (expr_of a) (expr_of b)
 
+  -- subscripts, from the left
   pub row_of : {m : _} → Row_of-Expr m → Tree.Exprs
   row_of end_of-Expr = Tree.no_exprs
   row_of (more_of-Expr e rest) = Tree.more_exprs (expr_of e) (row_of rest)
 
+  -- a condition
   pub cond_of : Cond → Tree.Cond
   cond_of (NotZero' p e) = Tree.NotZero (expr_of e)
   cond_of (Compare' op p a q b place) = Tree.Compare (compare_of op) (expr_of a) (expr_of b)
@@ -70,33 +77,40 @@ abbrev mutual
   cond_of (Both' p c q d) = Tree.Both (cond_of c) (cond_of d)
   cond_of (Either' p c q d) = Tree.Either (cond_of c) (cond_of d)
 
+-- a list of subscripts
 abbrev pub exprs_of : List Expr → Tree.Exprs
 exprs_of [] = Tree.no_exprs
 exprs_of (e ∷ es) = Tree.more_exprs (expr_of e) (exprs_of es)
 
+-- a right side
 abbrev pub source_of : Source → Tree.Source
 source_of (Number e) = Tree.Number (expr_of e)
 source_of (Truth c) = Tree.Truth (cond_of c)
 
+-- a loop's step
 abbrev pub increment_of : Increment → Tree.Increment
 increment_of (Up x) = Tree.Up x.0
 increment_of (Down x) = Tree.Down x.0
 increment_of (Set x e) = Tree.Set x.0 (source_of e)
 increment_of (Change x op e) = Tree.Change x.0 (binary_of op) (expr_of e)
 
+-- what printf writes
 abbrev pub part_of : PrintPart → Tree.PrintPart
 part_of (Characters bs) = Tree.Characters bs.items
 part_of (Decimal e) = Tree.Decimal (expr_of e)
 
+-- an initialiser, if there is one
 abbrev pub start_of : Option Source → Option Tree.Source
 start_of None = None
 start_of (Some e) = Some (source_of e)
 
+-- an `if`, with or without `else`
 abbrev pub if_of : Tree.Cond → Tree.Stmt → Option Tree.Stmt → Tree.Stmt
 if_of c a None = Tree.If c a
 if_of c a (Some b) = Tree.IfElse c a b
 
 abbrev mutual
+  -- a statement
   pub stmt_of : Stmt → Tree.Stmt
   stmt_of (Assign target e) = Tree.Assign target.variable.0 (exprs_of target.subscripts.items) (source_of e)
   stmt_of (Update target op e) = Tree.Update target.variable.0 (exprs_of target.subscripts.items) (binary_of op) (expr_of e)
@@ -106,25 +120,31 @@ abbrev mutual
   stmt_of (Block' shape items) = Tree.Block (items_row_of items)
   stmt_of (Print parts place) = Tree.Print (map part_of parts.items)
 
+  -- what stands behind `else`
   pub else_of : Held-Stmt-If-2 → Option Tree.Stmt
   else_of None' = None
   else_of (Some' p b) = Some (stmt_of b)
 
+  -- an item before others
   pub with_item : Item → Tree.Items → Tree.Items
   with_item (Directive place) rest = Tree.mark place.line rest
   with_item (Local l) rest = Tree.local l.variable.0 (string_bytes l.name) (start_of l.start) rest
   with_item (Statement' p s) rest = Tree.stmt (stmt_of s) rest
 
+  -- the items of a block
   pub items_row_of : {m : _} → Row_of-Item m → Tree.Items
   items_row_of end_of-Item = Tree.no_items
   items_row_of (more_of-Item i rest) = with_item i (items_row_of rest)
 
+-- a block's items
 abbrev pub items_of : List Item → Tree.Items
 items_of [] = Tree.no_items
 items_of (i ∷ is) = with_item i (items_of is)
 
+-- a file-scope variable
 abbrev pub declaration_of : Declaration → Tree.Declaration
 declaration_of d = record { name = string_bytes d.name; lengths = d.lengths.items }
 
+-- a text's tree
 abbrev pub kernel_of : Kernel → Tree.Kernel
 kernel_of k = record { constants = map (λ c. (string_bytes c.name, c.value)) k.constants.items; variables = map declaration_of k.variables.items; body = items_of k.body.items }

@@ -3,10 +3,9 @@
 ghost use Rattle.std.specs.Prelude.{◌≡◌, ◌≤◌, ◌^◌};
 ghost use Rattle.std.specs.Option.{SomeIff};
 
-use std::marker::Model;
-
 use crate::place::{Place, VarId};
 use crate::statement::Kernel;
+use std::marker::Model;
 
 /// The size of a chunk, 1 to 2^24 iterations.
 #[derive(Clone, Copy, Debug, PartialEq, Eq)]
@@ -31,7 +30,11 @@ impl ChunkSize {
     pub fn new(iterations: u64) -> Option<ChunkSize>
         ensures { SomeIff result ((1 ≤ iterations) × (iterations ≤ 2 ^ 24)) iterations }
     {
-        if 1 <= iterations && iterations <= 1 << 24 { Some(ChunkSize { iterations }) } else { None }
+        if 1 <= iterations && iterations <= 1 << 24 {
+            Some(ChunkSize { iterations })
+        } else {
+            None
+        }
     }
 
     /// How many iterations.

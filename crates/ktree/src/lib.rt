@@ -9,10 +9,16 @@ mod statement;
 mod workers;
 
 pub use directive::{
-    Annotated, ChunkSize, Clause, Directive, DirectiveLine, Offset, ReductionOperator, Resolved, Schedule, SinkElement, Written,
+    Annotated, ChunkSize, Clause, Directive, DirectiveLine, Offset, ReductionOperator, Resolved,
+    Schedule, SinkElement, Written,
 };
 pub use expression::{BinaryOp, CompareOp, Cond, Expr, Mention, Suffix, UnaryOp};
 pub use place::{Place, VarId};
 pub use refusal::{Cause, Conflict, InputFault, NotShown, Refusal};
-pub use statement::{Declaration, Enumerator, Head, Increment, Item, Kernel, Local, PrintPart, Source, Stmt, Target};
+pub use statement::{
+    Declaration, Enumerator, Head, Increment, Item, Kernel, Local, PrintPart, Source, Stmt, Target,
+};
 pub use workers::{ChunkNo, Workers};
+
+#[cfg(test)]
+mod tests;

@@ -3,9 +3,8 @@
 ghost use Rattle.std.specs.Prelude.{◌≡◌};
 ghost use Rattle.ktree.specs.Numbers.{number_of};
 
-use std::alloc::{AllocError, AllocFailed};
-
 use crate::place::Place;
+use std::alloc::{AllocError, AllocFailed};
 
 /// Two accesses of one array, by their places, that are not shown to be independent.
 #[derive(Drop)]

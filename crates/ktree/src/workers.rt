@@ -28,7 +28,11 @@ impl Workers {
     pub fn new(count: u64) -> Option<Workers>
         ensures { SomeIff result ((1 ≤ count) × (count ≤ 64)) count }
     {
-        if 1 <= count && count <= 64 { Some(Workers { count }) } else { None }
+        if 1 <= count && count <= 64 {
+            Some(Workers { count })
+        } else {
+            None
+        }
     }
 
     /// How many they are.
