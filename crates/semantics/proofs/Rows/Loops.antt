@@ -10,14 +10,14 @@ use Rattle.semantics.specs.Loops.Nest.{Vector}
 use Rattle.semantics.specs.Loops.Access.{Reads, Writes, Touches, Conflict}
 use Rattle.semantics.specs.Loops.Chunk.{Kind, Dynamic, Static, PlainStatic, cut}
 use Rattle.semantics.specs.Loops.Operator.{Sum, AndAlso}
-use Rattle.semantics.specs.Loops.Piece.{Roles, SharedLoop, Piece, piece}
+use Rattle.semantics.specs.Loops.Piece.{Roles, no_roles, SharedLoop, Piece, piece}
 use Rattle.semantics.specs.Loops.Joined.{JoinedLoop, chunked, joined_state, joined_text}
 use Rattle.semantics.specs.Loops.Scan.{second_pieces, scan_partials}
 use Rattle.semantics.specs.Teams.Machine.{Job, Event, Draw, Arrive, Stop, Look, merged_state}
 use Rattle.semantics.specs.Teams.WholeRuns.{after}
 use Rattle.semantics.specs.Meaning.Output.{start}
 use Rattle.semantics.specs.Rows.Numbers.{empty, var, num, from_zero}
-use Rattle.semantics.specs.Rows.Loops.{a_at, at_i, no_roles, loop_of, holding, zeros, vectors, there, pieces_of, shifting, guarded_and, and_roles, twice, last_roles, setting, conditional_roles, over_six, over_six_of, speaking, scan_roles, scanning, five, second_of_scan, a_job, some_events, own_job, LoopRows}
+use Rattle.semantics.specs.Rows.Loops.{a_at, at_i, loop_of, holding, zeros, vectors, there, pieces_of, shifting, guarded_and, and_roles, twice, last_roles, setting, conditional_roles, over_six, over_six_of, speaking, scan_roles, scanning, five, second_of_scan, a_job, some_events, own_job, LoopRows}
 
 first_writes : Touches (from_zero 2 8 ∷ []) shifting empty (1 ∷ []) (record { array = 0; indexes = 1 ∷ [] }) Writes
 first_writes =

@@ -16,6 +16,10 @@ pub record Roles : Type 0 where
   pub conditionals : List Variable
   pub reductions : List (Variable × ReduceOp)
 
+-- no clause names a variable
+abbrev pub no_roles : Roles
+no_roles = record { privates = []; firsts = []; lasts = []; conditionals = []; reductions = [] }
+
 -- a worksharing loop: its associated loops, its body, and the roles of its variables (OpenMP 5.2, 11.5)
 pub record SharedLoop : Type 0 where
   pub loops : List Loop

@@ -10,7 +10,7 @@ use Rattle.semantics.specs.Loops.Nest.{Vector}
 use Rattle.semantics.specs.Loops.Access.{Reads, Writes, Touches, Conflict}
 use Rattle.semantics.specs.Loops.Chunk.{Kind, Dynamic, Static, PlainStatic, cut}
 use Rattle.semantics.specs.Loops.Operator.{Sum, AndAlso}
-use Rattle.semantics.specs.Loops.Piece.{Roles, SharedLoop, Piece, piece}
+use Rattle.semantics.specs.Loops.Piece.{Roles, no_roles, SharedLoop, Piece, piece}
 use Rattle.semantics.specs.Loops.Joined.{JoinedLoop, chunked, joined_state, joined_text}
 use Rattle.semantics.specs.Loops.Scan.{second_pieces, scan_partials}
 use Rattle.semantics.specs.Teams.Machine.{Job, Event, Draw, Arrive, Stop, Look, merged_state}
@@ -24,9 +24,6 @@ a_at e = Object 0 (more_exprs e no_exprs)
 
 abbrev pub at_i : Exprs
 at_i = more_exprs (var 2) no_exprs
-
-abbrev pub no_roles : Roles
-no_roles = record { privates = []; firsts = []; lasts = []; conditionals = []; reductions = [] }
 
 abbrev pub loop_of : Roles → Stmt → ℕ → SharedLoop
 loop_of roles body n = record { loops = from_zero 2 n ∷ []; body = body; roles = roles }

@@ -1,0 +1,2 @@
+pub mod OperatorLaw
+pub mod Partial

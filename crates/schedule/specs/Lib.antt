@@ -1,0 +1,4 @@
+pub mod Chunk
+pub mod Cut
+pub mod Part
+pub mod Sched

@@ -1,0 +1,8 @@
+use Rattle.std.proofs.Common.{arith}
+use Rattle.team.proofs.Applying.{runs}
+use Rattle.team.proofs.team.run_loop.Goals as goal
+
+pub returns-clause-runs : goal.returns-clause-runs
+returns-clause-runs g c = λ name.
+    let most = c.requires.bound in
+    runs c.args.lowered.now c.args.store c.apply_all.new.store c.in_ok-changes.changes.items c.in_ok-changes.ensures.changes c.apply_all.ensures.written name c.requires.fits (omega arith) c.apply_all.ensures.others

@@ -1,0 +1,12 @@
+//! A team of workers, each in a thread of its own, that runs the chunks of a worksharing loop (OpenMP 5.2, 11.5).
+#![tactic(auto)]
+
+mod gate;
+mod team;
+mod worker;
+
+pub use gate::{Gate, OpenGate};
+pub use team::run_loop;
+
+#[cfg(test)]
+mod tests;

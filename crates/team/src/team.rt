@@ -1,0 +1,185 @@
+//! The team.
+
+ghost use Rattle.std.specs.Prelude.{◌≡◌, ℕ, [], ◌≤◌, ◌^◌, length, vec_len, List, map, All, IfOk, IfErr};
+ghost use Rattle.draw.specs.Tickets.{fresh};
+ghost use Rattle.overlay.specs.Loop.{Fits, statement_of};
+ghost use Rattle.overlay.specs.Kept.{Kept, state_of};
+ghost use Rattle.overlay.specs.declared.lowered.LoweredLoop.{LoweredLoop};
+ghost use Rattle.semantics.specs.Loops.Chunk.{Chunk};
+ghost use Rattle.team.specs.Ends.{IsCut, IsPieceOf, IsFinished, AreFinished, CameFrom, IsChange, AreAll, IsWritten, KeepsOthers};
+ghost use Rattle.semantics.specs.Loops.Piece.{no_roles};
+ghost use Rattle.semantics.specs.Theorems.{RunsAsTheLoop};
+
+use crate::gate::Gate;
+use crate::worker::{Finished, Job, work};
+use draw::{DrawSeat, Drawing};
+use ktree::{Refusal, Workers};
+use overlay::{Changes, LoweredLoop, Piece, Store};
+use schedule::{Chunks, Sched, chunk_list};
+use std::alloc::Global;
+use std::sync::Wait;
+use std::thread;
+use std::thread::Threads;
+
+/// Starts a worker for each seat, all at once, and joins them. A thread that does not start is `OutOfMemory`.
+fn run_all<'l, 's, R: Threads + Wait + Sync, G: Gate>(
+    rt: &R,
+    alloc: Global,
+    lowered: &'l LoweredLoop,
+    store: &'s Store,
+    chunks: &Chunks,
+    drawing: &Drawing,
+    seats: Vec<DrawSeat>,
+    gate: &G,
+) -> Result<Vec<Result<Finished<'l, 's>, Refusal>>, Refusal>
+    requires fits { Fits lowered.now store.now }
+    requires cut { IsCut lowered.now.bound chunks.now }
+    requires count { drawing.now.count ≡ length chunks.now }
+    requires seats { All (λ seat. seat ≡ fresh drawing.now) seats.items }
+    ensures len { IfOk result (λ v. vec_len v ≡ vec_len seats) }
+    ensures ends { IfOk result (λ v. AreFinished lowered.now store.now chunks.now drawing.now v.items) }
+    ensures refusal { IfErr result (λ refusal. refusal ≡ Refusal.OutOfMemory) }
+{
+    thread::scope(
+        thread::scope_env(),
+        rt,
+        |scope| -> Result<Vec<Result<Finished, Refusal>>, Refusal>
+            requires { Fits lowered.now store.now × IsCut lowered.now.bound chunks.now × (drawing.now.count ≡ length chunks.now) × All (λ seat. seat ≡ fresh drawing.now) seats.items }
+            ensures ends { IfOk result (λ v. (vec_len v ≡ vec_len seats) × AreFinished lowered.entry.now store.entry.now chunks.entry.now drawing.entry.now v.items) }
+            ensures refusal { IfErr result (λ refusal. refusal ≡ Refusal.OutOfMemory) }
+        {
+            let promise = Job {
+                lowered,
+                store,
+                chunks,
+                drawing,
+            };
+            let mut children = Vec::with_capacity(alloc, seats.len())?;
+            let mut worker = 0u64;
+            for seat in seats {
+                let number = worker;
+                let child = scope.spawn_with(
+                    promise,
+                    move || -> Result<Finished, Refusal>
+                        requires { Fits lowered.now store.now × IsCut lowered.now.bound chunks.now × (drawing.now.count ≡ length chunks.now) × (seat ≡ fresh drawing.now) }
+                        ensures { IfOk result (λ f. IsFinished lowered.entry.now store.entry.now chunks.entry.now drawing.entry.now f) }
+                    { work(alloc, lowered, store, chunks, drawing, seat, number, gate) },
+                );
+                let Ok(child) = child else {
+                    return Err(Refusal::OutOfMemory);
+                };
+                children.push(child)?;
+                worker = worker.wrapping_add(1);
+            }
+            Ok(thread::join_promised(rt, children)?)
+        },
+    )
+}
+
+/// The seats and the pieces of all workers, in their order, where none was refused anything; a worker is refused memory alone.
+fn collect<'l, 's>(
+    alloc: Global,
+    ends: Vec<Result<Finished<'l, 's>, Refusal>>,
+) -> Result<(Vec<DrawSeat>, Vec<Piece<'l, 's>>), Refusal>
+    ensures ends { IfOk result (λ r. CameFrom ends.entry.items r.0.items r.1.items) }
+    ensures refusal { IfErr result (λ refusal. refusal ≡ Refusal.OutOfMemory) }
+{
+    let mut seats = Vec::new(alloc);
+    let mut pieces = Vec::new(alloc);
+    for end in ends {
+        let Ok(
+            Finished {
+                seat,
+                pieces: mut theirs,
+            },
+        ) = end
+        else {
+            return Err(Refusal::OutOfMemory);
+        };
+        seats.push(seat)?;
+        pieces.append(&mut theirs)?;
+    }
+    Ok((seats, pieces))
+}
+
+/// Ends the borrow of the store, piece by piece.
+fn release_all<'l, 's>(alloc: Global, pieces: Vec<Piece<'l, 's>>) -> Result<Vec<Changes>, Refusal>
+    ensures changes { (lowered : LoweredLoop) (store : List Kept) (chunks : List Chunk) → All (IsPieceOf lowered store chunks) pieces.entry.items → IfOk result (λ cs. All (IsChange lowered store chunks) cs.items) }
+    ensures numbers { IfOk result (λ cs. map (λ c. c.work.chunk.0) cs.items ≡ map (λ p. p.work.chunk.0) pieces.entry.items) }
+    ensures refusal { IfErr result (λ refusal. refusal ≡ Refusal.OutOfMemory) }
+{
+    let mut changes = Vec::with_capacity(alloc, pieces.len())?;
+    for piece in pieces {
+        changes.push(piece.release())?;
+    }
+    Ok(changes)
+}
+
+/// Overwrites the store by the writes of all chunks; no two chunks have an element in common.
+fn apply_all(store: &mut Store, lowered: &LoweredLoop, changes: Vec<Changes>)
+    requires fits { Fits lowered.now store.old }
+    requires changes { (chunks : List Chunk) × All (IsChange lowered.now store.old chunks) changes.items }
+    ensures written { All (IsWritten lowered.now store.old store.new) changes.items }
+    ensures others { KeepsOthers lowered.now store.old store.new }
+{
+    for change in changes {
+        change.apply(store);
+    }
+}
+
+/// The chunks of a loop, as its schedule cuts it.
+fn chunks_of(alloc: Global, lowered: &LoweredLoop, workers: Workers) -> Result<Chunks, Refusal>
+    requires { lowered.now.bound ≤ 2 ^ 24 }
+    ensures cut { IfOk result (λ cs. IsCut lowered.now.bound cs × (length cs ≤ lowered.now.bound)) }
+    ensures refusal { IfErr result (λ refusal. refusal ≡ Refusal.OutOfMemory) }
+{
+    chunk_list(alloc, Sched::Dynamic(lowered.size), lowered.bound, workers)
+}
+
+/// What all chunks of a loop write, each run by the worker that drew it.
+fn run_chunks<R: Threads + Wait + Sync, G: Gate>(
+    rt: &R,
+    alloc: Global,
+    lowered: &LoweredLoop,
+    store: &Store,
+    workers: Workers,
+    gate: &G,
+) -> Result<Vec<Changes>, Refusal>
+    requires fits { Fits lowered.now store.now }
+    requires bound { lowered.now.bound ≤ 2 ^ 24 }
+    ensures changes { IfOk result (λ cs. AreAll lowered.now store.now cs.items) }
+    ensures refusal { IfErr result (λ refusal. refusal ≡ Refusal.OutOfMemory) }
+{
+    let chunks = chunks_of(alloc, lowered, workers)?;
+    let (drawing, seats) = Drawing::new(alloc, chunks.len(), workers.get())?;
+    let ends = run_all(rt, alloc, lowered, store, &chunks, &drawing, seats, gate)?;
+    let (seats, pieces) = collect(alloc, ends)?;
+    let whole = drawing.close(seats).whole();
+    prove!(whole);
+    release_all(alloc, pieces)
+}
+
+/// Runs a loop with `schedule(dynamic, k)` on a team of so many workers: each draws chunks until none is left, and runs them
+/// from the store before the loop; after all have met the end, the store is overwritten by what they wrote (OpenMP 5.2, 11.5).
+///
+/// # Errors
+///
+/// `OutOfMemory` alone, where memory is refused or a thread does not start; the store is then given up.
+pub fn run_loop<R: Threads + Wait + Sync, G: Gate>(
+    rt: &R,
+    alloc: Global,
+    lowered: &LoweredLoop,
+    mut store: Store,
+    workers: Workers,
+    gate: &G,
+) -> Result<Store, Refusal>
+    requires fits { Fits lowered.now store }
+    requires bound { lowered.now.bound ≤ 2 ^ 24 }
+    ensures runs { IfOk result (λ after. (name : List ℕ) → RunsAsTheLoop (statement_of name lowered.now) no_roles (state_of store) (state_of after) []) }
+    ensures shape { IfOk result (λ after. map (λ k. k.lengths) after ≡ map (λ k. k.lengths) store) }
+    ensures refusal { IfErr result (λ refusal. refusal ≡ Refusal.OutOfMemory) }
+{
+    let changes = run_chunks(rt, alloc, lowered, &store, workers, gate)?;
+    apply_all(&mut store, lowered, changes);
+    Ok(store)
+}

@@ -1,0 +1,68 @@
+//! One worker of a team.
+
+ghost use Rattle.std.specs.Prelude.{◌≡◌, ◌≤◌, length, IfOk};
+ghost use Rattle.draw.specs.Tickets.{fresh};
+ghost use Rattle.overlay.specs.Loop.{Fits};
+ghost use Rattle.team.specs.Ends.{IsCut, IsFinished};
+
+use crate::gate::Gate;
+use draw::{DrawSeat, Drawing};
+use ktree::{ChunkNo, Refusal};
+use overlay::{LoweredLoop, Piece, Store, Work, run_chunk};
+use schedule::Chunks;
+use std::alloc::Global;
+use std::thread::Promise;
+
+/// What a worker leaves when it met the end of the chunks.
+#[derive(Drop)]
+pub struct Finished<'l, 's> {
+    pub seat: DrawSeat,
+    pub pieces: Vec<Piece<'l, 's>>,
+}
+
+/// What the workers of a loop share, and what each promises by it: an end that is right for the lent store.
+#[derive(Clone, Copy)]
+pub struct Job<'l, 's, 'c, 'd> {
+    pub lowered: &'l LoweredLoop,
+    pub store: &'s Store,
+    pub chunks: &'c Chunks,
+    pub drawing: &'d Drawing,
+}
+
+impl<'l, 's, 'c, 'd> Promise<Result<Finished<'l, 's>, Refusal>> for Job<'l, 's, 'c, 'd> {
+    ghost use Rattle.std.specs.Prelude.{IfOk};
+    ghost use Rattle.team.specs.Ends.{IsFinished};
+
+    ghost kept_by = { λ p r. IfOk r (λ f. IsFinished p.lowered.now p.store.now p.chunks.now p.drawing.now f) };
+}
+
+/// Draws until the end, and runs each chunk drawn.
+pub fn work<'l, 's, G: Gate>(
+    alloc: Global,
+    lowered: &'l LoweredLoop,
+    store: &'s Store,
+    chunks: &Chunks,
+    drawing: &Drawing,
+    mut seat: DrawSeat,
+    worker: u64,
+    gate: &G,
+) -> Result<Finished<'l, 's>, Refusal>
+    requires fits { Fits lowered.now store.now }
+    requires cut { IsCut lowered.now.bound chunks.now }
+    requires count { drawing.now.count ≡ length chunks.now }
+    requires seat { seat ≡ fresh drawing.now }
+    ensures { IfOk result (λ f. IsFinished lowered.now store.now chunks.now drawing.now f) }
+{
+    let mut pieces = Vec::new(alloc);
+    while let Some(ticket) = drawing.next(&mut seat) {
+        gate.entered(worker, ticket);
+        let chunk = chunks.at(ticket);
+        let work = Work {
+            chunk: ChunkNo(ticket),
+            first: chunk.first,
+            count: chunk.count,
+        };
+        pieces.push(run_chunk(alloc, lowered, store, work)?)?;
+    }
+    Ok(Finished { seat, pieces })
+}
