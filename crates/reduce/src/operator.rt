@@ -3,7 +3,7 @@
 ghost use Rattle.std.specs.Prelude.{◌≡◌};
 ghost use Rattle.semantics.specs.Loops.Operator as meant;
 ghost use Rattle.ktree.specs.DirectiveView.{operator_of};
-ghost use Rattle.reduce.specs.OperatorLaw.{operators_are_lawful};
+ghost use Rattle.semantics.specs.Loops.OperatorLaw.{operators_are_lawful};
 
 use ktree::ReductionOperator;
 

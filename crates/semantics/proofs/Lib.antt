@@ -1,4 +1,7 @@
 pub mod RulesRun
+pub mod JoinLaw
+pub mod TakeLaw
+pub mod FlagLaw
 pub mod EraseOnce
 pub mod Levels
 pub mod Commute

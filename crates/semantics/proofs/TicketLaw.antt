@@ -24,17 +24,17 @@ times-remove x c [] i e = absurd cc
 times-remove x c (y ∷ ys) zero e = let h = ap (once x) (same_Some _ _ e) in omega arith
 times-remove x c (y ∷ ys) (suc i) e = let r = times-remove x c ys i e in omega arith
 
-at_same : (f : ℕ → List ℕ) (w : ℕ) (v : List ℕ) → at f w v w ≡ v
+pub at_same : (f : ℕ → List ℕ) (w : ℕ) (v : List ℕ) → at f w v w ≡ v
 at_same f w v = ap (λ b. cond b v (f w)) (eq-eqb w w refl)
 
 at_other : (f : ℕ → List ℕ) (w : ℕ) (v : List ℕ) (y : ℕ) → y ≢ w → at f w v y ≡ f y
 at_other f w v y ne = grind (arith, nat_tests)
 
 -- how often x stands in what the workers below n hold
-abbrev held_below : ℕ → (ℕ → List ℕ) → ℕ → ℕ
+abbrev pub held_below : ℕ → (ℕ → List ℕ) → ℕ → ℕ
 held_below x f n = times x (flat_map f (below n))
 
-held_more : (x : ℕ) (f : ℕ → List ℕ) (n : ℕ) → held_below x f (suc n) ≡ held_below x f n + times x (f n)
+pub held_more : (x : ℕ) (f : ℕ → List ℕ) (n : ℕ) → held_below x f (suc n) ≡ held_below x f n + times x (f n)
 held_more x f n = ap (times x) (flat_map-append f (below n) (n ∷ [])) ∙ (let r = times-append x (flat_map f (below n)) (f n ++ []) in let q = times-append x (f n) [] in omega arith)
 
 held_past : (x : ℕ) (f : ℕ → List ℕ) (w : ℕ) (v : List ℕ) (n : ℕ) → n ≤ w → held_below x (at f w v) n ≡ held_below x f n
@@ -44,7 +44,7 @@ held_past x f w v (suc n) le =
     let o = ap (times x) (at_other f w v n (λ e. omega arith)) in
     omega (arith, held_more x f n, held_more x (at f w v) n)
 
-held_at : (x : ℕ) (f : ℕ → List ℕ) (w : ℕ) (v : List ℕ) (n : ℕ) → w < n → held_below x (at f w v) n + times x (f w) ≡ held_below x f n + times x v
+pub held_at : (x : ℕ) (f : ℕ → List ℕ) (w : ℕ) (v : List ℕ) (n : ℕ) → w < n → held_below x (at f w v) n + times x (f w) ≡ held_below x f n + times x v
 held_at x f w v zero lt = absurd (omega arith)
 held_at x f w v (suc n) lt = go (n == w) refl (λ less. held_at x f w v n less)
   where
@@ -61,7 +61,7 @@ held_at x f w v (suc n) lt = go (n == w) refl (λ less. held_at x f w v n less)
         let r = before (omega arith) in
         omega (arith, held_more x f n, held_more x (at f w v) n)
 
-out_is : (job : Job) (s : World) (x : ℕ) → times x (out job s) ≡ times x s.merge.arrived + held_below x s.held job.workers
+pub out_is : (job : Job) (s : World) (x : ℕ) → times x (out job s) ≡ times x s.merge.arrived + held_below x s.held job.workers
 out_is job s x = times-append x s.merge.arrived (flat_map s.held (below job.workers))
 
 abbrev next_world : World → ℕ → Bool → World
@@ -129,7 +129,7 @@ events_keep job [] s k h = h
 events_keep job (e ∷ es) s k h = events_keep job es (happens job s e) k (event_keeps job s e k h)
 
 -- no worker holds a chunk where the loop begins
-none_held : (x n : ℕ) → held_below x (λ w. []) n ≡ 0
+pub none_held : (x n : ℕ) → held_below x (λ w. []) n ≡ 0
 none_held x zero = refl
 none_held x (suc n) = let r = none_held x n in omega (arith, held_more x (λ w. []) n)
 
@@ -142,7 +142,7 @@ draws_each_once job events k =
     nothing_below x = grind (arith, nat_tests)
 
 -- who holds nothing adds nothing
-held_none : (x n : ℕ) (f : ℕ → List ℕ) → ((w : ℕ) → w < n → f w ≡ []) → held_below x f n ≡ 0
+pub held_none : (x n : ℕ) (f : ℕ → List ℕ) → ((w : ℕ) → w < n → f w ≡ []) → held_below x f n ≡ 0
 held_none x zero f h = refl
 held_none x (suc n) f h =
     let r = held_none x n f (λ w lt. h w (omega arith)) in

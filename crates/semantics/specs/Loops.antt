@@ -7,3 +7,4 @@ pub mod Piece
 pub mod Joined
 pub mod Scan
 pub mod Order
+pub mod OperatorLaw

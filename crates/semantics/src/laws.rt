@@ -1,8 +1,8 @@
 //! The laws of the definitions: each is the contract of a function that does nothing.
 
-ghost use Rattle.semantics.specs.Laws.{ErasesOnce, ErasedTextReads, RunsAreUnique, RunsFollowTheRules, WritesCommute, RisingLoopsCount, ChunksHoldIterations, OwnersAreWorkers, LevelsLieAboveSinks, OneWaveEach, NothingBeforeItself, TicketsArrive};
+ghost use Rattle.semantics.specs.Laws.{OperatorsAreLawful, ErasesOnce, ErasedTextReads, RunsAreUnique, RunsFollowTheRules, WritesCommute, RisingLoopsCount, ChunksHoldIterations, OwnersAreWorkers, LevelsLieAboveSinks, OneWaveEach, NothingBeforeItself, TicketsArrive};
 ghost use Rattle.semantics.specs.Loops.Chunk.{CutsAll, OneChunkEach};
-ghost use Rattle.semantics.specs.Teams.WholeRuns.{DrawsEachOnce, MergesWhatArrived};
+ghost use Rattle.semantics.specs.Teams.WholeRuns.{EveryOrder, WholeListsScan, WholeListsJoin, FlagIsTrue, WholeListsArrive, ArrivesOnce, TakesEachOnce, DrawsEachOnce, MergesWhatArrived};
 
 /// Erasing the directive lines of an erased text changes nothing.
 pub fn erases_once()
@@ -82,4 +82,44 @@ pub fn tickets_arrive()
 /// After every list of events the record is the merge of exactly the pieces that arrived.
 pub fn record_is_the_merge()
     ensures { MergesWhatArrived }
+{}
+
+/// Each of the nine reduction operators is associative and commutative, with its identity.
+pub fn operators_are_lawful()
+    ensures { OperatorsAreLawful }
+{}
+
+/// After every list of events, of every kind of schedule, no chunk is taken twice.
+pub fn chunks_are_taken_once()
+    ensures { TakesEachOnce }
+{}
+
+/// After every list of events no chunk has arrived twice.
+pub fn chunks_arrive_once()
+    ensures { ArrivesOnce }
+{}
+
+/// At the end of a whole list of events all chunks of the cut have arrived, each once.
+pub fn whole_lists_arrive()
+    ensures { WholeListsArrive }
+{}
+
+/// The flag is raised exactly where a worker stopped, and who saw it raised saw what is so.
+pub fn flag_is_true()
+    ensures { FlagIsTrue }
+{}
+
+/// Every whole list of events ends in the join of all chunks, in the order of their arrival.
+pub fn whole_lists_join()
+    ensures { WholeListsJoin }
+{}
+
+/// Every whole list of events of a scan's second pass ends in the scan.
+pub fn whole_lists_scan()
+    ensures { WholeListsScan }
+{}
+
+/// All of what holds of the workers' machine, for every job and every list of events.
+pub fn every_order()
+    ensures { EveryOrder }
 {}

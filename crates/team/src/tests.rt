@@ -144,13 +144,19 @@ fn a_loop_without_iterations_writes_nothing(rt: HostRuntime) -> Result<(), Fail>
 }
 
 /// So many workers, each with one chunk, are all in the loop before one of them goes on.
-fn hold_all<R: Threads + Wait + Sync + Abort>(rt: &R, alloc: Global, count: u64) -> Result<(), AllocError>
+fn hold_all<R: Threads + Wait + Sync + Abort>(
+    rt: &R,
+    alloc: Global,
+    count: u64,
+) -> Result<(), AllocError>
     requires { count ≤ 64 }
 {
     let gate = Held::until(count);
     let lowered = loop_of(rt, count, Formula::One(Operand::Counter), 1);
     let zeros = one_array(alloc, vec![in alloc; 0u64; 64]?)?;
-    let after = run_loop(rt, alloc, &lowered, zeros, workers(rt, count), &gate).ok().expect(rt, "memory");
+    let after = run_loop(rt, alloc, &lowered, zeros, workers(rt, count), &gate)
+        .ok()
+        .expect(rt, "memory");
     assert_eq!(rt; values_of(rt, &after).get(1), Some(&1));
     assert_eq!(rt; gate.late.load(Ordering::SeqCst), 0, "by {count}");
     Ok(())

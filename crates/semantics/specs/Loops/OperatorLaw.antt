@@ -1,4 +1,4 @@
--- The nine operators are lawful. The trait's impls cite this, so it stands here.
+-- The nine operators are lawful. An implementation of an operator cites this, so it stands among the definitions.
 use Rattle.std.specs.Prelude.{ℕ, zero, suc, Bool, true, false, ◌≡◌, ◌+◌, ◌-◌, ◌*◌, ◌%◌, ◌^◌, min, max, nat_lt, ◌&&◌, ◌||◌, bit_or, refl}
 use Rattle.std.proofs.Common.{sym, ap, ◌∙◌}
 use Rattle.std.proofs.Math.Nat.{add_comm, add_assoc, add-zero, zero-add, mul_comm, mul_assoc, mul-one, one-mul, add-mod-mod, mod-add-mod, mod-eq_of_lt, max_comm, max-zero, zero-max, max-le, le-max_left, le-max_right, min_comm, min-eq_right, le-min, min-le_left, min-le_right, le_antisymm, le_trans, le_of_suc-le-suc, le-pred_of_lt, not-suc-le-zero}
