@@ -1,6 +1,6 @@
 -- What the code's directives stand for: those of the definitions, over names or over variables.
 use Rattle.std.specs.Prelude.{ℕ, ℤ, pos, neg_ℤ, List, map, string_bytes}
-use Rattle.semantics.specs.Tree.{Name, Variable, Kernel}
+use Rattle.semantics.specs.Tree.{Name, Variable}
 use Rattle.semantics.specs.Loops.Operator as meant
 use Rattle.semantics.specs.Directives.Directive as meaning
 use Rattle.ktree.specs.declared.directive.ReductionOperator.{ReductionOperator}

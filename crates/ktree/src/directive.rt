@@ -47,7 +47,7 @@ impl ChunkSize {
     }
 }
 
-/// A reduction operator (OpenMP 5.2 5.5.1).
+/// A reduction operator (OpenMP 5.2, 5.5.1).
 #[derive(Clone, Copy, Debug, PartialEq, Eq)]
 pub enum ReductionOperator {
     Sum,
@@ -61,7 +61,7 @@ pub enum ReductionOperator {
     Min,
 }
 
-/// What a `schedule` clause says (OpenMP 5.2 11.5.3); a size that is left out after `dynamic` or `guided` is 1.
+/// What a `schedule` clause says (OpenMP 5.2, 11.5.3); a size that is left out after `dynamic` or `guided` is 1.
 #[derive(Clone, Copy, Debug, PartialEq, Eq)]
 pub enum Schedule {
     Static,
@@ -87,7 +87,7 @@ pub struct Resolved {
     pub place: Place,
 }
 
-/// A clause over names, written or resolved (OpenMP 5.2 4.4.3, 4.4.4, 5.4, 5.5.8, 11.5.3, 15.6).
+/// A clause over names, written or resolved (OpenMP 5.2, 4.4.3, 4.4.4, 5.4, 5.5.8, 11.5.3, 15.6).
 #[derive(Drop)]
 pub enum Clause<N> {
     DefaultShared,
@@ -116,7 +116,7 @@ pub enum Offset {
     Back(u64),
 }
 
-/// An element of a sink's vector (OpenMP 5.2 15.9.6).
+/// An element of a sink's vector (OpenMP 5.2, 15.9.6).
 #[derive(Drop)]
 pub struct SinkElement<N> {
     pub variable: N,

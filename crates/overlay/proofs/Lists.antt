@@ -1,6 +1,6 @@
 -- Writing at one place of a store.
-use Rattle.std.specs.Prelude.{ℕ, zero, suc, ◌≡◌, ◌<◌, List, [], ◌∷◌, length, Some, None, slice_get, slice_set}
-use Rattle.std.proofs.Common.{refl, ap, ◌∙◌, arith, get_or}
+use Rattle.std.specs.Prelude.{ℕ, zero, suc, ◌≡◌, ◌<◌, List, [], ◌∷◌, length, slice_get, slice_set}
+use Rattle.std.proofs.Common.{ap, ◌∙◌, arith, get_or}
 use Rattle.overlay.specs.Kept.{Kept, rewritten, rewritten_at, HasRoom}
 
 pub rewritten_at-set : (ks : List Kept) (x : ℕ) (new k : Kept) (first : ℕ) (values : List ℕ) → x < length ks → k ≡ get_or ks x k → new ≡ rewritten k first values → slice_set ks x new ≡ rewritten_at ks x first values

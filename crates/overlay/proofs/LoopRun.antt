@@ -1,12 +1,11 @@
 -- The loop, run in sequence: what each turn does, and the state that it leaves.
-use Rattle.std.specs.Prelude.{ℕ, zero, suc, Bool, true, false, not, ◌≡◌, ◌≢◌, ◌+◌, ◌-◌, ◌*◌, ◌<◌, ◌≤◌, ◌==◌, ◌&&◌, ◌||◌, ◌⊎◌, ◌%◌, ◌^◌, nat_lt, List, [], ◌∷◌, ◌++◌, length, Option, Some, None, slice_get, option_and_then}
-use Rattle.std.proofs.Common.{refl, sym, inl, inr, ap, ◌∙◌, subst, cond, arith}
-use Rattle.std.proofs.Math.Path.{fun_ext}
+use Rattle.std.specs.Prelude.{ℕ, zero, suc, Bool, true, false, not, ◌≡◌, ◌≢◌, ◌+◌, ◌*◌, ◌<◌, ◌≤◌, ◌==◌, ◌&&◌, ◌||◌, ◌⊎◌, ◌^◌, nat_lt, List, [], ◌∷◌, length, Option, Some, None, slice_get, option_and_then}
+use Rattle.std.proofs.Common.{refl, sym, inl, inr, ap, ◌∙◌, cond, arith}
 use Rattle.std.proofs.Math.Nat.{mod-eq_of_lt}
 use Rattle.std.proofs.lemmas.Bool.{eq-eqb, eqb-true, eqb-false, ltb-true, lt-ltb, le-ltb}
 use Rattle.semantics.specs.Tree as Tree
-use Rattle.semantics.specs.Meaning.State.{State, Slot, Outside, Holds, Write, Declared, Assigned, cells_after, with_cell, with_local, renewed, same_indexes, overwritten, look, look_in, is_there, is_object_in, assign_at}
-use Rattle.semantics.specs.Meaning.Value.{value, values, holds, source_value, both, both_then, by_test, map_option, operate, compare}
+use Rattle.semantics.specs.Meaning.State.{State, Outside, Holds, Write, Declared, Assigned, cells_after, renewed, same_indexes, overwritten, look, look_in, is_there, is_object_in, assign_at}
+use Rattle.semantics.specs.Meaning.Value.{value, holds, both, both_then, by_test, map_option, operate}
 use Rattle.semantics.specs.Meaning.Runs.{Effect, nothing, one_write, joined, then_from, assigned, incremented, turns, most_turns, run, run_items}
 use Rattle.std.proofs.lemmas.Bool.Decides.{nat_tests}
 use Rattle.std.proofs.lemmas.Bool.{ltb-false}

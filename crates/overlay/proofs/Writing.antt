@@ -1,15 +1,14 @@
 -- Values written one behind another into a store are writes to its state, one after another.
-use Rattle.std.specs.Prelude.{ℕ, zero, suc, Bool, true, false, ◌≡◌, ◌≢◌, ◌+◌, ◌*◌, ◌<◌, ◌≤◌, ◌==◌, ◌&&◌, nat_lt, if◌then◌else◌, List, [], ◌∷◌, ◌++◌, length, take, drop, Option, Some, None, slice_get, slice_set, slice_index, map}
-use Rattle.std.proofs.Common.{refl, sym, ap, ◌∙◌, subst, cond, arith, add-one}
+use Rattle.std.specs.Prelude.{ℕ, zero, suc, Bool, true, false, ◌≡◌, ◌≢◌, ◌+◌, ◌*◌, ◌<◌, ◌≤◌, ◌==◌, ◌&&◌, nat_lt, List, [], ◌∷◌, ◌++◌, length, take, drop, Option, Some, None, slice_get, slice_set, slice_index, map}
+use Rattle.std.proofs.Common.{refl, sym, ap, ◌∙◌, subst, cond, arith}
 use Rattle.std.proofs.Math.Path.{fun_ext}
 use Rattle.std.proofs.Math.Seq.{take-suc-set}
-use Rattle.std.proofs.lemmas.List.{take-append-drop, append_assoc, append-nil, length-append, length-take, length-drop, length-set, drop-set-lt, get_or-set_same, get_or-set_other}
-use Rattle.std.proofs.lemmas.Option.{slice_get-get_or, slice_get_past}
-use Rattle.std.proofs.lemmas.Bool.{eq-eqb, eqb-true, eqb-false, ltb-true, lt-ltb}
+use Rattle.std.proofs.lemmas.List.{take-append-drop, append_assoc, length-set, drop-set-lt}
+use Rattle.std.proofs.lemmas.Bool.{eq-eqb, eqb-true, eqb-false, lt-ltb}
 use Rattle.std.specs.Cmp.Lexicographic.{same_text}
 use Rattle.std.proofs.lemmas.Bool.Decides.{nat_tests}
 use Rattle.semantics.proofs.EraseTokenLaw.{first_of, second_of}
-use Rattle.semantics.specs.Meaning.State.{State, Outside, assign_at, Write, cells_after, with_cell, renewed, same_indexes, overwritten}
+use Rattle.semantics.specs.Meaning.State.{State, Outside, assign_at, cells_after, with_cell, renewed, same_indexes, overwritten}
 use Rattle.overlay.specs.Kept.{Kept, cell_of, state_of, overlaid, rewritten, rewritten_at, HasRoom, Covers, writes_from}
 
 -- one more value written over others

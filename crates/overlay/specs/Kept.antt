@@ -1,5 +1,5 @@
 -- What a store stands for.
-use Rattle.std.specs.Prelude.{ℕ, ◌≡◌, ◌<◌, ◌^◌, if◌then◌else◌, List, [], ◌∷◌, ◌++◌, ◌+◌, ◌≤◌, zero, suc, take, drop, length, Option, Some, None, slice_get}
+use Rattle.std.specs.Prelude.{ℕ, ◌≡◌, if◌then◌else◌, List, [], ◌∷◌, ◌++◌, ◌+◌, ◌≤◌, zero, suc, take, drop, length, Option, Some, None, slice_get}
 use Rattle.semantics.specs.Tree.{Variable}
 use Rattle.semantics.specs.Meaning.State.{State, Write, Assigned, Outside}
 use Rattle.semantics.specs.Meaning.Places.{within, place, size}

@@ -1,5 +1,5 @@
 -- What a lowered loop stands for, and what its body gives an element.
-use Rattle.std.specs.Prelude.{ℕ, ◌≡◌, ◌≤◌, List, [], ◌∷◌, length, Option, Some, None, slice_get}
+use Rattle.std.specs.Prelude.{ℕ, ◌≡◌, ◌≤◌, List, length, Some, slice_get}
 use Rattle.semantics.specs.Tree
 use Rattle.semantics.specs.Meaning.Value.{value}
 use Rattle.semantics.specs.Loops.Nest.{at_value}

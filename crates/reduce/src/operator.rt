@@ -7,7 +7,7 @@ ghost use Rattle.semantics.specs.Loops.OperatorLaw.{operators_are_lawful};
 
 use ktree::ReductionOperator;
 
-/// A reduction operator and its identity (OpenMP 5.2 5.5.1 and 5.5.3), on 64 bits.
+/// A reduction operator and its identity (OpenMP 5.2, 5.5.1 and 5.5.3), on 64 bits.
 pub trait ReduceOp {
     ghost operator: { meant.ReduceOp };
 

@@ -17,7 +17,7 @@ pub enum Partial {
     Updated(u64),
 }
 
-/// A value combined with a partial (OpenMP 5.2 5.5.2). One that was not updated is left out, so that
+/// A value combined with a partial (OpenMP 5.2, 5.5.2). One that was not updated is left out, so that
 /// the value stays, also one that is no result of the operator, as 5 under `&&`.
 pub fn combine<O: ReduceOp>(value: u64, partial: Partial) -> u64
     ensures { result ≡ combined O.operator value (partial_of partial) }

@@ -1,4 +1,4 @@
-//! The chunks of a worksharing loop: which there are, and who runs them (OpenMP 5.2 11.5.3).
+//! The chunks of a worksharing loop: which there are, and who runs them (OpenMP 5.2, 11.5.3).
 #![tactic(auto)]
 
 ghost use Rattle.schedule.specs.Part.{WorkersShareChunks};

@@ -2,7 +2,7 @@
 
 use ktree::ChunkSize;
 
-/// How a loop's iterations are cut into chunks and given to workers (OpenMP 5.2 11.5.3).
+/// How a loop's iterations are cut into chunks and given to workers (OpenMP 5.2, 11.5.3).
 #[derive(Clone, Copy, Debug, PartialEq, Eq)]
 pub enum Sched {
     /// `static`: one chunk for each worker, of sizes that differ by one at most.

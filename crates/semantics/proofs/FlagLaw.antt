@@ -1,7 +1,7 @@
 -- The flag is raised exactly where some worker stopped, and who saw it raised saw what is so.
 use Rattle.std.specs.Prelude.{ℕ, Bool, true, false, ◌≡◌, ◌==◌, ◌||◌, ◌<◌, ◌⊎◌, nat_lt, List, [], ◌∷◌, length, Option, Some, None, slice_get, slice_index_or, zero, suc, Contains}
-use Rattle.std.proofs.Common.{refl, sym, ap, ◌∙◌, subst, inl, inr, cond, arith}
-use Rattle.std.proofs.lemmas.Bool.{eqb-true, eqb-false, eq-eqb, ltb-true, lt-ltb}
+use Rattle.std.proofs.Common.{refl, sym, ap, ◌∙◌, inl, inr, cond, arith}
+use Rattle.std.proofs.lemmas.Bool.{eqb-true, eq-eqb, ltb-true, lt-ltb}
 use Rattle.semantics.specs.Loops.Chunk.{Kind, PlainStatic, Static, Dynamic, Guided}
 use Rattle.semantics.specs.Loops.Piece.{Piece}
 use Rattle.semantics.specs.Teams.Machine.{World, Event, Draw, Arrive, Stop, Look, Job, begin, does, happens, happen, worker_of, at, got, ticket_of, drawn, arrived, piece_at}

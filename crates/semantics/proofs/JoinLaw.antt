@@ -1,23 +1,23 @@
 -- Every whole list of events ends in the join of all chunks, in the order of their arrival.
-use Rattle.std.specs.Prelude.{ℕ, zero, suc, Bool, true, false, ◌≡◌, ◌==◌, ◌+◌, ◌<◌, ◌≤◌, nat_lt, List, [], ◌∷◌, ◌++◌, length, map, take, drop, flat_map, filter_map, Option, Some, None, slice_get, option_and_then}
+use Rattle.std.specs.Prelude.{ℕ, zero, suc, Bool, true, false, ◌≡◌, ◌==◌, ◌<◌, ◌≤◌, List, [], ◌∷◌, ◌++◌, length, map, take, drop, flat_map, filter_map, Option, Some, None, slice_get}
 use Rattle.std.specs.List.{cons_option}
 use Rattle.std.proofs.Common.{refl, sym, ap, ◌∙◌, subst, cond, arith, append-nil}
 use Rattle.std.proofs.lemmas.Bool.Decides.{nat_tests}
-use Rattle.std.proofs.lemmas.Bool.{eq-eqb, eqb-true, eqb-false}
-use Rattle.std.proofs.lemmas.List.{append_assoc, map-append}
+use Rattle.std.proofs.lemmas.Bool.{eqb-true}
+use Rattle.std.proofs.lemmas.List.{append_assoc}
 use Rattle.std.proofs.lemmas.Option.{same_Some}
 use Rattle.semantics.specs.Tree.{Variable}
-use Rattle.semantics.specs.Meaning.State.{State, Write, overwritten, look}
+use Rattle.semantics.specs.Meaning.State.{State, overwritten, look}
 use Rattle.semantics.specs.Meaning.Value.{map_option}
 use Rattle.semantics.specs.Meaning.Places.{below}
 use Rattle.semantics.specs.Loops.Nest.{Vector}
 use Rattle.semantics.specs.Loops.Arrangement.{times, once, once_below, EachOnceBelow, picked, with_found}
-use Rattle.semantics.specs.Loops.Operator.{ReduceOp, apply, combined, combined_all, IsLawful}
+use Rattle.semantics.specs.Loops.Operator.{ReduceOp, combined, combined_all}
 use Rattle.semantics.specs.Loops.OperatorLaw.{operators_are_lawful}
 use Rattle.semantics.specs.Loops.Piece.{Roles, SharedLoop, Piece, piece, piece_of, chunk_start, run_iterations}
 use Rattle.semantics.specs.Loops.Scan.{scan_partials, second_pieces}
-use Rattle.semantics.specs.Loops.Joined.{Joined, value_at, given, with_reductions, with_writes, with_last_values, joined_state, joined_text}
-use Rattle.semantics.specs.Teams.Machine.{World, Merge, Event, Job, no_merge, merge_one, merge_all, merged_partial, merged_partials, numbered, by_number, with_merged, merged_state, merged_text, IsWhole}
+use Rattle.semantics.specs.Loops.Joined.{value_at, given, with_reductions, with_writes, with_last_values, joined_text}
+use Rattle.semantics.specs.Teams.Machine.{Merge, Event, Job, no_merge, merge_one, merge_all, merged_partial, merged_partials, numbered, by_number, with_merged, IsWhole}
 use Rattle.semantics.specs.Teams.WholeRuns.{after, AreOwn, MergesArrived, IsJob, WholeListsJoin, WholeListsScan, EveryOrder}
 use Rattle.semantics.proofs.MachineLaw.{merges_what_arrived}
 use Rattle.semantics.proofs.TakeLaw.{whole_lists_arrive, takes_each_once}

@@ -1,14 +1,13 @@
 -- The laws, as they are cited by the functions that state them.
-use Rattle.std.specs.Prelude.{ℕ, zero, suc, Bool, true, false, ◌≡◌, ◌+◌, ◌<◌, ◌≤◌, ◌%◌, List, [], ◌∷◌, length, All, Option, Some, None}
-use Rattle.std.proofs.Common.{refl, sym, ap, ◌∙◌, arith}
+use Rattle.std.specs.Prelude.{ℕ, zero, suc, ◌≡◌, ◌+◌, ◌<◌, List, [], ◌∷◌}
+use Rattle.std.proofs.Common.{sym, ap, ◌∙◌, arith}
 use Rattle.std.proofs.lemmas.Option.{same_Some}
 use Rattle.std.specs.List.{AllByRecursion as ByRecursion}
 use Rattle.std.proofs.lemmas.List.Elements.{All-from_recursion}
-use Rattle.semantics.specs.Tree.{Stmt}
-use Rattle.semantics.specs.Meaning.State.{State, Write, overwritten}
-use Rattle.semantics.specs.Meaning.Runs.{Effect, run, Runs}
-use Rattle.semantics.specs.Meaning.Steps.{Steps, effect}
-use Rattle.semantics.specs.Loops.Chunk.{Chunk, Kind, PlainStatic, Static, Dynamic, Guided, sized, sizes, cut, owner}
+use Rattle.semantics.specs.Meaning.State.{overwritten}
+use Rattle.semantics.specs.Meaning.Runs.{Effect}
+use Rattle.semantics.specs.Meaning.Steps.{effect}
+use Rattle.semantics.specs.Loops.Chunk.{Chunk, PlainStatic, Static, Dynamic, Guided, sized, sizes, cut}
 use Rattle.semantics.specs.Laws.{RunsAreUnique, RunsFollowTheRules, ChunksHoldIterations, OwnersAreWorkers}
 use Rattle.semantics.proofs.RulesRun.{steps_run}
 use Rattle.semantics.proofs.StepsLaw.{run_steps}

@@ -1,16 +1,16 @@
 -- Where all sinks lie earlier: the order of a doacross nest, its levels and its waves.
-use Rattle.std.specs.Prelude.{ℕ, zero, suc, Bool, true, false, not, ◌≡◌, ◌≢◌, ◌+◌, ◌<◌, ◌≤◌, ◌==◌, ◌&&◌, ◌||◌, ◌⊎◌, nat_lt, nat_eq, max, List, [], ◌∷◌, ◌++◌, length, map, filter, Option, Some, None, ℤ, pos, negsuc, ◌-ℤ◌}
-use Rattle.std.specs.List.{list_any, list_all, filter_map, cons_option}
+use Rattle.std.specs.Prelude.{ℕ, zero, suc, Bool, true, false, ◌≡◌, ◌+◌, ◌<◌, ◌≤◌, ◌==◌, ◌&&◌, ◌||◌, ◌⊎◌, nat_lt, nat_eq, max, List, [], ◌∷◌, length, map, filter, Option, Some, None, ℤ, pos, negsuc, ◌-ℤ◌}
+use Rattle.std.specs.List.{list_all, cons_option}
 use Rattle.std.proofs.Common.{refl, sym, inl, inr, ap, ◌∙◌, subst, cond, arith}
 use Rattle.std.proofs.lemmas.Int.{ints}
 use Rattle.std.proofs.lemmas.Bool.Decides.{nat_tests}
-use Rattle.std.proofs.lemmas.Bool.{ltb-true, lt-ltb, eqb-true, eqb-false, eq-eqb}
+use Rattle.std.proofs.lemmas.Bool.{lt-ltb, eqb-true, eq-eqb}
 use Rattle.std.proofs.lemmas.Option.{same_Some}
 use lib.Pointwise.{pointwise}
 use Rattle.semantics.specs.Meaning.Value.{both}
 use Rattle.semantics.specs.Loops.Nest.{Vector}
 use Rattle.semantics.specs.Laws.{LevelsLieAboveSinks, NothingBeforeItself, OneWaveEach}
-use Rattle.semantics.specs.Loops.Order.{Distance, is_ahead, as_number, before_by, among, inside, sinks_of, Sink, Before, sink, through, one_above, level_by, level, wave, wave_count}
+use Rattle.semantics.specs.Loops.Order.{Distance, is_ahead, as_number, before_by, among, inside, sinks_of, Before, sink, through, one_above, level_by, level}
 
 -- earlier in the order of the loops, the outermost first
 abbrev earlier : Vector → Vector → Bool

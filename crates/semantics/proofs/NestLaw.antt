@@ -1,9 +1,9 @@
 -- A canonical rising loop's variable counts up by its step.
-use Rattle.std.specs.Prelude.{ℕ, zero, suc, Bool, true, false, ◌==◌, ◌≡◌, ◌+◌, ◌*◌, ◌<◌, ◌≤◌, ◌^◌, nat_lt, List, [], ◌∷◌, Some, None}
+use Rattle.std.specs.Prelude.{ℕ, zero, suc, Bool, true, false, ◌==◌, ◌≡◌, ◌+◌, ◌*◌, ◌<◌, ◌≤◌, ◌^◌, nat_lt, [], ◌∷◌, Some, None}
 use Rattle.std.proofs.Common.{refl, ap, ◌∙◌, cond, arith}
 use Rattle.std.proofs.Math.Path.{fun_ext}
 use Rattle.std.proofs.lemmas.Bool.{eq-eqb, lt-ltb, le-ltb}
-use Rattle.semantics.specs.Tree.{Variable, Expr, Literal, Bare, Object, no_exprs, Compare, Less, Source, Change, Plus}
+use Rattle.semantics.specs.Tree.{Variable, Expr, Object, no_exprs, Source, Plus}
 use Rattle.std.proofs.Math.Nat.{suc-mul, mod-eq_of_lt}
 use Rattle.std.specs.Prelude.{option_and_then}
 use Rattle.semantics.specs.Meaning.State.{State, Slot, Holds, Assigned, with_local, look, look_in, is_object_in, assign_at, overwritten}

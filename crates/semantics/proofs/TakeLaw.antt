@@ -1,17 +1,17 @@
 -- Of the kinds that fix who runs a chunk: each worker takes its own chunks in order, so none is taken twice.
-use Rattle.std.specs.Prelude.{ℕ, zero, suc, Bool, true, false, ◌≡◌, ◌≢◌, ◌==◌, ◌+◌, ◌<◌, ◌≤◌, ◌%◌, nat_lt, List, [], ◌∷◌, ◌++◌, length, take, filter, flat_map, remove, Option, Some, None, slice_get}
+use Rattle.std.specs.Prelude.{ℕ, zero, suc, Bool, true, false, ◌≡◌, ◌==◌, ◌+◌, ◌<◌, ◌≤◌, ◌%◌, nat_lt, List, [], ◌∷◌, ◌++◌, length, take, filter, remove, Option, Some, None, slice_get}
 use Rattle.std.proofs.Common.{refl, sym, ap, ◌∙◌, subst, cond, arith}
 use Rattle.std.proofs.lemmas.Bool.Decides.{nat_tests}
-use Rattle.std.proofs.lemmas.Bool.{eq-eqb, eqb-true, eqb-false, ltb-true, lt-ltb}
+use Rattle.std.proofs.lemmas.Bool.{eqb-true, ltb-true, lt-ltb}
 use Rattle.std.proofs.lemmas.Option.{same_Some}
 use Rattle.std.proofs.Math.Nat.{mod-lt}
 use Rattle.semantics.specs.Meaning.Places.{below}
 use Rattle.semantics.specs.Loops.Arrangement.{times, once, once_below, EachOnceBelow}
 use Rattle.semantics.specs.Loops.Chunk.{Kind, PlainStatic, Static, Dynamic, Guided, owner, cut}
 use Rattle.semantics.specs.Loops.Piece.{Piece}
-use Rattle.semantics.specs.Teams.Machine.{World, Event, Draw, Arrive, Stop, Look, Job, begin, does, happens, happen, worker_of, arrived, drawn, got, at, piece_at, own_chunks, is_mine, IsWhole}
-use Rattle.semantics.specs.Teams.WholeRuns.{after, out, is_by_ticket, IsJob, TakesEachOnce, ArrivesOnce, WholeListsArrive}
-use Rattle.semantics.proofs.TicketLaw.{times-append, once_below-more, times-remove, at_same, held_below, held_more, held_at, held_none, none_held, out_is, draws_each_once, tickets_arrive}
+use Rattle.semantics.specs.Teams.Machine.{World, Event, Draw, Arrive, Stop, Look, Job, begin, does, happens, happen, worker_of, arrived, drawn, got, at, piece_at, own_chunks, is_mine}
+use Rattle.semantics.specs.Teams.WholeRuns.{after, out, is_by_ticket, TakesEachOnce, ArrivesOnce, WholeListsArrive}
+use Rattle.semantics.proofs.TicketLaw.{times-append, once_below-more, times-remove, held_below, held_more, held_at, held_none, none_held, out_is, draws_each_once, tickets_arrive}
 use Rattle.semantics.proofs.CutLaw.{one_chunk_each}
 
 -- how often a number stands among those below n that pass a test

@@ -1,5 +1,5 @@
 -- The laws of the definitions: each is the contract of a function of this crate.
-use Rattle.std.specs.Prelude.{ℕ, ◌≡◌, ◌≢◌, ◌↔◌, ◌<◌, ◌≤◌, ◌+◌, ◌*◌, ◌^◌, Bool, true, List, [], ◌∷◌, length, All, Some, Contains}
+use Rattle.std.specs.Prelude.{ℕ, ◌≡◌, ◌↔◌, ◌<◌, ◌≤◌, ◌+◌, ◌*◌, ◌^◌, true, List, length, All, Some}
 use Rattle.std.specs.List.{list_all}
 use Rattle.semantics.specs.Tree.{Variable, Source, Expr, Stmt, Kernel, strip}
 use Rattle.semantics.specs.Source.Text.{erase}
@@ -11,7 +11,7 @@ use Rattle.semantics.specs.Meaning.Value.{value}
 use Rattle.semantics.specs.Meaning.Runs.{run, Runs}
 use Rattle.semantics.specs.Meaning.Steps.{Steps, effect}
 use Rattle.semantics.specs.Loops.Arrangement.{EachOnceBelow}
-use Rattle.semantics.specs.Loops.Chunk.{Kind, IsSized, cut, owner}
+use Rattle.semantics.specs.Loops.Chunk.{Kind, cut, owner}
 use Rattle.semantics.specs.Loops.Operator.{ReduceOp, IsLawful}
 use Rattle.semantics.specs.Loops.Nest.{Vector, at_value, values_from, rising_loop, counting}
 use Rattle.semantics.specs.Loops.Order.{Distance, is_ahead, among, Sink, Before, level, wave, wave_count}

@@ -1,5 +1,5 @@
 -- A store after one chunk's writes more.
-use Rattle.std.specs.Prelude.{ℕ, suc, Bool, true, false, ◌≡◌, ◌+◌, ◌-◌, ◌<◌, ◌≤◌, ◌&&◌, ◌==◌, ◌^◌, nat_lt, nat_le, List, [], ◌∷◌, ◌++◌, length, map, slice_get, slice_index, unwrap_or, All, Option, Some, None}
+use Rattle.std.specs.Prelude.{ℕ, Bool, true, false, ◌≡◌, ◌+◌, ◌-◌, ◌<◌, ◌≤◌, ◌&&◌, ◌==◌, ◌^◌, nat_lt, nat_le, List, [], ◌∷◌, ◌++◌, length, map, slice_get, slice_index, unwrap_or, All, Option, Some}
 use Rattle.std.proofs.Common.{refl, sym, ap, ◌∙◌, subst, arith}
 use Rattle.std.proofs.lemmas.Bool.Decides.{nat_tests}
 use Rattle.std.proofs.lemmas.Bool.{eqb-true}

@@ -1,6 +1,6 @@
 -- What the workers' ends are together.
-use Rattle.std.specs.Prelude.{ℕ, suc, ◌≡◌, ◌+◌, ◌<◌, ◌≤◌, true, List, [], ◌∷◌, ◌++◌, map, flat_map, length, All, Result, Ok, Err, IfOk}
-use Rattle.std.proofs.Common.{refl, sym, ap, ◌∙◌, subst, arith, append-nil}
+use Rattle.std.specs.Prelude.{suc, ◌≡◌, true, List, [], ◌∷◌, ◌++◌, map, flat_map, length, All, Result, Ok, Err, IfOk}
+use Rattle.std.proofs.Common.{refl, sym, ap, ◌∙◌, subst, append-nil}
 use Rattle.std.proofs.lemmas.List.{map-append}
 use Rattle.std.proofs.lemmas.Grind.{flat_map-append}
 use Rattle.std.proofs.lemmas.List.Elements.{All-nil, All-cons, All-head, All-tail, All-append, All-same, All-push}

@@ -1,23 +1,15 @@
 -- They hold by computation.
-use Rattle.std.specs.Prelude.{map, filter_map, ℕ, ◌≡◌, [], ◌∷◌, List, Option, Some, None, true, false, flat_map}
+use Rattle.std.specs.Prelude.{[], ◌∷◌}
 use Rattle.std.proofs.Common.{refl, inl, arith}
 use Rattle.std.proofs.lemmas.Bool.Decides.{nat_tests}
 use Rattle.semantics.specs.Loops.Arrangement.{EachOnceBelow}
-use Rattle.semantics.specs.Tree.{Expr, Literal, Ull, Object, Binary, Plus, Minus, no_exprs, more_exprs, Exprs, Compare, Less, Greater, Number, Truth, NotZero, Both, Stmt, Assign, Update, If, Block, no_items, stmt, Print, Characters}
-use Rattle.semantics.specs.Meaning.State.{State, look}
-use Rattle.semantics.specs.Meaning.Places.{below}
-use Rattle.semantics.specs.Loops.Nest.{Vector}
+use Rattle.semantics.specs.Tree.{Binary, Minus, no_exprs, more_exprs}
 use Rattle.semantics.specs.Loops.Access.{Reads, Writes, Touches, Conflict}
-use Rattle.semantics.specs.Loops.Chunk.{Kind, Dynamic, Static, PlainStatic, cut}
-use Rattle.semantics.specs.Loops.Operator.{Sum, AndAlso}
-use Rattle.semantics.specs.Loops.Piece.{Roles, no_roles, SharedLoop, Piece, piece}
-use Rattle.semantics.specs.Loops.Joined.{JoinedLoop, chunked, joined_state, joined_text}
-use Rattle.semantics.specs.Loops.Scan.{second_pieces, scan_partials}
-use Rattle.semantics.specs.Teams.Machine.{Job, Event, Draw, Arrive, Stop, Look, merged_state}
-use Rattle.semantics.specs.Teams.WholeRuns.{after}
-use Rattle.semantics.specs.Meaning.Output.{start}
+use Rattle.semantics.specs.Loops.Chunk.{Dynamic}
+use Rattle.semantics.specs.Loops.Piece.{no_roles}
+use Rattle.semantics.specs.Loops.Joined.{JoinedLoop, joined_state}
 use Rattle.semantics.specs.Rows.Numbers.{empty, var, num, from_zero}
-use Rattle.semantics.specs.Rows.Loops.{a_at, at_i, loop_of, holding, zeros, vectors, there, pieces_of, shifting, guarded_and, and_roles, twice, last_roles, setting, conditional_roles, over_six, over_six_of, speaking, scan_roles, scanning, five, second_of_scan, a_job, some_events, own_job, LoopRows}
+use Rattle.semantics.specs.Rows.Loops.{at_i, loop_of, holding, zeros, vectors, pieces_of, shifting, twice, LoopRows}
 
 first_writes : Touches (from_zero 2 8 ∷ []) shifting empty (1 ∷ []) (record { array = 0; indexes = 1 ∷ [] }) Writes
 first_writes =

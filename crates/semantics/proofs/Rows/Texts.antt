@@ -1,8 +1,8 @@
 -- They hold by computation.
-use Rattle.std.specs.Prelude.{ℕ, List, [], ◌∷◌, ◌++◌, pos, negsuc, codes}
+use Rattle.std.specs.Prelude.{[], ◌∷◌, pos, negsuc, codes}
 use Rattle.std.proofs.Common.{refl, arith}
-use Rattle.semantics.specs.Tree.{Bare, Literal, no_exprs, Number, Assign, mark, stmt, no_items, Kernel}
-use Rattle.semantics.specs.Source.Token.{Token, Word, Digits, Sign, Line, Semicolon, OpenParen, CloseParen, OpenBrace, CloseBrace, Becomes}
+use Rattle.semantics.specs.Tree.{Bare}
+use Rattle.semantics.specs.Source.Token.{Word, Digits, Sign, Line, Semicolon, OpenParen, CloseParen, OpenBrace, CloseBrace, Becomes}
 use Rattle.semantics.specs.Source.Cuts.{Tokens, end, blank, line_end, directive, token, word, number, symbol}
 use Rattle.semantics.specs.Source.Scope.{AVariable}
 use Rattle.semantics.specs.Source.Expressions.{literal, tighter, no_subscripts}

@@ -1,10 +1,9 @@
 -- The same big steps as an inductive relation, a constructor for each rule of C11 6.8.
 use Rattle.std.specs.Prelude.{ℕ, zero, suc, true, false, ◌≡◌, ◌≤◌, List, [], ◌∷◌, ◌++◌, Option, Some}
-use Rattle.std.proofs.Common.{refl, ap, ◌∙◌, arith}
 use Rattle.semantics.specs.Tree.{Variable, Name, BinaryOp, Exprs, Expr, Cond, Source, Increment, PrintPart, Stmt, Assign, Update, If, IfElse, For, Block, Print, Items, no_items, mark, local, stmt}
 use Rattle.semantics.specs.Meaning.State.{State, Write, Declared, Assigned, overwritten, is_object}
-use Rattle.semantics.specs.Meaning.Value.{values, holds, source_value, map_option}
-use Rattle.semantics.specs.Meaning.Runs.{Effect, joined, then_from, declares, declared, updated, incremented, print_text, turns, most_turns, run, run_items}
+use Rattle.semantics.specs.Meaning.Value.{values, holds, source_value}
+use Rattle.semantics.specs.Meaning.Runs.{Effect, declared, updated, incremented, print_text, most_turns}
 
 -- writes and a text
 abbrev pub effect : List Write → List ℕ → Effect

@@ -1,13 +1,11 @@
 -- Worked rows of loops: a conflict, pieces, joins, and the workers' machine.
 use Rattle.std.specs.Prelude.{map, filter_map, ℕ, ◌≡◌, [], ◌∷◌, List, Option, Some, None, true, false, flat_map}
-use Rattle.std.proofs.Common.{refl, inl, arith}
-use Rattle.std.proofs.lemmas.Bool.Decides.{nat_tests}
 use Rattle.semantics.specs.Loops.Arrangement.{EachOnceBelow}
 use Rattle.semantics.specs.Tree.{Expr, Literal, Ull, Object, Binary, Plus, Minus, no_exprs, more_exprs, Exprs, Compare, Less, Greater, Number, Truth, NotZero, Both, Stmt, Assign, Update, If, Block, no_items, stmt, Print, Characters}
 use Rattle.semantics.specs.Meaning.State.{State, look}
 use Rattle.semantics.specs.Meaning.Places.{below}
 use Rattle.semantics.specs.Loops.Nest.{Vector}
-use Rattle.semantics.specs.Loops.Access.{Reads, Writes, Touches, Conflict}
+use Rattle.semantics.specs.Loops.Access.{Conflict}
 use Rattle.semantics.specs.Loops.Chunk.{Kind, Dynamic, Static, PlainStatic, cut}
 use Rattle.semantics.specs.Loops.Operator.{Sum, AndAlso}
 use Rattle.semantics.specs.Loops.Piece.{Roles, no_roles, SharedLoop, Piece, piece}

@@ -1,11 +1,10 @@
 -- Worked rows of numbers: cuts into chunks, loops, waves, scans, a filled array.
 use Rattle.semantics.specs.Meaning.Places.{below}
 use Rattle.std.specs.Prelude.{map, length, ℕ, ◌≡◌, [], ◌∷◌, List, Some, None, pos, negsuc}
-use Rattle.std.proofs.Common.{refl}
 use Rattle.semantics.specs.Tree.{Expr, Literal, Bare, Ull, Object, Binary, Plus, Minus, no_exprs, more_exprs, Compare, Less, LessEqual, Greater, Number, Up, Change, For, Assign, no_items, stmt, Kernel}
 use Rattle.semantics.specs.Meaning.State.{State, Outside, overwritten}
 use Rattle.semantics.specs.Meaning.Value.{map_option}
-use Rattle.semantics.specs.Meaning.Runs.{run_items, most_turns}
+use Rattle.semantics.specs.Meaning.Runs.{run_items}
 use Rattle.semantics.specs.Loops.Nest.{Loop, loop_values, iterations}
 use Rattle.semantics.specs.Loops.Chunk.{Static, Dynamic, Guided, PlainStatic, sizes, cut, owner}
 use Rattle.semantics.specs.Loops.Arrangement.{picked}

@@ -1,6 +1,6 @@
 -- Worked rows of what is written: outputs, listings, an erased text.
-use Rattle.std.specs.Prelude.{ℕ, ◌≡◌, List, [], ◌∷◌, ◌++◌, Option, Some, None, true, false, pos, negsuc, codes}
-use Rattle.semantics.specs.Tree.{Bare, Ull, Literal, Object, Binary, Plus, no_exprs, more_exprs, Compare, Less, Number, Up, Characters, Decimal, For, Assign, Print, stmt, no_items, Kernel}
+use Rattle.std.specs.Prelude.{ℕ, ◌≡◌, List, [], ◌∷◌, ◌++◌, Some, None, false, pos, negsuc, codes}
+use Rattle.semantics.specs.Tree.{Object, Binary, Plus, no_exprs, more_exprs, Compare, Less, Number, Up, Characters, Decimal, For, Assign, Print, stmt, no_items, Kernel}
 use Rattle.semantics.specs.Source.Text.{erase}
 use Rattle.semantics.specs.Meaning.Output.{output}
 use Rattle.semantics.specs.Loops.Operator.{Sum, Max}

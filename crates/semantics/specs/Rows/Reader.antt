@@ -1,6 +1,5 @@
 -- Worked rows of the reader: texts, constants, definite assignment, inputs.
 use Rattle.std.specs.Prelude.{ℕ, Bool, true, false, ◌≡◌, ◌==◌, if◌then◌else◌, None, List, [], ◌∷◌, ◌++◌, Some, is_some, codes}
-use Rattle.std.proofs.Common.{refl}
 use Rattle.semantics.specs.Tree.{Bare, Ull, Expr, Literal, Object, Binary, Plus, Minus, Divide, ShiftLeft, no_exprs, Compare, Less, Greater, Number, Up, For, Assign, Stmt, If, IfElse, Block, Items, no_items, mark, local, stmt, Declaration}
 use Rattle.semantics.specs.Source.Text.{is_directive_line, erase, behind_omp, line_at}
 use Rattle.semantics.specs.Source.Typing.{constant, typed, fit, in_range}

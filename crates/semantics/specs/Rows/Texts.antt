@@ -1,17 +1,10 @@
 -- Worked rows of whole texts: a text with its tokens and its tree, and directive lines.
 use Rattle.std.specs.Prelude.{ℕ, List, [], ◌∷◌, ◌++◌, pos, negsuc, codes}
-use Rattle.std.proofs.Common.{refl, arith}
 use Rattle.semantics.specs.Tree.{Bare, Literal, no_exprs, Number, Assign, mark, stmt, no_items, Kernel}
 use Rattle.semantics.specs.Source.Token.{Token, Word, Digits, Sign, Line, Semicolon, OpenParen, CloseParen, OpenBrace, CloseBrace, Becomes}
-use Rattle.semantics.specs.Source.Cuts.{Tokens, end, blank, line_end, directive, token, word, number, symbol}
-use Rattle.semantics.specs.Source.Scope.{AVariable}
-use Rattle.semantics.specs.Source.Expressions.{literal, tighter, no_subscripts}
-use Rattle.semantics.specs.Source.Statements.{assign, target, statement, no_more}
-use Rattle.semantics.specs.Source.Statements.{number as a_number, line as a_line}
-use Rattle.semantics.specs.Source.Grammar.{Reads, ReadsText, no_decls, object, no_lengths}
+use Rattle.semantics.specs.Source.Grammar.{ReadsText}
 use Rattle.semantics.specs.Directives.Directive.{ParallelFor, DoacrossSink, ScheduledBy, DynamicSize, Private}
-use Rattle.semantics.specs.Directives.DirectiveGrammar.{ReadsLine, parallel_for, first, next_behind_comma, no_further, schedule, dynamic_size, private, further, only, sink, element, only_element, here, below}
-use Rattle.semantics.specs.Directives.DirectiveGrammar.{number as a_size}
+use Rattle.semantics.specs.Directives.DirectiveGrammar.{ReadsLine}
 
 -- a declaration, a directive line, and an assignment
 abbrev pub small : List ℕ

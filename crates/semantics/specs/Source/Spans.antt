@@ -1,7 +1,7 @@
 -- Where tokens stand in a text (C11 5.1.1.2, 6.4): each is the text at its span, and spans follow one another.
 use Rattle.std.specs.Prelude.{ℕ, suc, ◌≡◌, ◌≤◌, ◌+◌, ◌==◌, true, if◌then◌else◌, List, [], ◌∷◌, length, take, drop, Some}
 use Rattle.semantics.specs.Source.Text.{is_directive_line}
-use Rattle.semantics.specs.Source.Token.{Token, Word, Digits, Quoted, Sign, Header, Line}
+use Rattle.semantics.specs.Source.Token.{Token, Header, Line}
 use Rattle.semantics.specs.Source.Cuts.{Stands, is_line, header_of}
 
 -- a token's first byte in its text, from 0, and how many bytes it has

@@ -1,11 +1,10 @@
-use Rattle.std.proofs.Common.{◌≡◌, ℕ, ◌<◌, ◌≤◌, true, false, List, length, vec_len, map, All, sym, ap, ◌∙◌, subst, arith, Result, IfOk}
+use Rattle.std.proofs.Common.{◌≡◌, true, length, vec_len, map, All, sym, ap, ◌∙◌, arith}
 use Rattle.std.proofs.lemmas.Bool.{false≢true}
 use Rattle.semantics.specs.Loops.Arrangement.{times, once_below}
-use Rattle.draw.specs.Tickets.{all_tickets, SomeEnded}
+use Rattle.draw.specs.Tickets.{SomeEnded}
 use Rattle.draw.proofs.Seats.{some_ended}
-use Rattle.overlay.specs.Seen.{Seen}
 use Rattle.overlay.specs.declared.piece.Changes.{Changes}
-use Rattle.team.specs.Ends.{IsCut, IsChange, AreAll}
+use Rattle.team.specs.Ends.{IsChange, AreAll}
 use Rattle.team.proofs.Cutting.{one_below}
 use Rattle.team.proofs.Ending.{closing, came-length, if_both_ok}
 use Rattle.team.proofs.team.run_chunks.Goals as goal
