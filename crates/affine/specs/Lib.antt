@@ -1,0 +1,4 @@
+pub mod Affine
+pub mod Arithmetic
+pub mod Limits
+pub mod Box

@@ -1,0 +1,10 @@
+pub mod FrontLaw
+pub mod FrontSound
+pub mod LineLaw
+pub mod StringLaw
+pub mod LiteralLaw
+pub mod CommentLaw
+pub mod SignLaw
+pub mod CutSteps
+pub mod EraseLaw
+pub mod CheckLaw
