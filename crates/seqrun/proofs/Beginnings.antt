@@ -1,5 +1,5 @@
 -- Beginnings of what is to be written.
-use Rattle.std.specs.Prelude.{ℕ, ◌≡◌, ◌+◌, ◌≤◌, List, [], ◌∷◌, ◌++◌, length, take, drop}
+use Rattle.std.specs.Prelude.{ℕ, ◌≡◌, ◌+◌, List, [], ◌++◌, take, drop}
 use Rattle.std.proofs.Common.{refl, sym, ap, ◌∙◌, subst, append_assoc, append-nil}
 use Rattle.std.proofs.lemmas.List.{take-append-drop}
 use Rattle.std.proofs.Math.Seq.{take-add}
@@ -52,7 +52,7 @@ more_held before middle after held held' whole more h k = record {
       ap (λ l. l ++ more) h.rest
       ∙ append_assoc h.written held more
       ∙ ap (λ l. h.written ++ l) k.rest
-      ∙ sym (append_assoc h.written k.written held')
+      ∙ sym (append_assoc h.written k.written held');
 }
 
 -- nothing is put yet

@@ -1,23 +1,23 @@
 -- An input that gives values has no faulty line.
-use Rattle.std.specs.Prelude.{ℕ, zero, suc, Bool, true, false, not, ◌≡◌, ◌≢◌, ◌==◌, ◌+◌, ◌<◌, ◌≤◌, ◌&&◌, ◌||◌, ◌^◌, nat_eq, nat_lt, nat_le, if◌then◌else◌, List, [], ◌∷◌, ◌++◌, length, map, flat_map, Option, Some, None, slice_get, All}
+use Rattle.std.specs.Prelude.{ℕ, zero, suc, Bool, true, false, not, ◌≡◌, ◌≢◌, ◌==◌, ◌+◌, ◌<◌, ◌||◌, ◌^◌, nat_eq, if◌then◌else◌, List, [], ◌∷◌, ◌++◌, length, map, flat_map, Some, None, slice_get, All}
 use Rattle.std.specs.List.{list_all, list_any}
 use Rattle.std.specs.Fmt.{decimal}
 use Rattle.std.proofs.Common.{refl, sym, ap, ◌∙◌, subst, arith, append_assoc, append-nil}
-use Rattle.std.proofs.lemmas.Bool.{eq-eqb, eqb-true, eqb-false, le-leb, leb-true}
+use Rattle.std.proofs.lemmas.Bool.{eq-eqb, eqb-true}
 use Rattle.std.proofs.lemmas.Bool.Decides.{nat_tests}
 use Rattle.std.proofs.lemmas.Fmt.{digits_decimal, decimal_nonempty}
 use Rattle.std.proofs.lemmas.List.Folds.{list_all-append}
-use Rattle.std.specs.Cmp.Lexicographic.{same_text, other_text, told_text}
+use Rattle.std.specs.Cmp.Lexicographic.{same_text}
 use Rattle.semantics.specs.Tree.{Declaration, Name}
 use Rattle.semantics.specs.Source.Cuts.{is_digit, is_letter, is_word_byte, is_printable, is_name}
 use Rattle.semantics.specs.Source.Scope.{same_name}
 use Rattle.semantics.specs.Meaning.Places.{size}
-use Rattle.semantics.specs.Meaning.Output.{Given, IsInput, IsGiven, AreGiven, NotAmong, input_line, input_text, name_of}
-use Rattle.semantics.specs.Meaning.InputFault.{Cause, WrongForm, NamedTwice, WrongCount, WrongNumber, Judged, Right, Faulty, is_empty, is_formed, is_value, split_from, declared_from, judged_values, judged_at, judged_words, judged, by_judged, fault_from, first_fault}
+use Rattle.semantics.specs.Meaning.Output.{Given, IsInput, AreGiven, NotAmong, input_text, name_of}
+use Rattle.semantics.specs.Meaning.InputFault.{WrongForm, NamedTwice, WrongCount, WrongNumber, Right, Faulty, is_empty, is_formed, is_value, split_from, declared_from, judged_at, judged_words, judged, by_judged, fault_from, first_fault}
 use Rattle.semantics.proofs.EraseTokenLaw.{first_of, second_of}
 use Rattle.seqrun.specs.Lines.{value_text}
 use Rattle.seqrun.specs.Reading.{IsOther, AreVariables}
-use Rattle.seqrun.proofs.InputWords.{both_pass, numerals, digit_range, value_of_decimal, has_no_space, split_at_end, split_at_space}
+use Rattle.seqrun.proofs.InputWords.{both_pass, numerals, value_of_decimal, split_at_end, split_at_space}
 
 negated : (t : Bool) → not t ≡ true → t ≡ false
 negated true e = absurd (cc e)
@@ -123,7 +123,7 @@ line_formed w vs k s =
     both_pass (list_all is_printable (w ++ flat_map value_text vs)) (list_all (λ w. not (is_empty w)) (split_from [] (w ++ flat_map value_text vs)))
     (line_prints w vs k s)
     (ap (list_all (λ w. not (is_empty w))) (line_words w vs k s)
-        ∙ both_pass (not (is_empty w)) (list_all (λ w. not (is_empty w)) (map decimal vs)) (ap not k.some) (line_full vs s))
+    ∙ both_pass (not (is_empty w)) (list_all (λ w. not (is_empty w)) (map decimal vs)) (ap not k.some) (line_full vs s))
 
 -- a name is the same as itself
 pub itself : (n : Name) → same_name n n ≡ true
@@ -134,17 +134,19 @@ itself (b ∷ n) = both_pass (b == b) (same_name n n) (eq-eqb b b refl) (itself 
 name_found : (x i : ℕ) (ds : List Declaration) (d : Declaration) → AreVariables ds → slice_get ds i ≡ Some d → (is_name d.name ≡ true) × (declared_from x ds d.name ≡ Some (x + i, size d.lengths))
 name_found x i [] d a e = absurd (cc e)
 name_found x zero (c ∷ ds) d a e =
-    let same : c ≡ d = cc in
-    (subst (λ c. is_name c.name ≡ true) same a.0,
+    let same : c ≡ d = cc in (
+      subst (λ c. is_name c.name ≡ true) same a.0,
       ap (λ c. declared_from x (c ∷ ds) d.name) same
-      ∙ ap (λ t. if t then Some (x, size d.lengths) else declared_from (suc x) ds d.name) (itself d.name)
-      ∙ ap (λ n. Some (n, size d.lengths)) (let e : x ≡ x + 0 = omega arith in e))
+          ∙ ap (λ t. if t then Some (x, size d.lengths) else declared_from (suc x) ds d.name) (itself d.name)
+          ∙ ap (λ n. Some (n, size d.lengths)) (let e : x ≡ x + 0 = omega arith in e),
+    )
 name_found x (suc i) (c ∷ ds) d a e =
-    let r = name_found (suc x) i ds d a.3 e in
-    (r.0,
+    let r = name_found (suc x) i ds d a.3 e in (
+      r.0,
       ap (λ t. if t then Some (x, size c.lengths) else declared_from (suc x) ds d.name) (unlike (same_name c.name d.name) refl (apart ds i a.1 e))
-      ∙ r.1
-      ∙ ap (λ n. Some (n, size d.lengths)) (let e : suc x + i ≡ x + suc i = omega arith in e))
+          ∙ r.1
+          ∙ ap (λ n. Some (n, size d.lengths)) (let e : suc x + i ≡ x + suc i = omega arith in e),
+    )
   where
     apart : (ds : List Declaration) (i : ℕ) → IsOther c.name ds → slice_get ds i ≡ Some d → c.name ≢ d.name
     apart [] i o e = absurd (cc e)

@@ -1,5 +1,5 @@
 -- An input's lines, one after another.
-use Rattle.std.specs.Prelude.{ℕ, zero, suc, Bool, true, false, not, ◌≡◌, ◌≢◌, ◌==◌, ◌+◌, ◌<◌, ◌≤◌, ◌||◌, ◌^◌, nat_eq, nat_lt, if◌then◌else◌, List, [], ◌∷◌, ◌++◌, length, map, take, drop, replicate, Option, Some, None, slice_get, slice_set, slice_index_or}
+use Rattle.std.specs.Prelude.{ℕ, zero, suc, Bool, true, false, ◌≡◌, ◌==◌, ◌+◌, ◌<◌, ◌≤◌, ◌||◌, ◌^◌, nat_eq, List, [], ◌∷◌, ◌++◌, length, map, take, drop, replicate, Some, slice_get, slice_set}
 use Rattle.std.specs.List.{list_any}
 use Rattle.std.proofs.Common.{refl, sym, ap, ◌∙◌, subst, arith, inl, inr, append_assoc, append-nil, get_or, get_or-set_same, get_or-set_other}
 use Rattle.std.proofs.lemmas.Bool.{eq-eqb, eqb-true}
@@ -11,7 +11,7 @@ use Rattle.semantics.specs.Meaning.Places.{size}
 use Rattle.ktree.specs.View.{declaration_of}
 use Rattle.ktree.specs.declared.statement.Declaration as code
 use Rattle.semantics.specs.Tree.{Declaration}
-use Rattle.semantics.specs.Meaning.Output.{Given, IsGiven, AreGiven, NotAmong, IsInput, input_line, input_text}
+use Rattle.semantics.specs.Meaning.Output.{Given, AreGiven, NotAmong, input_line, input_text}
 use Rattle.semantics.specs.Meaning.InputFault as fault
 use Rattle.semantics.specs.Meaning.InputFault.{judged, by_judged, fault_from, first_fault}
 use Rattle.ktree.specs.declared.refusal.Cause.{Cause}
@@ -50,7 +50,7 @@ begins ds bytes ks seen n e f c = record {
   faults = refl;
   kept = e;
   counted = omega arith;
-  places = ap length f ∙ length-replicate n false ∙ sym c
+  places = ap length f ∙ length-replicate n false ∙ sym c;
 }
   where
     all_false : (n x : ℕ) → get_or (replicate n false) x false ≡ false
@@ -63,7 +63,7 @@ ends ds bytes ks seen [] line r e = record {
   given = r.given;
   read = record { text = r.text ∙ append-nil (input_text ds r.given); each = r.each };
   state = ap Rattle.overlay.specs.Kept.state_of r.kept ∙ kept_starts ds r.given;
-  lengths = subst (HasLengths ds) (sym r.kept) (kept_lengths 0 ds r.given)
+  lengths = subst (HasLengths ds) (sym r.kept) (kept_lengths 0 ds r.given);
 }
 ends ds bytes ks seen (b ∷ rest) line r e = absurd (omega arith)
 
@@ -126,7 +126,7 @@ module _ (ds : List Declaration) (bytes : List ℕ) (ks : List Kept) (seen : Lis
               ∙ kept_more 0 x ds i.given.0 r.given values (subst (λ z. NotAmong z r.given) (let e : x ≡ 0 + x = omega arith in e) among) i.given.1 i.given.2
               ∙ ap (λ z. kept_from 0 ds (r.given ++ (z, values) ∷ [])) (let e : 0 + x ≡ x = omega arith in e);
           counted = omega (arith, r.counted, ap length whole, Rattle.std.proofs.Common.length-append front (10 ∷ further));
-          places = ap length s ∙ Rattle.std.proofs.Math.ListN.length-set seen x true ∙ r.places
+          places = ap length s ∙ Rattle.std.proofs.Math.ListN.length-set seen x true ∙ r.places;
         }
       where
         marked_at : (y : ℕ) (t : Bool) → (y == x) ≡ t → ((y == x) || list_any (nat_eq y) r.marked) ≡ get_or seen' y false

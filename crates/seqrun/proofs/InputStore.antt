@@ -1,7 +1,6 @@
 -- What a store holds for the values that were given.
-use Rattle.std.specs.Prelude.{ℕ, zero, suc, Bool, true, false, not, ◌≡◌, ◌≢◌, ◌==◌, ◌+◌, ◌*◌, ◌<◌, ◌≤◌, ◌&&◌, ◌||◌, ◌^◌, nat_eq, nat_lt, if◌then◌else◌, List, [], ◌∷◌, ◌++◌, length, map, flat_map, take, drop, replicate, Option, Some, None, slice_get, slice_set, slice_index_or}
-use Rattle.std.specs.List.{list_any}
-use Rattle.std.proofs.Common.{refl, sym, ap, ◌∙◌, subst, arith, append_assoc, append-nil, get_or}
+use Rattle.std.specs.Prelude.{ℕ, zero, suc, Bool, true, false, ◌≡◌, ◌≢◌, ◌==◌, ◌+◌, ◌*◌, ◌<◌, ◌≤◌, nat_lt, if◌then◌else◌, List, [], ◌∷◌, ◌++◌, length, take, drop, replicate, Option, Some, None, slice_get}
+use Rattle.std.proofs.Common.{refl, sym, ap, ◌∙◌, subst, arith, append-nil}
 use Rattle.std.proofs.Math.Path.{fun_ext}
 use Rattle.std.proofs.lemmas.Bool.{eq-eqb, eqb-true, ltb-true}
 use Rattle.std.proofs.lemmas.Grind.{flat_map-append}
@@ -10,10 +9,10 @@ use Rattle.std.proofs.lemmas.Option.{slice_get-get_or}
 use Rattle.semantics.specs.Tree.{Declaration}
 use Rattle.semantics.specs.Meaning.State.{State, Outside}
 use Rattle.semantics.specs.Meaning.Places.{within, place, place_from, size}
-use Rattle.semantics.specs.Meaning.Output.{Given, IsGiven, AreGiven, NotAmong, IsInput, input_line, input_text, values_at, first_value, first_cell, start}
+use Rattle.semantics.specs.Meaning.Output.{Given, IsGiven, AreGiven, NotAmong, input_line, input_text, values_at, first_value, first_cell, start}
 use Rattle.semantics.specs.Source.Grammar.{elements}
 use Rattle.semantics.proofs.EraseTokenLaw.{first_of, second_of}
-use Rattle.overlay.specs.Kept.{Kept, cell_of, state_of, rewritten, rewritten_at, overlaid, HasRoom}
+use Rattle.overlay.specs.Kept.{Kept, cell_of, state_of, rewritten_at, overlaid, HasRoom}
 use Rattle.seqrun.specs.Lines.{HasLengths}
 use Rattle.seqrun.specs.Reading.{AreVariables, ArePositive, row_of, kept_from}
 

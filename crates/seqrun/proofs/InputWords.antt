@@ -1,13 +1,12 @@
 -- The words of an input's line, and the numbers among them.
-use Rattle.std.specs.Prelude.{ℕ, zero, suc, Bool, true, false, not, ◌≡◌, ◌≢◌, ◌==◌, ◌+◌, ◌-◌, ◌*◌, ◌<◌, ◌≤◌, ◌&&◌, ◌^◌, nat_lt, nat_le, nat_eq, if◌then◌else◌, cond, List, [], ◌∷◌, ◌++◌, length, map, flat_map, drop}
-use Rattle.std.specs.List.{list_all, count_by}
+use Rattle.std.specs.Prelude.{ℕ, zero, suc, Bool, true, false, not, ◌≡◌, ◌==◌, ◌<◌, ◌≤◌, ◌&&◌, ◌^◌, nat_lt, nat_le, if◌then◌else◌, List, [], ◌∷◌, ◌++◌, length}
+use Rattle.std.specs.List.{list_all}
 use Rattle.std.specs.Fmt.{decimal}
-use Rattle.std.proofs.Common.{refl, sym, ap, ◌∙◌, subst, arith, append_assoc, append-nil, get_or}
+use Rattle.std.proofs.Common.{refl, sym, ap, ◌∙◌, arith, append_assoc, append-nil, get_or}
 use Rattle.itoa.proofs.Decimal.{length_one}
 use Rattle.std.proofs.lemmas.Fmt.{decimal-digits_value, digits_decimal, digits_value-decimal, decimal_nonempty, first_decimal}
-use Rattle.std.proofs.lemmas.Str.Parse.{IsNumeralModel, IsDigitsTest, FoldsDigits, numerals_by_fold}
-use Rattle.std.proofs.lemmas.Bool.{lt-ltb, ltb-true, le-leb, leb-true, eq-eqb, eqb-true, eqb-false}
-use Rattle.std.proofs.lemmas.Bool.Decides.{nat_tests}
+use Rattle.std.proofs.lemmas.Str.Parse.{IsNumeralModel, numerals_by_fold}
+use Rattle.std.proofs.lemmas.Bool.{lt-ltb, ltb-true, le-leb, leb-true, eq-eqb, eqb-true}
 use Rattle.semantics.specs.Source.Cuts.{is_digit, is_printable, is_decimal, decimal_from}
 use Rattle.semantics.specs.Meaning.InputFault.{is_empty, is_formed, is_value, split_from}
 use Rattle.semantics.proofs.EraseTokenLaw.{first_of, second_of}
@@ -33,7 +32,7 @@ numerals = numerals_by_fold AllDigits
     (record {
       empty = refl;
       parts = λ b bs e. (digit_range b (first_of (is_digit b) (list_all is_digit bs) e), second_of (is_digit b) (list_all is_digit bs) e);
-      more = λ b bs r e. both_pass (is_digit b) (list_all is_digit bs) (digit_test b r.0 r.1) e
+      more = λ b bs r e. both_pass (is_digit b) (list_all is_digit bs) (digit_test b r.0 r.1) e;
     })
     decimal_from
     (record { empty = λ n. refl; more = λ n b bs r. refl })

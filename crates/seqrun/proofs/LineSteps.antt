@@ -1,12 +1,10 @@
 -- The steps in which a line is read.
-use Rattle.std.specs.Prelude.{ℕ, zero, suc, Bool, true, false, not, ◌≡◌, ◌≢◌, ◌==◌, ◌+◌, ◌-◌, ◌*◌, ◌<◌, ◌≤◌, ◌&&◌, ◌^◌, nat_eq, nat_lt, if◌then◌else◌, List, [], ◌∷◌, ◌++◌, length, map, flat_map, take, drop, Option, Some, None, slice_get, slice_index_or, All, string_bytes, count_by, option_map}
-use Rattle.std.specs.List.{list_all, list_any}
+use Rattle.std.specs.Prelude.{ℕ, zero, suc, Bool, true, false, not, ◌≡◌, ◌≢◌, ◌==◌, ◌+◌, ◌-◌, ◌*◌, ◌<◌, ◌≤◌, ◌&&◌, ◌^◌, nat_lt, if◌then◌else◌, List, [], ◌∷◌, ◌++◌, length, map, flat_map, take, drop, Some, None, slice_get, slice_index_or, All, string_bytes, count_by, option_map}
+use Rattle.std.specs.List.{list_all}
 use Rattle.std.specs.Fmt.{decimal}
 use Rattle.std.proofs.Common.{refl, sym, ap, ◌∙◌, subst, arith, append_assoc, append-nil, get_or, drop-cons, length-append}
 use Rattle.std.proofs.lemmas.Bool.{eq-eqb, eqb-true, ltb-true, ltb-false, lt-ltb}
-use Rattle.std.proofs.lemmas.Bool.Decides.{nat_tests}
 use Rattle.std.proofs.lemmas.List.{take-append-drop, take_all}
-use Rattle.std.proofs.lemmas.List.Folds.{list_all-append}
 use Rattle.std.proofs.lemmas.List.Elements.{All-append}
 use Rattle.std.proofs.lemmas.List.Sums.{sum_by-cons}
 use Rattle.std.proofs.lemmas.Grind.{flat_map-append}
@@ -15,16 +13,16 @@ use Rattle.semantics.specs.Tree as Tree
 use Rattle.semantics.specs.Source.Cuts.{is_digit, is_decimal, decimal_from}
 use Rattle.semantics.specs.Source.Scope.{same_name}
 use Rattle.semantics.specs.Meaning.Places.{size}
-use Rattle.semantics.specs.Meaning.Output.{IsGiven, input_line, name_of}
-use Rattle.semantics.specs.Meaning.InputFault.{Cause, WrongForm, UnknownName, NamedTwice, WrongCount, WrongNumber, Judged, Right, Faulty, is_empty, is_formed, is_value, split_from, declared_from, judged_values, judged_at, judged_words, judged}
+use Rattle.semantics.specs.Meaning.Output.{name_of}
+use Rattle.semantics.specs.Meaning.InputFault.{WrongForm, UnknownName, NamedTwice, WrongCount, WrongNumber, Judged, Right, Faulty, is_formed, is_value, split_from, declared_from, judged_at, judged_words, judged}
 use Rattle.ktree.specs.declared.statement.Declaration.{Declaration}
 use Rattle.ktree.specs.View.{declaration_of}
 use Rattle.semantics.proofs.EraseTokenLaw.{first_of, second_of}
 use Rattle.overlay.specs.Kept.{Kept}
 use Rattle.seqrun.specs.Lines.{HasLengths, value_text}
 use Rattle.seqrun.proofs.Puts.{heads, tails}
-use Rattle.seqrun.specs.Reading.{words_behind, has_none, IsBefore, StartsWithSpace, value_of_word, AreRead, IsFound, Marks, IsRight}
-use Rattle.seqrun.proofs.InputWords.{both_pass, formed_from, formed_bytes, has_no_space, split_at_end, split_at_space, decimal_of_word}
+use Rattle.seqrun.specs.Reading.{words_behind, IsBefore, StartsWithSpace, value_of_word, AreRead, IsFound, Marks, IsRight}
+use Rattle.seqrun.proofs.InputWords.{both_pass, formed_from, formed_bytes, split_at_end, split_at_space, decimal_of_word}
 use Rattle.seqrun.proofs.InputLaw.{itself}
 
 nothing_left : (w : List ℕ) (i : ℕ) → length w ≤ i → drop i w ≡ []
@@ -38,10 +36,10 @@ pub formed_stops : (line : List ℕ) (fresh : Bool) (i : ℕ) → i < length lin
 formed_stops line fresh i lt b f e =
     sym
     (formed_bytes line
-        ∙ e
-        ∙ ap (formed_from fresh) (drop-cons line i 0 lt)
-        ∙ ap (λ b. formed_from fresh (b ∷ drop (suc i) line)) b
-        ∙ ap (λ f. formed_from f (32 ∷ drop (suc i) line)) f)
+    ∙ e
+    ∙ ap (formed_from fresh) (drop-cons line i 0 lt)
+    ∙ ap (λ b. formed_from fresh (b ∷ drop (suc i) line)) b
+    ∙ ap (λ f. formed_from f (32 ∷ drop (suc i) line)) f)
 
 pub formed_ends : (line : List ℕ) (fresh : Bool) (i : ℕ) → length line ≤ i → formed_from true line ≡ formed_from fresh (drop i line) → not fresh ≡ is_formed line
 formed_ends line fresh i le e = sym (formed_bytes line ∙ e ∙ ap (formed_from fresh) (nothing_left line i le))
@@ -73,8 +71,8 @@ read_word w n i le some lead d e lt =
     let is_n : decimal_from 0 w ≡ n = e ∙ ap (decimal_from n) end in
     sym
     (ap (λ t. if t && nat_lt (decimal_from 0 w) (2 ^ 64) then Some (decimal_from 0 w) else None) (shape w some lead (d ∙ ap (list_all is_digit) end))
-        ∙ ap (λ k. if nat_lt k (2 ^ 64) then Some k else None) is_n
-        ∙ ap (λ t. if t then Some n else None) (lt-ltb n (2 ^ 64) lt))
+    ∙ ap (λ k. if nat_lt k (2 ^ 64) then Some k else None) is_n
+    ∙ ap (λ t. if t then Some n else None) (lt-ltb n (2 ^ 64) lt))
   where
     shape : (w : List ℕ) → 0 < length w → (1 < length w → get_or w 0 0 ≢ 48) → list_all is_digit w ≡ true → is_decimal w ≡ true
     shape [] some lead d = absurd (omega arith)
@@ -97,7 +95,7 @@ found_at ds name i d lt e n f = record {
       f
       ∙ ap (λ l. declared_from i (map declaration_of l) name) (drop-cons ds i d lt ∙ ap (λ d. d ∷ drop (suc i) ds) (sym e))
       ∙ ap (λ m. if same_name (string_bytes d.name) m then Some (i, size d.lengths.items) else declared_from (suc i) (map declaration_of (drop (suc i) ds)) m) (sym n)
-      ∙ ap (λ t. if t then Some (i, size d.lengths.items) else declared_from (suc i) (map declaration_of (drop (suc i) ds)) (string_bytes d.name)) (itself (string_bytes d.name))
+      ∙ ap (λ t. if t then Some (i, size d.lengths.items) else declared_from (suc i) (map declaration_of (drop (suc i) ds)) (string_bytes d.name)) (itself (string_bytes d.name));
 }
 
 -- a variable that was found is there
@@ -194,7 +192,7 @@ module _ (text values rest words : List ℕ) (first n : ℕ) (r : Reading text v
             ∙ ap (λ l. l ++ drop n words) (ap (λ l. flat_map value_text values ++ l) (sym (append-nil (value_text v))) ∙ sym (flat_map-append value_text values (v ∷ [])));
         right = r.right ∙ ap (list_all is_value) behind ∙ ap (λ t. t && list_all is_value (words_behind (drop n words))) is.0;
         count = r.count ∙ ap (λ l. length values + length l) behind ∙ counted;
-        small = All-append (λ v. v < 2 ^ 64) values (v ∷ []) r.small (λ k d lt. let z : k ≡ 0 = omega arith in subst (λ k. slice_index_or (v ∷ []) k d < 2 ^ 64) (sym z) small)
+        small = All-append (λ v. v < 2 ^ 64) values (v ∷ []) r.small (λ k d lt. let z : k ≡ 0 = omega arith in subst (λ k. slice_index_or (v ∷ []) k d < 2 ^ 64) (sym z) small);
       }
     where
       counted : length values + length (take n words ∷ words_behind (drop n words)) ≡ length (values ++ v ∷ []) + length (words_behind (drop n words))
@@ -205,7 +203,7 @@ all_read text values [] r e = record {
   bytes = r.text_is ∙ append-nil (flat_map value_text values);
   right = r.right;
   count = r.count ∙ (let e : length values + 0 ≡ length values = omega arith in e);
-  small = r.small
+  small = r.small;
 }
 all_read text values (b ∷ rest) r e = absurd (omega arith)
 
@@ -260,7 +258,7 @@ module _ (ds : List Tree.Declaration) (seen : List Bool) (line name text : List 
             ap (λ l. l ++ 10 ∷ []) (sym (take-append-drop n line) ∙ ap (λ w. w ++ drop n line) (sym named) ∙ ap (λ l. name ++ l) (sym behind ∙ r.bytes) ∙ ap (λ w. w ++ flat_map value_text values) (sym f.named))
             ∙ ap (λ o. name_of o ++ flat_map value_text values ++ 10 ∷ []) (sym f.at);
         given = (f.declaration, f.at, sym r.count ∙ words_count text text_starts ∙ c, r.small);
-        new = t
+        new = t;
       }
 
 -- a declared variable is kept with its lengths

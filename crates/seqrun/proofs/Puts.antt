@@ -1,6 +1,6 @@
 -- A dump's lines as they are put, part by part.
-use Rattle.std.specs.Prelude.{ℕ, zero, suc, ◌≡◌, ◌+◌, ◌<◌, List, [], ◌∷◌, ◌++◌, length, map, flat_map, take, drop, Some, slice_get, string_bytes}
-use Rattle.std.proofs.Common.{refl, sym, ap, ◌∙◌, subst, arith, append_assoc, append-nil, get_or, drop-cons, add-one}
+use Rattle.std.specs.Prelude.{ℕ, zero, suc, ◌≡◌, ◌+◌, ◌<◌, List, [], ◌∷◌, ◌++◌, length, map, flat_map, take, drop, Some, string_bytes}
+use Rattle.std.proofs.Common.{refl, sym, ap, ◌∙◌, subst, arith, append_assoc, append-nil, get_or, add-one}
 use Rattle.std.specs.Fmt.{decimal}
 use Rattle.std.proofs.lemmas.Grind.{flat_map-append}
 use Rattle.std.proofs.lemmas.List.{take-append-drop}
@@ -15,7 +15,7 @@ use Rattle.ktree.specs.View.{declaration_of}
 use Rattle.overlay.specs.Kept.{Kept, cell_of, state_of}
 use Rattle.seqrun.specs.Told.{AddsBeginning, Holds}
 use Rattle.seqrun.specs.Lines.{HasLengths, value_text, line_of}
-use Rattle.seqrun.proofs.Beginnings.{of_front, of_held, on_held, more_held}
+use Rattle.seqrun.proofs.Beginnings.{of_front, on_held, more_held}
 use Rattle.seqrun.proofs.Rows.{kept_text}
 
 -- the values so far, and one more
@@ -33,7 +33,7 @@ pub values_front : (before after held vs : List ℕ) (i : ℕ) → AddsBeginning
 values_front before after held vs i a =
     subst (AddsBeginning before after)
     (append_assoc held (flat_map value_text (take i vs)) (flat_map value_text (drop i vs))
-        ∙ ap (λ l. held ++ l) (sym (flat_map-append value_text (take i vs) (drop i vs)) ∙ ap (flat_map value_text) (take-append-drop i vs)))
+    ∙ ap (λ l. held ++ l) (sym (flat_map-append value_text (take i vs) (drop i vs)) ∙ ap (flat_map value_text) (take-append-drop i vs)))
     (of_front before after (held ++ flat_map value_text (take i vs)) (flat_map value_text (drop i vs)) a)
 
 -- the same where only the space of the next was to be put

@@ -1,10 +1,10 @@
 -- What an input is read for, and what is known of the variables that it may name.
-use Rattle.std.specs.Prelude.{ℕ, suc, Bool, true, false, not, ◌≡◌, ◌≢◌, ◌⊎◌, ◌≤◌, ◌<◌, ◌+◌, ◌==◌, ◌^◌, nat_eq, if◌then◌else◌, List, [], ◌∷◌, ◌++◌, length, take, Option, Some, None, slice_get, slice_index_or, replicate, flat_map, All}
+use Rattle.std.specs.Prelude.{ℕ, suc, Bool, true, false, not, ◌≡◌, ◌≢◌, ◌⊎◌, ◌≤◌, ◌<◌, ◌==◌, ◌^◌, nat_eq, if◌then◌else◌, List, [], ◌∷◌, ◌++◌, length, take, Option, Some, None, slice_get, slice_index_or, replicate, flat_map, All}
 use Rattle.std.specs.List.{list_any, list_all}
 use Rattle.semantics.specs.Tree.{Name, Declaration}
 use Rattle.semantics.specs.Source.Cuts.{is_name, decimal_from}
 use Rattle.semantics.specs.Meaning.Places.{size}
-use Rattle.semantics.specs.Meaning.Output.{Given, IsInput, IsGiven, AreGiven, NotAmong, input_line, input_text, values_at, start}
+use Rattle.semantics.specs.Meaning.Output.{Given, IsInput, IsGiven, input_line, values_at, start}
 use Rattle.semantics.specs.Meaning.InputFault as fault
 use Rattle.semantics.specs.Meaning.InputFault.{is_value, split_from, declared_from, first_fault, fault_from, judged}
 use Rattle.overlay.specs.Kept.{Kept, state_of}

@@ -13,7 +13,6 @@ use ktree::{Cause, Declaration, InputFault, Refusal, VarId};
 use overlay::{Array, Store};
 use std::alloc::{AllocError, Global};
 
-
 /// Why a line is not read.
 #[derive(Clone, Copy, Debug, PartialEq, Eq)]
 pub(crate) enum Fault {

@@ -1,9 +1,8 @@
-ghost use Rattle.std.specs.Prelude.{◌≡◌, [], ◌∷◌, codes, map, IfOk, string_bytes};
-ghost use Rattle.seqrun.specs.Lines.{HasLengths};
+ghost use Rattle.std.specs.Prelude.{◌≡◌, ◌≤◌, [], ◌∷◌, codes, map, IfOk};
 ghost use Rattle.ktree.specs.View.{declaration_of};
 
 use crate::{Memory, Sink, Writer, dump, input, put_all};
-use ktree::{Cause, Declaration, Place, Refusal};
+use ktree::{Cause, Declaration, InputFault, Place, Refusal};
 use overlay::{Array, Store};
 use std::alloc::{AllocError, Global};
 use std::io::{Error, ErrorKind, Write};
@@ -50,5 +49,82 @@ fn keeps_what_it_took(rt: HostRuntime) -> Result<(), Fail> {
     assert!(rt; put_all(&mut sink, b"1\n").is_ok());
     assert_eq!(rt; sink.bytes(), b"A = 1\n".as_slice());
     assert_eq!(rt; sink.failures(), 0);
+    Ok(())
+}
+
+// `A`, of so many elements.
+fn one_array(alloc: Global, length: u64) -> Result<Vec<Declaration>, AllocError>
+    ensures { IfOk result (λ ds. map declaration_of ds.items ≡ record { name = codes "A"; lengths = length ∷ [] } ∷ []) }
+{
+    let mut declarations = Vec::new(alloc);
+    declarations.push(Declaration {
+        name: String::from_str(alloc, "A")?,
+        lengths: Vec::from_slice(alloc, &[length])?,
+        place: Place { line: 1, column: 1 },
+    })?;
+    Ok(declarations)
+}
+
+// The fault of an input for it, if there is one.
+fn fault(alloc: Global, length: u64, bytes: &[u8]) -> Result<Option<InputFault>, AllocError>
+    requires least { 1 ≤ length }
+    requires most { length ≤ 8 }
+{
+    let declarations = one_array(alloc, length)?;
+    match input(alloc, declarations.as_slice(), bytes) {
+        Ok(_) => Ok(None),
+        Err(Refusal::Input(fault)) => Ok(Some(fault)),
+        Err(_) => Err(AllocError),
+    }
+}
+
+fn at(line: u64, cause: Cause) -> Option<InputFault> {
+    Some(InputFault { line, cause })
+}
+
+#[test]
+fn names_the_first_fault(rt: HostRuntime) -> Result<(), Fail> {
+    let heap = rt.alloc();
+    assert_eq!(rt; fault(heap, 3, b"A 1 2\n")?, at(1, Cause::Count));
+    assert_eq!(rt;
+        fault(heap, 3, b"A 1 2 18446744073709551616\n")?,
+        at(1, Cause::Number)
+    );
+    assert_eq!(rt;
+        fault(heap, 3, b"A 1 2 18446744073709551615\nA 1 2 3\n")?,
+        at(2, Cause::Twice)
+    );
+    assert_eq!(rt; fault(heap, 2, b"A 1  2\n")?, at(1, Cause::Form));
+    assert_eq!(rt; fault(heap, 2, b"A 1 2")?, at(1, Cause::Form));
+    assert_eq!(rt; fault(heap, 2, b"B 1 2\n")?, at(1, Cause::Name));
+    assert_eq!(rt; fault(heap, 2, b"A\n")?, at(1, Cause::Count));
+    assert_eq!(rt; fault(heap, 2, b"A 1 02\n")?, at(1, Cause::Number));
+    assert_eq!(rt; fault(heap, 2, b"A 1 02 3\n")?, at(1, Cause::Count));
+    assert_eq!(rt; fault(heap, 2, b"A 1 0\n")?, None);
+    assert_eq!(rt; fault(heap, 2, b"")?, None);
+    Ok(())
+}
+
+// The dump of `A = 1 2 3 4 5 6 7 8` over a writer that takes one byte a call and fails at a call.
+fn dumped(alloc: Global, failing: usize) -> Result<(Result<(), Refusal>, u64), AllocError> {
+    let declarations = one_array(alloc, 8)?;
+    let lengths = Vec::from_slice(alloc, &[8])?;
+    let values = Vec::from_slice(alloc, &[1, 2, 3, 4, 5, 6, 7, 8])?;
+    let mut arrays = Vec::new(alloc);
+    arrays.push(Array::new(lengths, values))?;
+    let store = Store::new(arrays);
+    let mut sink = Writer::new(OneByte { calls: 0, failing });
+    let answer = dump(alloc, declarations.as_slice(), &store, &mut sink);
+    Ok((answer, sink.failures()))
+}
+
+#[test]
+fn dumps_to_a_slow_sink(rt: HostRuntime) -> Result<(), Fail> {
+    let (answer, failures) = dumped(rt.alloc(), 21)?;
+    assert!(rt; answer.is_ok());
+    assert_eq!(rt; failures, 0);
+    let (answer, failures) = dumped(rt.alloc(), 8)?;
+    assert!(rt; matches!(answer, Err(Refusal::OutputFailed)));
+    assert_eq!(rt; failures, 1);
     Ok(())
 }

@@ -1,4 +1,4 @@
-use Rattle.std.proofs.Common.{subst, sym}
+use Rattle.std.proofs.Common.{subst}
 use Rattle.seqrun.specs.Told.{AddsBeginning}
 use Rattle.seqrun.proofs.Beginnings.{of_front}
 use Rattle.seqrun.proofs.lines.add.Goals as goal

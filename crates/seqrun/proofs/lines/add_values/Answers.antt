@@ -13,7 +13,8 @@ returns-in_err-add-2-clause-beginning g c =
     (on_held _ _ _ _ _ _ (more_held _ _ _ _ _ _ _ c.loop-value.invariant.0 c.in_ok-add.ensures.added) c.in_err-add-2.ensures.beginning)
 
 pub loop-value-preserved : goal.loop-value-preserved
-loop-value-preserved g c =
-    (values_held _ _ _ c.args.held.now.items c.args.values.now c.loop-value.value-index _ (omega arith) (c.as_bytes.ensures.value ∙ c.format.ensures.text)
-    (more_held _ _ _ _ _ _ _ (more_held _ _ _ _ _ _ _ c.loop-value.invariant.0 c.in_ok-add.ensures.added) c.in_ok-add-2.ensures.added),
-      c.in_ok-add-2.ensures.sound ∙ c.in_ok-add.ensures.sound ∙ c.loop-value.invariant.1)
+loop-value-preserved g c = (
+  values_held _ _ _ c.args.held.now.items c.args.values.now c.loop-value.value-index _ (omega arith) (c.as_bytes.ensures.value ∙ c.format.ensures.text)
+      (more_held _ _ _ _ _ _ _ (more_held _ _ _ _ _ _ _ c.loop-value.invariant.0 c.in_ok-add.ensures.added) c.in_ok-add-2.ensures.added),
+  c.in_ok-add-2.ensures.sound ∙ c.in_ok-add.ensures.sound ∙ c.loop-value.invariant.1,
+)

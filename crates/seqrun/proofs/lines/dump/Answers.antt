@@ -1,6 +1,5 @@
-use Rattle.std.specs.Prelude.{◌≡◌, ◌<◌, ◌++◌, length, map}
-use Rattle.std.proofs.Common.{subst, sym, ap, ◌∙◌, arith}
-use Rattle.seqrun.specs.Told.{AddsBeginning, Holds}
+use Rattle.std.proofs.Common.{subst, sym, ◌∙◌, arith}
+use Rattle.seqrun.specs.Told.{Holds}
 use Rattle.seqrun.proofs.Beginnings.{on_held, more_held}
 use Rattle.seqrun.proofs.Puts.{lengths_at, lengths_count, one_more, front}
 use Rattle.seqrun.proofs.lines.dump.Goals as goal
@@ -12,11 +11,12 @@ returns-in_err-add_line-clause-beginning g c =
     (on_held _ _ _ _ _ _ c.loop-variable.invariant.0 c.in_err-add_line.ensures.beginning)
 
 pub loop-variable-preserved : goal.loop-variable-preserved
-loop-variable-preserved g c =
-    (subst (Holds _ _ _) (sym (one_more c.args.declarations.now c.args.store.now c.loop-variable.variable c.index-declarations-variable.result c.index-arrays-variable.result (omega arith)
-    c.index-declarations-variable.is (rw c.arrays-arrays.ensures at c.index-arrays-variable.is) (lengths_count c.args.declarations.now c.args.store.now c.requires.lengths)))
-    (more_held _ _ _ _ _ _ _ c.loop-variable.invariant.0 c.in_ok-add_line.ensures.added),
-      c.in_ok-add_line.ensures.sound ∙ c.loop-variable.invariant.1)
+loop-variable-preserved g c = (
+  subst (Holds _ _ _) (sym (one_more c.args.declarations.now c.args.store.now c.loop-variable.variable c.index-declarations-variable.result c.index-arrays-variable.result (omega arith)
+      c.index-declarations-variable.is (rw c.arrays-arrays.ensures at c.index-arrays-variable.is) (lengths_count c.args.declarations.now c.args.store.now c.requires.lengths)))
+      (more_held _ _ _ _ _ _ _ c.loop-variable.invariant.0 c.in_ok-add_line.ensures.added),
+  c.in_ok-add_line.ensures.sound ∙ c.loop-variable.invariant.1,
+)
 
 pub add_line-requires-clause-lengths : goal.add_line-requires-clause-lengths
 add_line-requires-clause-lengths g c =

@@ -1,4 +1,4 @@
-use Rattle.std.specs.Prelude.{◌≡◌, ◌++◌, take, map, [], flat_map}
+use Rattle.std.specs.Prelude.{◌≡◌, take, map}
 use Rattle.semantics.specs.Meaning.Output.{dump_from}
 use Rattle.ktree.specs.View.{declaration_of}
 use Rattle.overlay.specs.Kept.{state_of}

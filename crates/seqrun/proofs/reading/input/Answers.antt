@@ -1,4 +1,4 @@
-use Rattle.std.specs.Prelude.{◌≡◌, ◌<◌, ◌≤◌, ◌+◌, ◌^◌, length, map, slice_get}
+use Rattle.std.specs.Prelude.{◌<◌, ◌+◌, ◌^◌, length, map, slice_get}
 use Rattle.std.proofs.Common.{rules, refl, arith, ap, sym, subst, inr, ◌∙◌}
 use Rattle.std.proofs.lemmas.Bool.Decides.{nat_tests}
 use Rattle.ktree.specs.View.{declaration_of}
@@ -15,8 +15,12 @@ loop-rest-init c = begins _ _ _ _ _ c.in_ok-store.ensures (c.in_ok-seen.ensures.
 
 pub returns-in_default-clause-refusal : goal.returns-in_default-clause-refusal
 returns-in_default-clause-refusal c =
-    inr (_, refl, cut_off _ _ _ _ c.loop-rest.rest.now c.loop-rest.line c.requires.named c.loop-rest.invariant c.length_before.result c.length_before.ensures
-    (let e = c.loop-rest-test.ensures in grind (arith, nat_tests)) (sym (ap length c.split_at.ensures.back) ∙ c.in_default.ensures.cases))
+    inr (
+      _,
+      refl,
+      cut_off _ _ _ _ c.loop-rest.rest.now c.loop-rest.line c.requires.named c.loop-rest.invariant c.length_before.result c.length_before.ensures
+          (let e = c.loop-rest-test.ensures in grind (arith, nat_tests)) (sym (ap length c.split_at.ensures.back) ∙ c.in_default.ensures.cases),
+    )
 
 pub read_line-read-requires-clause-lengths : goal.read_line-read-requires-clause-lengths
 read_line-read-requires-clause-lengths c =

@@ -1,5 +1,4 @@
 use Rattle.std.specs.Prelude.{true, ◌≡◌, drop}
-use Rattle.semantics.specs.Meaning.InputFault.{is_formed as formed}
 use Rattle.seqrun.proofs.InputWords.{formed_from}
 use Rattle.seqrun.proofs.reading.is_formed.Given as goal
 

@@ -1,8 +1,8 @@
-use Rattle.std.specs.Prelude.{◌≡◌, ◌<◌, ◌==◌, length, map, count_by}
-use Rattle.std.proofs.Common.{rules, arith, ap, sym, subst, ◌∙◌}
+use Rattle.std.specs.Prelude.{◌≡◌, ◌<◌, length, map}
+use Rattle.std.proofs.Common.{rules, arith, ap, sym, ◌∙◌}
 use Rattle.ktree.specs.View.{declaration_of}
 use Rattle.semantics.specs.Meaning.Places.{size}
-use Rattle.seqrun.proofs.LineSteps.{unknown, named_twice, wrong_count, wrong_number, right_line, text_starts, found_there, lengths_of, arrays_count, there_in}
+use Rattle.seqrun.proofs.LineSteps.{unknown, named_twice, wrong_count, wrong_number, right_line, found_there, lengths_of, arrays_count, there_in}
 use Rattle.seqrun.proofs.reading.read_line.Goals as goal
 
 pub returns-in_default-clause-fault : goal.returns-in_default-clause-fault

@@ -1,7 +1,6 @@
-use Rattle.std.specs.Prelude.{◌≡◌, take, Some}
-use Rattle.std.proofs.Common.{arith, ap, sym, subst, ◌∙◌}
+use Rattle.std.proofs.Common.{arith, ap, sym, ◌∙◌}
 use Rattle.seqrun.specs.Reading.{value_of_word}
-use Rattle.seqrun.proofs.LineSteps.{Reading, not_read, one_read}
+use Rattle.seqrun.proofs.LineSteps.{not_read, one_read}
 use Rattle.seqrun.proofs.reading.read_values.Goals as goal
 
 pub returns-in_default-value_of : goal.returns-in_default-value_of

@@ -1,7 +1,6 @@
-use Rattle.std.specs.Prelude.{◌≡◌, ◌*◌, ◌<◌, ◌≤◌, ◌^◌, suc, drop, length}
-use Rattle.std.proofs.Common.{rules, arith, ap, sym, subst, ◌∙◌, drop-cons, get_or}
+use Rattle.std.specs.Prelude.{◌*◌, ◌<◌, ◌^◌, suc, drop}
+use Rattle.std.proofs.Common.{rules, arith, ap, sym, ◌∙◌, drop-cons, get_or}
 use Rattle.semantics.specs.Meaning.Places.{size}
-use Rattle.seqrun.specs.Reading.{ArePositive}
 use Rattle.seqrun.proofs.InputStore.{product_step, positive_drop}
 use Rattle.seqrun.proofs.reading.size_of.Goals as goal
 

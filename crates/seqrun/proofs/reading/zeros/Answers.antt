@@ -1,5 +1,5 @@
-use Rattle.std.specs.Prelude.{◌≡◌, ◌≤◌, ◌^◌, Some, slice_get, length, map, option_map, replicate}
-use Rattle.std.proofs.Common.{rules, refl, arith, ap, sym, subst, ◌∙◌}
+use Rattle.std.specs.Prelude.{length, map, option_map}
+use Rattle.std.proofs.Common.{refl, arith, ap, sym, subst, ◌∙◌}
 use Rattle.std.proofs.lemmas.Option.{slice_get_read, slice_get-map}
 use Rattle.ktree.specs.View.{declaration_of}
 use Rattle.semantics.specs.Meaning.Places.{size}

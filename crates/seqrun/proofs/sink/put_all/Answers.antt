@@ -1,4 +1,4 @@
-use Rattle.std.proofs.Common.{◌≤◌, ◌+◌, length, arith, length-drop, ◌∙◌, ap}
+use Rattle.std.proofs.Common.{arith, length-drop, ◌∙◌}
 use Rattle.std.proofs.lemmas.List.{take_rest}
 use Rattle.seqrun.proofs.Beginnings.{put_on, begun}
 use Rattle.seqrun.proofs.sink.put_all.Goals as goal
