@@ -48,7 +48,7 @@ fn is_omp(bytes: &[u8]) -> bool
     }
 }
 
-/// Whether a line is an OpenMP directive (OpenMP 5.2 3.1, C11 6.10.6).
+/// Whether a line is an OpenMP directive (OpenMP 5.2, 3.1; C11 6.10.6).
 pub fn is_directive_line(line: &[u8]) -> bool
     ensures { result ≡ is_directive_line line.now }
 {
