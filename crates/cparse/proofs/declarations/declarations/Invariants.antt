@@ -1,0 +1,13 @@
+use Rattle.std.proofs.Common.{◌≡◌, ◌-◌, length}
+use Rattle.cparse.specs.TextReader.{declarations}
+use Rattle.cparse.specs.DeclarationViews.{decls_of}
+use Rattle.cparse.specs.Names.{names_of}
+use Rattle.cparse.specs.Lexemes.{tokens_of}
+use Rattle.cparse.proofs.DeclarationTurns.{decls_run}
+use Rattle.cparse.proofs.declarations.declarations.Given as goal
+
+-- reading on from here gives what reading from the beginning gives
+abbrev pub invariant-loop-turn : goal.invariant-loop-turn
+invariant-loop-turn l =
+    let count = length (tokens_of l.tokens) in
+    decls_run (count - l._turn) (decls_of (names_of l.scope) l.row) ≡ declarations count (names_of l.fn.scope) 0 (tokens_of l.tokens)

@@ -1,0 +1,7 @@
+use Rattle.std.proofs.Common.{List, take}
+use Rattle.cparse.specs.SameTokens.{AreLexed}
+use Rattle.cparse.proofs.lexing.lexemes.Given as goal
+
+-- those so far
+abbrev pub invariant-loop-token : goal.invariant-loop-token
+invariant-loop-token l = AreLexed l.text (take l.token-index l.tokens) l.lexemes.items

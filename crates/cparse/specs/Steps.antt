@@ -1,0 +1,57 @@
+-- The steps of reading, as the code takes them.
+use Rattle.std.specs.Prelude.{Bool, true, false, ◌&&◌, if◌then◌else◌, List, ◌∷◌, length, Option, Some, None}
+use Rattle.semantics.specs.Tree.{Name, Expr, Exprs, no_exprs, more_exprs, Source, BinaryOp, Increment, Up, Down, Change, Stmt, Update}
+use Rattle.semantics.specs.Source.Token.{Token, Word, Sign, OpenBracket}
+use Rattle.semantics.specs.Source.Scope.{Scope, Entity, find}
+use Rattle.cparse.specs.Reading.{Got, Reader, ◌>>=◌, got}
+use Rattle.cparse.specs.Operators.{number_in, is_number}
+use Rattle.cparse.specs.ExpressionReader.{Inner, subscripts, may_be_named, named}
+use Rattle.cparse.specs.StatementReader.{target_of, may_set, may_step, sign, if_named, step_behind}
+
+-- the tokens behind `[`
+abbrev pub open_bracket : List Token → Option (List Token)
+open_bracket (Sign OpenBracket ∷ ts) = Some ts
+open_bracket _ = None
+
+-- subscripts and one more
+abbrev pub and_one : Exprs → Expr → Exprs
+and_one no_exprs e = more_exprs e no_exprs
+and_one (more_exprs x xs) e = more_exprs x (and_one xs e)
+
+-- subscripts and one more, with the tokens behind it
+abbrev pub with_subscript : Got Exprs → Got Source → List Token → Got Exprs
+with_subscript is e behind = record { tree = and_one is.tree (number_in e.tree); sound = is.sound && (e.sound && is_number e.tree); rest = behind }
+
+-- a name and what follows it
+abbrev pub at_name : Scope → Inner → Name → Reader Source
+at_name scope inner name ts =
+    if may_be_named (find scope name) name
+    then (subscripts (length ts) inner ts >>= λ is. named (find scope name) name is)
+    else None
+
+-- a step by one, up or down
+abbrev pub by_one : Option Entity → Bool → Reader Increment
+by_one entity true ts = got (Up (target_of entity)) (may_step entity) ts
+by_one entity false ts = got (Down (target_of entity)) (may_step entity) ts
+
+-- a step behind its operator
+abbrev pub changed_by : Reader Source → Option Entity → BinaryOp → Reader Increment
+changed_by whole entity op ts = whole ts >>= λ e. got (Change (target_of entity) op (number_in e.tree)) (may_step entity && (e.sound && is_number e.tree)) e.rest
+
+-- a word comes next
+abbrev pub next_word : List Token → Option (Name × List Token)
+next_word (Word w ∷ ts) = Some (w, ts)
+next_word _ = None
+
+-- a step in front of its variable
+abbrev pub step_before : Scope → Bool → Reader Increment
+step_before scope up ts = next_word ts >>= λ w. if_named scope w.0 (by_one (find scope w.0) up w.1)
+
+-- a step behind its variable
+abbrev pub step_of : Reader Source → Scope → Name → Reader Increment
+step_of whole scope name ts = sign ts >>= λ s. if_named scope name (step_behind whole (find scope name) s.0 s.1)
+
+-- what is assigned behind `op=`
+abbrev pub updated : Reader Source → Option Entity → Exprs → Bool → BinaryOp → Reader Stmt
+updated whole entity is sound op ts =
+    whole ts >>= λ e. got (Update (target_of entity) is op (number_in e.tree)) (sound && (may_set entity is && (e.sound && is_number e.tree))) e.rest

@@ -1,0 +1,134 @@
+//! Constant expressions and enumerations (C11 6.6, 6.7.2.2).
+
+ghost use Rattle.std.specs.Prelude.{◌≡◌, ◌∷◌, length, Some, IfOk, OnOk};
+ghost use Rattle.semantics.specs.Source.Scope.{with_constants};
+ghost use Rattle.cparse.specs.DeclarationSteps.{constant_read, one_constant, and_then, visible};
+ghost use Rattle.cparse.specs.DeclarationViews.{value_in, valued_of, enumerators_of};
+ghost use Rattle.cparse.specs.TextReader.{constants};
+ghost use Rattle.cparse.specs.Names.{names_of};
+ghost use Rattle.cparse.specs.Lexemes.{tokens_of};
+ghost use Rattle.cparse.specs.Outcome.{Gives, got_of};
+
+use crate::combining::told;
+use crate::context::{Context, Outcome, Setting};
+use crate::expression::whole;
+use crate::lexeme::Lexeme;
+use crate::parsed::{Parsed, and_then};
+use crate::punctuation::{becomes, comma, first_place};
+use crate::scope::{Entity, Scope, add, find};
+use crate::stop::{Flaw, Stop, earlier, unless};
+use crate::wanted::number_in;
+use crate::words::new_name;
+use ktree::{Enumerator, Place};
+use std::alloc::Global;
+
+/// The value of a constant expression, if it has one, and the place that is told where it has none.
+#[derive(Clone, Copy, Drop)]
+pub struct Constant {
+    pub value: Option<u32>,
+    pub place: Place,
+}
+
+/// A constant expression.
+pub fn constant_expression<'s, 't>(
+    context: Context<'_, 't>,
+    tokens: &'s [Lexeme<'t>],
+) -> Outcome<'s, 't, Constant>
+    ensures { Gives (got_of value_in) result (constant_read (names_of context.entry.scope.now) (tokens_of tokens.now)) }
+{
+    let Parsed { tree, fault, rest } = whole(context, 64, tokens)?;
+    let constant = Constant {
+        value: tree.constant,
+        place: tree.place,
+    };
+    let number = number_in(tree);
+    let own = unless(number.is_number, Flaw::NumberOutOfRange, constant.place);
+    Ok(Parsed {
+        tree: constant,
+        fault: told(fault, own),
+        rest,
+    })
+}
+
+/// An enumeration constant with its value.
+#[derive(Clone, Copy, Drop)]
+struct Valued<'t> {
+    name: &'t str,
+    value: u32,
+}
+
+/// An enumeration constant.
+fn enumerator<'s, 't>(
+    context: Context<'_, 't>,
+    tokens: &'s [Lexeme<'t>],
+) -> Outcome<'s, 't, Valued<'t>>
+    ensures { Gives (got_of valued_of) result (one_constant (names_of context.entry.scope.now) (tokens_of tokens.now)) }
+{
+    let name = new_name(tokens, context.end)?;
+    let behind = becomes(name.rest, context.end)?;
+    let twice = unless(
+        find(context.scope, name.name).is_none(),
+        Flaw::NameTwice,
+        name.place,
+    );
+    let Parsed { tree, fault, rest } = constant_expression(context, behind)?;
+    let own = unless(tree.value.is_some(), Flaw::NumberOutOfRange, tree.place);
+    let tree = Valued {
+        name: name.name,
+        value: tree.value.unwrap_or(0),
+    };
+    Ok(Parsed {
+        tree,
+        fault: earlier(twice, told(fault, own)),
+        rest,
+    })
+}
+
+/// Constants read so far, and one more, which is visible from here on.
+fn with_constant<'s, 't>(
+    alloc: Global,
+    scope: &mut Scope<'t>,
+    row: Parsed<'s, 't, Vec<Enumerator>>,
+    one: Parsed<'s, 't, Valued<'t>>,
+) -> Outcome<'s, 't, Vec<Enumerator>>
+    ensures row { Gives (got_of enumerators_of) result (Some (and_then (got_of enumerators_of row.entry) (got_of valued_of one.entry))) }
+    ensures visible { OnOk result (names_of scope.new ≡ visible (valued_of one.entry.tree) ∷ names_of scope.old) }
+{
+    let Parsed {
+        tree: Valued { name, value },
+        fault,
+        rest,
+    } = one;
+    add(scope, name, Entity::Constant(value))?;
+    let tree = Enumerator {
+        name: String::from_str(alloc, name)?,
+        value,
+    };
+    and_then(row, Parsed { tree, fault, rest })
+}
+
+/// The enumeration constants of one declaration; each is visible behind it.
+pub fn constants<'s, 't>(
+    setting: Setting,
+    scope: &mut Scope<'t>,
+    tokens: &'s [Lexeme<'t>],
+) -> Outcome<'s, 't, Vec<Enumerator>>
+    ensures constants { Gives (got_of enumerators_of) result (constants (length (tokens_of tokens.now)) (names_of scope.old) (tokens_of tokens.now)) }
+    ensures visible { IfOk result (λ cs. names_of scope.new ≡ with_constants (enumerators_of cs.tree) (names_of scope.old)) }
+{
+    let Setting { alloc, end } = setting;
+    let mut row = Parsed {
+        tree: Vec::new(alloc),
+        fault: None,
+        rest: tokens,
+    };
+    for _turn in 0..tokens.len() {
+        let one = enumerator(Context { alloc, scope, end }, row.rest)?;
+        row = with_constant(alloc, scope, row, one)?;
+        match comma(row.rest) {
+            None => return Ok(row),
+            Some(rest) => row.rest = rest,
+        }
+    }
+    Err(Stop::Syntax(first_place(row.rest, end)))
+}

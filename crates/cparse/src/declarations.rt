@@ -1,0 +1,186 @@
+//! File-scope declarations (C11 6.7).
+
+ghost use Rattle.std.specs.Prelude.{ℕ, ◌≡◌, length, Some, IfOk};
+ghost use Rattle.semantics.specs.Source.Scope.{with_constants};
+ghost use Rattle.ktree.specs.View.{declaration_of};
+ghost use Rattle.cparse.specs.TextReader.{enumeration, variable, declarations};
+ghost use Rattle.cparse.specs.DeclarationSteps.{enum_step, variable_step};
+ghost use Rattle.cparse.specs.DeclarationViews.{enumerators_of, named_of, decls_of};
+ghost use Rattle.cparse.specs.Names.{names_of};
+ghost use Rattle.cparse.specs.Lexemes.{tokens_of};
+ghost use Rattle.cparse.specs.Outcome.{Gives, got_of};
+
+use crate::constants::constants;
+use crate::context::{Context, Outcome, Setting};
+use crate::lengths::lengths;
+use crate::lexeme::Lexeme;
+use crate::parsed::Parsed;
+use crate::punctuation::{close_brace, open_brace, semicolon};
+use crate::scope::{Entity, Scope, add, find};
+use crate::stop::{Fault, Flaw, Stop, earlier, unless};
+use crate::words::{if_word, new_name};
+use ktree::{Declaration, Enumerator, Place, VarId};
+
+/// What is declared, and the tokens behind it.
+#[derive(Drop)]
+pub struct FileScope<'s, 't> {
+    pub constants: Vec<Enumerator>,
+    pub variables: Vec<Declaration>,
+    pub fault: Option<Fault>,
+    pub rest: &'s [Lexeme<'t>],
+}
+
+/// A variable as it is declared.
+#[derive(Drop)]
+struct Named<'t> {
+    name: &'t str,
+    lengths: Vec<u64>,
+    place: Place,
+}
+
+/// What stands behind the word `enum`; the constants are visible behind it (C11 6.7.2.2).
+#[tactic(auto, unfolding(crate::specs::TextReader::enumeration))]
+fn enumeration<'s, 't>(
+    setting: Setting,
+    scope: &mut Scope<'t>,
+    tokens: &'s [Lexeme<'t>],
+) -> Outcome<'s, 't, Vec<Enumerator>>
+    ensures constants { Gives (got_of enumerators_of) result (enumeration (names_of scope.old) (tokens_of tokens.now)) }
+    ensures visible { IfOk result (λ cs. names_of scope.new ≡ with_constants (enumerators_of cs.tree) (names_of scope.old)) }
+{
+    let inner = open_brace(tokens, setting.end)?;
+    let Parsed { tree, fault, rest } = constants(setting, scope, inner)?;
+    let behind = close_brace(rest, setting.end)?;
+    let rest = semicolon(behind, setting.end)?;
+    Ok(Parsed { tree, fault, rest })
+}
+
+/// What stands behind a variable's type: its name and its dimensions, 4 at most (C11 6.7.6.2).
+#[tactic(auto, unfolding(crate::specs::TextReader::variable))]
+fn variable<'s, 't>(
+    context: Context<'_, 't>,
+    tokens: &'s [Lexeme<'t>],
+) -> Outcome<'s, 't, Named<'t>>
+    ensures { Gives (got_of named_of) result (variable (names_of context.entry.scope.now) (tokens_of tokens.now)) }
+{
+    let name = new_name(tokens, context.end)?;
+    let twice = unless(
+        find(context.scope, name.name).is_none(),
+        Flaw::NameTwice,
+        name.place,
+    );
+    let Parsed {
+        tree: lengths,
+        fault,
+        rest,
+    } = lengths(context, name.rest)?;
+    let rest = semicolon(rest, context.end)?;
+    let many = unless(lengths.len() <= 4, Flaw::Limit, name.place);
+    let tree = Named {
+        name: name.name,
+        lengths,
+        place: name.place,
+    };
+    Ok(Parsed {
+        tree,
+        fault: earlier(twice, earlier(fault, many)),
+        rest,
+    })
+}
+
+/// What was declared, and an enumeration.
+fn with_enumeration<'s, 't>(
+    setting: Setting,
+    scope: &mut Scope<'t>,
+    row: FileScope<'s, 't>,
+    tokens: &'s [Lexeme<'t>],
+) -> Result<FileScope<'s, 't>, Stop>
+    ensures { Gives (decls_of (names_of scope.new)) result (enum_step (decls_of (names_of scope.old) row.entry) (tokens_of tokens.now)) }
+{
+    let FileScope {
+        constants: mut all,
+        variables,
+        fault: row_fault,
+        rest: _,
+    } = row;
+    let Parsed {
+        tree: mut constants,
+        fault,
+        rest,
+    } = enumeration(setting, scope, tokens)?;
+    all.append(&mut constants)?;
+    Ok(FileScope {
+        constants: all,
+        variables,
+        fault: earlier(row_fault, fault),
+        rest,
+    })
+}
+
+/// What was declared, and a variable.
+fn with_variable<'s, 't>(
+    setting: Setting,
+    scope: &mut Scope<'t>,
+    row: FileScope<'s, 't>,
+    tokens: &'s [Lexeme<'t>],
+) -> Result<FileScope<'s, 't>, Stop>
+    ensures { Gives (decls_of (names_of scope.new)) result (variable_step (decls_of (names_of scope.old) row.entry) (tokens_of tokens.now)) }
+{
+    let Setting { alloc, end } = setting;
+    let FileScope {
+        constants,
+        mut variables,
+        fault: row_fault,
+        rest: _,
+    } = row;
+    let Parsed { tree, fault, rest } = variable(Context { alloc, scope, end }, tokens)?;
+    let Named {
+        name,
+        lengths,
+        place,
+    } = tree;
+    // A text has fewer variables than numbers of them.
+    let Ok(number) = u32::try_from(variables.len()) else {
+        return Err(Stop::Memory);
+    };
+    add(scope, name, Entity::Variable(VarId(number), lengths.len()))?;
+    variables.push(Declaration {
+        name: String::from_str(alloc, name)?,
+        lengths,
+        place,
+    })?;
+    Ok(FileScope {
+        constants,
+        variables,
+        fault: earlier(row_fault, fault),
+        rest,
+    })
+}
+
+/// The declarations from the front on; what they declare is visible behind them.
+pub fn declarations<'s, 't>(
+    setting: Setting,
+    scope: &mut Scope<'t>,
+    tokens: &'s [Lexeme<'t>],
+) -> Result<FileScope<'s, 't>, Stop>
+    ensures { Gives (decls_of (names_of scope.new)) result (declarations (length (tokens_of tokens.now)) (names_of scope.old) 0 (tokens_of tokens.now)) }
+{
+    let alloc = setting.alloc;
+    let mut row = FileScope {
+        constants: Vec::new(alloc),
+        variables: Vec::new(alloc),
+        fault: None,
+        rest: tokens,
+    };
+    for _turn in 0..tokens.len() {
+        if let Some((_enum, behind)) = if_word("enum", row.rest) {
+            row = with_enumeration(setting, scope, row, behind)?;
+            continue;
+        }
+        let Some((_type, behind)) = if_word("uint64_t", row.rest) else {
+            return Ok(row);
+        };
+        row = with_variable(setting, scope, row, behind)?;
+    }
+    Ok(row)
+}

@@ -1,0 +1,80 @@
+//! All tokens of a text (C11 6.9).
+
+ghost use Rattle.std.specs.Prelude.{◌≡◌, length, IfOk, IfErr};
+ghost use Rattle.cparse.specs.declared.stop.Stop.TheVariants.{Memory};
+ghost use Rattle.cparse.specs.TextReader.{kernel};
+ghost use Rattle.cparse.specs.DeclarationViews.{whole_of};
+ghost use Rattle.cparse.specs.Lexemes.{tokens_of};
+ghost use Rattle.cparse.specs.Outcome.{Gives};
+
+use crate::context::Setting;
+use crate::declarations::{FileScope, declarations};
+use crate::extent::too_many;
+use crate::lexeme::Lexeme;
+use crate::opening::{at_end, behind_headers, opening};
+use crate::punctuation::close_brace;
+use crate::scope::Scope;
+use crate::statement::items;
+use crate::stop::{Fault, Stop, earlier};
+use crate::tally::Tally;
+use crate::told::Told;
+use ktree::{Declaration, Kernel};
+
+/// How many statements there may be.
+const MOST_STATEMENTS: u32 = 4096;
+
+/// A text's tree, and the first fault in it.
+#[derive(Drop)]
+pub struct Whole {
+    pub kernel: Kernel,
+    pub fault: Option<Fault>,
+}
+
+/// The number of the variable behind these. A text has fewer variables than numbers of them, so that the error is never met.
+fn next_number(variables: &[Declaration]) -> Result<u32, Stop>
+    ensures next { IfOk result (λ next. next ≡ length variables.now) }
+    ensures err { IfErr result (λ stop. stop ≡ Memory) }
+{
+    u32::try_from(variables.len()).map_err(|_| Stop::Memory)
+}
+
+/// All tokens of a text: include lines, declarations and the kernel's block.
+#[tactic(auto, unfolding(crate::specs::TextReader::kernel))]
+pub fn kernel<'s, 't>(setting: Setting, tokens: &'s [Lexeme<'t>]) -> Result<Whole, Stop>
+    ensures { Gives whole_of result (kernel (tokens_of tokens.now)) }
+{
+    let Setting { alloc, end } = setting;
+    let mut scope = Scope {
+        bindings: Vec::new(alloc),
+    };
+    let declared = declarations(setting, &mut scope, behind_headers(tokens))?;
+    let FileScope {
+        constants,
+        variables,
+        fault: declared_fault,
+        rest,
+    } = declared;
+    let inner = opening(rest, end)?;
+    let next = next_number(&variables)?;
+    let tally = Tally {
+        next,
+        left: MOST_STATEMENTS,
+    };
+    let Told {
+        tree: body,
+        fault: body_fault,
+        tally: _,
+        rest,
+    } = items(setting, &mut scope, 63, tally, inner)?;
+    let behind = close_brace(rest, end)?;
+    at_end(behind, end)?;
+    let fault = earlier(declared_fault, earlier(body_fault, too_many(&variables)));
+    Ok(Whole {
+        kernel: Kernel {
+            constants,
+            variables,
+            body,
+        },
+        fault,
+    })
+}

@@ -1,0 +1,50 @@
+//! What stands around the declarations and the kernel.
+
+ghost use Rattle.std.specs.Prelude.{◌≡◌, option_map};
+ghost use Rattle.cparse.specs.TextReader.{opening, behind_headers, at_end};
+ghost use Rattle.cparse.specs.Lexemes.{tokens_of};
+ghost use Rattle.cparse.specs.Outcome.{Gives};
+
+use crate::lexeme::{Kind, Lexeme};
+use crate::punctuation::{close_paren, first_place, open_brace, open_paren};
+use crate::stop::Stop;
+use crate::words::word;
+use ktree::Place;
+
+/// The tokens behind the include lines (C11 6.10.2).
+pub fn behind_headers<'s, 't>(tokens: &'s [Lexeme<'t>]) -> &'s [Lexeme<'t>]
+    ensures { tokens_of result.now ≡ behind_headers (tokens_of tokens.now) }
+{
+    let mut count = 0;
+    for token in tokens {
+        if !matches!(token.kind, Kind::Include(_)) {
+            break;
+        }
+        count += 1;
+    }
+    &tokens[count..]
+}
+
+/// The tokens behind `void kernel(void) {`.
+#[tactic(auto, unfolding(crate::specs::TextReader::opening))]
+pub fn opening<'s, 't>(tokens: &'s [Lexeme<'t>], end: Place) -> Result<&'s [Lexeme<'t>], Stop>
+    ensures { Gives (λ rest. tokens_of rest.now) result (opening (tokens_of tokens.now)) }
+{
+    let named = word("void", tokens, end)?;
+    let opened = word("kernel", named, end)?;
+    let inner = open_paren(opened, end)?;
+    let behind = word("void", inner, end)?;
+    let closed = close_paren(behind, end)?;
+    open_brace(closed, end)
+}
+
+/// The end, which has to be here.
+pub fn at_end<'s, 't>(tokens: &'s [Lexeme<'t>], end: Place) -> Result<&'s [Lexeme<'t>], Stop>
+    ensures { Gives (λ rest. tokens_of rest.now) result (at_end (tokens_of tokens.now)) }
+{
+    if tokens.is_empty() {
+        Ok(tokens)
+    } else {
+        Err(Stop::Syntax(first_place(tokens, end)))
+    }
+}
