@@ -1,0 +1,4 @@
+pub mod TreeLaw
+pub mod LineLaw
+pub mod PathLaw
+pub mod FitsLaw

@@ -1,0 +1,158 @@
+-- Which kernels are lowered, and that a kernel is lowered to one loop.
+use Rattle.std.specs.Prelude.{ℕ, false, ◌==◌, ◌≡◌, List, Option, Some, None}
+use Rattle.std.proofs.Common.{refl, sym, ap, ◌∙◌, subst, inl, inr}
+use Rattle.semantics.specs.Tree
+use Rattle.semantics.specs.Source.Text.{line_at}
+use Rattle.semantics.specs.Directives.DirectiveGrammar.{ReadsLine}
+use Rattle.ktree.specs.Numbers.{number_of}
+use Rattle.ktree.specs.declared.place.Place.{Place}
+use Rattle.ktree.specs.declared.place.VarId.{VarId}
+use Rattle.ktree.specs.declared.refusal.Refusal.{Refusal}
+use Rattle.ktree.specs.declared.refusal.Refusal.TheVariants.{Syntax}
+use Rattle.overlay.specs.Loop.{operand_of, operation_of, formula_of, statement_of}
+use Rattle.overlay.specs.declared.lowered.Operand.{Operand}
+use Rattle.overlay.specs.declared.lowered.Operand.TheVariants.{Element, Counter, Literal}
+use Rattle.overlay.specs.declared.lowered.Operation.{Operation}
+use Rattle.overlay.specs.declared.lowered.Operation.TheVariants.{Plus, Minus, Times}
+use Rattle.overlay.specs.declared.lowered.Formula.{Formula}
+use Rattle.overlay.specs.declared.lowered.Formula.TheVariants.{One, Two}
+use Rattle.overlay.specs.declared.lowered.LoweredLoop.{LoweredLoop}
+use Rattle.pragma.specs.Dynamic.{dynamic_for, IsFault}
+use Rattle.lower.specs.declared.form.Form.{Form}
+use Rattle.lower.specs.Form.{loop_of}
+use Rattle.lower.specs.FirstPath.{FitsDeclared, IsPath, IsRefusal, RefusesPath}
+
+variable_of : ℕ → VarId
+variable_of n = record { 0 = n }
+
+same_variable : {x y : VarId} → x.0 ≡ y.0 → x ≡ y
+unfolding variable_of
+same_variable e = ap variable_of e
+
+-- an operand, an operation and a right side are those of one expression
+same_operand : (v : ℕ) (a b : Operand) → operand_of v a ≡ operand_of v b → a ≡ b
+same_operand v (Element x) (Element y) e = ap Element (same_variable (objects e))
+  where
+    objects : {m n : ℕ} {es : Tree.Exprs} → Tree.Object m es ≡ Tree.Object n es → m ≡ n
+    objects e = cc
+same_operand v (Element x) Counter e = absurd (cc e)
+same_operand v (Element x) (Literal n) e = absurd (cc e)
+same_operand v Counter (Element y) e = absurd (cc e)
+same_operand v Counter Counter e = refl
+same_operand v Counter (Literal n) e = absurd (cc e)
+same_operand v (Literal m) (Element y) e = absurd (cc e)
+same_operand v (Literal m) Counter e = absurd (cc e)
+same_operand v (Literal m) (Literal n) e = cc e
+
+same_operation : (o p : Operation) → operation_of o ≡ operation_of p → o ≡ p
+same_operation Plus Plus e = refl
+same_operation Plus Minus e = absurd (cc e)
+same_operation Plus Times e = absurd (cc e)
+same_operation Minus Plus e = absurd (cc e)
+same_operation Minus Minus e = refl
+same_operation Minus Times e = absurd (cc e)
+same_operation Times Plus e = absurd (cc e)
+same_operation Times Minus e = absurd (cc e)
+same_operation Times Times e = refl
+
+pub binary_parts : {o p : Tree.BinaryOp} {a b c d : Tree.Expr} → Tree.Binary o a b ≡ Tree.Binary p c d → (o ≡ p) × (a ≡ c) × (b ≡ d)
+binary_parts e = (cc, cc, cc)
+
+not_binary : (v : ℕ) (a : Operand) {o : Tree.BinaryOp} {x y : Tree.Expr} → operand_of v a ≡ Tree.Binary o x y → ⊥
+not_binary v (Element x) e = cc e
+not_binary v Counter e = cc e
+not_binary v (Literal n) e = cc e
+
+same_formula : (v : ℕ) (f g : Formula) → formula_of v f ≡ formula_of v g → f ≡ g
+same_formula v (One a) (One b) e = ap One (same_operand v a b e)
+same_formula v (One a) (Two p c d) e = absurd (not_binary v a e)
+same_formula v (Two o a b) (One c) e = absurd (not_binary v c (sym e))
+same_formula v (Two o a b) (Two p c d) e =
+    let s = binary_parts e in
+    ap (λ q. Two q a b) (same_operation o p s.0) ∙ ap (λ x. Two p x b) (same_operand v a c s.1) ∙ ap (Two p c) (same_operand v b d s.2)
+
+-- what a statement of the form tells
+record Tells (l m : LoweredLoop) : Type 0 where
+  pub counter : l.counter.0 ≡ m.counter.0
+  pub bound : l.bound ≡ m.bound
+  pub target : l.target.0 ≡ m.target.0
+  pub formula : formula_of l.counter.0 l.formula ≡ formula_of m.counter.0 m.formula
+
+tells : (name name' : Tree.Name) (l m : LoweredLoop) → statement_of name l ≡ statement_of name' m → Tells l m
+tells name name' l m e = record { counter = cc; bound = cc; target = cc; formula = cc }
+
+loop_with : VarId → ℕ → VarId → Formula → ℕ → LoweredLoop
+loop_with x n a f k = record { counter = x; bound = n; target = a; formula = f; size = k }
+
+-- a statement is that of one loop for each size
+pub same_loop : (name name' : Tree.Name) (l m : LoweredLoop) → statement_of name l ≡ statement_of name' m → l.size ≡ m.size → l ≡ m
+unfolding loop_with
+same_loop name name' l m e k =
+    let t = tells name name' l m e in
+    let x : l.counter ≡ m.counter = same_variable t.counter in
+    let a : l.target ≡ m.target = same_variable t.target in
+    let f : l.formula ≡ m.formula = same_formula m.counter.0 l.formula m.formula (ap (λ v. formula_of v l.formula) (sym t.counter) ∙ t.formula) in
+    ap (λ x. loop_with x l.bound l.target l.formula l.size) x ∙ ap (λ n. loop_with m.counter n l.target l.formula l.size) t.bound
+    ∙ ap (λ a. loop_with m.counter m.bound a l.formula l.size) a ∙ ap (λ f. loop_with m.counter m.bound m.target f l.size) f
+    ∙ ap (λ k. loop_with m.counter m.bound m.target m.formula k) k
+
+-- a directive line and a statement alone
+pub construct_parts : {line line' : ℕ} {s t : Tree.Stmt} → Tree.mark line (Tree.stmt s Tree.no_items) ≡ Tree.mark line' (Tree.stmt t Tree.no_items) → (line ≡ line') × (s ≡ t)
+construct_parts e = (cc, cc)
+
+not_nothing : {line : ℕ} {rest : Tree.Items} → Tree.mark line rest ≡ Tree.no_items → ⊥
+not_nothing e = cc e
+
+pub fault_number : (place : Place) (P : Type 0) (r : Refusal) → IsFault place P r → IsRefusal r
+fault_number place P r (inl h) = inr (inr (inr (ap number_of h.0)))
+fault_number place P r (inr h) = inr (inr (inl (ap number_of h.0)))
+
+-- other items than a directive line and a statement
+pub refuses_items : (text : List ℕ) (k : Tree.Kernel) (place : Place) → (k.body ≡ Tree.no_items → ⊥)
+    → ((line : ℕ) (s : Tree.Stmt) → k.body ≡ Tree.mark line (Tree.stmt s Tree.no_items) → ⊥) → RefusesPath text k (Syntax place)
+refuses_items text k place full other = record { number = inl refl; none = go }
+  where
+    go : (l : Option LoweredLoop) → IsPath text k l → ⊥
+    go None h = full h
+    go (Some l) h = other h.0 (statement_of h.1 l) h.2
+
+-- another statement
+pub refuses_form : (text : List ℕ) (k : Tree.Kernel) (r : Refusal) (line : ℕ) (s : Tree.Stmt) → k.body ≡ Tree.mark line (Tree.stmt s Tree.no_items)
+    → (number_of r ≡ 1) × ((name : Tree.Name) (l : LoweredLoop) → s ≡ statement_of name l → ⊥) → RefusesPath text k r
+refuses_form text k r line s e f = record { number = inl f.0; none = go }
+  where
+    go : (l : Option LoweredLoop) → IsPath text k l → ⊥
+    go None h = not_nothing (sym e ∙ h)
+    go (Some l) h = f.1 h.1 l (construct_parts (sym e ∙ h.2)).1
+
+-- another directive
+pub refuses_line : (text : List ℕ) (k : Tree.Kernel) (r : Refusal) (place : Place) (P : Type 0) (line : ℕ) (s : Tree.Stmt) (bytes : List ℕ) → k.body ≡ Tree.mark line (Tree.stmt s Tree.no_items)
+    → bytes ≡ line_at text line → IsFault place P r × ((size : ℕ) → ReadsLine bytes (dynamic_for size) → ⊥) → RefusesPath text k r
+refuses_line text k r place P line s bytes e b f = record { number = fault_number place P r f.0; none = go }
+  where
+    go : (l : Option LoweredLoop) → IsPath text k l → ⊥
+    go None h = not_nothing (sym e ∙ h)
+    go (Some l) h = f.1 l.size (subst (λ bs. ReadsLine bs (dynamic_for l.size)) (ap (line_at text) (sym (construct_parts (sym e ∙ h.2)).0) ∙ sym b) h.3)
+
+-- an array that the loop leaves
+pub refuses_reach : (text : List ℕ) (k : Tree.Kernel) (r : Refusal) (line : ℕ) (s : Tree.Stmt) (form : Form) (name : Tree.Name) (ds : List Tree.Declaration) → k.body ≡ Tree.mark line (Tree.stmt s Tree.no_items)
+    → ((size : ℕ) → s ≡ statement_of name (loop_of form size)) → ds ≡ k.variables → IsRefusal r × ((size : ℕ) → FitsDeclared (loop_of form size) ds → ⊥) → RefusesPath text k r
+refuses_reach text k r line s form name ds e w v f = record { number = f.0; none = go }
+  where
+    go : (l : Option LoweredLoop) → IsPath text k l → ⊥
+    go None h = not_nothing (sym e ∙ h)
+    go (Some l) h =
+        let same : l ≡ loop_of form l.size = same_loop h.1 name l (loop_of form l.size) (sym (construct_parts (sym e ∙ h.2)).1 ∙ w l.size) refl in
+        f.1 l.size (subst (λ m. FitsDeclared m ds) same (subst (FitsDeclared l) (sym v) h.4))
+
+-- the loop that is found
+pub is_path : (text : List ℕ) (k : Tree.Kernel) (line : ℕ) (s : Tree.Stmt) (form : Form) (name : Tree.Name) (bytes : List ℕ) (ds : List Tree.Declaration) (size : ℕ) (l : LoweredLoop)
+    → k.body ≡ Tree.mark line (Tree.stmt s Tree.no_items) → ((size : ℕ) → s ≡ statement_of name (loop_of form size)) → bytes ≡ line_at text line → ReadsLine bytes (dynamic_for size)
+    → ds ≡ k.variables → ((size : ℕ) → FitsDeclared (loop_of form size) ds) → l ≡ loop_of form size → IsPath text k (Some l)
+is_path text k line s form name bytes ds size l e w b read v fits is =
+    subst (λ m. IsPath text k (Some m)) (sym is)
+    (line, name, e ∙ ap (λ t. Tree.mark line (Tree.stmt t Tree.no_items)) (w size), subst (λ bs. ReadsLine bs (dynamic_for size)) b read, subst (FitsDeclared (loop_of form size)) v (fits size))
+
+-- a list that is not empty
+pub not_empty : (n : ℕ) → false ≡ (n == 0) → n ≡ 0 → ⊥
+not_empty n e f = cc (e ∙ ap (λ m. m == 0) f)

@@ -1,0 +1,4 @@
+pub mod Digits
+pub mod LineLaw
+pub mod WordLaw
+pub mod DynamicLaw
