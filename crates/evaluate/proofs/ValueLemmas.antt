@@ -118,7 +118,7 @@ offset_is at (n ∷ ns) (i ∷ is) = go (nat_lt i n) (offset_is (at * n + i) ns 
     go false e = refl
 
 -- what an element holds is what stands at its offset
-cell_is : (a : Kept) (is : List ℕ) → cell_of (Some a) is ≡ cell_in a (Some is)
+pub cell_is : (a : Kept) (is : List ℕ) → cell_of (Some a) is ≡ cell_in a (Some is)
 cell_is a is = go (within a.lengths is) ∙ ap (λ o. option_and_then (λ k. slice_get a.values k) o) (sym (offset_is 0 a.lengths is))
   where
     go : (b : Bool) → cond b (slice_get a.values (place a.lengths is)) None ≡ option_and_then (λ k. slice_get a.values k) (cond b (Some (place a.lengths is)) None)

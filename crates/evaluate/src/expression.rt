@@ -3,7 +3,7 @@
 ghost use Rattle.std.specs.Prelude.{◌≡◌, Some, IsSome};
 ghost use Rattle.semantics.specs.Meaning.Value.{value, values, holds, source_value};
 ghost use Rattle.ktree.specs.View.{expr_of, exprs_of, cond_of, source_of};
-ghost use Rattle.evaluate.specs.Standing.{standing, cell_in};
+ghost use Rattle.evaluate.specs.Standing.{standing, place_in, cell_in};
 
 use crate::frame::{Frame, Slot};
 use crate::operators::{changed, compared, operated};
@@ -86,17 +86,29 @@ pub fn source_value(source: &Source, frame: &Frame, store: &Store) -> u64
     }
 }
 
-/// What an element holds that is there; it lies among its array's values row by row (C11 6.5.2.1, 3).
+/// Where an element lies among its array's values, row by row, if it is there (C11 6.5.2.1, 3).
 #[cycle(value)]
-fn element(subscripts: &[Expr], array: &Array, frame: &Frame, store: &Store) -> u64
+pub fn place(subscripts: &[Expr], array: &Array, frame: &Frame, store: &Store) -> u64
     requires { IsSome (cell_in array.now (values (standing frame.now store.now) (exprs_of subscripts.now))) }
-    ensures { cell_in array.now (values (standing frame.now store.now) (exprs_of subscripts.now)) ≡ Some result }
+    ensures { place_in array.now (values (standing frame.now store.now) (exprs_of subscripts.now)) ≡ Some result }
 {
     let lengths = array.lengths();
-    let cells = array.values();
+    // The number of its values, which fits, bounds each step of the way.
+    let _cells = array.values();
     let mut at: u64 = 0;
     for (d, subscript) in subscripts.iter().enumerate() {
         at = at * lengths[d] + value(subscript, frame, store);
     }
+    at
+}
+
+/// What an element holds that is there.
+#[cycle(value)]
+pub fn element(subscripts: &[Expr], array: &Array, frame: &Frame, store: &Store) -> u64
+    requires { IsSome (cell_in array.now (values (standing frame.now store.now) (exprs_of subscripts.now))) }
+    ensures { cell_in array.now (values (standing frame.now store.now) (exprs_of subscripts.now)) ≡ Some result }
+{
+    let at = place(subscripts, array, frame, store);
+    let cells = array.values();
     cells[at as usize]
 }

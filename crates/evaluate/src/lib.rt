@@ -5,8 +5,9 @@ mod expression;
 mod frame;
 mod operators;
 
-pub use expression::{holds, source_value, value};
+pub use expression::{element, holds, place, source_value, value};
 pub use frame::{Frame, Slot};
+pub use operators::operated;
 
 #[cfg(test)]
 mod tests;

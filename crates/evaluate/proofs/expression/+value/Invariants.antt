@@ -5,7 +5,7 @@ use Rattle.evaluate.specs.Standing.{standing, place_in, way_from}
 use Rattle.evaluate.proofs.expression.+value.Given as goal
 
 -- what is left of the way leads where the whole of it leads
-abbrev pub invariant-element-loop-d : goal.invariant-element-loop-d
-invariant-element-loop-d l =
+abbrev pub invariant-place-loop-d : goal.invariant-place-loop-d
+invariant-place-loop-d l =
     way_from l.at (drop l.d l.array.lengths) (values (standing l.frame l.store) (exprs_of (drop l.d l.subscripts)))
     ≡ place_in l.array (values (standing l.frame l.store) (exprs_of l.subscripts))
