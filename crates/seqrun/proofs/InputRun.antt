@@ -62,6 +62,7 @@ pub ends : (ds : List Declaration) (bytes : List ℕ) (ks : List Kept) (seen : L
 ends ds bytes ks seen [] line r e = record {
   given = r.given;
   read = record { text = r.text ∙ append-nil (input_text ds r.given); each = r.each };
+  kept = r.kept;
   state = ap Rattle.overlay.specs.Kept.state_of r.kept ∙ kept_starts ds r.given;
   lengths = subst (HasLengths ds) (sym r.kept) (kept_lengths 0 ds r.given);
 }

@@ -104,10 +104,11 @@ abbrev pub kept_from : ℕ → List Declaration → Given → List Kept
 kept_from x [] given = []
 kept_from x (d ∷ ds) given = record { lengths = d.lengths; values = row_of (values_at given x) (size d.lengths) } ∷ kept_from (suc x) ds given
 
--- the bytes are an input, and the variables are those that a program starts with for it
+-- the bytes are an input, and the variables, each with all its values, are those that a program starts with for it
 pub record IsStart (ds : List Declaration) (bytes : List ℕ) (ks : List Kept) : Type 0 where
   pub given : Given
   pub read : IsInput ds bytes given
+  pub kept : ks ≡ kept_from 0 ds given
   pub state : state_of ks ≡ start ds given
   pub lengths : HasLengths ds ks
 

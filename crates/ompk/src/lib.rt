@@ -1,0 +1,13 @@
+//! Kernels checked and run: the library at the top.
+#![tactic(auto)]
+
+mod accepting;
+mod running;
+mod telling;
+
+pub use accepting::{Checked, check};
+pub use running::{run, runs_of_accepted};
+pub use telling::{status, tell};
+
+#[cfg(test)]
+mod tests;
