@@ -1,0 +1,46 @@
+//! Why the program does not do what it is asked for.
+
+use clap::Error;
+use clap::error::ErrorKind;
+use ktree::Refusal;
+use std::alloc::{AllocError, AllocFailed};
+
+/// Why the program does not do what it is asked for.
+#[derive(Drop)]
+pub enum Fault<'a> {
+    /// The kernel, its input or its run is refused.
+    Refused(Refusal),
+    /// The file of this name is not read.
+    Unread(&'a str),
+    /// The words of the command line are no task, or ask for help.
+    Usage(Error),
+    /// The command line is no text.
+    NoText,
+}
+
+impl From<Refusal> for Fault<'_> {
+    fn from(refusal: Refusal) -> Self {
+        Fault::Refused(refusal)
+    }
+}
+
+impl From<AllocError> for Fault<'_> {
+    fn from(_error: AllocError) -> Self {
+        Fault::Refused(Refusal::OutOfMemory)
+    }
+}
+
+impl<T: Drop> From<AllocFailed<T>> for Fault<'_> {
+    fn from(_error: AllocFailed<T>) -> Self {
+        Fault::Refused(Refusal::OutOfMemory)
+    }
+}
+
+impl From<Error> for Fault<'_> {
+    fn from(error: Error) -> Self {
+        match error.kind() {
+            ErrorKind::OutOfMemory => Fault::Refused(Refusal::OutOfMemory),
+            _ => Fault::Usage(error),
+        }
+    }
+}

@@ -1,0 +1,118 @@
+//! `ompk`: checks a kernel, or runs it on a team of workers.
+#![tactic(auto)]
+
+ghost use Rattle.std.specs.Prelude.{◌+◌, ◌<◌, ◌^◌};
+
+mod fault;
+mod task;
+
+use fault::Fault;
+use ktree::Refusal;
+use ompk::{check, run, status, tell};
+use seqrun::{Sink, Writer, put_all};
+use std::io::ErrorKind;
+use std::process::ExitCode;
+use std::rt::Files;
+use std::sync::Wait;
+use std::thread::Threads;
+use std::{env, fs};
+use task::{Task, read_task};
+use team::OpenGate;
+
+// The words of the command line.
+fn words_of(rt: &HostRuntime) -> Result<Vec<String>, Fault<'static>> {
+    match env::args(rt) {
+        Ok(words) => Ok(words.collect(rt.alloc())?),
+        Err(error) if error.kind() == ErrorKind::OutOfMemory => {
+            Err(Fault::Refused(Refusal::OutOfMemory))
+        }
+        Err(_) => Err(Fault::NoText),
+    }
+}
+
+// The bytes of a file.
+fn read<'a, R: Files + AllocGlobal>(rt: &R, name: &'a str) -> Result<Vec<u8>, Fault<'a>> {
+    match fs::read(rt, name) {
+        Ok(bytes) => Ok(bytes),
+        Err(error) if error.kind() == ErrorKind::OutOfMemory => {
+            Err(Fault::Refused(Refusal::OutOfMemory))
+        }
+        Err(_) => Err(Fault::Unread(name)),
+    }
+}
+
+// Does what is asked for, and writes to this sink.
+fn perform<'a, R, S>(rt: &R, task: &Task<'a>, sink: &mut S) -> Result<(), Fault<'a>>
+where
+    R: Files + AllocGlobal + Threads + Wait + Sync,
+    S: Sink,
+    requires { S.failed sink.old + 1 < 2 ^ 64 }
+{
+    match task {
+        Task::Check { file } => {
+            let text = read(rt, file)?;
+            check(rt.alloc(), text.as_slice())?;
+            put_all(sink, b"accepted\n")?;
+        }
+        Task::Run {
+            file,
+            input,
+            workers,
+        } => {
+            let text = read(rt, file)?;
+            let checked = check(rt.alloc(), text.as_slice())?;
+            let input = match input {
+                Some(name) => read(rt, name)?,
+                None => Vec::new(rt.alloc()),
+            };
+            let bytes = input.as_slice();
+            run(rt, rt.alloc(), &checked, bytes, *workers, &OpenGate, sink)?;
+        }
+    }
+    Ok(())
+}
+
+// Says what is wrong, and answers the exit status for it.
+fn report(rt: &HostRuntime, fault: Fault<'_>) -> u8 {
+    match fault {
+        Fault::Refused(refusal) => {
+            let _ = tell(&refusal, &mut Writer::new(rt.stderr()));
+            status(&refusal)
+        }
+        Fault::Unread(name) => {
+            let _ = eprintln!(rt; "cannot read {name}");
+            1
+        }
+        Fault::NoText => {
+            let _ = eprintln!(rt; "error: the command line is no text");
+            2
+        }
+        Fault::Usage(error) => match error.print(rt) {
+            Err(_) if !error.use_stderr() => report_output(rt),
+            _ if error.use_stderr() => 2,
+            _ => 0,
+        },
+    }
+}
+
+// Help that is not taken.
+fn report_output(rt: &HostRuntime) -> u8 {
+    let refusal = Refusal::OutputFailed;
+    let _ = tell(&refusal, &mut Writer::new(rt.stderr()));
+    status(&refusal)
+}
+
+fn main(rt: HostRuntime) -> ExitCode {
+    let words = match words_of(&rt) {
+        Ok(words) => words,
+        Err(fault) => return ExitCode::from(report(&rt, fault)),
+    };
+    let done = match read_task(rt.alloc(), words.as_slice()) {
+        Ok(task) => perform(&rt, &task, &mut Writer::new(rt.stdout())),
+        Err(fault) => Err(fault),
+    };
+    ExitCode::from(match done {
+        Ok(()) => 0,
+        Err(fault) => report(&rt, fault),
+    })
+}

@@ -1,0 +1,99 @@
+//! What the command line asks for.
+
+ghost use Rattle.std.specs.Prelude.{◌≡◌, true, IfSome};
+ghost use Rattle.semantics.specs.Source.Cuts.{is_decimal, decimal_from};
+
+use crate::fault::Fault;
+use clap::error::ErrorKind;
+use clap::{Arg, Command};
+use ktree::Workers;
+use std::alloc::{AllocError, Global};
+
+/// What the program is asked for.
+#[derive(Drop)]
+pub enum Task<'a> {
+    Check {
+        file: &'a str,
+    },
+    Run {
+        file: &'a str,
+        input: Option<&'a str>,
+        workers: Workers,
+    },
+}
+
+// The file of a kernel.
+fn file<'a>(alloc: Global) -> Arg<'a> {
+    Arg::new(alloc, "file")
+        .value_name("F")
+        .required(true)
+        .help("The kernel's file")
+}
+
+// All that the command line may say.
+fn command<'a>(alloc: Global) -> Result<Command<'a>, AllocError> {
+    let check = Command::new(alloc, "check")
+        .about("Checks a kernel")
+        .arg(file(alloc))?;
+    let input = Arg::new(alloc, "input").long("input").value_name("I").help(
+        "The file of the variables' first values; without it all are 0",
+    );
+    let workers = Arg::new(alloc, "workers")
+        .long("workers")
+        .value_name("N")
+        .default_value("4")
+        .help("The number of workers, 1 to 64");
+    let run = Command::new(alloc, "run")
+        .about("Runs a kernel and writes its output")
+        .arg(file(alloc))?
+        .arg(input)?
+        .arg(workers)?;
+    Command::new(alloc, "ompk")
+        .bin_name("ompk")?
+        .about(
+            "Runs C11 kernels with OpenMP loops, with exactly the output of the sequential program",
+        )
+        .subcommand_required(true)
+        .subcommand(check)?
+        .subcommand(run)
+}
+
+// 1 to 64, without leading zeros.
+fn workers_of(text: &str) -> Option<Workers>
+    ensures { IfSome result (λ workers. (is_decimal text.now ≡ true) × (decimal_from 0 text.now ≡ workers)) }
+{
+    match text.as_bytes() {
+        [ones @ b'1'..=b'9'] => Workers::new(u64::from(*ones - b'0')),
+        [tens @ b'1'..=b'6', ones @ b'0'..=b'9'] => {
+            Workers::new(10 * u64::from(*tens - b'0') + u64::from(*ones - b'0'))
+        }
+        _ => None,
+    }
+}
+
+/// Reads the words of a command line, the program's own name first.
+pub fn read_task<'a>(alloc: Global, words: &'a [String]) -> Result<Task<'a>, Fault<'a>> {
+    let mut command = command(alloc)?;
+    let matches = command.try_get_matches_from_mut(words)?;
+    if let Some(found) = matches.subcommand_matches("check") {
+        if let Some(file) = found.get_str("file") {
+            return Ok(Task::Check { file });
+        }
+    }
+    if let Some(found) = matches.subcommand_matches("run") {
+        if let (Some(file), Some(text)) = (found.get_str("file"), found.get_str("workers")) {
+            let Some(workers) = workers_of(text) else {
+                let message = "the number of workers is 1 to 64, without leading zeros";
+                return Err(Fault::from(command.error(ErrorKind::InvalidValue, message)?));
+            };
+            let input = found.get_str("input");
+            return Ok(Task::Run {
+                file,
+                input,
+                workers,
+            });
+        }
+    }
+    let message = "a subcommand is missing";
+    Err(Fault::from(command.error(ErrorKind::MissingSubcommand, message)?))
+}
