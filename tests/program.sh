@@ -69,6 +69,48 @@ refuse 'K09 5:38 subscript out of range' "$(loop 'parallel for schedule(dynamic,
 refuse 'K11 4:1 directive' "$(loop 'parallel for schedule(dynamic, 0)' 8)"$'\n'
 refuse 'K21 4:1 limit' "$(loop 'parallel for schedule(dynamic, 16777217)' 8)"$'\n'
 
+refuse 'K01 1:20 syntax' 'void kernel(void) {'
+refuse 'K01 1:4 syntax' $'/* ?? */\nvoid kernel(void)\n{\n}\n'
+refuse 'K21 2:10 limit' $'uint64_t A[4096][4096];\nuint64_t s;\nvoid kernel(void)\n{\n}\n'
+
+# body LINE TEXT: a body that is refused, over a scalar and an array.
+body() { refuse "$1" "$(printf 'uint64_t s;\nuint64_t d[3];\nvoid kernel(void)\n{\n%s\n}' "$2")"$'\n'; }
+body 'K01 5:5 syntax' 's = ;'
+body 'K02 5:5 number out of range' 's = 2147483648;'
+body 'K02 5:16 number out of range' 's = 2147483647 + 1;'
+body 'K02 5:9 number out of range' 's = s / 0ull;'
+body 'K04 5:22 name twice' 'uint64_t x; uint64_t x;'
+body 'K05 5:7 operands' 's = 1 << 3;'
+body 'K05 5:7 operands' 's = 1 < 2;'
+body 'K05 5:16 operands' 's = (0ull < 2) + 1ull;'
+body 'K05 5:5 operands' 's = ~0;'
+body 'K05 5:1 operands' 'd[1][2] = 3;'
+deep() { printf 's = %s s %s;' "$(printf '(%.0s' $(seq "$1"))" "$(printf ')%.0s' $(seq "$1"))"; }
+body 'K01 5:1 syntax' "$(deep 63)"
+body 'K21 5:68 limit' "$(deep 64)"
+body 'K01 5:1 syntax' "$(printf 's = s;\n%.0s' $(seq 4096))"
+body 'K21 4101:1 limit' "$(printf 's = s;\n%.0s' $(seq 4097))"
+
+# rows
+printf 'uint64_t A[5];\nvoid kernel(void)\n{\n#pragma omp parallel for schedule(dynamic, 2)\nfor (uint64_t i = 0; i < 5; i++) { A[i] = i - 1ull; }\n}\n' >"$work/minus.c"
+for workers in 1 3 64; do
+    expect 0 $'A = 18446744073709551615 0 1 2 3\n' '' run "$work/minus.c" --workers "$workers"
+done
+loop 'parallel for schedule(dynamic, 3)' 0 >"$work/none.c"
+expect 0 $'A = 0 0 0 0 0 0 0 0\n' '' run "$work/none.c"
+printf 'void kernel(void) { }\n' >"$work/nothing.c"
+expect 0 '' '' run "$work/nothing.c"
+printf 'uint64_t A[4096][4096];\nvoid kernel(void)\n{\n}\n' >"$work/most.c"
+expect 0 $'accepted\n' '' check "$work/most.c"
+{
+    printf 'uint64_t s;\nvoid kernel(void)\n{\ns = '
+    printf 's+%.0s' $(seq 400000)
+    printf 's;\n}\n'
+} >"$work/long.c"
+./ompk check "$work/long.c" >"$work/out" 2>"$work/err"
+last=$?
+judge './ompk check of a long chain' 3 '' $'K01 4:1 syntax\n'
+
 # inputs
 fault 'line 1: form' $'A 1 1 1 1 1 1 1  1\n'
 fault 'line 1: form' $'A 1 1 1 1 1 1 1 1'
