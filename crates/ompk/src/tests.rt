@@ -4,16 +4,21 @@ ghost use Rattle.std.specs.Prelude.{◌+◌, ◌<◌, ◌≤◌, ◌^◌};
 
 use crate::{check, run, status, tell};
 use ktree::{Cause, Conflict, InputFault, NotShown, Place, Refusal, Workers};
-use seqrun::{Memory, Sink, SinkFault};
+use seqrun::{Memory, Sink, SinkFault, Writer};
 use std::alloc::{AllocError, Global};
+use std::io::{Error, ErrorKind, Write};
 use std::process::Abort;
 use std::sync::Wait;
+use std::sync::atomic::{AtomicU64, Ordering};
 use std::test::Fail;
+use std::thread;
 use std::thread::Threads;
-use team::OpenGate;
+use team::{Gate, OpenGate};
 
 const INCREMENT: &[u8] =
     b"#include <stdint.h>\nuint64_t A[8];\nvoid kernel(void)\n{\n#pragma omp parallel for schedule(dynamic, 3)\nfor (uint64_t i = 0; i < 8; i++) { A[i] = A[i] + i; }\n}\n";
+
+const ONES: &[u8] = b"A 1 1 1 1 1 1 1 1\n";
 
 // A sink that takes nothing.
 #[derive(Drop)]
@@ -35,6 +40,47 @@ impl Sink for Closed {
 
     fn failures(&self) -> u64 {
         self.failures
+    }
+}
+
+// A writer that takes one byte a call, and fails at a call.
+#[derive(Drop)]
+struct OneByte {
+    calls: usize,
+    failing: usize,
+}
+
+impl Write for OneByte {
+    fn write(&mut self, buf: &[u8]) -> std::io::Result<usize> {
+        self.calls = self.calls.wrapping_add(1);
+        if self.calls == self.failing {
+            return Err(Error::from(ErrorKind::Other));
+        }
+        Ok(buf.len().min(1))
+    }
+
+    fn flush(&mut self) -> std::io::Result<()> {
+        Ok(())
+    }
+}
+
+// Holds each worker until two chunks were entered, each turn giving way.
+#[derive(Drop)]
+struct Both {
+    entered: AtomicU64,
+    late: AtomicU64,
+}
+
+impl Gate for Both {
+    fn entered(&self, _worker: u64, _chunk: u64) {
+        self.entered.fetch_add(1, Ordering::SeqCst);
+        for _ in 0..10_000_000u64 {
+            if self.entered.load(Ordering::SeqCst) >= 2 {
+                return;
+            }
+            thread::yield_now();
+        }
+        self.late.fetch_add(1, Ordering::SeqCst);
     }
 }
 
@@ -109,25 +155,26 @@ fn refusals_have_their_statuses(rt: HostRuntime) {
 }
 
 // Runs the kernel on an input, with so many workers.
-fn increment<R: Threads + Wait + Sync + Abort, S: Sink>(
+fn increment<R: Threads + Wait + Sync + Abort, G: Gate + Sync, S: Sink>(
     rt: &R,
     alloc: Global,
     input: &[u8],
     count: u64,
+    gate: &G,
     sink: &mut S,
 ) -> Result<(), Refusal>
     requires { S.failed sink.old + 1 < 2 ^ 64 }
 {
     let checked = check(alloc, INCREMENT)?;
     let workers = Workers::new(count).expect(rt, "a number of workers");
-    run(rt, alloc, &checked, input, workers, &OpenGate, sink)
+    run(rt, alloc, &checked, input, workers, gate, sink)
 }
 
 #[test]
 fn the_increment_runs(rt: HostRuntime) {
     for count in [1, 3, 64] {
         let mut sink = Memory::new(rt.alloc());
-        let ran = increment(&rt, rt.alloc(), b"A 1 1 1 1 1 1 1 1\n", count, &mut sink);
+        let ran = increment(&rt, rt.alloc(), ONES, count, &OpenGate, &mut sink);
         assert!(rt; ran.is_ok());
         assert_eq!(rt;
             sink.bytes(),
@@ -140,7 +187,7 @@ fn the_increment_runs(rt: HostRuntime) {
 #[test]
 fn a_faulty_input_writes_nothing(rt: HostRuntime) {
     let mut sink = Memory::new(rt.alloc());
-    let ran = increment(&rt, rt.alloc(), b"A 1 2\n", 2, &mut sink);
+    let ran = increment(&rt, rt.alloc(), b"A 1 2\n", 2, &OpenGate, &mut sink);
     assert!(rt;
         matches!(
             ran,
@@ -156,7 +203,36 @@ fn a_faulty_input_writes_nothing(rt: HostRuntime) {
 #[test]
 fn a_closed_sink_is_told(rt: HostRuntime) {
     let mut sink = Closed { failures: 0 };
-    let ran = increment(&rt, rt.alloc(), b"", 2, &mut sink);
+    let ran = increment(&rt, rt.alloc(), b"", 2, &OpenGate, &mut sink);
     assert!(rt; matches!(ran, Err(Refusal::OutputFailed)));
     assert_eq!(rt; sink.failures(), 1);
+}
+
+#[test]
+fn a_slow_sink_takes_all(rt: HostRuntime) {
+    // The output has 20 bytes.
+    let mut sink = Writer::new(OneByte {
+        calls: 0,
+        failing: 21,
+    });
+    assert!(rt; increment(&rt, rt.alloc(), ONES, 2, &OpenGate, &mut sink).is_ok());
+    assert_eq!(rt; sink.failures(), 0);
+    for failing in [8, 20] {
+        let mut sink = Writer::new(OneByte { calls: 0, failing });
+        let ran = increment(&rt, rt.alloc(), ONES, 2, &OpenGate, &mut sink);
+        assert!(rt; matches!(ran, Err(Refusal::OutputFailed)), "at {failing}");
+        assert_eq!(rt; sink.failures(), 1);
+    }
+}
+
+#[test]
+fn two_workers_are_in_the_loop_at_once(rt: HostRuntime) {
+    let gate = Both {
+        entered: AtomicU64::new(0),
+        late: AtomicU64::new(0),
+    };
+    let mut sink = Memory::new(rt.alloc());
+    assert!(rt; increment(&rt, rt.alloc(), ONES, 2, &gate, &mut sink).is_ok());
+    assert_eq!(rt; sink.bytes(), b"A = 1 2 3 4 5 6 7 8\n".as_slice());
+    assert_eq!(rt; gate.late.load(Ordering::SeqCst), 0);
 }
