@@ -53,6 +53,7 @@ expect 0 $'accepted\n' '' check examples/increment.c
 for workers in 1 2 3 9 10 64; do
     expect 0 "$all" '' run examples/increment.c --input examples/increment.in --workers "$workers"
 done
+expect 0 "$all" '' seq examples/increment.c --input examples/increment.in
 expect 0 "$all" '' run examples/increment.c --input examples/increment.in
 expect 0 $'A = 0 1 2 3 4 5 6 7\n' '' run examples/increment.c
 printf 'uint64_t x;\nuint64_t B[2][2];\nvoid kernel(void)\n{\n}\n' >"$work/empty.c"
@@ -85,11 +86,39 @@ body 'K05 5:7 operands' 's = 1 < 2;'
 body 'K05 5:16 operands' 's = (0ull < 2) + 1ull;'
 body 'K05 5:5 operands' 's = ~0;'
 body 'K05 5:1 operands' 'd[1][2] = 3;'
+body 'K05 5:26 operands' 'if (d[0]) { d[1] = s < 2 < 3; }'
+body 'K05 5:1 operands' 'printf("%" PRIu64 "\n", s + 7ull);'
+body 'K06 5:1 loop not canonical' 'for (uint64_t i = 9; i > 0; i--) { d[0] = i; }'
+body 'K06 5:1 loop not canonical' 'for (uint64_t i = 0; i < 3; i++) { d[i] = s; }'
+body 'K08 5:3 not affine' 'd[s] = 1;'
+body 'K09 5:7 subscript out of range' 's = d[3];'
+body 'K09 5:38 subscript out of range' 'for (uint64_t i = 0; i < 4; i++) { d[i] = i; }'
+body 'K10 5:35 may be unassigned' 'uint64_t x; if (s > 3) x = 1; s = x;'
+body 'K11 6:1 directive' $'\n#pragma omp simd\nfor (uint64_t i = 0; i < 3; i++) { d[i] = i; }'
+body 'K11 6:1 directive' $'\n#pragma omp parallel for schedule(dynamic, 2)\ns = 1;'
+body 'K11 6:1 directive' $'\n#pragma omp parallel for schedule(dynamic, 2)\n'
+body 'K09 5:3 subscript out of range' 'd[3] = 1; s = 1;'
+body 'K10 5:24 may be unassigned' 'd[3] = 1; uint64_t x = x;'
+
+# take OUTPUT TEXT: a body that is run, over the same variables, by the team and by one thread.
+take() {
+    printf 'uint64_t s;\nuint64_t d[3];\nvoid kernel(void)\n{\n%s\n}\n' "$2" >"$work/text.c"
+    expect 0 "$1"$'\n' '' run "$work/text.c"
+    expect 0 "$1"$'\n' '' seq "$work/text.c"
+}
+take $'s = 3\nd = 0 0 0' 's = 1 + 2;'
+take $'s = 2\nd = 0 0 0' 'uint64_t x; if (s > 3) x = 1; else x = 2; s = x;'
+take $'7, 100%\ns = 0\nd = 0 0 0' 'printf("%" PRIu64 ", 100%%\n", s + 7);'
+take $'s = 1\nd = 0 1 2' 'for (uint64_t i = 0; i < 3; i++) { d[i] = i; } s = d[1];'
 deep() { printf 's = %s s %s;' "$(printf '(%.0s' $(seq "$1"))" "$(printf ')%.0s' $(seq "$1"))"; }
-body 'K01 5:1 syntax' "$(deep 63)"
+take $'s = 0\nd = 0 0 0' "$(deep 63)"
 body 'K21 5:68 limit' "$(deep 64)"
-body 'K01 5:1 syntax' "$(printf 's = s;\n%.0s' $(seq 4096))"
+take $'s = 0\nd = 0 0 0' "$(printf 's = s;\n%.0s' $(seq 4096))"
 body 'K21 4101:1 limit' "$(printf 's = s;\n%.0s' $(seq 4097))"
+body 'K01 6:1 syntax' $'\n#pragma once'
+body 'K01 6:1 syntax' $'\n#pragma ompparallel for'
+body 'K01 5:10 syntax' 'uint64_t _x;'
+refuse 'K01 1:1 syntax' ''
 
 # rows
 printf 'uint64_t A[5];\nvoid kernel(void)\n{\n#pragma omp parallel for schedule(dynamic, 2)\nfor (uint64_t i = 0; i < 5; i++) { A[i] = i - 1ull; }\n}\n' >"$work/minus.c"
@@ -104,12 +133,16 @@ printf 'uint64_t A[4096][4096];\nvoid kernel(void)\n{\n}\n' >"$work/most.c"
 expect 0 $'accepted\n' '' check "$work/most.c"
 {
     printf 'uint64_t s;\nvoid kernel(void)\n{\ns = '
-    printf 's+%.0s' $(seq 400000)
+    printf 's+%.0s' $(seq 520000)
     printf 's;\n}\n'
 } >"$work/long.c"
-./ompk check "$work/long.c" >"$work/out" 2>"$work/err"
-last=$?
-judge './ompk check of a long chain' 3 '' $'K01 4:1 syntax\n'
+expect 0 $'s = 0\n' '' seq "$work/long.c"
+expect 0 $'s = 0\n' '' run "$work/long.c"
+{
+    printf 'void kernel(void) { }\n'
+    head -c 1048555 /dev/zero | tr '\0' ' '
+} >"$work/large.c"
+refuse 'K21 2:1048555 limit' "$(cat "$work/large.c")"
 
 # inputs
 fault 'line 1: form' $'A 1 1 1 1 1 1 1  1\n'
@@ -126,7 +159,7 @@ printf 'void kernel(void)\n{\n}' >"$work/text.c"
 expect 3 '' $'K01 3:2 syntax\n' run "$work/text.c" --input nothing.in
 
 # an output that is not taken
-for words in 'check examples/increment.c' 'run examples/increment.c'; do
+for words in 'check examples/increment.c' 'run examples/increment.c' 'seq examples/increment.c'; do
     # shellcheck disable=SC2086
     "$program" $words >&- 2>"$work/err"
     last=$?
@@ -150,12 +183,14 @@ misuse run
 misuse check
 misuse check a b
 misuse check --workers 2 examples/increment.c
+misuse seq
+misuse seq --workers 2 examples/increment.c
 misuse lower examples/increment.c
 misuse run examples/increment.c --workers
 for workers in 0 65 04 +4 4x '' ' 4' -1 18446744073709551617; do
     misuse run examples/increment.c --workers "$workers"
 done
-for words in --help 'run --help' 'check -h'; do
+for words in --help 'run --help' 'check -h' 'seq -h'; do
     # shellcheck disable=SC2086
     "$program" $words >"$work/out" 2>"$work/err"
     if [ $? -ne 0 ] || [ ! -s "$work/out" ] || [ -s "$work/err" ]; then

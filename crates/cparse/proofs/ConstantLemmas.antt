@@ -1,21 +1,21 @@
 -- The turns of the loop over the constants of an enumeration.
-use Rattle.std.specs.Prelude.{ℕ, zero, suc, Bool, true, false, ◌&&◌, ◌≡◌, ◌-◌, List, [], ◌∷◌, ◌++◌, Option, Some, None}
-use Rattle.std.proofs.Common.{rules, refl, sym, ap, ◌∙◌, arith}
-use Rattle.std.proofs.lemmas.List.{append_assoc, append-nil}
+use Rattle.std.specs.Prelude.{ℕ, suc, true, ◌&&◌, ◌≡◌, ◌-◌, List, [], ◌∷◌, ◌++◌, Option, Some, None}
+use Rattle.std.proofs.Common.{refl, ap, ◌∙◌, arith}
 use Rattle.semantics.specs.Tree.{Name, Source}
 use Rattle.semantics.specs.Source.Token.{Token}
 use Rattle.semantics.specs.Source.Typing.{constant}
 use Rattle.semantics.specs.Source.Scope.{Scope, AConstant, with_constants}
-use Rattle.cparse.specs.Reading.{Got, Reader, ◌>>=◌, got, chosen}
-use Rattle.cparse.specs.Operators.{number_in, is_number}
-use Rattle.cparse.specs.ExpressionReader.{expression}
-use Rattle.cparse.specs.StatementReader.{new_name, becomes, is_unused}
-use Rattle.cparse.specs.TextReader.{constants, value_of, has_value, comma}
+use Rattle.cexpr.specs.Reading.{Got, ◌>>=◌, got, chosen}
+use Rattle.cexpr.specs.Operators.{number_in, is_number}
+use Rattle.cexpr.specs.ExpressionReader.{expression}
+use Rattle.cstmt.specs.StatementReader.{new_name, becomes, is_unused}
+use Rattle.cparse.specs.TextReader.{constants, value_of, has_value}
+use Rattle.cstmt.specs.StatementReader.{comma}
 use Rattle.cparse.specs.DeclarationSteps.{constant_read, one_constant, and_then, visible}
-use Rattle.cparse.specs.Outcome.{Fails}
-use Rattle.cparse.specs.declared.stop.Stop.{Stop}
-use Rattle.cparse.specs.declared.stop.Stop.TheVariants.{Memory, Syntax, Limit}
-use Rattle.cparse.proofs.DeclarationLemmas.{behind_row, behind_nothing, row_one, row_alone}
+use Rattle.cexpr.specs.Outcome.{Fails}
+use Rattle.cexpr.specs.declared.stop.Stop.{Stop}
+use Rattle.cexpr.specs.declared.stop.Stop.TheVariants.{Memory, Syntax, Limit}
+use Rattle.cparse.proofs.DeclarationLemmas.{behind_row, behind_nothing, row_one}
 
 -- behind one constant
 abbrev pub after : ℕ → Scope → Got (Name × ℕ) → Option (List Token) → Option (Got (List (Name × ℕ)))

@@ -6,15 +6,16 @@ use Rattle.semantics.specs.Tree.{Source}
 use Rattle.semantics.specs.Source.Token.{Token, Sign, OpenBracket}
 use Rattle.semantics.specs.Source.Typing.{constant}
 use Rattle.semantics.specs.Source.Scope.{Scope}
-use Rattle.cparse.specs.Reading.{Got, Reader, ◌>>=◌, got, chosen}
-use Rattle.cparse.specs.Operators.{number_in, is_number}
-use Rattle.cparse.specs.ExpressionReader.{close_bracket, expression}
+use Rattle.cexpr.specs.Reading.{Got, ◌>>=◌, got}
+use Rattle.cexpr.specs.Operators.{number_in, is_number}
+use Rattle.cexpr.specs.ExpressionReader.{close_bracket, expression}
 use Rattle.cparse.specs.TextReader.{lengths, length_of, is_length}
-use Rattle.cparse.specs.Steps.{open_bracket}
+use Rattle.cexpr.specs.Steps.{open_bracket}
 use Rattle.cparse.specs.DeclarationSteps.{dimension, and_then}
-use Rattle.cparse.specs.Outcome.{Fails}
-use Rattle.cparse.specs.declared.stop.Stop.{Stop}
-use Rattle.cparse.specs.declared.stop.Stop.TheVariants.{Memory, Syntax, Limit}
+use Rattle.cexpr.specs.Outcome.{Fails}
+use Rattle.cexpr.specs.declared.stop.Stop.{Stop}
+use Rattle.cexpr.specs.declared.stop.Stop.TheVariants.{Memory, Syntax, Limit}
+use Rattle.cexpr.proofs.LoopLemmas.{opens}
 
 pub length_some : (n : ℕ) → length_of (Some n) ≡ max n 1
 length_some zero = refl
@@ -53,10 +54,6 @@ row_one row one None = refl
 row_one row one (Some x) =
     ap (λ xs. Some (record { tree = xs; sound = row.sound && (one.sound && x.sound); rest = x.rest })) (sym (append_assoc row.tree (one.tree ∷ []) x.tree))
     ∙ ap (λ b. Some (record { tree = (row.tree ++ one.tree ∷ []) ++ x.tree; sound = b; rest = x.rest })) (and_apart row.sound one.sound x.sound)
-
-opens : (us ts : List Token) → open_bracket us ≡ Some ts → us ≡ Sign OpenBracket ∷ ts
-opens (Sign OpenBracket ∷ us) ts e = cc
-opens _ ts e = absurd cc
 
 abbrev tail : Got Source → List Token → Option (Got (List ℕ)) → Option (Got (List ℕ))
 tail e behind read = read >>= λ more. got (length_of (constant (number_in e.tree)) ∷ more.tree) ((e.sound && is_number e.tree) && (is_length (constant (number_in e.tree)) && more.sound)) more.rest

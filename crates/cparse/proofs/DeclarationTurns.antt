@@ -1,19 +1,19 @@
 -- The turns of the loop over declarations.
-use Rattle.std.specs.Prelude.{ℕ, zero, suc, Bool, true, false, ◌&&◌, ◌≡◌, ◌-◌, ◌+◌, if◌then◌else◌, List, [], ◌∷◌, ◌++◌, length, Option, Some, None, codes}
-use Rattle.std.proofs.Common.{cond, rules, refl, sym, ap, ◌∙◌, arith}
+use Rattle.std.specs.Prelude.{ℕ, zero, suc, Bool, true, false, ◌&&◌, ◌≡◌, ◌-◌, List, [], ◌∷◌, ◌++◌, length, Option, Some, None, codes}
+use Rattle.std.proofs.Common.{cond, refl, sym, ap, ◌∙◌, arith}
 use Rattle.std.proofs.lemmas.List.{append_assoc, append-nil, length-append}
 use Rattle.semantics.specs.Tree.{Name, Declaration}
 use Rattle.semantics.specs.Source.Token.{Token, Word, Digits, Quoted, Sign, Header, Line}
 use Rattle.semantics.specs.Source.Scope.{Scope, AVariable, with_constants, same_name}
-use Rattle.cparse.specs.Reading.{Got, ◌>>=◌, got}
-use Rattle.cparse.specs.StatementReader.{word}
+use Rattle.cexpr.specs.Reading.{Got, ◌>>=◌}
+use Rattle.cstmt.specs.StatementReader.{word}
 use Rattle.cparse.specs.TextReader.{Decls, enumeration, variable, declarations}
 use Rattle.cparse.specs.DeclarationSteps.{enum_step, variable_step}
-use Rattle.cparse.specs.Outcome.{Fails}
-use Rattle.cparse.specs.declared.stop.Stop.{Stop}
-use Rattle.cparse.specs.declared.stop.Stop.TheVariants.{Memory, Syntax, Limit}
+use Rattle.cexpr.specs.Outcome.{Fails}
+use Rattle.cexpr.specs.declared.stop.Stop.{Stop}
+use Rattle.cexpr.specs.declared.stop.Stop.TheVariants.{Memory, Syntax, Limit}
 use Rattle.cparse.proofs.DeclarationLemmas.{and_apart, and_right}
-use Rattle.cparse.proofs.StatementSound.{word_is}
+use Rattle.cstmt.proofs.StatementSound.{word_is}
 
 -- what was declared, with more in front of it
 abbrev pub behind_decls : Decls → Option Decls → Option Decls

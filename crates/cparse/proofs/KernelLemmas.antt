@@ -1,16 +1,16 @@
 -- The steps of reading a whole text.
-use Rattle.std.specs.Prelude.{ℕ, Bool, true, false, ◌&&◌, ◌≡◌, ◌^◌, nat_le, List, [], length, Option, Some, None}
-use Rattle.std.proofs.Common.{refl, sym, ap, ◌∙◌, subst}
+use Rattle.std.specs.Prelude.{ℕ, ◌&&◌, ◌≡◌, ◌^◌, nat_le, List, [], length, Option, Some}
+use Rattle.std.proofs.Common.{sym, ap, ◌∙◌, subst}
 use Rattle.semantics.specs.Tree.{Items}
 use Rattle.semantics.specs.Source.Token.{Token}
 use Rattle.semantics.specs.Source.Scope.{Scope}
 use Rattle.semantics.specs.Source.Grammar.{elements}
-use Rattle.cparse.specs.Reading.{◌>>=◌}
-use Rattle.cparse.specs.StatementReader.{Told, close_brace, items, statement}
+use Rattle.cexpr.specs.Reading.{◌>>=◌}
+use Rattle.cstmt.specs.StatementReader.{Told, close_brace, items, statement}
 use Rattle.cparse.specs.TextReader.{Decls, Whole, declarations, opening, behind_headers, at_end, kernel}
-use Rattle.cparse.specs.Outcome.{Fails}
-use Rattle.cparse.specs.declared.stop.Stop.{Stop}
-use Rattle.cparse.specs.declared.stop.Stop.TheVariants.{Memory, Syntax, Limit}
+use Rattle.cexpr.specs.Outcome.{Fails}
+use Rattle.cexpr.specs.declared.stop.Stop.{Stop}
+use Rattle.cexpr.specs.declared.stop.Stop.TheVariants.{Memory, Syntax, Limit}
 
 -- behind the kernel's items
 abbrev pub whole : Decls → Told Items → Whole

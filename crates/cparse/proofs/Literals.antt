@@ -1,10 +1,10 @@
 -- Each literal of a text that is read lies in its range; so no literal is too great.
-use Rattle.std.specs.Prelude.{ℕ, zero, suc, Bool, true, false, ◌&&◌, ◌≡◌, ◌<◌, ◌≤◌, ◌^◌, List, [], ◌∷◌, ◌++◌, Option, Some, None, codes}
+use Rattle.std.specs.Prelude.{ℕ, Bool, true, ◌≡◌, ◌<◌, ◌≤◌, ◌^◌, List, [], ◌∷◌, ◌++◌, Option, codes}
 use Rattle.std.specs.List.{list_all}
-use Rattle.std.proofs.Common.{inl, inr, rules, cond, refl, sym, ap, ◌∙◌, subst, arith}
+use Rattle.std.proofs.Common.{inl, inr, refl, sym, ap, ◌∙◌, subst, arith}
 use Rattle.std.proofs.lemmas.Bool.{ltb-true}
 use Rattle.semantics.specs.Tree.{Name, Suffix, Bare, Ull, Variable, Expr, Exprs, Cond, Source, Increment, Stmt, Items, Declaration, Kernel}
-use Rattle.semantics.specs.Source.Token.{Token, Word, Digits, Quoted, Sign, Header, Line, Becomes, OpenParen, CloseParen, OpenBrace, CloseBrace, OpenBracket, CloseBracket, Question, Colon, Bang, DoubleAmp, DoubleBar, Semicolon, Comma}
+use Rattle.semantics.specs.Source.Token.{Token, Word, Digits, Quoted, Sign, Header, Line, Becomes, CloseParen, CloseBrace, CloseBracket, Question, Colon, DoubleAmp, DoubleBar, Semicolon, Comma}
 use Rattle.semantics.specs.Source.Typing.{in_range}
 use Rattle.semantics.specs.Source.Scope.{Scope}
 use Rattle.semantics.specs.Source.Expressions.{ReadsExpr, literal, enumerator, object, parens, unary, binary, choose, tighter, ReadsSubscripts, no_subscripts, subscript, ReadsCond, numeric, cond_parens, not, compare, both, either, cond_tighter}
@@ -12,7 +12,7 @@ use Rattle.semantics.specs.Source.Statements.{ReadsSource, number, truth, ReadsT
 use Rattle.semantics.specs.Source.Grammar.{ReadsLengths, no_lengths, dimension, ReadsConstants, only, further, ReadsDecls, no_decls, enum, headers, Reads}
 use Rattle.semantics.specs.Source.Grammar as grammar
 use Rattle.cparse.specs.SameTokens.{IsSame, AreSame}
-use Rattle.cparse.proofs.Binds.{first_true, second_true, both_true}
+use Rattle.cexpr.proofs.Binds.{first_true, second_true, both_true}
 
 -- a literal in its range, or another token
 abbrev pub is_fit : Token → Bool

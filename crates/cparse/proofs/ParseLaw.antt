@@ -1,21 +1,19 @@
 -- What reading a text's tokens says of the text.
-use Rattle.std.specs.Prelude.{ℕ, true, false, ◌≡◌, ◌<◌, ◌≤◌, ◌^◌, List, length, Option, Some, None}
-use Rattle.std.proofs.Common.{refl, sym, ap, ◌∙◌, subst, arith}
+use Rattle.std.specs.Prelude.{ℕ, true, false, ◌≡◌, ◌<◌, ◌≤◌, ◌^◌, List, length, Some}
+use Rattle.std.proofs.Common.{sym, ap, ◌∙◌, subst, arith}
 use Rattle.semantics.specs.Tree.{Kernel}
-use Rattle.semantics.specs.Source.Token as meant
-use Rattle.semantics.specs.Source.Cuts.{Tokens}
 use Rattle.semantics.specs.Source.Grammar.{Reads, ReadsText}
 use Rattle.ctoken.specs.Meant.{AreTokensOf, HasNoTokens}
 use Rattle.ctoken.specs.declared.token.Token.{Token}
 use Rattle.ctoken.proofs.FrontLaw.{one_cut}
 use Rattle.cparse.specs.TextReader.{Whole, kernel}
-use Rattle.cparse.specs.Lexemes.{tokens_of}
+use Rattle.cexpr.specs.Lexemes.{tokens_of}
 use Rattle.cparse.specs.SameTokens.{AreSame, AreLexed}
 use Rattle.cparse.specs.Parsed.{HasNoTree, StopsFor}
-use Rattle.cparse.specs.Outcome.{Fails}
-use Rattle.cparse.specs.declared.lexeme.Lexeme.{Lexeme}
-use Rattle.cparse.specs.declared.stop.Stop.{Stop}
-use Rattle.cparse.specs.declared.stop.Stop.TheVariants as stop
+use Rattle.cexpr.specs.Outcome.{Fails}
+use Rattle.cexpr.specs.declared.lexeme.Lexeme.{Lexeme}
+use Rattle.cexpr.specs.declared.stop.Stop.{Stop}
+use Rattle.cexpr.specs.declared.stop.Stop.TheVariants as stop
 use Rattle.cparse.proofs.Literals.{reads_fit, fit_are, are_back}
 use Rattle.cparse.proofs.TextComplete.{kernel_read}
 use Rattle.cparse.proofs.TextSound.{kernel_sound, one_tree}

@@ -1,25 +1,24 @@
 -- Whatever the grammar of texts has is read so.
-use Rattle.std.specs.Prelude.{ℕ, zero, suc, Bool, true, false, not, ◌&&◌, ◌||◌, ◌==◌, ◌≡◌, ◌<◌, ◌≤◌, ◌+◌, ◌-◌, ◌^◌, nat_eq, nat_le, if◌then◌else◌, List, [], ◌∷◌, ◌++◌, length, Option, Some, None, is_none, codes}
-use Rattle.std.proofs.Common.{rules, cond, refl, sym, ap, ◌∙◌, subst, arith}
+use Rattle.std.specs.Prelude.{ℕ, zero, suc, Bool, true, ◌&&◌, ◌≡◌, ◌≤◌, ◌+◌, ◌-◌, ◌^◌, nat_le, List, [], ◌∷◌, ◌++◌, length, Option, Some, None, is_none, codes}
+use Rattle.std.proofs.Common.{cond, refl, ap, ◌∙◌, arith}
 use Rattle.std.proofs.lemmas.Bool.{le-leb}
-use Rattle.std.proofs.lemmas.List.{append_assoc, append-nil, length-append}
-use Rattle.semantics.specs.Tree.{Name, Expr, Source, Number, Items, Declaration, Kernel}
-use Rattle.semantics.specs.Source.Token.{Token, Word, Digits, Quoted, Sign, Header, Line, Symbol, Semicolon, Comma, OpenParen, CloseParen, OpenBracket, CloseBracket, OpenBrace, CloseBrace, Becomes}
+use Rattle.std.proofs.lemmas.List.{append_assoc, length-append}
+use Rattle.semantics.specs.Tree.{Name, Source, Number, Items, Declaration, Kernel}
+use Rattle.semantics.specs.Source.Token.{Token, Word, Sign, Semicolon, Comma, OpenParen, CloseParen, CloseBracket, OpenBrace, CloseBrace, Becomes}
 use Rattle.semantics.specs.Source.Typing.{constant}
-use Rattle.semantics.specs.Source.Scope.{Scope, Entity, AVariable, AConstant, with_constants, find, is_reserved, same_name, IsFree}
-use Rattle.semantics.specs.Source.Expressions.{ReadsExpr}
-use Rattle.semantics.specs.Source.Statements.{ReadsItems, statement_count}
+use Rattle.semantics.specs.Source.Scope.{Scope, AVariable, AConstant, with_constants, find, IsFree}
+use Rattle.semantics.specs.Source.Statements.{statement_count}
 use Rattle.semantics.specs.Source.Grammar.{ReadsLengths, no_lengths, dimension, ReadsConstants, only, further, ReadsDecls, no_decls, enum, object, elements, headers, Reads}
-use Rattle.cparse.specs.Reading.{Got, Reader, ◌>>=◌, got, chosen}
-use Rattle.cparse.specs.Operators.{number_in, is_number}
-use Rattle.cparse.specs.ExpressionReader.{close_bracket, expression}
-use Rattle.cparse.specs.StatementReader as reader
-use Rattle.cparse.specs.StatementReader.{word, items, Told, Tally}
+use Rattle.cexpr.specs.Reading.{Got, ◌>>=◌, got, chosen}
+use Rattle.cexpr.specs.Operators.{number_in, is_number}
+use Rattle.cexpr.specs.ExpressionReader.{close_bracket, expression}
+use Rattle.cstmt.specs.StatementReader as reader
+use Rattle.cstmt.specs.StatementReader.{word, items, Told, Tally}
 use Rattle.cparse.specs.TextReader as text
 use Rattle.cparse.specs.TextReader.{lengths, length_of, is_length, constants, value_of, has_value, declarations, Decls, Whole, behind_headers, kernel}
-use Rattle.cparse.proofs.Binds.{bind_to, both_true}
-use Rattle.cparse.proofs.ExpressionComplete.{right, expr_read}
-use Rattle.cparse.proofs.StatementComplete.{IsClean, clean_more, items_read, well, tally_of}
+use Rattle.cexpr.proofs.Binds.{bind_to}
+use Rattle.cexpr.proofs.ExpressionComplete.{right, expr_read}
+use Rattle.cstmt.proofs.StatementComplete.{IsClean, clean_more, items_read, tally_of}
 
 -- the lengths of an array, up to the end of its declaration
 lengths_read : {scope : Scope} {ts : List Token} {ns : List ℕ} → ReadsLengths scope ts ns → (n : ℕ) → length ts ≤ n → (rest : List Token) → lengths n scope (ts ++ Sign Semicolon ∷ rest) ≡ Some (right ns (Sign Semicolon ∷ rest))
@@ -49,7 +48,7 @@ constants_read {scope} (only {name = w} {e = e} {n = m} {ts = ts} f r c) (suc n)
 
     on : Name → Got Source → Option (Got (List (Name × ℕ)))
     on w y =
-        chosen (text.comma y.rest)
+        chosen (reader.comma y.rest)
         (got ((w, value_of (constant (number_in y.tree))) ∷ []) (is_none (find scope w) && ((y.sound && is_number y.tree) && has_value (constant (number_in y.tree)))) y.rest)
         (λ next. constants n ((w, AConstant (value_of (constant (number_in y.tree)))) ∷ scope) next >>= λ more.
         got ((w, value_of (constant (number_in y.tree))) ∷ more.tree) ((is_none (find scope w) && ((y.sound && is_number y.tree) && has_value (constant (number_in y.tree)))) && more.sound) more.rest)
@@ -66,7 +65,7 @@ constants_read {scope} (further {name = w} {e = e} {n = m} {cs = cs} {ts = ts} {
 
     on : Name → Got Source → Option (Got (List (Name × ℕ)))
     on w y =
-        chosen (text.comma y.rest)
+        chosen (reader.comma y.rest)
         (got ((w, value_of (constant (number_in y.tree))) ∷ []) (is_none (find scope w) && ((y.sound && is_number y.tree) && has_value (constant (number_in y.tree)))) y.rest)
         (λ next. constants n ((w, AConstant (value_of (constant (number_in y.tree)))) ∷ scope) next >>= λ more.
         got ((w, value_of (constant (number_in y.tree))) ∷ more.tree) ((is_none (find scope w) && ((y.sound && is_number y.tree) && has_value (constant (number_in y.tree)))) && more.sound) more.rest)

@@ -1,25 +1,25 @@
 -- The tokens of a text with their bytes at hand.
-use Rattle.std.specs.Prelude.{ℕ, zero, suc, Bool, true, false, ◌==◌, ◌≡◌, ◌⊎◌, ◌<◌, ◌≤◌, ◌+◌, ◌^◌, min, nat_le, List, [], ◌∷◌, ◌++◌, length, take, map, slice_index_or, Option, Some, None}
+use Rattle.std.specs.Prelude.{ℕ, zero, suc, Bool, true, false, ◌==◌, ◌≡◌, ◌<◌, ◌≤◌, ◌+◌, ◌^◌, min, nat_le, List, [], ◌∷◌, ◌++◌, length, take, slice_index_or, Option, Some, None}
 use Rattle.std.specs.Option.{SomeIff}
 use Rattle.std.proofs.Common.{inl, inr, cond, rules, refl, sym, ap, ◌∙◌, subst, arith}
 use Rattle.std.proofs.lemmas.Bool.{leb-true, leb-false}
 use Rattle.std.proofs.lemmas.List.{length-take}
 use Rattle.semantics.specs.Source.Token as meant
-use Rattle.semantics.specs.Source.Spans.{Span, spanned, line_ends, IsAt, AreAt}
+use Rattle.semantics.specs.Source.Spans.{spanned, line_ends, IsAt, AreAt}
 use Rattle.semantics.specs.Source.Cuts.{Stands, word}
 use Rattle.semantics.specs.Tree.{Suffix}
 use Rattle.ktree.specs.View.{suffix_of}
 use Rattle.ctoken.specs.Front.{spelled}
 use Rattle.ctoken.proofs.StringLaw.{stands_string}
 use Rattle.ctoken.proofs.FrontLaw.{spelled_whole}
-use Rattle.ctoken.specs.Meant.{symbol_of, number_of, IsKind, IsLineOf, StandsFor, StandFor, span_of, spans_of, AreTokensOf}
+use Rattle.ctoken.specs.Meant.{symbol_of, number_of, IsKind, IsLineOf, StandFor, span_of, spans_of}
 use Rattle.ctoken.specs.declared.token.Token.{Token}
 use Rattle.ctoken.specs.declared.token.TokenKind.{TokenKind}
 use Rattle.ctoken.specs.declared.token.TokenKind.TheVariants as given
-use Rattle.cparse.specs.declared.lexeme.Kind.{Kind}
-use Rattle.cparse.specs.declared.lexeme.Kind.TheVariants as seen
-use Rattle.cparse.specs.declared.lexeme.Lexeme.{Lexeme}
-use Rattle.cparse.specs.Lexemes.{value_of, kind_of, token_of, tokens_of}
+use Rattle.cexpr.specs.declared.lexeme.Kind.{Kind}
+use Rattle.cexpr.specs.declared.lexeme.Kind.TheVariants as seen
+use Rattle.cexpr.specs.declared.lexeme.Lexeme.{Lexeme}
+use Rattle.cexpr.specs.Lexemes.{value_of, kind_of, tokens_of}
 use Rattle.cparse.specs.SameTokens.{IsSame, AreSame, IsKindOf, IsLexed, AreLexed}
 
 -- one token more of a front

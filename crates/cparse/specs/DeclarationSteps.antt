@@ -1,15 +1,14 @@
 -- The steps of reading declarations, as the code takes them.
-use Rattle.std.specs.Prelude.{ℕ, Bool, true, false, ◌&&◌, List, [], ◌∷◌, ◌++◌, length, Option, Some, None, is_none}
-use Rattle.semantics.specs.Tree.{Name, Declaration}
+use Rattle.std.specs.Prelude.{ℕ, ◌&&◌, List, [], ◌∷◌, ◌++◌, length, Option, Some}
+use Rattle.semantics.specs.Tree.{Name}
 use Rattle.semantics.specs.Source.Token.{Token}
 use Rattle.semantics.specs.Source.Typing.{constant}
-use Rattle.semantics.specs.Source.Scope.{Scope, Entity, AVariable, AConstant, find, with_constants}
-use Rattle.cparse.specs.Reading.{Got, Reader, ◌>>=◌, got, chosen}
-use Rattle.cparse.specs.Operators.{number_in, is_number}
-use Rattle.cparse.specs.ExpressionReader.{close_bracket, expression}
-use Rattle.cparse.specs.StatementReader.{becomes, new_name, is_unused}
-use Rattle.cparse.specs.TextReader.{length_of, is_length, value_of, has_value, comma, enumeration, variable, Decls}
-use Rattle.cparse.specs.Steps.{open_bracket}
+use Rattle.semantics.specs.Source.Scope.{Scope, Entity, AVariable, AConstant, with_constants}
+use Rattle.cexpr.specs.Reading.{Got, Reader, ◌>>=◌, got}
+use Rattle.cexpr.specs.Operators.{number_in, is_number}
+use Rattle.cexpr.specs.ExpressionReader.{close_bracket, expression}
+use Rattle.cstmt.specs.StatementReader.{becomes, new_name, is_unused}
+use Rattle.cparse.specs.TextReader.{length_of, is_length, value_of, has_value, enumeration, variable, Decls}
 
 -- a constant expression, if it has a value (C11 6.6)
 abbrev pub constant_read : Scope → Reader (Option ℕ)

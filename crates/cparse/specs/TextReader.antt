@@ -1,22 +1,14 @@
 -- The reading of declarations and of a whole list of tokens.
-use Rattle.std.specs.Prelude.{ℕ, zero, suc, Bool, true, false, not, ◌&&◌, ◌==◌, ◌^◌, nat_le, if◌then◌else◌, List, [], ◌∷◌, ◌++◌, length, Option, Some, None, codes}
-use Rattle.semantics.specs.Tree.{Name, Expr, Source, Declaration, Kernel}
-use Rattle.semantics.specs.Source.Token.{Token, Word, Sign, Header, Comma, OpenParen, CloseParen, OpenBracket, OpenBrace, CloseBrace, Becomes}
+use Rattle.std.specs.Prelude.{ℕ, zero, suc, Bool, true, false, ◌&&◌, ◌^◌, nat_le, if◌then◌else◌, List, [], ◌∷◌, ◌++◌, length, Option, Some, None, codes}
+use Rattle.semantics.specs.Tree.{Name, Declaration, Kernel}
+use Rattle.semantics.specs.Source.Token.{Token, Word, Sign, Header, OpenBracket}
 use Rattle.semantics.specs.Source.Typing.{constant}
 use Rattle.semantics.specs.Source.Scope.{Scope, AVariable, AConstant, with_constants, same_name}
 use Rattle.semantics.specs.Source.Grammar.{elements}
-use Rattle.cparse.specs.Reading.{Got, Reader, ◌>>=◌, got, chosen}
-use Rattle.cparse.specs.Operators.{number_in, is_number}
-use Rattle.cparse.specs.ExpressionReader.{close_paren, close_bracket, expression}
-use Rattle.cparse.specs.StatementReader.{semicolon, open_paren, becomes, close_brace, word, new_name, is_unused, items, statement}
-
-abbrev pub open_brace : List Token → Option (List Token)
-open_brace (Sign OpenBrace ∷ ts) = Some ts
-open_brace _ = None
-
-abbrev pub comma : List Token → Option (List Token)
-comma (Sign Comma ∷ ts) = Some ts
-comma _ = None
+use Rattle.cexpr.specs.Reading.{Reader, ◌>>=◌, got, chosen}
+use Rattle.cexpr.specs.Operators.{number_in, is_number}
+use Rattle.cexpr.specs.ExpressionReader.{close_paren, close_bracket, expression}
+use Rattle.cstmt.specs.StatementReader.{semicolon, open_paren, becomes, open_brace, close_brace, comma, word, new_name, is_unused, items, statement}
 
 -- the length of a dimension, 1 where there is none (C11 6.7.6.2)
 abbrev pub length_of : Option ℕ → ℕ

@@ -6,19 +6,19 @@ ghost use Rattle.ktree.specs.View.{declaration_of};
 ghost use Rattle.cparse.specs.TextReader.{enumeration, variable, declarations};
 ghost use Rattle.cparse.specs.DeclarationSteps.{enum_step, variable_step};
 ghost use Rattle.cparse.specs.DeclarationViews.{enumerators_of, named_of, decls_of};
-ghost use Rattle.cparse.specs.Names.{names_of};
-ghost use Rattle.cparse.specs.Lexemes.{tokens_of};
-ghost use Rattle.cparse.specs.Outcome.{Gives, got_of};
+ghost use Rattle.cexpr.specs.Names.{names_of};
+ghost use Rattle.cexpr.specs.Lexemes.{tokens_of};
+ghost use Rattle.cexpr.specs.Outcome.{Gives, got_of};
 
 use crate::constants::constants;
-use crate::context::{Context, Outcome, Setting};
 use crate::lengths::lengths;
-use crate::lexeme::Lexeme;
-use crate::parsed::Parsed;
-use crate::punctuation::{close_brace, open_brace, semicolon};
-use crate::scope::{Entity, Scope, add, find};
-use crate::stop::{Fault, Flaw, Stop, earlier, unless};
-use crate::words::{if_word, new_name};
+use cexpr::context::{Context, Outcome, Setting};
+use cexpr::lexeme::Lexeme;
+use cexpr::parsed::Parsed;
+use cexpr::scope::{Entity, Scope, add, find};
+use cexpr::stop::{Fault, Flaw, Stop, earlier, unless};
+use cstmt::punctuation::{close_brace, open_brace, semicolon};
+use cstmt::words::{if_word, new_name};
 use ktree::{Declaration, Enumerator, Place, VarId};
 
 /// What is declared, and the tokens behind it.

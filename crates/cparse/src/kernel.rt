@@ -1,23 +1,23 @@
 //! All tokens of a text (C11 6.9).
 
 ghost use Rattle.std.specs.Prelude.{◌≡◌, length, IfOk, IfErr};
-ghost use Rattle.cparse.specs.declared.stop.Stop.TheVariants.{Memory};
+ghost use Rattle.cexpr.specs.declared.stop.Stop.TheVariants.{Memory};
 ghost use Rattle.cparse.specs.TextReader.{kernel};
 ghost use Rattle.cparse.specs.DeclarationViews.{whole_of};
-ghost use Rattle.cparse.specs.Lexemes.{tokens_of};
-ghost use Rattle.cparse.specs.Outcome.{Gives};
+ghost use Rattle.cexpr.specs.Lexemes.{tokens_of};
+ghost use Rattle.cexpr.specs.Outcome.{Gives};
 
-use crate::context::Setting;
 use crate::declarations::{FileScope, declarations};
 use crate::extent::too_many;
-use crate::lexeme::Lexeme;
 use crate::opening::{at_end, behind_headers, opening};
-use crate::punctuation::close_brace;
-use crate::scope::Scope;
-use crate::statement::items;
-use crate::stop::{Fault, Stop, earlier};
-use crate::tally::Tally;
-use crate::told::Told;
+use cexpr::context::Setting;
+use cexpr::lexeme::Lexeme;
+use cexpr::scope::empty;
+use cexpr::stop::{Fault, Stop, earlier};
+use cstmt::punctuation::close_brace;
+use cstmt::statement::items;
+use cstmt::tally::Tally;
+use cstmt::told::Told;
 use ktree::{Declaration, Kernel};
 
 /// How many statements there may be.
@@ -44,9 +44,7 @@ pub fn kernel<'s, 't>(setting: Setting, tokens: &'s [Lexeme<'t>]) -> Result<Whol
     ensures { Gives whole_of result (kernel (tokens_of tokens.now)) }
 {
     let Setting { alloc, end } = setting;
-    let mut scope = Scope {
-        bindings: Vec::new(alloc),
-    };
+    let mut scope = empty(alloc);
     let declared = declarations(setting, &mut scope, behind_headers(tokens))?;
     let FileScope {
         constants,

@@ -3,17 +3,16 @@
 ghost use Rattle.std.specs.Prelude.{ℕ, ◌≡◌, length};
 ghost use Rattle.cparse.specs.TextReader.{lengths, length_of, is_length};
 ghost use Rattle.cparse.specs.DeclarationSteps.{dimension};
-ghost use Rattle.cparse.specs.Names.{names_of};
-ghost use Rattle.cparse.specs.Lexemes.{tokens_of};
-ghost use Rattle.cparse.specs.Outcome.{Gives, got_of};
+ghost use Rattle.cexpr.specs.Names.{names_of};
+ghost use Rattle.cexpr.specs.Lexemes.{tokens_of};
+ghost use Rattle.cexpr.specs.Outcome.{Gives, got_of};
 
-use crate::combining::told;
 use crate::constants::constant_expression;
-use crate::context::{Context, Outcome};
-use crate::lexeme::Lexeme;
-use crate::parsed::{Parsed, and_then};
-use crate::punctuation::{close_bracket, open_bracket};
-use crate::stop::{Flaw, earlier, unless};
+use cexpr::context::{Context, Outcome};
+use cexpr::lexeme::Lexeme;
+use cexpr::parsed::{Parsed, and_then};
+use cexpr::punctuation::{close_bracket, open_bracket};
+use cexpr::stop::{Flaw, earlier, told, unless};
 
 /// A length, 1 where there is none.
 #[tactic(auto, using(crate::proofs::DeclarationLemmas::length_some))]

@@ -6,10 +6,10 @@ ghost use Rattle.ctoken.specs.Meant.{AreTokensOf};
 ghost use Rattle.ktree.specs.View.{kernel_of};
 ghost use Rattle.cparse.specs.Parsed.{HasNoTree, StopsFor, RefusesTree};
 
-use crate::context::Setting;
 use crate::kernel::{Whole, kernel};
 use crate::lexing::lexemes;
-use crate::stop::{Fault, Flaw, Stop};
+use cexpr::context::Setting;
+use cexpr::stop::{Fault, Flaw, Stop};
 use ctoken::{Scanned, Token, scan};
 use ktree::{Kernel, Place, Refusal};
 use std::alloc::Global;
@@ -17,31 +17,27 @@ use std::alloc::Global;
 /// The greatest length of a text in bytes.
 const MOST_BYTES: usize = 1 << 20;
 
-impl Stop {
-    /// The refusal of a text by it.
-    fn refusal(self) -> Refusal
-        ensures { (text : List ℕ) → StopsFor text self → RefusesTree text result }
-    {
-        match self {
-            Stop::Memory => Refusal::OutOfMemory,
-            Stop::Syntax(place) => Refusal::Syntax(place),
-            Stop::Limit(place) => Refusal::Limit(place),
-        }
+/// The refusal of a text by what stops its reading.
+fn refusal_by_stop(stop: Stop) -> Refusal
+    ensures { (text : List ℕ) → StopsFor text stop → RefusesTree text result }
+{
+    match stop {
+        Stop::Memory => Refusal::OutOfMemory,
+        Stop::Syntax(place) => Refusal::Syntax(place),
+        Stop::Limit(place) => Refusal::Limit(place),
     }
 }
 
-impl Fault {
-    /// The refusal of a text by it.
-    fn refusal(self) -> Refusal
-        ensures { (text : List ℕ) → HasNoTree text → RefusesTree text result }
-    {
-        match self.flaw {
-            Flaw::NumberOutOfRange => Refusal::NumberOutOfRange(self.place),
-            Flaw::UnknownName => Refusal::UnknownName(self.place),
-            Flaw::NameTwice => Refusal::NameTwice(self.place),
-            Flaw::Operands => Refusal::Operands(self.place),
-            Flaw::Limit => Refusal::Limit(self.place),
-        }
+/// The refusal of a text by a fault in its tree.
+fn refusal_by_fault(fault: Fault) -> Refusal
+    ensures { (text : List ℕ) → HasNoTree text → RefusesTree text result }
+{
+    match fault.flaw {
+        Flaw::NumberOutOfRange => Refusal::NumberOutOfRange(fault.place),
+        Flaw::UnknownName => Refusal::UnknownName(fault.place),
+        Flaw::NameTwice => Refusal::NameTwice(fault.place),
+        Flaw::Operands => Refusal::Operands(fault.place),
+        Flaw::Limit => Refusal::Limit(fault.place),
     }
 }
 
@@ -59,9 +55,9 @@ fn tree(alloc: Global, text: &[u8], tokens: &[Token], end: Place) -> Result<Kern
     match kernel(Setting { alloc, end }, &lexemes) {
         Ok(whole) => match whole.fault {
             None => Ok(whole.kernel),
-            Some(fault) => Err(fault.refusal()),
+            Some(fault) => Err(refusal_by_fault(fault)),
         },
-        Err(stop) => Err(stop.refusal()),
+        Err(stop) => Err(refusal_by_stop(stop)),
     }
 }
 
@@ -128,6 +124,6 @@ pub fn parse(alloc: Global, text: &[u8]) -> Result<Kernel, Refusal>
     let Scanned { tokens, fault } = scan(alloc, text)?;
     match fault {
         None => tree(alloc, text, tokens.as_slice(), limit_of(text)),
-        Some(end) => Err(first_stop(alloc, text, tokens.as_slice(), end).refusal()),
+        Some(end) => Err(refusal_by_stop(first_stop(alloc, text, tokens.as_slice(), end))),
     }
 }

@@ -1,113 +1,69 @@
-//! Trees and faults of tokens that are made by hand.
+//! Trees and refusals of whole texts.
 
-use crate::context::Context;
-use crate::expression::whole;
-use crate::lexeme::{Kind, Lexeme};
-use crate::scope::{Entity, Scope, add};
-use crate::stop::{Fault, Flaw, Stop};
-use ctoken::Symbol;
-use ktree::{BinaryOp, Expr, Place, Source, Suffix, VarId};
-use std::alloc::{AllocError, Global};
+use crate::parse;
+use ktree::{BinaryOp, Expr, Item, Place, Refusal, Source, Stmt, Suffix};
 use std::test::*;
 
-const END: Place = Place { line: 9, column: 1 };
-
-fn token<'t>(column: u32, kind: Kind<'t>) -> Lexeme<'t> {
-    let place = Place { line: 1, column };
-    Lexeme { kind, place }
-}
-
-fn visible(alloc: Global) -> Result<Scope<'static>, AllocError> {
-    let mut scope = Scope {
-        bindings: Vec::new(alloc),
+/// Whether an item assigns `s - 1ull - 2ull`, grouped to the left.
+fn takes_one_and_then_two(item: &Item) -> bool {
+    let Item::Statement(stmt) = item else {
+        return false;
     };
-    add(&mut scope, "x", Entity::Variable(VarId(0), 0))?;
-    add(&mut scope, "y", Entity::Variable(VarId(1), 0))?;
-    Ok(scope)
-}
-
-#[test]
-fn products_are_tighter_than_sums(rt: HostRuntime) -> Result<(), Fail> {
-    let alloc = rt.alloc();
-    let scope = visible(alloc)?;
-    let tokens = [
-        token(1, Kind::Digits(Some(1), Suffix::Bare)),
-        token(3, Kind::Sign(Symbol::PlusSign)),
-        token(5, Kind::Digits(Some(2), Suffix::Bare)),
-        token(7, Kind::Sign(Symbol::Star)),
-        token(9, Kind::Word("x")),
-    ];
-    let context = Context {
-        alloc,
-        scope: &scope,
-        end: END,
+    let Stmt::Assign(_, Source::Number(Expr::Binary(BinaryOp::Minus, left, right))) = &**stmt else {
+        return false;
     };
-    let parsed = whole(context, 64, &tokens)
-        .ok()
-        .ok_or("the tokens are an expression")?;
-    assert!(rt; parsed.fault.is_none());
-    assert!(rt; parsed.rest.is_empty());
-    let is_sum = match &parsed.tree.source {
-        Source::Number(Expr::Binary(BinaryOp::Plus, _one, product)) => {
-            matches!(**product, Expr::Binary(BinaryOp::Times, _, _))
+    let first = match &**left {
+        Expr::Binary(BinaryOp::Minus, s, one) => {
+            matches!(**s, Expr::Object(_, _, _)) && matches!(**one, Expr::Literal(1, Suffix::Ull))
         }
         _ => false,
     };
-    assert!(rt; is_sum);
+    first && matches!(**right, Expr::Literal(2, Suffix::Ull))
+}
+
+#[test]
+fn differences_group_to_the_left(rt: HostRuntime) -> Result<(), Fail> {
+    let text = b"uint64_t s;\nvoid kernel(void)\n{\n  s = s - 1ull - 2ull;\n}\n";
+    let kernel = parse(rt.alloc(), text).ok().ok_or("the text has a tree")?;
+    assert_eq!(rt; kernel.variables.len(), 1);
+    assert_eq!(rt; kernel.body.len(), 1);
+    let item = kernel.body.first().ok_or("the body has an item")?;
+    assert!(rt; takes_one_and_then_two(item));
     Ok(())
 }
 
 #[test]
-fn condition_is_no_operand_of_a_product(rt: HostRuntime) -> Result<(), Fail> {
-    let alloc = rt.alloc();
-    let scope = visible(alloc)?;
-    let tokens = [
-        token(1, Kind::Sign(Symbol::MinusSign)),
-        token(2, Kind::Sign(Symbol::OpenParen)),
-        token(3, Kind::Word("x")),
-        token(4, Kind::Sign(Symbol::CloseParen)),
-        token(6, Kind::Sign(Symbol::Star)),
-        token(8, Kind::Sign(Symbol::Bang)),
-        token(9, Kind::Word("y")),
-    ];
-    let context = Context {
-        alloc,
-        scope: &scope,
-        end: END,
+fn sort_of_an_argument_is_told_at_printf(rt: HostRuntime) -> Result<(), Fail> {
+    let text = b"uint64_t s;\nvoid kernel(void)\n{\n  printf(\"%\" PRIu64 \"\\n\", s + 7ull);\n}\n";
+    let place = match parse(rt.alloc(), text) {
+        Err(Refusal::Operands(place)) => place,
+        _ => Place { line: 0, column: 0 },
     };
-    let parsed = whole(context, 64, &tokens)
-        .ok()
-        .ok_or("the tokens are an expression")?;
-    let told = match parsed.fault {
-        Some(
-            Fault {
-                place,
-                flaw: Flaw::Operands,
-            },
-        ) => place.column,
-        _ => 0,
-    };
-    assert_eq!(rt; told, 6);
+    assert_eq!(rt; place.line, 4);
+    assert_eq!(rt; place.column, 3);
     Ok(())
 }
 
 #[test]
-fn missing_operand_is_told_at_the_end(rt: HostRuntime) -> Result<(), Fail> {
-    let alloc = rt.alloc();
-    let scope = visible(alloc)?;
-    let tokens = [
-        token(1, Kind::Word("x")),
-        token(3, Kind::Sign(Symbol::PlusSign)),
-    ];
-    let context = Context {
-        alloc,
-        scope: &scope,
-        end: END,
+fn unknown_name_in_an_argument_keeps_its_place(rt: HostRuntime) -> Result<(), Fail> {
+    let text = b"uint64_t s;\nvoid kernel(void)\n{\n  printf(\"%\" PRIu64 \"\\n\", s + t);\n}\n";
+    let place = match parse(rt.alloc(), text) {
+        Err(Refusal::UnknownName(place)) => place,
+        _ => Place { line: 0, column: 0 },
     };
-    let line = match whole(context, 64, &tokens) {
-        Err(Stop::Syntax(place)) => place.line,
-        _ => 0,
+    assert_eq!(rt; place.line, 4);
+    assert_eq!(rt; place.column, 31);
+    Ok(())
+}
+
+#[test]
+fn local_is_no_name_behind_its_block(rt: HostRuntime) -> Result<(), Fail> {
+    let text = b"uint64_t s;\nvoid kernel(void)\n{\n  { uint64_t t = s; s = t; }\n  s = t;\n}\n";
+    let place = match parse(rt.alloc(), text) {
+        Err(Refusal::UnknownName(place)) => place,
+        _ => Place { line: 0, column: 0 },
     };
-    assert_eq!(rt; line, 9);
+    assert_eq!(rt; place.line, 5);
+    assert_eq!(rt; place.column, 7);
     Ok(())
 }

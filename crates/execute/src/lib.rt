@@ -5,7 +5,7 @@ mod printing;
 mod running;
 mod writing;
 
-pub use running::{block, statement};
+pub use running::{block, run_item, statement};
 
 #[cfg(test)]
 mod tests;

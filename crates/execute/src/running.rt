@@ -100,9 +100,14 @@ pub fn block<S: Sink>(
     Ok(())
 }
 
-/// Runs one item of a block; a directive line does nothing.
+/// Runs one item of a block that has a run: a local's declaration or a statement; a directive line does nothing
+/// (C11 6.8.2).
+///
+/// # Errors
+///
+/// As for [`statement`].
 #[cycle(statement)]
-fn run_item<S: Sink>(
+pub fn run_item<S: Sink>(
     item: &Item,
     frame: &mut Frame,
     store: &mut Store,

@@ -1,4 +1,5 @@
 pub mod TreeLaw
-pub mod LineLaw
 pub mod PathLaw
-pub mod FitsLaw
+pub mod LineLaw
+pub mod ReadyLaw
+pub mod FitLaw

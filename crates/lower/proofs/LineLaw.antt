@@ -1,10 +1,55 @@
--- Lines by their numbers.
-use Rattle.std.specs.Prelude.{ℕ, suc, ◌≡◌, ◌+◌, ◌-◌, ◌<◌, List}
-use Rattle.std.proofs.Common.{sym, ap, ◌∙◌, arith}
-use Rattle.semantics.specs.Source.Text.{behind_line, line_from}
+-- Lines by where they begin.
+use Rattle.std.specs.Prelude.{ℕ, zero, suc, Bool, true, false, ◌≡◌, ◌==◌, if◌then◌else◌, List, [], ◌∷◌, Option, Some, None, slice_get, drop, ◌-◌}
+use Rattle.std.proofs.Common.{refl, sym, ap, ◌∙◌, subst, inl, inr}
+use Rattle.semantics.specs.Source.Text.{first_line, behind_line, line_from, line_at}
+use Rattle.semantics.specs.Directives.DirectiveGrammar.{ReadsLine}
+use Rattle.ktree.specs.declared.place.Place.{Place}
+use Rattle.ktree.specs.declared.refusal.Refusal.{Refusal}
+use Rattle.ktree.specs.declared.refusal.Refusal.TheVariants as refusals
+use Rattle.pragma.specs.Dynamic.{dynamic_for, IsTooLarge, IsFault}
+use Rattle.lower.specs.Lines.{starts_from, line_starts}
+use Rattle.lower.specs.Faults.{IsLineFault}
+use Rattle.lower.specs.declared.faults.Fault.{Fault}
+use Rattle.lower.specs.declared.faults.Fault.TheVariants as faults
 
--- one line more is passed
-pub next_line : (i n : ℕ) (text rest line : List ℕ) → i < n → rest ≡ behind_line text → line_from (n - i) text ≡ line → line_from (n - (i + 1)) rest ≡ line
-next_line i n text rest line lt e h =
-    let one : n - i ≡ suc (n - (i + 1)) = omega arith in
-    ap (line_from (n - (i + 1))) e ∙ ap (λ k. line_from k text) (sym one) ∙ h
+-- the line that begins at a position
+abbrev pub line_of : List ℕ → Option ℕ → List ℕ
+line_of text None = []
+line_of text (Some at) = first_line (drop at text)
+
+nothing_left : (n : ℕ) → line_from n [] ≡ []
+nothing_left zero = refl
+nothing_left (suc n) = nothing_left n
+
+one_less : (at : ℕ) (text : List ℕ) (b : ℕ) (bs : List ℕ) → drop at text ≡ b ∷ bs → drop (suc at) text ≡ bs
+one_less zero [] b bs e = cc e
+one_less zero (x ∷ xs) b bs e = cc e
+one_less (suc at) [] b bs e = cc e
+one_less (suc at) (x ∷ xs) b bs e = one_less at xs b bs e
+
+turn : (whole bs : List ℕ) (at n : ℕ) (c : Bool) → line_from n bs ≡ line_of whole (slice_get (suc at ∷ starts_from (suc at) bs) n) → line_from n (behind_line bs) ≡ line_of whole (slice_get (starts_from (suc at) bs) n)
+    → line_from n (if c then bs else behind_line bs) ≡ line_of whole (slice_get (if c then suc at ∷ starts_from (suc at) bs else starts_from (suc at) bs) n)
+turn whole bs at n true here later = here
+turn whole bs at n false here later = later
+
+-- of a text from a position on, each line begins where it is said
+pub line_found : (whole text : List ℕ) (at n : ℕ) → drop at whole ≡ text → line_from n text ≡ line_of whole (slice_get (at ∷ starts_from at text) n)
+line_found whole text at zero e = ap first_line (sym e)
+line_found whole [] at (suc n) e = nothing_left n
+line_found whole (b ∷ bs) at (suc n) e =
+    turn whole bs at n (b == 10) (line_found whole bs (suc at) n (one_less at whole b bs e)) (line_found whole bs (suc at) (suc n) (one_less at whole b bs e))
+
+-- a line by its number
+pub line_is : (text all starts : List ℕ) (n number : ℕ) → text ≡ all → starts ≡ line_starts text → n ≡ number - 1 → line_of text (slice_get starts n) ≡ line_at all number
+line_is text all starts n number v s e =
+    ap (λ ns. line_of text (slice_get ns n)) s ∙ sym (line_found text text 0 n refl) ∙ ap (line_from n) v ∙ ap (λ m. line_from m all) e
+
+-- what is wrong with a line
+pub line_refused : (place : Place) (line other : List ℕ) (r : Refusal) (f : Fault) → line ≡ other → IsFault place (IsTooLarge line) r × ((k : ℕ) → ReadsLine line (dynamic_for k) → ⊥)
+    → (r ≡ refusals.Limit place → f ≡ faults.Size place) → (r ≡ refusals.Directive place → f ≡ faults.Directive place)
+    → IsLineFault place other f × ((k : ℕ) → ReadsLine other (dynamic_for k) → ⊥)
+line_refused place line other r f e h size form = subst (λ bs. IsLineFault place bs f × ((k : ℕ) → ReadsLine bs (dynamic_for k) → ⊥)) e (go h.0, h.1)
+  where
+    go : IsFault place (IsTooLarge line) r → IsLineFault place line f
+    go (inl p) = inl (size p.0, p.1)
+    go (inr p) = inr (form p.0, p.1)

@@ -1,14 +1,8 @@
--- Which kernels are lowered, and that a kernel is lowered to one loop.
-use Rattle.std.specs.Prelude.{ℕ, false, ◌==◌, ◌≡◌, List, Option, Some, None}
-use Rattle.std.proofs.Common.{refl, sym, ap, ◌∙◌, subst, inl, inr}
+-- A statement is that of one loop.
+use Rattle.std.specs.Prelude.{ℕ, ◌≡◌}
+use Rattle.std.proofs.Common.{refl, sym, ap, ◌∙◌}
 use Rattle.semantics.specs.Tree
-use Rattle.semantics.specs.Source.Text.{line_at}
-use Rattle.semantics.specs.Directives.DirectiveGrammar.{ReadsLine}
-use Rattle.ktree.specs.Numbers.{number_of}
-use Rattle.ktree.specs.declared.place.Place.{Place}
 use Rattle.ktree.specs.declared.place.VarId.{VarId}
-use Rattle.ktree.specs.declared.refusal.Refusal.{Refusal}
-use Rattle.ktree.specs.declared.refusal.Refusal.TheVariants.{Syntax}
 use Rattle.overlay.specs.Loop.{operand_of, operation_of, formula_of, statement_of}
 use Rattle.overlay.specs.declared.lowered.Operand.{Operand}
 use Rattle.overlay.specs.declared.lowered.Operand.TheVariants.{Element, Counter, Literal}
@@ -17,10 +11,6 @@ use Rattle.overlay.specs.declared.lowered.Operation.TheVariants.{Plus, Minus, Ti
 use Rattle.overlay.specs.declared.lowered.Formula.{Formula}
 use Rattle.overlay.specs.declared.lowered.Formula.TheVariants.{One, Two}
 use Rattle.overlay.specs.declared.lowered.LoweredLoop.{LoweredLoop}
-use Rattle.pragma.specs.Dynamic.{dynamic_for, IsFault}
-use Rattle.lower.specs.declared.form.Form.{Form}
-use Rattle.lower.specs.Form.{loop_of}
-use Rattle.lower.specs.FirstPath.{FitsDeclared, IsPath, IsRefusal, RefusesPath}
 
 variable_of : ℕ → VarId
 variable_of n = record { 0 = n }
@@ -95,64 +85,3 @@ same_loop name name' l m e k =
     ap (λ x. loop_with x l.bound l.target l.formula l.size) x ∙ ap (λ n. loop_with m.counter n l.target l.formula l.size) t.bound
     ∙ ap (λ a. loop_with m.counter m.bound a l.formula l.size) a ∙ ap (λ f. loop_with m.counter m.bound m.target f l.size) f
     ∙ ap (λ k. loop_with m.counter m.bound m.target m.formula k) k
-
--- a directive line and a statement alone
-pub construct_parts : {line line' : ℕ} {s t : Tree.Stmt} → Tree.mark line (Tree.stmt s Tree.no_items) ≡ Tree.mark line' (Tree.stmt t Tree.no_items) → (line ≡ line') × (s ≡ t)
-construct_parts e = (cc, cc)
-
-not_nothing : {line : ℕ} {rest : Tree.Items} → Tree.mark line rest ≡ Tree.no_items → ⊥
-not_nothing e = cc e
-
-pub fault_number : (place : Place) (P : Type 0) (r : Refusal) → IsFault place P r → IsRefusal r
-fault_number place P r (inl h) = inr (inr (inr (ap number_of h.0)))
-fault_number place P r (inr h) = inr (inr (inl (ap number_of h.0)))
-
--- other items than a directive line and a statement
-pub refuses_items : (text : List ℕ) (k : Tree.Kernel) (place : Place) → (k.body ≡ Tree.no_items → ⊥)
-    → ((line : ℕ) (s : Tree.Stmt) → k.body ≡ Tree.mark line (Tree.stmt s Tree.no_items) → ⊥) → RefusesPath text k (Syntax place)
-refuses_items text k place full other = record { number = inl refl; none = go }
-  where
-    go : (l : Option LoweredLoop) → IsPath text k l → ⊥
-    go None h = full h
-    go (Some l) h = other h.0 (statement_of h.1 l) h.2
-
--- another statement
-pub refuses_form : (text : List ℕ) (k : Tree.Kernel) (r : Refusal) (line : ℕ) (s : Tree.Stmt) → k.body ≡ Tree.mark line (Tree.stmt s Tree.no_items)
-    → (number_of r ≡ 1) × ((name : Tree.Name) (l : LoweredLoop) → s ≡ statement_of name l → ⊥) → RefusesPath text k r
-refuses_form text k r line s e f = record { number = inl f.0; none = go }
-  where
-    go : (l : Option LoweredLoop) → IsPath text k l → ⊥
-    go None h = not_nothing (sym e ∙ h)
-    go (Some l) h = f.1 h.1 l (construct_parts (sym e ∙ h.2)).1
-
--- another directive
-pub refuses_line : (text : List ℕ) (k : Tree.Kernel) (r : Refusal) (place : Place) (P : Type 0) (line : ℕ) (s : Tree.Stmt) (bytes : List ℕ) → k.body ≡ Tree.mark line (Tree.stmt s Tree.no_items)
-    → bytes ≡ line_at text line → IsFault place P r × ((size : ℕ) → ReadsLine bytes (dynamic_for size) → ⊥) → RefusesPath text k r
-refuses_line text k r place P line s bytes e b f = record { number = fault_number place P r f.0; none = go }
-  where
-    go : (l : Option LoweredLoop) → IsPath text k l → ⊥
-    go None h = not_nothing (sym e ∙ h)
-    go (Some l) h = f.1 l.size (subst (λ bs. ReadsLine bs (dynamic_for l.size)) (ap (line_at text) (sym (construct_parts (sym e ∙ h.2)).0) ∙ sym b) h.3)
-
--- an array that the loop leaves
-pub refuses_reach : (text : List ℕ) (k : Tree.Kernel) (r : Refusal) (line : ℕ) (s : Tree.Stmt) (form : Form) (name : Tree.Name) (ds : List Tree.Declaration) → k.body ≡ Tree.mark line (Tree.stmt s Tree.no_items)
-    → ((size : ℕ) → s ≡ statement_of name (loop_of form size)) → ds ≡ k.variables → IsRefusal r × ((size : ℕ) → FitsDeclared (loop_of form size) ds → ⊥) → RefusesPath text k r
-refuses_reach text k r line s form name ds e w v f = record { number = f.0; none = go }
-  where
-    go : (l : Option LoweredLoop) → IsPath text k l → ⊥
-    go None h = not_nothing (sym e ∙ h)
-    go (Some l) h =
-        let same : l ≡ loop_of form l.size = same_loop h.1 name l (loop_of form l.size) (sym (construct_parts (sym e ∙ h.2)).1 ∙ w l.size) refl in
-        f.1 l.size (subst (λ m. FitsDeclared m ds) same (subst (FitsDeclared l) (sym v) h.4))
-
--- the loop that is found
-pub is_path : (text : List ℕ) (k : Tree.Kernel) (line : ℕ) (s : Tree.Stmt) (form : Form) (name : Tree.Name) (bytes : List ℕ) (ds : List Tree.Declaration) (size : ℕ) (l : LoweredLoop)
-    → k.body ≡ Tree.mark line (Tree.stmt s Tree.no_items) → ((size : ℕ) → s ≡ statement_of name (loop_of form size)) → bytes ≡ line_at text line → ReadsLine bytes (dynamic_for size)
-    → ds ≡ k.variables → ((size : ℕ) → FitsDeclared (loop_of form size) ds) → l ≡ loop_of form size → IsPath text k (Some l)
-is_path text k line s form name bytes ds size l e w b read v fits is =
-    subst (λ m. IsPath text k (Some m)) (sym is)
-    (line, name, e ∙ ap (λ t. Tree.mark line (Tree.stmt t Tree.no_items)) (w size), subst (λ bs. ReadsLine bs (dynamic_for size)) b read, subst (FitsDeclared (loop_of form size)) v (fits size))
-
--- a list that is not empty
-pub not_empty : (n : ℕ) → false ≡ (n == 0) → n ≡ 0 → ⊥
-not_empty n e f = cc (e ∙ ap (λ m. m == 0) f)

@@ -1,17 +1,11 @@
--- The kernels that are lowered: those without statements, and those of one loop.
-use Rattle.std.specs.Prelude.{ℕ, ◌≡◌, ◌≤◌, ◌⊎◌, List, [], ◌∷◌, length, Option, Some, None, slice_get}
-use Rattle.semantics.specs.Tree.{Name, Declaration, Kernel, no_items, mark, stmt}
-use Rattle.semantics.specs.Source.Text.{line_at}
-use Rattle.semantics.specs.Directives.DirectiveGrammar.{ReadsLine}
-use Rattle.ktree.specs.Numbers.{number_of}
-use Rattle.ktree.specs.declared.refusal.Refusal.{Refusal}
-use Rattle.overlay.specs.Loop.{statement_of}
+-- The loops that leave none of their arrays.
+use Rattle.std.specs.Prelude.{ℕ, ◌≡◌, ◌≤◌, List, [], ◌∷◌, length, Option, Some, None, slice_get}
+use Rattle.semantics.specs.Tree.{Declaration}
 use Rattle.overlay.specs.declared.lowered.Operand.{Operand}
 use Rattle.overlay.specs.declared.lowered.Operand.TheVariants.{Element, Counter, Literal}
 use Rattle.overlay.specs.declared.lowered.Formula.{Formula}
 use Rattle.overlay.specs.declared.lowered.Formula.TheVariants.{One, Two}
 use Rattle.overlay.specs.declared.lowered.LoweredLoop.{LoweredLoop}
-use Rattle.pragma.specs.Dynamic.{dynamic_for}
 
 -- a variable is declared, with one dimension, of so many elements at least
 abbrev pub HasLength : ℕ → Option Declaration → Type 0
@@ -33,19 +27,3 @@ pub record FitsDeclared (l : LoweredLoop) (ds : List Declaration) : Type 0 where
   pub target : HasLength l.bound (slice_get ds l.target.0)
   pub formula : FormulaFits l.bound ds l.formula
   pub counter : length ds ≤ l.counter.0
-
--- a kernel without statements, or with one directive line and the one loop behind it
-abbrev pub IsPath : List ℕ → Kernel → Option LoweredLoop → Type 0
-IsPath text k None = k.body ≡ no_items
-IsPath text k (Some l) =
-    (line : ℕ) × (name : Name) × (k.body ≡ mark line (stmt (statement_of name l) no_items))
-    × ReadsLine (line_at text line) (dynamic_for l.size) × FitsDeclared l k.variables
-
--- refusals by the form, by a subscript, by the directive and by its size
-abbrev pub IsRefusal : Refusal → Type 0
-IsRefusal r = (number_of r ≡ 1) ⊎ ((number_of r ≡ 9) ⊎ ((number_of r ≡ 11) ⊎ (number_of r ≡ 21)))
-
--- a kernel of neither kind is refused
-pub record RefusesPath (text : List ℕ) (k : Kernel) (r : Refusal) : Type 0 where
-  pub number : IsRefusal r
-  pub none : (lowered : Option LoweredLoop) → IsPath text k lowered → ⊥

@@ -1,9 +1,8 @@
 //! The one form of loop that is lowered.
 
-ghost use Rattle.std.specs.Prelude.{◌≡◌, ℕ, IsTrue, ◌↔◌, MatchOption, IfOk, IfErr};
+ghost use Rattle.std.specs.Prelude.{◌≡◌, ℕ, IsTrue, ◌↔◌, MatchOption};
 ghost use Rattle.semantics.specs.Tree;
 ghost use Rattle.ktree.specs.View.{expr_of, cond_of, source_of, increment_of, stmt_of, with_item, items_of};
-ghost use Rattle.ktree.specs.Numbers.{number_of};
 ghost use Rattle.overlay.specs.Loop.{statement_of};
 ghost use Rattle.overlay.specs.declared.lowered.LoweredLoop as lowered;
 ghost use Rattle.overlay.specs.declared.lowered.Formula as formulas;
@@ -11,8 +10,7 @@ ghost use Rattle.lower.specs.Form.{formula_in, loop_of, below, block_of, assigne
 
 use crate::part::{Right, is_at_counter, is_counter, right_in, subscript_place};
 use ktree::{
-    ChunkSize, CompareOp, Cond, Expr, Head, Increment, Item, Place, Refusal, Source, Stmt, Suffix,
-    VarId,
+    ChunkSize, CompareOp, Cond, Expr, Head, Increment, Item, Place, Source, Stmt, Suffix, VarId,
 };
 use overlay::LoweredLoop;
 
@@ -47,16 +45,6 @@ impl Form {
             formula: self.right.formula(),
             size,
         }
-    }
-}
-
-/// Where a statement stands, or the place of what stands round it.
-pub fn statement_place(statement: &Stmt, around: Place) -> Place {
-    match statement {
-        Stmt::Assign(target, _) | Stmt::Update(target, _, _) => target.mention.name,
-        Stmt::For(head, _) => head.place,
-        Stmt::Print(_, place) => *place,
-        Stmt::If(_, _, _) | Stmt::Block(_) => around,
     }
 }
 
@@ -129,7 +117,7 @@ fn item_statement(item: &Item) -> Option<&Stmt>
 }
 
 /// The one item of a list, where it is a statement.
-pub fn only(items: &[Item]) -> Option<&Stmt>
+fn only(items: &[Item]) -> Option<&Stmt>
     ensures { MatchOption result ((s : Tree.Stmt) → items_of items.now ≡ Tree.stmt s Tree.no_items → ⊥)
         (λ s. items_of items.now ≡ Tree.stmt (stmt_of s.now) Tree.no_items) }
 {
@@ -164,31 +152,25 @@ fn element_assigned(statement: &Stmt, counter: VarId) -> Option<Assignment>
             Some(Assignment {
                 target: target.variable,
                 right,
-                subscript: subscript_place(&target.mention),
+                subscript: subscript_place(&target.mention, 0),
             })
         }
         _ => None,
     }
 }
 
-/// The form of a statement; `Syntax` refuses every other one, at its own place or at that of what stands round it.
-pub fn read_form(statement: &Stmt, around: Place) -> Result<Form, Refusal>
-    ensures ok { IfOk result (λ form. (name : Tree.Name) × ((size : ℕ) → stmt_of statement.now ≡ statement_of name (loop_of form size))) }
-    ensures err { IfErr result (λ r. (number_of r ≡ 1) × ((name : Tree.Name) (l : lowered.LoweredLoop) → stmt_of statement.now ≡ statement_of name l → ⊥)) }
+/// The form of a statement, if it is that of the one loop.
+pub fn read_form(statement: &Stmt) -> Option<Form>
+    ensures { MatchOption result ((name : Tree.Name) (l : lowered.LoweredLoop) → stmt_of statement.now ≡ statement_of name l → ⊥)
+        (λ form. (name : Tree.Name) × ((size : ℕ) → stmt_of statement.now ≡ statement_of name (loop_of form size))) }
 {
     let Stmt::For(head, body) = statement else {
-        return Err(Refusal::Syntax(statement_place(statement, around)));
+        return None;
     };
-    let Some(bound) = head_bound(head) else {
-        return Err(Refusal::Syntax(head.place));
-    };
-    let Some(inner) = inside(body) else {
-        return Err(Refusal::Syntax(statement_place(body, head.place)));
-    };
-    let Some(assignment) = element_assigned(inner, head.variable) else {
-        return Err(Refusal::Syntax(statement_place(inner, head.place)));
-    };
-    Ok(Form {
+    let bound = head_bound(head)?;
+    let inner = inside(body)?;
+    let assignment = element_assigned(inner, head.variable)?;
+    Some(Form {
         counter: head.variable,
         bound,
         target: assignment.target,
@@ -196,4 +178,14 @@ pub fn read_form(statement: &Stmt, around: Place) -> Result<Form, Refusal>
         place: head.place,
         subscript: assignment.subscript,
     })
+}
+
+/// The loop that a statement is, with chunks of this size, if it is of the form
+/// `for (uint64_t v = 0; v < bound; v++) { A[v] = formula; }` (C11 6.8.5.3).
+pub fn lowered_loop(statement: &Stmt, size: ChunkSize) -> Option<LoweredLoop>
+    ensures { MatchOption result ((name : Tree.Name) (l : lowered.LoweredLoop) → stmt_of statement.now ≡ statement_of name l → ⊥)
+        (λ l. (name : Tree.Name) × (stmt_of statement.now ≡ statement_of name l) × (l.size ≡ size)) }
+{
+    let form = read_form(statement)?;
+    Some(form.lowered(size))
 }

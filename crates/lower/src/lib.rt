@@ -1,15 +1,21 @@
-//! A kernel as the loop that a team runs.
+//! Which kernels are run, and the loops that a team runs.
 #![tactic(auto)]
 
+mod constant;
+mod faults;
+mod fit;
 mod form;
-mod law;
-mod line;
-mod lowering;
+mod lines;
 mod part;
 mod reach;
+mod ready;
+mod subscripts;
 
-pub use law::fits_its_store;
-pub use lowering::lower;
+pub use faults::Fault;
+pub use fit::fits;
+pub use form::lowered_loop;
+pub use lines::Directives;
+pub use ready::first_fault;
 
 #[cfg(test)]
 mod tests;

@@ -54,11 +54,11 @@ impl Right {
     }
 }
 
-/// Where the first subscript stands.
-pub fn subscript_place(mention: &Mention) -> Place {
-    match mention.subscripts.as_slice() {
-        [first, ..] => *first,
-        [] => mention.name,
+/// Where a subscript stands, counted from 0.
+pub fn subscript_place(mention: &Mention, index: usize) -> Place {
+    match mention.subscripts.get(index) {
+        Some(place) => *place,
+        None => mention.name,
     }
 }
 
@@ -98,7 +98,7 @@ fn part_of(expr: &Expr, counter: VarId) -> Option<Part>
         Expr::Literal(value, Suffix::Ull) => Some(Part::Literal(*value)),
         Expr::Object(array, subscripts, mention) => {
             if is_at_counter(subscripts.as_slice(), counter) {
-                Some(Part::Element(*array, subscript_place(mention)))
+                Some(Part::Element(*array, subscript_place(mention, 0)))
             } else {
                 None
             }

@@ -1,72 +1,83 @@
 //! Which elements a loop names.
 
-ghost use Rattle.std.specs.Prelude.{◌≡◌, ◌≤◌, ◌<◌, ℕ, map, length, slice_get, IfOk, IfErr};
+ghost use Rattle.std.specs.Prelude.{ℕ, map, slice_get};
 ghost use Rattle.ktree.specs.View.{declaration_of};
-ghost use Rattle.lower.specs.FirstPath.{HasLength, OperandFits, FormulaFits, FitsDeclared, IsRefusal};
+ghost use Rattle.lower.specs.FirstPath.{HasLength, OperandFits, FormulaFits, FitsDeclared};
 ghost use Rattle.lower.specs.Form.{operand_in, formula_in, loop_of};
+ghost use Rattle.lower.specs.Judged.{Judges};
 
+use crate::faults::{Fault, earlier};
 use crate::form::Form;
 use crate::part::{Part, Right};
-use ktree::{Declaration, Place, Refusal, VarId};
+use ktree::{Declaration, Place, VarId};
 
-/// Refuses an array that has not one dimension, by `Syntax`, or fewer elements than this, by `SubscriptOutOfRange`.
+/// A loop's number of iterations, and the place of its `for`.
+#[derive(Clone, Copy)]
+struct Span {
+    bound: u64,
+    place: Place,
+}
+
+/// `Loop` at an array that has not one dimension, and `Range` at one with fewer elements than this.
 fn array_reaches(
     variables: &[Declaration],
-    bound: u64,
+    span: Span,
     array: VarId,
     subscript: Place,
-) -> Result<(), Refusal>
-    ensures ok { IfOk result (λ _. HasLength bound (slice_get (map declaration_of variables.now) array.0)) }
-    ensures err { IfErr result (λ r. IsRefusal r × (HasLength bound (slice_get (map declaration_of variables.now) array.0) → ⊥)) }
+) -> Option<Fault>
+    ensures { Judges result (HasLength span.bound (slice_get (map declaration_of variables.now) array.0)) }
 {
     let Some(declaration) = variables.get(array.0 as usize) else {
-        return Err(Refusal::Syntax(subscript));
+        return Some(Fault::Loop(span.place));
     };
     match declaration.lengths.as_slice() {
         [length] => {
-            if bound <= *length {
-                Ok(())
+            if span.bound <= *length {
+                None
             } else {
-                Err(Refusal::SubscriptOutOfRange(subscript))
+                Some(Fault::Range(subscript))
             }
         }
-        _ => Err(Refusal::Syntax(subscript)),
+        _ => Some(Fault::Loop(span.place)),
     }
 }
 
-/// The same for an operand, which is refused only as an element.
-fn part_reaches(variables: &[Declaration], bound: u64, part: Part) -> Result<(), Refusal>
-    ensures ok { IfOk result (λ _. OperandFits bound (map declaration_of variables.now) (operand_in part)) }
-    ensures err { IfErr result (λ r. IsRefusal r × (OperandFits bound (map declaration_of variables.now) (operand_in part) → ⊥)) }
+/// The same for an operand, which is at fault only as an element.
+fn part_reaches(variables: &[Declaration], span: Span, part: Part) -> Option<Fault>
+    ensures { Judges result (OperandFits span.bound (map declaration_of variables.now) (operand_in part)) }
 {
     match part {
-        Part::Element(array, subscript) => array_reaches(variables, bound, array, subscript),
-        Part::Counter | Part::Literal(_) => Ok(()),
+        Part::Element(array, subscript) => array_reaches(variables, span, array, subscript),
+        Part::Counter | Part::Literal(_) => None,
     }
 }
 
-/// The same for a right side, from the left.
-fn right_reaches(variables: &[Declaration], bound: u64, right: Right) -> Result<(), Refusal>
-    ensures ok { IfOk result (λ _. FormulaFits bound (map declaration_of variables.now) (formula_in right)) }
-    ensures err { IfErr result (λ r. IsRefusal r × (FormulaFits bound (map declaration_of variables.now) (formula_in right) → ⊥)) }
+/// The same for a right side.
+fn right_reaches(variables: &[Declaration], span: Span, right: Right) -> Option<Fault>
+    ensures { Judges result (FormulaFits span.bound (map declaration_of variables.now) (formula_in right)) }
 {
     match right {
-        Right::One(part) => part_reaches(variables, bound, part),
+        Right::One(part) => part_reaches(variables, span, part),
         Right::Two(_operation, left, right) => {
-            part_reaches(variables, bound, left)?;
-            part_reaches(variables, bound, right)
+            let first = part_reaches(variables, span, left);
+            let second = part_reaches(variables, span, right);
+            earlier(first, second)
         }
     }
 }
 
-/// Refuses a loop that leaves an array, at the first subscript that does, the target's first.
-pub fn reaches(variables: &[Declaration], form: Form) -> Result<(), Refusal>
-    ensures ok { IfOk result (λ _. (size : ℕ) → FitsDeclared (loop_of form size) (map declaration_of variables.now)) }
-    ensures err { IfErr result (λ r. IsRefusal r × ((size : ℕ) → FitsDeclared (loop_of form size) (map declaration_of variables.now) → ⊥)) }
+/// What is wrong with the arrays of a loop, the target first, or with its counter.
+pub fn reaches(variables: &[Declaration], form: Form) -> Option<Fault>
+    ensures { Judges result ((size : ℕ) → FitsDeclared (loop_of form size) (map declaration_of variables.now)) }
 {
     if (form.counter.0 as usize) < variables.len() {
-        return Err(Refusal::Syntax(form.place));
+        return Some(Fault::Loop(form.place));
     }
-    array_reaches(variables, form.bound, form.target, form.subscript)?;
-    right_reaches(variables, form.bound, form.right)
+    let span = Span {
+        bound: form.bound,
+        place: form.place,
+    };
+    let target = array_reaches(variables, span, form.target, form.subscript);
+    let right = right_reaches(variables, span, form.right);
+    earlier(target, right)
 }

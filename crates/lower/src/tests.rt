@@ -1,103 +1,161 @@
-//! Kernels that are lowered, and kernels that are refused.
+//! Kernels that are run, and the first faults of others.
 
 use super::*;
 use ktree::{
     BinaryOp, ChunkSize, CompareOp, Cond, Declaration, Expr, Head, Increment, Item, Kernel,
-    Mention, Place, Refusal, Source, Stmt, Suffix, Target, VarId,
+    Mention, Place, Source, Stmt, Suffix, Target, VarId,
 };
-use overlay::{Formula, LoweredLoop, Operand, Operation};
+use overlay::{Array, Formula, LoweredLoop, Operand, Operation, Store};
 use std::alloc::{AllocError, Global};
 use std::test::Fail;
 
+/// An array of eight elements.
 const A: VarId = VarId(0);
 
-const I: VarId = VarId(1);
+/// An array of two rows of three.
+const B: VarId = VarId(1);
 
-/// The text of the loops below; a line end behind the third line's directive.
-const TEXT: &[u8] =
-    b"uint64_t A[8];\nvoid kernel(void) {\n#pragma omp parallel for schedule(dynamic, 3)\nfor";
+/// A local, or a loop's counter.
+const I: VarId = VarId(2);
 
-/// The fourth line, where the loop stands.
-fn column(column: u32) -> Place {
-    Place { line: 4, column }
+/// A place on the line of this number.
+fn at(line: u32, column: u32) -> Place {
+    Place { line, column }
 }
 
-/// The loop's counter.
-fn counter(alloc: Global) -> Expr {
+/// A variable without subscripts.
+fn plain(alloc: Global, variable: VarId) -> Expr {
     let mention = Mention {
-        name: column(36),
+        name: at(9, 1),
         subscripts: Vec::new(alloc),
     };
-    Expr::Object(I, Vec::new(alloc), mention)
+    Expr::Object(variable, Vec::new(alloc), mention)
 }
 
-/// The element of the array at the counter, with the columns of its name and of its subscript.
-fn element(alloc: Global, name: u32, subscript: u32) -> Result<(Vec<Expr>, Mention), AllocError> {
+/// A literal with `ull`.
+fn long(value: u64) -> Expr {
+    Expr::Literal(value, Suffix::Ull)
+}
+
+/// A literal without `ull`.
+fn bare(value: u64) -> Expr {
+    Expr::Literal(value, Suffix::Bare)
+}
+
+/// `left op right`.
+fn binary(alloc: Global, op: BinaryOp, left: Expr, right: Expr) -> Result<Expr, AllocError> {
+    Ok(Expr::Binary(op, Box::new(alloc, left)?, Box::new(alloc, right)?))
+}
+
+/// An element's name on this line in column 1, with a subscript in column 3.
+fn target(
+    alloc: Global,
+    variable: VarId,
+    subscript: Expr,
+    line: u32,
+) -> Result<Target, AllocError> {
     let mut subscripts = Vec::new(alloc);
-    subscripts.push(counter(alloc))?;
+    subscripts.push(subscript)?;
     let mut places = Vec::new(alloc);
-    places.push(column(subscript))?;
+    places.push(at(line, 3))?;
     let mention = Mention {
-        name: column(name),
+        name: at(line, 1),
         subscripts: places,
     };
-    Ok((subscripts, mention))
-}
-
-/// `A[i] op i`.
-fn formula(alloc: Global, operator: BinaryOp) -> Result<Expr, AllocError> {
-    let (subscripts, mention) = element(alloc, 43, 45)?;
-    let left = Expr::Object(A, subscripts, mention);
-    Ok(Expr::Binary(
-        operator,
-        Box::new(alloc, left)?,
-        Box::new(alloc, counter(alloc))?,
-    ))
-}
-
-/// `for (uint64_t i = 0; i < bound; i++) { A[i] = value; }`.
-fn loop_of(
-    alloc: Global,
-    comparison: CompareOp,
-    bound: u64,
-    value: Expr,
-) -> Result<Stmt, AllocError> {
-    let (subscripts, mention) = element(alloc, 36, 38)?;
-    let target = Target {
-        variable: A,
+    Ok(Target {
+        variable,
         subscripts,
         mention,
+    })
+}
+
+/// An element of the array, as an expression.
+fn element(alloc: Global, subscript: Expr, line: u32) -> Result<Expr, AllocError> {
+    let Target {
+        variable,
+        subscripts,
+        mention,
+    } = target(alloc, A, subscript, line)?;
+    Ok(Expr::Object(variable, subscripts, mention))
+}
+
+/// `B[row][column]`, with the subscripts in columns 3 and 6.
+fn cell(alloc: Global, row: Expr, column: Expr, line: u32) -> Result<Expr, AllocError> {
+    let mut subscripts = Vec::new(alloc);
+    subscripts.push(row)?;
+    subscripts.push(column)?;
+    let mut places = Vec::new(alloc);
+    places.push(at(line, 3))?;
+    places.push(at(line, 6))?;
+    let mention = Mention {
+        name: at(line, 1),
+        subscripts: places,
     };
-    let assignment = Stmt::Assign(target, Source::Number(value));
-    let mut items = Vec::new(alloc);
-    items.push(Item::Statement(Box::new(alloc, assignment)?))?;
+    Ok(Expr::Object(B, subscripts, mention))
+}
+
+/// `A[subscript] = value;` on this line.
+fn assign(alloc: Global, subscript: Expr, value: Expr, line: u32) -> Result<Stmt, AllocError> {
+    let target = target(alloc, A, subscript, line)?;
+    Ok(Stmt::Assign(target, Source::Number(value)))
+}
+
+/// A statement as an item.
+fn item(alloc: Global, statement: Stmt) -> Result<Item, AllocError> {
+    Ok(Item::Statement(Box::new(alloc, statement)?))
+}
+
+/// `for (uint64_t i = start; i < bound; i++) { .. }` on this line.
+fn looped(
+    alloc: Global,
+    start: u64,
+    bound: u64,
+    items: Vec<Item>,
+    line: u32,
+) -> Result<Stmt, AllocError> {
     let head = Head {
         variable: I,
         name: String::from_str(alloc, "i")?,
-        start: Source::Number(Expr::Literal(0, Suffix::Bare)),
+        start: Source::Number(bare(start)),
         test: Cond::Compare(
-            comparison,
-            Box::new(alloc, counter(alloc))?,
-            Box::new(alloc, Expr::Literal(bound, Suffix::Bare))?,
-            column(26),
+            CompareOp::Less,
+            Box::new(alloc, plain(alloc, I))?,
+            Box::new(alloc, bare(bound))?,
+            at(line, 26),
         ),
         step: Increment::Up(I),
-        place: column(1),
-        start_place: column(19),
+        place: at(line, 1),
+        start_place: at(line, 19),
     };
     Ok(Stmt::For(head, Box::new(alloc, Stmt::Block(items))?))
 }
 
-/// An array of this length, and a body.
-fn kernel(alloc: Global, length: u64, body: Vec<Item>) -> Result<Kernel, AllocError> {
+/// `for (uint64_t i = start; i < bound; i++) { A[i] = value; }` on this line.
+fn counted(
+    alloc: Global,
+    start: u64,
+    bound: u64,
+    value: Expr,
+    line: u32,
+) -> Result<Stmt, AllocError> {
+    let mut items = Vec::new(alloc);
+    let body = assign(alloc, plain(alloc, I), value, line)?;
+    items.push(item(alloc, body)?)?;
+    looped(alloc, start, bound, items, line)
+}
+
+/// A kernel of the two arrays and this body.
+fn kernel(alloc: Global, body: Vec<Item>) -> Result<Kernel, AllocError> {
     let mut variables = Vec::new(alloc);
     variables.push(Declaration {
         name: String::from_str(alloc, "A")?,
-        lengths: Vec::from_slice(alloc, &[length])?,
-        place: Place {
-            line: 1,
-            column: 10,
-        },
+        lengths: Vec::from_slice(alloc, &[8])?,
+        place: at(1, 10),
+    })?;
+    variables.push(Declaration {
+        name: String::from_str(alloc, "B")?,
+        lengths: Vec::from_slice(alloc, &[2, 3])?,
+        place: at(2, 10),
     })?;
     Ok(Kernel {
         constants: Vec::new(alloc),
@@ -106,134 +164,253 @@ fn kernel(alloc: Global, length: u64, body: Vec<Item>) -> Result<Kernel, AllocEr
     })
 }
 
-/// A kernel of a directive line and a loop.
-fn loop_kernel(alloc: Global, length: u64, statement: Stmt) -> Result<Kernel, AllocError> {
+/// The first fault of a body in front of this text.
+fn told(alloc: Global, body: Vec<Item>, text: &[u8]) -> Result<Option<Fault>, AllocError> {
+    let directives = Directives::read(alloc, text)?;
+    let kernel = kernel(alloc, body)?;
+    Ok(first_fault(&kernel, &directives))
+}
+
+/// The first fault of one statement.
+fn alone(alloc: Global, statement: Stmt) -> Result<Option<Fault>, AllocError> {
     let mut body = Vec::new(alloc);
-    body.push(Item::Directive(Place { line: 3, column: 1 }))?;
-    body.push(Item::Statement(Box::new(alloc, statement)?))?;
-    kernel(alloc, length, body)
-}
-
-/// The number of a refusal with its place, of those that have one.
-fn refused(refusal: Refusal) -> Option<(u8, Place)> {
-    match refusal {
-        Refusal::Syntax(place) => Some((1, place)),
-        Refusal::SubscriptOutOfRange(place) => Some((9, place)),
-        Refusal::Directive(place) => Some((11, place)),
-        Refusal::Limit(place) => Some((21, place)),
-        _ => None,
-    }
-}
-
-/// Lowers a kernel in front of this text.
-fn outcome(kernel: &Kernel, text: &[u8]) -> Result<Option<LoweredLoop>, Option<(u8, Place)>> {
-    match lower(kernel, text) {
-        Ok(lowered) => Ok(lowered),
-        Err(refusal) => Err(refused(refusal)),
-    }
+    body.push(item(alloc, statement)?)?;
+    told(alloc, body, b"")
 }
 
 #[test]
-fn nothing_is_lowered_to_nothing(rt: HostRuntime) -> Result<(), Fail> {
-    let empty = kernel(rt.alloc(), 8, Vec::new(rt.alloc()))?;
-    assert_eq!(rt; outcome(&empty, b"void kernel(void) { }\n"), Ok(None));
+fn lines_give_sizes(rt: HostRuntime) -> Result<(), Fail> {
+    let text =
+        b"#pragma omp parallel for schedule(dynamic)\n\n # pragma omp parallel for schedule ( dynamic , 16777216 )\n#pragma omp parallel for schedule(dynamic, 16777217)\n#pragma omp parallel for schedule(dynamic, 2)";
+    let directives = Directives::read(rt.alloc(), text)?;
+    assert_eq!(rt;
+        directives.at(at(1, 1)),
+        Ok(ChunkSize::new(1).expect(&rt, "a size"))
+    );
+    assert_eq!(rt; directives.at(at(2, 1)), Err(Fault::Directive(at(2, 1))));
+    assert_eq!(rt;
+        directives.at(at(3, 2)),
+        Ok(ChunkSize::new(16777216).expect(&rt, "a size"))
+    );
+    assert_eq!(rt; directives.at(at(4, 1)), Err(Fault::Size(at(4, 1))));
+    assert_eq!(rt;
+        directives.at(at(5, 1)),
+        Ok(ChunkSize::new(2).expect(&rt, "a size"))
+    );
+    assert_eq!(rt; directives.at(at(6, 1)), Err(Fault::Directive(at(6, 1))));
+    Ok(())
+}
+
+#[test]
+fn faults_have_numbers(rt: HostRuntime) -> Result<(), Fail> {
+    let here = at(1, 2);
+    assert_eq!(rt; Fault::Directive(here).refusal().number(), 11);
+    assert_eq!(rt; Fault::Size(here).refusal().number(), 21);
+    assert_eq!(rt; Fault::Loop(here).refusal().number(), 6);
+    assert_eq!(rt; Fault::Subscript(here).refusal().number(), 8);
+    assert_eq!(rt; Fault::Range(here).refusal().number(), 9);
+    assert!(rt; Fault::Range(here).is_of_ranges());
+    assert!(rt; !Fault::Loop(here).is_of_ranges());
+    Ok(())
+}
+
+/// The first fault of `A[subscript] = 0ull;` on the fifth line.
+fn as_subscript(alloc: Global, subscript: Expr) -> Result<Option<Fault>, AllocError> {
+    alone(alloc, assign(alloc, subscript, long(0), 5)?)
+}
+
+/// The same, with a subscript `left op right`.
+fn computed(
+    alloc: Global,
+    op: BinaryOp,
+    left: Expr,
+    right: Expr,
+) -> Result<Option<Fault>, AllocError> {
+    as_subscript(alloc, binary(alloc, op, left, right)?)
+}
+
+#[test]
+fn constants_are_subscripts(rt: HostRuntime) -> Result<(), Fail> {
+    let alloc = rt.alloc();
+    let other = Some(Fault::Subscript(at(5, 3)));
+    assert_eq!(rt; computed(alloc, BinaryOp::Plus, bare(3), bare(4))?, None);
+    assert_eq!(rt;
+        computed(alloc, BinaryOp::Times, bare(2), bare(4))?,
+        Some(Fault::Range(at(5, 3)))
+    );
+    assert_eq!(rt; computed(alloc, BinaryOp::Minus, bare(3), bare(4))?, other);
+    assert_eq!(rt; computed(alloc, BinaryOp::Plus, long(1), bare(1))?, other);
+    assert_eq!(rt; computed(alloc, BinaryOp::Divide, bare(4), bare(2))?, other);
+    Ok(())
+}
+
+/// The first fault of `A[0] = B[row][column];`, with the source on the fifth line.
+fn as_cell(alloc: Global, row: Expr, column: Expr) -> Result<Option<Fault>, AllocError> {
+    let value = cell(alloc, row, column, 5)?;
+    alone(alloc, assign(alloc, bare(0), value, 4)?)
+}
+
+#[test]
+fn each_subscript_is_looked_at(rt: HostRuntime) -> Result<(), Fail> {
+    let alloc = rt.alloc();
+    assert_eq!(rt; as_cell(alloc, bare(1), bare(2))?, None);
+    assert_eq!(rt;
+        as_cell(alloc, bare(1), bare(3))?,
+        Some(Fault::Range(at(5, 6)))
+    );
+    assert_eq!(rt;
+        as_cell(alloc, bare(2), bare(3))?,
+        Some(Fault::Range(at(5, 3)))
+    );
+    assert_eq!(rt;
+        as_cell(alloc, bare(2), plain(alloc, I))?,
+        Some(Fault::Subscript(at(5, 6)))
+    );
+    let whole = alone(alloc, assign(alloc, bare(0), plain(alloc, A), 4)?)?;
+    assert_eq!(rt; whole, Some(Fault::Range(at(9, 1))));
+    Ok(())
+}
+
+/// `if (1) { A[then] = 1; } else { A[other] = 1; }`, on the fifth and the sixth line.
+fn chosen(alloc: Global, then: u64, other: u64) -> Result<Stmt, AllocError> {
+    let cond = Cond::NotZero(Box::new(alloc, bare(1))?);
+    let then = Box::new(alloc, assign(alloc, bare(then), bare(1), 5)?)?;
+    let other = Box::new(alloc, assign(alloc, bare(other), bare(1), 6)?)?;
+    Ok(Stmt::If(cond, then, Some(other)))
+}
+
+#[test]
+fn branches_are_looked_at(rt: HostRuntime) -> Result<(), Fail> {
+    let alloc = rt.alloc();
+    let first = chosen(alloc, 8, 8)?;
+    assert_eq!(rt; alone(alloc, first)?, Some(Fault::Range(at(5, 3))));
+    let second = chosen(alloc, 7, 8)?;
+    assert_eq!(rt; alone(alloc, second)?, Some(Fault::Range(at(6, 3))));
+    Ok(())
+}
+
+/// The first fault of a loop on the fourth line.
+fn loop_alone(
+    alloc: Global,
+    start: u64,
+    bound: u64,
+    value: Expr,
+) -> Result<Option<Fault>, AllocError> {
+    alone(alloc, counted(alloc, start, bound, value, 4)?)
+}
+
+#[test]
+fn loops_are_of_one_form(rt: HostRuntime) -> Result<(), Fail> {
+    let alloc = rt.alloc();
+    let other = Some(Fault::Loop(at(4, 1)));
+    assert_eq!(rt; loop_alone(alloc, 0, 8, plain(alloc, I))?, None);
+    assert_eq!(rt; loop_alone(alloc, 1, 8, plain(alloc, I))?, other);
+    assert_eq!(rt; loop_alone(alloc, 0, 8, bare(1))?, other);
+    assert_eq!(rt;
+        loop_alone(alloc, 0, 9, plain(alloc, I))?,
+        Some(Fault::Range(at(4, 3)))
+    );
+    Ok(())
+}
+
+/// A text whose third line is a directive line.
+const TEXT: &[u8] = b"\n\n#pragma omp parallel for schedule(dynamic, 3)\nfor";
+
+/// The first fault of a directive line on the third line and a loop behind it.
+fn line_and_loop(alloc: Global, text: &[u8], start: u64) -> Result<Option<Fault>, AllocError> {
+    let loops = item(alloc, counted(alloc, start, 8, plain(alloc, I), 4)?)?;
+    let mut body = Vec::new(alloc);
+    body.push(Item::Directive(at(3, 1)))?;
+    body.push(loops)?;
+    told(alloc, body, text)
+}
+
+#[test]
+fn a_directive_stands_before_its_loop(rt: HostRuntime) -> Result<(), Fail> {
+    let alloc = rt.alloc();
+    let line = Some(Fault::Directive(at(3, 1)));
+    assert_eq!(rt; line_and_loop(alloc, TEXT, 0)?, None);
+    assert_eq!(rt; line_and_loop(alloc, TEXT, 1)?, Some(Fault::Loop(at(4, 1))));
+    assert_eq!(rt;
+        line_and_loop(alloc, b"\n\n#pragma omp simd\nfor", 1)?,
+        line
+    );
+    let mut last = Vec::new(alloc);
+    last.push(Item::Directive(at(3, 1)))?;
+    assert_eq!(rt; told(alloc, last, TEXT)?, line);
+    Ok(())
+}
+
+/// The first fault of `A[0] = A[left] + A[right];`, with the operands on the fifth and the sixth line.
+fn as_sum(alloc: Global, left: Expr, right: Expr) -> Result<Option<Fault>, AllocError> {
+    let left = element(alloc, left, 5)?;
+    let right = element(alloc, right, 6)?;
+    let sum = binary(alloc, BinaryOp::Plus, left, right)?;
+    alone(alloc, assign(alloc, bare(0), sum, 4)?)
+}
+
+#[test]
+fn the_earlier_pass_is_told(rt: HostRuntime) -> Result<(), Fail> {
+    let alloc = rt.alloc();
+    let later = Some(Fault::Subscript(at(6, 3)));
+    assert_eq!(rt;
+        as_sum(alloc, bare(8), bare(9))?,
+        Some(Fault::Range(at(5, 3)))
+    );
+    assert_eq!(rt; as_sum(alloc, bare(8), plain(alloc, I))?, later);
+    Ok(())
+}
+
+#[test]
+fn lines_inside_other_loops_are_told(rt: HostRuntime) -> Result<(), Fail> {
+    let alloc = rt.alloc();
+    let mut items = Vec::new(alloc);
+    items.push(item(alloc, assign(alloc, plain(alloc, I), bare(0), 2)?)?)?;
+    items.push(Item::Directive(at(3, 1)))?;
+    let loops = looped(alloc, 0, 8, items, 1)?;
+    assert_eq!(rt; alone(alloc, loops)?, Some(Fault::Directive(at(3, 1))));
     Ok(())
 }
 
 #[test]
 fn a_loop_is_lowered(rt: HostRuntime) -> Result<(), Fail> {
-    let sum = formula(rt.alloc(), BinaryOp::Plus)?;
-    let statement = loop_of(rt.alloc(), CompareOp::Less, 8, sum)?;
-    let kernel = loop_kernel(rt.alloc(), 8, statement)?;
+    let alloc = rt.alloc();
+    let size = ChunkSize::new(3).expect(&rt, "a size of a chunk");
+    let left = element(alloc, plain(alloc, I), 4)?;
+    let sum = binary(alloc, BinaryOp::Plus, left, plain(alloc, I))?;
     let lowered = LoweredLoop {
         counter: I,
         bound: 8,
         target: A,
         formula: Formula::Two(Operation::Plus, Operand::Element(A), Operand::Counter),
-        size: ChunkSize::new(3).expect(&rt, "a size of a chunk"),
+        size,
     };
-    assert_eq!(rt; outcome(&kernel, TEXT), Ok(Some(lowered)));
+    let loops = counted(alloc, 0, 8, sum, 4)?;
+    assert_eq!(rt; lowered_loop(&loops, size), Some(lowered));
     Ok(())
 }
 
-#[test]
-fn operands_are_counters_and_literals(rt: HostRuntime) -> Result<(), Fail> {
-    let difference = Expr::Binary(
-        BinaryOp::Minus,
-        Box::new(rt.alloc(), counter(rt.alloc()))?,
-        Box::new(rt.alloc(), Expr::Literal(1, Suffix::Ull))?,
-    );
-    let statement = loop_of(rt.alloc(), CompareOp::Less, 5, difference)?;
-    let kernel = loop_kernel(rt.alloc(), 5, statement)?;
-    let lowered = LoweredLoop {
-        counter: I,
-        bound: 5,
+/// A loop over the array, of so many iterations.
+fn over(counter: VarId, bound: u64, size: ChunkSize) -> LoweredLoop {
+    LoweredLoop {
+        counter,
+        bound,
         target: A,
-        formula: Formula::Two(Operation::Minus, Operand::Counter, Operand::Literal(1)),
-        size: ChunkSize::new(2).expect(&rt, "a size of a chunk"),
-    };
-    assert_eq!(rt;
-        outcome(
-            &kernel,
-            b"\n\n#pragma omp parallel for schedule(dynamic, 2)"
-        ),
-        Ok(Some(lowered))
-    );
-    Ok(())
+        formula: Formula::One(Operand::Element(A)),
+        size,
+    }
 }
 
 #[test]
-fn no_iteration_leaves_an_array(rt: HostRuntime) -> Result<(), Fail> {
-    let none = loop_of(rt.alloc(), CompareOp::Less, 0, counter(rt.alloc()))?;
-    let kernel = loop_kernel(rt.alloc(), 8, none)?;
-    assert_eq!(rt; outcome(&kernel, TEXT).is_ok(), true);
-    let many = loop_of(rt.alloc(), CompareOp::Less, 5, counter(rt.alloc()))?;
-    let kernel = loop_kernel(rt.alloc(), 4, many)?;
-    assert_eq!(rt; outcome(&kernel, TEXT), Err(Some((9, column(38)))));
-    Ok(())
-}
-
-#[test]
-fn other_loops_are_refused(rt: HostRuntime) -> Result<(), Fail> {
-    let quotient = formula(rt.alloc(), BinaryOp::Divide)?;
-    let statement = loop_of(rt.alloc(), CompareOp::Less, 8, quotient)?;
-    let kernel = loop_kernel(rt.alloc(), 8, statement)?;
-    assert_eq!(rt; outcome(&kernel, TEXT), Err(Some((1, column(36)))));
-    let bare = Expr::Literal(1, Suffix::Bare);
-    let statement = loop_of(rt.alloc(), CompareOp::Less, 8, bare)?;
-    let kernel = loop_kernel(rt.alloc(), 8, statement)?;
-    assert_eq!(rt; outcome(&kernel, TEXT), Err(Some((1, column(36)))));
-    let statement = loop_of(rt.alloc(), CompareOp::LessEqual, 7, counter(rt.alloc()))?;
-    let kernel = loop_kernel(rt.alloc(), 8, statement)?;
-    assert_eq!(rt; outcome(&kernel, TEXT), Err(Some((1, column(1)))));
-    Ok(())
-}
-
-#[test]
-fn a_directive_is_asked_for(rt: HostRuntime) -> Result<(), Fail> {
-    let statement = loop_of(rt.alloc(), CompareOp::Less, 8, counter(rt.alloc()))?;
-    let kernel = loop_kernel(rt.alloc(), 8, statement)?;
-    let here = Place { line: 3, column: 1 };
-    assert_eq!(rt;
-        outcome(&kernel, b"\n\n#pragma omp simd\nfor"),
-        Err(Some((11, here)))
-    );
-    assert_eq!(rt;
-        outcome(
-            &kernel,
-            b"\n\n#pragma omp parallel for schedule(dynamic, 16777217)\nfor"
-        ),
-        Err(Some((21, here)))
-    );
-    Ok(())
-}
-
-#[test]
-fn a_loop_alone_is_refused(rt: HostRuntime) -> Result<(), Fail> {
-    let statement = loop_of(rt.alloc(), CompareOp::Less, 8, counter(rt.alloc()))?;
-    let mut body = Vec::new(rt.alloc());
-    body.push(Item::Statement(Box::new(rt.alloc(), statement)?))?;
-    let alone = kernel(rt.alloc(), 8, body)?;
-    assert_eq!(rt; outcome(&alone, TEXT), Err(Some((1, column(1)))));
+fn loops_fit_their_stores(rt: HostRuntime) -> Result<(), Fail> {
+    let alloc = rt.alloc();
+    let size = ChunkSize::new(3).expect(&rt, "a size of a chunk");
+    let mut arrays = Vec::new(alloc);
+    let lengths = Vec::from_slice(alloc, &[4])?;
+    arrays.push(Array::new(lengths, vec![in alloc; 7u64; 4]?))?;
+    let store = Store::new(arrays);
+    assert!(rt; fits(&over(I, 4, size), &store));
+    assert!(rt; !fits(&over(I, 5, size), &store));
+    assert!(rt; !fits(&over(A, 4, size), &store));
     Ok(())
 }

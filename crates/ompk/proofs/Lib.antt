@@ -1,7 +1,6 @@
 pub mod Declared
-pub mod Sound
 pub mod Unique
-pub mod Fitting
+pub mod Starting
 pub mod Output
 pub mod Written
 pub mod Parts

@@ -1,23 +1,24 @@
 //! Which texts are accepted.
 
 ghost use Rattle.std.specs.Prelude.{◌≡◌, map, IfOk, IfErr};
-ghost use Rattle.std.specs.Option.{option_copied};
-ghost use Rattle.ktree.specs.View.{declaration_of};
+ghost use Rattle.ktree.specs.View.{declaration_of, kernel_of};
 ghost use Rattle.semantics.specs.Theorems.{StandsFor};
-ghost use Rattle.ompk.specs.Accepted.{tree_of, ComesFrom, IsAccepted, RefusesText};
+ghost use Rattle.semantics.specs.Meaning.Definite.{IsDefinite, no_privates};
+ghost use Rattle.lower.specs.Ready.{IsReadyKernel};
+ghost use Rattle.ompk.specs.Accepted.{tree_of, IsAccepted, RefusesKernel, RefusesText};
 
 use cparse::parse;
-use ktree::{Declaration, Kernel, Refusal};
-use lower::lower;
-use overlay::LoweredLoop;
+use flow::definite;
+use ktree::{Declaration, Item, Kernel, Refusal};
+use lower::{Directives, first_fault};
 use std::alloc::Global;
 use std::marker::Model;
 
-/// An accepted kernel, which `run` takes.
+/// An accepted kernel, which `run` and `seq` take.
 #[derive(Drop)]
 pub struct Checked {
+    text: Vec<u8>,
     kernel: Kernel,
-    path: Option<LoweredLoop>,
 }
 
 impl Model for Checked {
@@ -29,9 +30,9 @@ impl Model for Checked {
 
     ghost coded = { Prim.hlevel (codes, item.the_row.coded) };
 
-    ghost view = { λ c. record { kernel = c.kernel; path = c.path } };
+    ghost view = { λ c. record { text = c.text.items; kernel = c.kernel } };
 
-    ghost invariant = { λ c. IsAccepted (record { kernel = c.kernel; path = c.path }) };
+    ghost invariant = { λ c. IsAccepted (record { text = c.text.items; kernel = c.kernel }) };
 }
 
 impl Checked {
@@ -43,27 +44,55 @@ impl Checked {
         self.kernel.variables.as_slice()
     }
 
-    // The loop that runs in parallel.
-    pub(crate) fn path(&self) -> Option<&LoweredLoop>
-        ensures { option_copied result ≡ self.now.path }
+    // The items of the kernel's body.
+    pub(crate) fn body(&self) -> &[Item]
+        ensures { result.now ≡ self.now.kernel.body.items }
     {
-        self.path.as_ref()
+        self.kernel.body.as_slice()
+    }
+
+    // The text, for what its directive lines say.
+    pub(crate) fn text(&self) -> &[u8] {
+        self.text.as_slice()
     }
 }
 
-/// Reads a text and finds the loop that its directive line has run in parallel (OpenMP 5.2, 11.5 and 17).
+// Refuses a tree that is none of those that are run, in the order of the passes: directives and loops, locals, ranges.
+fn judge(alloc: Global, kernel: &Kernel, text: &[u8]) -> Result<(), Refusal>
+    ensures ready { IfOk result (λ _. IsReadyKernel text.now (kernel_of kernel.now)) }
+    ensures definite { IfOk result (λ _. IsDefinite no_privates (kernel_of kernel.now)) }
+    ensures refusal { IfErr result (RefusesKernel text.now (kernel_of kernel.now)) }
+{
+    let directives = Directives::read(alloc, text)?;
+    let fault = first_fault(kernel, &directives);
+    if let Some(fault) = fault {
+        if !fault.is_of_ranges() {
+            return Err(fault.refusal());
+        }
+    }
+    definite(alloc, kernel)?;
+    match fault {
+        Some(fault) => Err(fault.refusal()),
+        None => Ok(()),
+    }
+}
+
+/// Reads a text, and finds out whether it is one of those that are run: its tree is there, its directive lines are read, each
+/// loop and each subscript is of a form that is run and stays inside its array, and no local is read before it is assigned
+/// (C11 5.1.1.2; OpenMP 5.2, 3.1).
 ///
 /// # Errors
 ///
-/// `OutOfMemory` where memory is refused, and otherwise one of the refusals of a text, where no tree is read from it or the
-/// tree has no such loop.
+/// `OutOfMemory` where memory is refused, and otherwise one of the refusals of a text, where no tree is read from it or one
+/// that is not run.
 pub fn check(alloc: Global, text: &[u8]) -> Result<Checked, Refusal>
     ensures stands { IfOk result (λ checked. StandsFor text.now (tree_of checked)) }
-    ensures comes { IfOk result (λ checked. ComesFrom text.now checked) }
+    ensures keeps { IfOk result (λ checked. checked.text ≡ text.now) }
     ensures sound { IfOk result IsAccepted }
     ensures refusal { IfErr result (RefusesText text.now) }
 {
     let kernel = parse(alloc, text)?;
-    let path = lower(&kernel, text)?;
-    Ok(Checked { kernel, path })
+    judge(alloc, &kernel, text)?;
+    let text = Vec::from_slice(alloc, text)?;
+    Ok(Checked { text, kernel })
 }

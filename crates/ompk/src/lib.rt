@@ -3,11 +3,14 @@
 
 mod accepting;
 mod running;
+mod teaming;
 mod telling;
 
 pub use accepting::{Checked, check};
-pub use running::{run, runs_of_accepted};
+pub use running::{run, runs_of_accepted, seq};
 pub use telling::{status, tell};
 
+#[cfg(test)]
+mod rows;
 #[cfg(test)]
 mod tests;

@@ -1,41 +1,26 @@
 //! A run of an accepted kernel.
 
-ghost use Rattle.std.specs.Prelude.{◌+◌, ◌<◌, ◌^◌, IfOk, IfErr, OnOk};
+ghost use Rattle.std.specs.Prelude.{◌+◌, ◌<◌, ◌^◌, IfErr, OnOk};
 ghost use Rattle.semantics.specs.Theorems.{WritesABeginning, WritesAll, RefusesRightly};
 ghost use Rattle.ktree.specs.Numbers.{number_of};
 ghost use Rattle.ompk.specs.Accepted.{tree_of, RunsOfAccepted};
-ghost use Rattle.ompk.specs.Outcome.{Leaves, NamesTheFault};
-ghost use Rattle.seqrun.specs.Reading.{RefusesInput};
+ghost use Rattle.ompk.specs.Outcome.{NamesTheFault};
 
 use crate::accepting::Checked;
+use crate::teaming::{Teaming, team_block};
+use evaluate::Frame;
+use execute::block;
 use ktree::{Refusal, Workers};
-use overlay::Store;
-use seqrun::{Sink, dump};
+use lower::Directives;
+use seqrun::{Sink, dump, input as read_input};
 use std::alloc::Global;
 use std::sync::Wait;
 use std::thread::Threads;
-use team::{Gate, run_loop};
+use team::Gate;
 
-// The variables as the kernel leaves them.
-fn left_by<R: Threads + Wait + Sync, G: Gate>(
-    rt: &R,
-    alloc: Global,
-    checked: &Checked,
-    input: &[u8],
-    workers: Workers,
-    gate: &G,
-) -> Result<Store, Refusal>
-    ensures left { IfOk result (Leaves (tree_of checked.now) input.now) }
-    ensures refusal { IfErr result (RefusesInput (tree_of checked.now).variables input.now) }
-{
-    let store = seqrun::input(alloc, checked.declarations(), input)?;
-    match checked.path() {
-        Some(lowered) => run_loop(rt, alloc, lowered, store, workers, gate),
-        None => Ok(store),
-    }
-}
-
-/// Runs an accepted kernel on an input, and writes what the C program without the directive lines writes (C11 5.1.2.3, 6).
+/// Runs an accepted kernel on an input by a team, and writes what the C program without the directive lines writes
+/// (C11 5.1.2.3, 6): what it prints, and a line for each file-scope variable as it leaves them. The loops behind directive
+/// lines are run by the team, all else by the thread that calls.
 ///
 /// # Errors
 ///
@@ -57,7 +42,42 @@ pub fn run<R: Threads + Wait + Sync, G: Gate, S: Sink>(
     ensures fault { IfErr result (NamesTheFault (tree_of checked.now) input.now) }
 {
     let declarations = checked.declarations();
-    let store = left_by(rt, alloc, checked, input, workers, gate)?;
+    let mut store = read_input(alloc, declarations, input)?;
+    let directives = Directives::read(alloc, checked.text())?;
+    let team = Teaming {
+        rt,
+        alloc,
+        directives: &directives,
+        workers,
+        gate,
+    };
+    let mut frame = Frame::new(Vec::new(alloc));
+    team_block(checked.body(), &team, &mut frame, &mut store, sink)?;
+    dump(alloc, declarations, &store, sink)
+}
+
+/// Runs an accepted kernel on an input by the thread that calls, and writes what the C program without the directive lines
+/// writes, as [`run`] does (C11 5.1.2.3, 6).
+///
+/// # Errors
+///
+/// As for [`run`], but that no thread is started.
+pub fn seq<S: Sink>(
+    alloc: Global,
+    checked: &Checked,
+    input: &[u8],
+    sink: &mut S,
+) -> Result<(), Refusal>
+    requires { S.failed sink.old + 1 < 2 ^ 64 }
+    ensures all { OnOk result (WritesAll (tree_of checked.now) input.now (S.told sink.old) (S.told sink.new)) }
+    ensures beginning { WritesABeginning (tree_of checked.now) input.now (S.told sink.old) (S.told sink.new) }
+    ensures refusal { IfErr result (λ refusal. RefusesRightly (tree_of checked.now) input.now (S.failed sink.old) (S.failed sink.new) (number_of refusal)) }
+    ensures fault { IfErr result (NamesTheFault (tree_of checked.now) input.now) }
+{
+    let declarations = checked.declarations();
+    let mut store = read_input(alloc, declarations, input)?;
+    let mut frame = Frame::new(Vec::new(alloc));
+    block(checked.body(), &mut frame, &mut store, sink)?;
     dump(alloc, declarations, &store, sink)
 }
 

@@ -1,4 +1,4 @@
-//! `ompk`: checks a kernel, or runs it on a team of workers.
+//! `ompk`: checks a kernel, or runs it, on a team of workers or by one thread.
 #![tactic(auto)]
 
 ghost use Rattle.std.specs.Prelude.{◌+◌, ◌<◌, ◌^◌};
@@ -8,13 +8,13 @@ mod task;
 
 use fault::Fault;
 use ktree::Refusal;
-use ompk::{check, run, status, tell};
+use ompk::{Checked, check, run, seq, status, tell};
 use seqrun::{Sink, Writer, put_all};
 use std::io::ErrorKind;
 use std::process::ExitCode;
 use std::rt::Files;
 use std::sync::Wait;
-use std::thread::Threads;
+use std::thread::{Builder, Threads};
 use std::{env, fs};
 use task::{Task, read_task};
 use team::OpenGate;
@@ -41,6 +41,20 @@ fn read<'a, R: Files + AllocGlobal>(rt: &R, name: &'a str) -> Result<Vec<u8>, Fa
     }
 }
 
+// The kernel of a file.
+fn checked<'a, R: Files + AllocGlobal>(rt: &R, file: &'a str) -> Result<Checked, Fault<'a>> {
+    let text = read(rt, file)?;
+    Ok(check(rt.alloc(), text.as_slice())?)
+}
+
+// The bytes of an input, none where no file is named.
+fn given<'a, R: Files + AllocGlobal>(rt: &R, input: Option<&'a str>) -> Result<Vec<u8>, Fault<'a>> {
+    match input {
+        Some(name) => read(rt, name),
+        None => Ok(Vec::new(rt.alloc())),
+    }
+}
+
 // Does what is asked for, and writes to this sink.
 fn perform<'a, R, S>(rt: &R, task: &Task<'a>, sink: &mut S) -> Result<(), Fault<'a>>
 where
@@ -48,10 +62,10 @@ where
     S: Sink,
     requires { S.failed sink.old + 1 < 2 ^ 64 }
 {
+    let alloc = rt.alloc();
     match task {
         Task::Check { file } => {
-            let text = read(rt, file)?;
-            check(rt.alloc(), text.as_slice())?;
+            checked(rt, file)?;
             put_all(sink, b"accepted\n")?;
         }
         Task::Run {
@@ -59,14 +73,22 @@ where
             input,
             workers,
         } => {
-            let text = read(rt, file)?;
-            let checked = check(rt.alloc(), text.as_slice())?;
-            let input = match input {
-                Some(name) => read(rt, name)?,
-                None => Vec::new(rt.alloc()),
-            };
-            let bytes = input.as_slice();
-            run(rt, rt.alloc(), &checked, bytes, *workers, &OpenGate, sink)?;
+            let kernel = checked(rt, file)?;
+            let bytes = given(rt, *input)?;
+            run(
+                rt,
+                alloc,
+                &kernel,
+                bytes.as_slice(),
+                *workers,
+                &OpenGate,
+                sink,
+            )?;
+        }
+        Task::Seq { file, input } => {
+            let kernel = checked(rt, file)?;
+            let bytes = given(rt, *input)?;
+            seq(alloc, &kernel, bytes.as_slice(), sink)?;
         }
     }
     Ok(())
@@ -102,17 +124,27 @@ fn report_output(rt: &HostRuntime) -> u8 {
     status(&refusal)
 }
 
+// Bytes of stack for the walks over trees: that of the longest chain of operators which a text can hold takes a third. The
+// system gives memory only to what is used of it.
+const STACK: usize = 1 << 30;
+
 fn main(rt: HostRuntime) -> ExitCode {
-    let words = match words_of(&rt) {
-        Ok(words) => words,
-        Err(fault) => return ExitCode::from(report(&rt, fault)),
+    let answer = move || -> u8 {
+        let words = match words_of(&rt) {
+            Ok(words) => words,
+            Err(fault) => return report(&rt, fault),
+        };
+        let done = match read_task(rt.alloc(), words.as_slice()) {
+            Ok(task) => perform(&rt, &task, &mut Writer::new(rt.stdout())),
+            Err(fault) => Err(fault),
+        };
+        match done {
+            Ok(()) => 0,
+            Err(fault) => report(&rt, fault),
+        }
     };
-    let done = match read_task(rt.alloc(), words.as_slice()) {
-        Ok(task) => perform(&rt, &task, &mut Writer::new(rt.stdout())),
-        Err(fault) => Err(fault),
-    };
-    ExitCode::from(match done {
-        Ok(()) => 0,
-        Err(fault) => report(&rt, fault),
+    ExitCode::from(match Builder::new().stack_size(STACK).spawn(&rt, answer) {
+        Ok(thread) => thread.join(&rt),
+        Err(_) => report(&rt, Fault::Refused(Refusal::OutOfMemory)),
     })
 }

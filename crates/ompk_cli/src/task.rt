@@ -20,6 +20,10 @@ pub enum Task<'a> {
         input: Option<&'a str>,
         workers: Workers,
     },
+    Seq {
+        file: &'a str,
+        input: Option<&'a str>,
+    },
 }
 
 // The file of a kernel.
@@ -30,24 +34,32 @@ fn file<'a>(alloc: Global) -> Arg<'a> {
         .help("The kernel's file")
 }
 
+// The file of the variables' first values.
+fn input<'a>(alloc: Global) -> Arg<'a> {
+    Arg::new(alloc, "input").long("input").value_name("I").help(
+        "The file of the variables' first values; without it all are 0",
+    )
+}
+
 // All that the command line may say.
 fn command<'a>(alloc: Global) -> Result<Command<'a>, AllocError> {
     let check = Command::new(alloc, "check")
         .about("Checks a kernel")
         .arg(file(alloc))?;
-    let input = Arg::new(alloc, "input").long("input").value_name("I").help(
-        "The file of the variables' first values; without it all are 0",
-    );
     let workers = Arg::new(alloc, "workers")
         .long("workers")
         .value_name("N")
         .default_value("4")
         .help("The number of workers, 1 to 64");
     let run = Command::new(alloc, "run")
-        .about("Runs a kernel and writes its output")
+        .about("Runs a kernel on a team of workers and writes its output")
         .arg(file(alloc))?
-        .arg(input)?
+        .arg(input(alloc))?
         .arg(workers)?;
+    let seq = Command::new(alloc, "seq")
+        .about("Runs a kernel by one thread and writes its output")
+        .arg(file(alloc))?
+        .arg(input(alloc))?;
     Command::new(alloc, "ompk")
         .bin_name("ompk")?
         .about(
@@ -55,7 +67,8 @@ fn command<'a>(alloc: Global) -> Result<Command<'a>, AllocError> {
         )
         .subcommand_required(true)
         .subcommand(check)?
-        .subcommand(run)
+        .subcommand(run)?
+        .subcommand(seq)
 }
 
 // 1 to 64, without leading zeros.
@@ -92,6 +105,12 @@ pub fn read_task<'a>(alloc: Global, words: &'a [String]) -> Result<Task<'a>, Fau
                 input,
                 workers,
             });
+        }
+    }
+    if let Some(found) = matches.subcommand_matches("seq") {
+        if let Some(file) = found.get_str("file") {
+            let input = found.get_str("input");
+            return Ok(Task::Seq { file, input });
         }
     }
     let message = "a subcommand is missing";

@@ -2,6 +2,7 @@
 use Rattle.std.specs.Prelude.{ℕ, zero, suc, Bool, true, false, not, ◌≡◌, ◌≢◌, ◌+◌, ◌*◌, ◌<◌, ◌≤◌, ◌==◌, ◌&&◌, ◌||◌, ◌⊎◌, ◌^◌, nat_lt, List, [], ◌∷◌, length, Option, Some, None, slice_get, option_and_then}
 use Rattle.std.proofs.Common.{refl, sym, inl, inr, ap, ◌∙◌, cond, arith}
 use Rattle.std.proofs.Math.Nat.{mod-eq_of_lt}
+use Rattle.std.proofs.Math.Path.{fun_ext}
 use Rattle.std.proofs.lemmas.Bool.{eq-eqb, eqb-true, eqb-false, ltb-true, lt-ltb, le-ltb}
 use Rattle.semantics.specs.Tree as Tree
 use Rattle.semantics.specs.Meaning.State.{State, Outside, Holds, Write, Declared, Assigned, cells_after, renewed, same_indexes, overwritten, look, look_in, is_there, is_object_in, assign_at}
@@ -17,8 +18,8 @@ use Rattle.std.specs.Cmp.Lexicographic.{same_text}
 use Rattle.semantics.proofs.EraseTokenLaw.{first_of, second_of}
 use Rattle.semantics.specs.Meaning.Places.{within, place}
 use Rattle.semantics.proofs.NestLaw.{local_same, local_twice}
-use Rattle.overlay.specs.Kept.{Kept, Covers, cell_of, state_of}
-use Rattle.overlay.specs.Loop.{Fits, IsWorth, OperandCovers, FormulaCovers, counter_of, at_counter, operand_of, formula_of, operation_of, assignment_of, body_of, statement_of}
+use Rattle.overlay.specs.Kept.{Kept, Locals, Covers, cell_of, state_of, state_with}
+use Rattle.overlay.specs.Loop.{Fits, Shows, OperandShows, FormulaShows, RunsTo, IsWorth, OperandCovers, FormulaCovers, counter_of, at_counter, operand_of, formula_of, operation_of, assignment_of, body_of, statement_of}
 use Rattle.overlay.specs.declared.lowered.LoweredLoop.{LoweredLoop}
 use Rattle.overlay.specs.declared.lowered.Operand.{Operand}
 use Rattle.overlay.specs.declared.lowered.Operand.TheVariants.{Element, Counter, Literal}
@@ -94,34 +95,40 @@ covered ks x m i h lt = go (slice_get ks x) h
               ∙ found.1,
         )
 
--- the loop over a store that it fits, with what its right side is worth at each iteration
-module _ (ks : List Kept) (l : LoweredLoop) (name : Tree.Name) (fits : Fits l ks) (w : ℕ → ℕ) (worth : (i : ℕ) → i < l.bound → IsWorth l ks i (w i)) (small : l.bound < 2 ^ 64) where
+-- the loop over a store that it fits, where these locals stand, with what its right side is worth at each iteration
+module _ (ks : List Kept) (l : LoweredLoop) (locals : Locals) (name : Tree.Name) (fits : Fits l ks) (shows : Shows l locals) (w : ℕ → ℕ) (worth : (i : ℕ) → i < l.bound → IsWorth l ks i (w i)) (small : l.bound < 2 ^ 64) where
   -- the state where the test is made for the i-th time, from 0
   abbrev state_at : ℕ → State
-  state_at i = at_value (record { cells = filled (state_of ks).cells l.target.0 w i; locals = λ y. Outside }) l.counter.0 i
+  state_at i = at_value (record { cells = filled (state_of ks).cells l.target.0 w i; locals = locals }) l.counter.0 i
 
   seen : (i : ℕ) → value (state_at i) (counter_of l.counter.0) ≡ Some i
-  seen i = ap (λ slot. look_in slot (state_at i) l.counter.0 []) (local_same (record { cells = filled (state_of ks).cells l.target.0 w i; locals = λ y. Outside }) l.counter.0 (Holds i))
+  seen i = ap (λ slot. look_in slot (state_at i) l.counter.0 []) (local_same (record { cells = filled (state_of ks).cells l.target.0 w i; locals = locals }) l.counter.0 (Holds i))
 
   tested : (i : ℕ) → holds (state_at i) (Tree.Compare Tree.Less (counter_of l.counter.0) (Tree.Literal l.bound Tree.Bare)) ≡ Some (nat_lt i l.bound)
   tested i = ap (λ o. both nat_lt o (Some l.bound)) (seen i)
 
   -- file-scope variables are no counter
-  outside : (i x m : ℕ) → Covers m (slice_get ks x) → (state_at i).locals x ≡ Outside
-  outside i x m h = go (x == l.counter.0) refl
+  apart : (x m : ℕ) → Covers m (slice_get ks x) → (x == l.counter.0) ≡ false
+  apart x m h = go (x == l.counter.0) refl
     where
-      go : (b : Bool) → (x == l.counter.0) ≡ b → cond b (Holds i) Outside ≡ Outside
+      go : (b : Bool) → (x == l.counter.0) ≡ b → b ≡ false
       go true e = let same = eqb-true x l.counter.0 e in let less = there_below ks x m h in let room = fits.counter in absurd (omega arith)
       go false e = refl
+
+  outside : (i x m : ℕ) → Covers m (slice_get ks x) → locals x ≡ Outside → (state_at i).locals x ≡ Outside
+  outside i x m h out = ap (λ b. cond b (Holds i) (locals x)) (apart x m h) ∙ out
+
+  first_outside : (i x m : ℕ) → Covers m (slice_get ks x) → (at_value (state_of ks) l.counter.0 i).locals x ≡ Outside
+  first_outside i x m h = ap (λ b. cond b (Holds i) Outside) (apart x m h)
 
   -- an element at the counter is as it was before the loop, until this turn writes it
   fresh : (i y : ℕ) → filled (state_of ks).cells l.target.0 w i y (i ∷ []) ≡ (state_of ks).cells y (i ∷ [])
   fresh i y = unwritten (state_of ks).cells l.target.0 w i y (i ∷ []) (λ j lt s e. let same = same_element i j e in absurd (omega arith))
 
-  at_element : (i x : ℕ) → Covers l.bound (slice_get ks x) → value (state_at i) (Tree.Object x (at_counter l.counter.0)) ≡ (state_of ks).cells x (i ∷ [])
-  at_element i x h =
+  at_element : (i x : ℕ) → Covers l.bound (slice_get ks x) → locals x ≡ Outside → value (state_at i) (Tree.Object x (at_counter l.counter.0)) ≡ (state_of ks).cells x (i ∷ [])
+  at_element i x h out =
       ap (λ o. option_and_then (λ js. look (state_at i) x js) (both (λ j js. j ∷ js) o (Some []))) (seen i)
-      ∙ ap (λ slot. look_in slot (state_at i) x (i ∷ [])) (outside i x l.bound h)
+      ∙ ap (λ slot. look_in slot (state_at i) x (i ∷ [])) (outside i x l.bound h out)
       ∙ fresh i x
 
   -- the same before the loop
@@ -131,26 +138,26 @@ module _ (ks : List Kept) (l : LoweredLoop) (name : Tree.Name) (fits : Fits l ks
   first_element : (i x : ℕ) → Covers l.bound (slice_get ks x) → value (at_value (state_of ks) l.counter.0 i) (Tree.Object x (at_counter l.counter.0)) ≡ (state_of ks).cells x (i ∷ [])
   first_element i x h =
       ap (λ o. option_and_then (λ js. look (at_value (state_of ks) l.counter.0 i) x js) (both (λ j js. j ∷ js) o (Some []))) (first_seen i)
-      ∙ ap (λ slot. look_in slot (at_value (state_of ks) l.counter.0 i) x (i ∷ [])) (outside i x l.bound h)
+      ∙ ap (λ slot. look_in slot (at_value (state_of ks) l.counter.0 i) x (i ∷ [])) (first_outside i x l.bound h)
 
   -- so the right side is worth what it was before the loop
-  same_operand : (i : ℕ) (a : Operand) → OperandCovers l.bound ks a → value (state_at i) (operand_of l.counter.0 a) ≡ value (at_value (state_of ks) l.counter.0 i) (operand_of l.counter.0 a)
-  same_operand i (Element x) h = at_element i x.0 h ∙ sym (first_element i x.0 h)
-  same_operand i Counter h = seen i ∙ sym (first_seen i)
-  same_operand i (Literal n) h = refl
+  same_operand : (i : ℕ) (a : Operand) → OperandCovers l.bound ks a → OperandShows locals a → value (state_at i) (operand_of l.counter.0 a) ≡ value (at_value (state_of ks) l.counter.0 i) (operand_of l.counter.0 a)
+  same_operand i (Element x) h out = at_element i x.0 h out ∙ sym (first_element i x.0 h)
+  same_operand i Counter h out = seen i ∙ sym (first_seen i)
+  same_operand i (Literal n) h out = refl
 
-  same_formula : (i : ℕ) (f : Formula) → FormulaCovers l.bound ks f → value (state_at i) (formula_of l.counter.0 f) ≡ value (at_value (state_of ks) l.counter.0 i) (formula_of l.counter.0 f)
-  same_formula i (One a) h = same_operand i a h
-  same_formula i (Two op a b) h =
-      ap (λ o. both_then (operate (operation_of op)) o (value (state_at i) (operand_of l.counter.0 b))) (same_operand i a h.0)
-      ∙ ap (λ o. both_then (operate (operation_of op)) (value (at_value (state_of ks) l.counter.0 i) (operand_of l.counter.0 a)) o) (same_operand i b h.1)
+  same_formula : (i : ℕ) (f : Formula) → FormulaCovers l.bound ks f → FormulaShows locals f → value (state_at i) (formula_of l.counter.0 f) ≡ value (at_value (state_of ks) l.counter.0 i) (formula_of l.counter.0 f)
+  same_formula i (One a) h out = same_operand i a h out
+  same_formula i (Two op a b) h out =
+      ap (λ o. both_then (operate (operation_of op)) o (value (state_at i) (operand_of l.counter.0 b))) (same_operand i a h.0 out.0)
+      ∙ ap (λ o. both_then (operate (operation_of op)) (value (at_value (state_of ks) l.counter.0 i) (operand_of l.counter.0 a)) o) (same_operand i b h.1 out.1)
 
   worth_there : (i : ℕ) → i < l.bound → value (state_at i) (formula_of l.counter.0 l.formula) ≡ Some (w i)
-  worth_there i lt = same_formula i l.formula fits.formula ∙ worth i lt
+  worth_there i lt = same_formula i l.formula fits.formula shows.formula ∙ worth i lt
 
   -- the state behind the body
   abbrev middle : ℕ → State
-  middle i = at_value (record { cells = filled (state_of ks).cells l.target.0 w (suc i); locals = λ y. Outside }) l.counter.0 i
+  middle i = at_value (record { cells = filled (state_of ks).cells l.target.0 w (suc i); locals = locals }) l.counter.0 i
 
   abbrev body_writes : ℕ → List Write
   body_writes i = Assigned l.target.0 (i ∷ []) (w i) ∷ []
@@ -158,7 +165,7 @@ module _ (ks : List Kept) (l : LoweredLoop) (name : Tree.Name) (fits : Fits l ks
   there : (i : ℕ) → i < l.bound → is_object_in ((state_at i).locals l.target.0) (state_at i) l.target.0 (i ∷ []) ≡ true
   there i lt =
       let found = covered ks l.target.0 l.bound i fits.target lt in
-      ap (λ slot. is_object_in slot (state_at i) l.target.0 (i ∷ [])) (outside i l.target.0 l.bound fits.target)
+      ap (λ slot. is_object_in slot (state_at i) l.target.0 (i ∷ [])) (outside i l.target.0 l.bound fits.target shows.target)
       ∙ ap is_there (fresh i l.target.0 ∙ found.1)
 
   -- the assignment of one turn
@@ -172,19 +179,19 @@ module _ (ks : List Kept) (l : LoweredLoop) (name : Tree.Name) (fits : Fits l ks
   body_runs i lt = ap (λ o. then_from (state_at i) o (run_items Tree.no_items)) (assigns_it i lt)
 
   behind_body : (i : ℕ) → overwritten (state_at i) (body_writes i) ≡ middle i
-  behind_body i = ap (λ slot. assign_at slot (state_at i) l.target.0 (i ∷ []) (w i)) (outside i l.target.0 l.bound fits.target)
+  behind_body i = ap (λ slot. assign_at slot (state_at i) l.target.0 (i ∷ []) (w i)) (outside i l.target.0 l.bound fits.target shows.target)
 
   -- the counter's step
   steps : (i : ℕ) → i < l.bound → incremented (middle i) (Tree.Up l.counter.0) ≡ Some (one_write (Assigned l.counter.0 [] (i + 1)))
   steps i lt =
-      let held : (middle i).locals l.counter.0 ≡ Holds i = local_same (record { cells = filled (state_of ks).cells l.target.0 w (suc i); locals = λ y. Outside }) l.counter.0 (Holds i) in
+      let held : (middle i).locals l.counter.0 ≡ Holds i = local_same (record { cells = filled (state_of ks).cells l.target.0 w (suc i); locals = locals }) l.counter.0 (Holds i) in
       ap (λ slot. assigned (middle i) l.counter.0 (Some []) (both_then (operate Tree.Plus) (look_in slot (middle i) l.counter.0 []) (Some 1))) held
       ∙ ap (λ n. assigned (middle i) l.counter.0 (Some []) (Some n)) (mod-eq_of_lt (omega arith))
       ∙ ap (λ slot. cond (is_object_in slot (middle i) l.counter.0 []) (Some (one_write (Assigned l.counter.0 [] (i + 1)))) None) held
 
   behind_step : (i : ℕ) → overwritten (middle i) (Assigned l.counter.0 [] (i + 1) ∷ []) ≡ state_at (suc i)
   behind_step i =
-      let base : State = record { cells = filled (state_of ks).cells l.target.0 w (suc i); locals = λ y. Outside } in
+      let base : State = record { cells = filled (state_of ks).cells l.target.0 w (suc i); locals = locals } in
       let held : (middle i).locals l.counter.0 ≡ Holds i = local_same base l.counter.0 (Holds i) in
       ap (λ slot. assign_at slot (middle i) l.counter.0 [] (i + 1)) held
       ∙ local_twice base l.counter.0 (Holds i) (Holds (i + 1))
@@ -231,13 +238,13 @@ module _ (ks : List Kept) (l : LoweredLoop) (name : Tree.Name) (fits : Fits l ks
   loop_writes = Declared l.counter.0 (Some 0) ∷ turn_writes 0 l.bound
 
   -- the loop runs, and writes no text
-  pub loop_runs : run (statement_of name l) (state_of ks) ≡ Some (record { writes = loop_writes; text = [] })
+  pub loop_runs : run (statement_of name l) (state_with ks locals) ≡ Some (record { writes = loop_writes; text = [] })
   unfolding most_turns
   loop_runs =
       ap (map_option (joined (one_write (Declared l.counter.0 (Some 0))))) (turns_run most_turns l.bound 0 (omega arith) (omega arith))
 
   -- and leaves each element with what its own iteration gave it
-  pub loop_leaves : overwritten (state_of ks) loop_writes ≡ state_at l.bound
+  pub loop_leaves : overwritten (state_with ks locals) loop_writes ≡ state_at l.bound
   loop_leaves = left l.bound 0 ∙ ap state_at (let e : 0 + l.bound ≡ l.bound = omega arith in e)
 
   -- what a store holds that has each element as its own iteration gave it, and all else as it was
@@ -274,18 +281,18 @@ module _ (ks : List Kept) (l : LoweredLoop) (name : Tree.Name) (fits : Fits l ks
       go (inr none) = unwritten (state_of ks).cells l.target.0 w l.bound y js none ∙ sym (full.outside y js none)
 
   -- a variable that is visible behind the loop is not its counter
-  not_counter : (x : ℕ) → visible_behind (statement_of name l) x ≡ true → (state_at l.bound).locals x ≡ Outside
+  not_counter : (x : ℕ) → visible_behind (statement_of name l) x ≡ true → (state_at l.bound).locals x ≡ locals x
   not_counter x e = go (l.counter.0 == x) refl e
     where
       unlike : (y : ℕ) → l.counter.0 ≢ y → (y == l.counter.0) ≡ false
-      unlike y apart = grind (arith, nat_tests)
+      unlike y other = grind (arith, nat_tests)
 
-      go : (b : Bool) → (l.counter.0 == x) ≡ b → not (b || false) ≡ true → cond (x == l.counter.0) (Holds l.bound) Outside ≡ Outside
+      go : (b : Bool) → (l.counter.0 == x) ≡ b → not (b || false) ≡ true → cond (x == l.counter.0) (Holds l.bound) (locals x) ≡ locals x
       go true h q = absurd cc
-      go false h q = ap (λ b. cond b (Holds l.bound) Outside) (unlike x (eqb-false l.counter.0 x h))
+      go false h q = ap (λ b. cond b (Holds l.bound) (locals x)) (unlike x (eqb-false l.counter.0 x h))
 
   -- so the loop's own run leaves what such a store holds
-  pub runs_as_the_loop : (after : List Kept) → IsFilled after → RunsAsTheLoop (statement_of name l) no_roles (state_of ks) (state_of after) []
+  pub runs_as_the_loop : (after : List Kept) → IsFilled after → RunsAsTheLoop (statement_of name l) no_roles (state_with ks locals) (state_with after locals) []
   runs_as_the_loop after full = (
     loop_writes,
     state_at l.bound,
@@ -296,3 +303,13 @@ module _ (ks : List Kept) (l : LoweredLoop) (name : Tree.Name) (fits : Fits l ks
       values = λ x e. not_counter x (first_of (visible_behind (statement_of name l) x) (not (is_among no_roles.privates x)) e);
     },
   )
+
+  -- with its counter at the bound
+  pub runs_to : (after : List Kept) → IsFilled after → RunsTo l name (state_with ks locals) (state_with after locals)
+  runs_to after full = record {
+    writes = loop_writes;
+    runs = loop_runs;
+    left =
+        loop_leaves
+        ∙ ap (λ (cells : Cells). at_value (record { cells = cells; locals = locals }) l.counter.0 l.bound) (fun_ext (λ y. fun_ext (λ js. same_cells after full y js)));
+  }

@@ -1,7 +1,7 @@
 -- What a store stands for.
 use Rattle.std.specs.Prelude.{ℕ, ◌≡◌, if◌then◌else◌, List, [], ◌∷◌, ◌++◌, ◌+◌, ◌≤◌, zero, suc, take, drop, length, Option, Some, None, slice_get}
 use Rattle.semantics.specs.Tree.{Variable}
-use Rattle.semantics.specs.Meaning.State.{State, Write, Assigned, Outside}
+use Rattle.semantics.specs.Meaning.State.{State, Slot, Write, Assigned, Outside}
 use Rattle.semantics.specs.Meaning.Places.{within, place, size}
 
 -- a file-scope variable as it is kept: the lengths of its dimensions, and its values row by row (C11 6.5.2.1, 3)
@@ -18,9 +18,17 @@ abbrev pub cell_of : Option Kept → List ℕ → Option ℕ
 cell_of None is = None
 cell_of (Some k) is = if within k.lengths is then slice_get k.values (place k.lengths is) else None
 
--- the state of the file-scope variables, where no local stands
+-- the locals by their variables
+abbrev pub Locals : Type 0
+Locals = Variable → Slot
+
+-- the state of the file-scope variables where these locals stand
+abbrev pub state_with : List Kept → Locals → State
+state_with ks locals = record { cells = λ x is. cell_of (slice_get ks x) is; locals = locals }
+
+-- and where none stands
 abbrev pub state_of : List Kept → State
-state_of ks = record { cells = λ x is. cell_of (slice_get ks x) is; locals = λ x. Outside }
+state_of ks = state_with ks (λ x. Outside)
 
 -- values with others written over them from a position on
 abbrev pub overlaid : List ℕ → ℕ → List ℕ → List ℕ

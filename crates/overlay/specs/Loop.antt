@@ -1,9 +1,11 @@
 -- What a lowered loop stands for, and what its body gives an element.
-use Rattle.std.specs.Prelude.{ℕ, ◌≡◌, ◌≤◌, List, length, Some, slice_get}
+use Rattle.std.specs.Prelude.{ℕ, ◌≡◌, ◌≤◌, List, [], length, Some, slice_get}
 use Rattle.semantics.specs.Tree
+use Rattle.semantics.specs.Meaning.State.{State, Outside, Write, overwritten}
 use Rattle.semantics.specs.Meaning.Value.{value}
+use Rattle.semantics.specs.Meaning.Runs.{run}
 use Rattle.semantics.specs.Loops.Nest.{at_value}
-use Rattle.overlay.specs.Kept.{Kept, Covers, state_of}
+use Rattle.overlay.specs.Kept.{Kept, Locals, Covers, state_of}
 use Rattle.overlay.specs.declared.lowered.Operand.{Operand}
 use Rattle.overlay.specs.declared.lowered.Operand.TheVariants.{Element, Counter, Literal}
 use Rattle.overlay.specs.declared.lowered.Operation.{Operation}
@@ -69,3 +71,24 @@ pub record Fits (l : LoweredLoop) (ks : List Kept) : Type 0 where
 -- what the right side is worth at an iteration, from these values
 abbrev pub IsWorth : LoweredLoop → List Kept → ℕ → ℕ → Type 0
 IsWorth l ks i w = value (at_value (state_of ks) l.counter.0 i) (formula_of l.counter.0 l.formula) ≡ Some w
+
+-- no local hides the array of an operand, nor of a right side (C11 6.2.1, 4)
+abbrev pub OperandShows : Locals → Operand → Type 0
+OperandShows locals (Element x) = locals x.0 ≡ Outside
+OperandShows locals Counter = Unit {0}
+OperandShows locals (Literal n) = Unit {0}
+
+abbrev pub FormulaShows : Locals → Formula → Type 0
+FormulaShows locals (One a) = OperandShows locals a
+FormulaShows locals (Two op a b) = OperandShows locals a × OperandShows locals b
+
+-- nor any array that the loop names
+pub record Shows (l : LoweredLoop) (locals : Locals) : Type 0 where
+  pub target : locals l.target.0 ≡ Outside
+  pub formula : FormulaShows locals l.formula
+
+-- the loop's statement runs and prints nothing, and behind it stand these objects and the counter at the loop's bound
+pub record RunsTo (l : LoweredLoop) (name : Tree.Name) (before after : State) : Type 0 where
+  pub writes : List Write
+  pub runs : run (statement_of name l) before ≡ Some (record { writes = writes; text = [] })
+  pub left : overwritten before writes ≡ at_value after l.counter.0 l.bound

@@ -17,7 +17,7 @@ use Rattle.seqrun.specs.Lines.{HasLengths}
 use Rattle.seqrun.specs.Reading.{AreVariables, ArePositive, row_of, kept_from}
 
 -- an element's place is below the size
-place_below : (ns is : List ℕ) (at : ℕ) → within ns is ≡ true → place_from at ns is < (at + 1) * size ns
+pub place_below : (ns is : List ℕ) (at : ℕ) → within ns is ≡ true → place_from at ns is < (at + 1) * size ns
 place_below [] [] at e = omega arith
 place_below [] (i ∷ is) at e = absurd (cc e)
 place_below (n ∷ ns) [] at e = absurd (cc e)

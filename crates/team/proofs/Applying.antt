@@ -10,14 +10,14 @@ use Rattle.semantics.specs.Theorems.{RunsAsTheLoop}
 use Rattle.std.proofs.lemmas.List.Elements.{All-nil, All-cons, All-head, All-tail}
 use Rattle.semantics.specs.Meaning.State.{State, overwritten}
 use Rattle.semantics.specs.Loops.Chunk.{Chunk}
-use Rattle.overlay.specs.Kept.{Kept, Covers, state_of, rewritten_at, writes_from}
-use Rattle.overlay.specs.Loop.{Fits, IsWorth, statement_of}
+use Rattle.overlay.specs.Kept.{Kept, Locals, Covers, state_of, state_with, rewritten_at, writes_from}
+use Rattle.overlay.specs.Loop.{Fits, Shows, RunsTo, IsWorth, statement_of}
 use Rattle.overlay.specs.Seen.{Seen, IsRight}
 use Rattle.overlay.specs.declared.lowered.LoweredLoop.{LoweredLoop}
 use Rattle.overlay.specs.declared.lowered.Work.{Work}
 use Rattle.overlay.specs.declared.piece.Changes.{Changes}
 use Rattle.overlay.proofs.Writing.{writes_other, writes_there, covers_kept, same_lengths}
-use Rattle.overlay.proofs.LoopRun.{covered, same_element, runs_as_the_loop}
+use Rattle.overlay.proofs.LoopRun.{covered, same_element, IsFilled, runs_as_the_loop, runs_to}
 use Rattle.team.proofs.Cutting.{chunk_of}
 use Rattle.team.specs.Ends.{IsWork, IsPieceOf, IsChange, AreAll, worth_at, IsWritten, KeepsOthers}
 
@@ -160,7 +160,15 @@ module _ (l : LoweredLoop) (before after : List Kept) (cs : List Changes) (all :
       let same : w.change.work.first + k ≡ i = omega arith in
       subst (λ (n : ℕ). (state_of after).cells l.target.0 (n ∷ []) ≡ Some (worth_at l before n)) same (w.is.1 k (omega arith))
 
+  full : (fits : Fits l before) (small : l.bound < 2 ^ 64) (kept : KeepsOthers l before after) (locals : Locals) (name : List ℕ) (shows : Shows l locals)
+      → IsFilled before l locals name fits shows (worth_at l before) worth small after
+  full fits small kept locals name shows = record { inside = inside; outside = kept.others }
+
   -- so the store is that behind the loop
-  pub runs : (name : List ℕ) → Fits l before → l.bound < 2 ^ 64 → KeepsOthers l before after → RunsAsTheLoop (statement_of name l) no_roles (state_of before) (state_of after) []
-  runs name fits small kept =
-      runs_as_the_loop before l name fits (worth_at l before) worth small after (record { inside = inside; outside = kept.others })
+  pub runs : Fits l before → l.bound < 2 ^ 64 → KeepsOthers l before after → (name : List ℕ) (locals : Locals) → Shows l locals
+      → RunsAsTheLoop (statement_of name l) no_roles (state_with before locals) (state_with after locals) []
+  runs fits small kept name locals shows = runs_as_the_loop before l locals name fits shows (worth_at l before) worth small after (full fits small kept locals name shows)
+
+  pub ends : Fits l before → l.bound < 2 ^ 64 → KeepsOthers l before after → (name : List ℕ) (locals : Locals) → Shows l locals
+      → RunsTo l name (state_with before locals) (state_with after locals)
+  ends fits small kept name locals shows = runs_to before l locals name fits shows (worth_at l before) worth small after (full fits small kept locals name shows)

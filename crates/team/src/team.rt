@@ -1,9 +1,9 @@
 //! The team.
 
-ghost use Rattle.std.specs.Prelude.{◌≡◌, ℕ, [], ◌≤◌, ◌^◌, length, vec_len, List, map, All, IfOk, IfErr};
+ghost use Rattle.std.specs.Prelude.{◌≡◌, ℕ, [], ◌≤◌, ◌^◌, length, vec_len, List, map, All, IfOk, IfErr, OnOk};
 ghost use Rattle.draw.specs.Tickets.{fresh};
-ghost use Rattle.overlay.specs.Loop.{Fits, statement_of};
-ghost use Rattle.overlay.specs.Kept.{Kept, state_of};
+ghost use Rattle.overlay.specs.Loop.{Fits, Shows, RunsTo, statement_of};
+ghost use Rattle.overlay.specs.Kept.{Kept, Locals, state_with};
 ghost use Rattle.overlay.specs.declared.lowered.LoweredLoop.{LoweredLoop};
 ghost use Rattle.semantics.specs.Loops.Chunk.{Chunk};
 ghost use Rattle.team.specs.Ends.{IsCut, IsPieceOf, IsFinished, AreFinished, CameFrom, IsChange, AreAll, IsWritten, KeepsOthers};
@@ -161,25 +161,27 @@ fn run_chunks<R: Threads + Wait + Sync, G: Gate>(
 
 /// Runs a loop with `schedule(dynamic, k)` on a team of so many workers: each draws chunks until none is left, and runs them
 /// from the store before the loop; after all have met the end, the store is overwritten by what they wrote (OpenMP 5.2, 11.5).
+/// Locals that hide none of its arrays may stand round it; its counter is left at its bound.
 ///
 /// # Errors
 ///
-/// `OutOfMemory` alone, where memory is refused or a thread does not start; the store is then given up.
+/// `OutOfMemory` alone, where memory is refused or a thread does not start.
 pub fn run_loop<R: Threads + Wait + Sync, G: Gate>(
     rt: &R,
     alloc: Global,
     lowered: &LoweredLoop,
-    mut store: Store,
+    store: &mut Store,
     workers: Workers,
     gate: &G,
-) -> Result<Store, Refusal>
-    requires fits { Fits lowered.now store }
+) -> Result<(), Refusal>
+    requires fits { Fits lowered.now store.old }
     requires bound { lowered.now.bound ≤ 2 ^ 24 }
-    ensures runs { IfOk result (λ after. (name : List ℕ) → RunsAsTheLoop (statement_of name lowered.now) no_roles (state_of store) (state_of after) []) }
-    ensures shape { IfOk result (λ after. map (λ k. k.lengths) after ≡ map (λ k. k.lengths) store) }
+    ensures runs { OnOk result ((name : List ℕ) (locals : Locals) → Shows lowered.now locals → RunsAsTheLoop (statement_of name lowered.now) no_roles (state_with store.old locals) (state_with store.new locals) []) }
+    ensures ends { OnOk result ((name : List ℕ) (locals : Locals) → Shows lowered.now locals → RunsTo lowered.now name (state_with store.old locals) (state_with store.new locals)) }
+    ensures shape { map (λ k. k.lengths) store.new ≡ map (λ k. k.lengths) store.old }
     ensures refusal { IfErr result (λ refusal. refusal ≡ Refusal.OutOfMemory) }
 {
-    let changes = run_chunks(rt, alloc, lowered, &store, workers, gate)?;
-    apply_all(&mut store, lowered, changes);
-    Ok(store)
+    let changes = run_chunks(rt, alloc, lowered, store, workers, gate)?;
+    apply_all(store, lowered, changes);
+    Ok(())
 }

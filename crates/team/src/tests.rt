@@ -88,11 +88,18 @@ fn each_element_gets_its_number_more(rt: HostRuntime) -> Result<(), Fail> {
         Formula::Two(Operation::Plus, Operand::Element(A), Operand::Counter),
         3,
     );
-    let ones = one_array(rt.alloc(), vec![in rt.alloc(); 1u64; 8]?)?;
-    let after = run_loop(&rt, rt.alloc(), &lowered, ones, workers(&rt, 3), &OpenGate)
-        .ok()
-        .expect(&rt, "memory");
-    assert_eq!(rt; values_of(&rt, &after), [1, 2, 3, 4, 5, 6, 7, 8].as_slice());
+    let mut store = one_array(rt.alloc(), vec![in rt.alloc(); 1u64; 8]?)?;
+    run_loop(
+        &rt,
+        rt.alloc(),
+        &lowered,
+        &mut store,
+        workers(&rt, 3),
+        &OpenGate,
+    )
+    .ok()
+    .expect(&rt, "memory");
+    assert_eq!(rt; values_of(&rt, &store), [1, 2, 3, 4, 5, 6, 7, 8].as_slice());
     Ok(())
 }
 
@@ -105,19 +112,19 @@ fn differences_wrap(rt: HostRuntime) -> Result<(), Fail> {
             Formula::Two(Operation::Minus, Operand::Counter, Operand::Literal(1)),
             2,
         );
-        let zeros = one_array(rt.alloc(), vec![in rt.alloc(); 0u64; 5]?)?;
-        let after = run_loop(
+        let mut store = one_array(rt.alloc(), vec![in rt.alloc(); 0u64; 5]?)?;
+        run_loop(
             &rt,
             rt.alloc(),
             &lowered,
-            zeros,
+            &mut store,
             workers(&rt, count),
             &OpenGate,
         )
         .ok()
         .expect(&rt, "memory");
         assert_eq!(rt;
-            values_of(&rt, &after),
+            values_of(&rt, &store),
             [18446744073709551615, 0, 1, 2, 3].as_slice(),
             "by {count}"
         );
@@ -128,18 +135,18 @@ fn differences_wrap(rt: HostRuntime) -> Result<(), Fail> {
 #[test]
 fn a_loop_without_iterations_writes_nothing(rt: HostRuntime) -> Result<(), Fail> {
     let lowered = loop_of(&rt, 0, Formula::One(Operand::Counter), 1);
-    let sevens = one_array(rt.alloc(), vec![in rt.alloc(); 7u64; 2]?)?;
-    let after = run_loop(
+    let mut store = one_array(rt.alloc(), vec![in rt.alloc(); 7u64; 2]?)?;
+    run_loop(
         &rt,
         rt.alloc(),
         &lowered,
-        sevens,
+        &mut store,
         workers(&rt, 2),
         &OpenGate,
     )
     .ok()
     .expect(&rt, "memory");
-    assert_eq!(rt; values_of(&rt, &after), [7, 7].as_slice());
+    assert_eq!(rt; values_of(&rt, &store), [7, 7].as_slice());
     Ok(())
 }
 
@@ -153,11 +160,11 @@ fn hold_all<R: Threads + Wait + Sync + Abort>(
 {
     let gate = Held::until(count);
     let lowered = loop_of(rt, count, Formula::One(Operand::Counter), 1);
-    let zeros = one_array(alloc, vec![in alloc; 0u64; 64]?)?;
-    let after = run_loop(rt, alloc, &lowered, zeros, workers(rt, count), &gate)
+    let mut store = one_array(alloc, vec![in alloc; 0u64; 64]?)?;
+    run_loop(rt, alloc, &lowered, &mut store, workers(rt, count), &gate)
         .ok()
         .expect(rt, "memory");
-    assert_eq!(rt; values_of(rt, &after).get(1), Some(&1));
+    assert_eq!(rt; values_of(rt, &store).get(1), Some(&1));
     assert_eq!(rt; gate.late.load(Ordering::SeqCst), 0, "by {count}");
     Ok(())
 }

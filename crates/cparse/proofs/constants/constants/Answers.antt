@@ -1,17 +1,16 @@
-use Rattle.std.proofs.Common.{ℕ, ◌≡◌, ◌+◌, ◌-◌, ◌<◌, ◌≤◌, ◌++◌, List, ◌∷◌, [], length, Some, map, option_map, refl, sym, ap, ◌∙◌, arith}
+use Rattle.std.proofs.Common.{ℕ, ◌≡◌, ◌+◌, ◌-◌, ◌<◌, ◌≤◌, ◌∷◌, length, Some, map, option_map, refl, sym, ap, ◌∙◌, arith}
 use Rattle.std.proofs.lemmas.Result.{err_from_is_err_and}
 use Rattle.std.proofs.lemmas.List.{length-map}
 use Rattle.semantics.specs.Source.Scope.{with_constants}
-use Rattle.cparse.specs.Reading.{Got}
-use Rattle.cparse.specs.TextReader.{comma}
+use Rattle.cstmt.specs.StatementReader.{comma}
 use Rattle.cparse.specs.DeclarationSteps.{and_then, visible}
 use Rattle.cparse.specs.DeclarationViews.{enumerator_of, enumerators_of, valued_of}
-use Rattle.cparse.specs.Names.{names_of}
-use Rattle.cparse.specs.Lexemes.{token_of, tokens_of}
-use Rattle.cparse.specs.Outcome.{got_of}
-use Rattle.cparse.proofs.LoopLemmas.{same_some}
+use Rattle.cexpr.specs.Names.{names_of}
+use Rattle.cexpr.specs.Lexemes.{token_of, tokens_of}
+use Rattle.cexpr.specs.Outcome.{got_of}
+use Rattle.cexpr.proofs.LoopLemmas.{same_some}
 use Rattle.cparse.proofs.ConstantLemmas.{constants_run, constants_begin, constants_fail, constants_last, constants_more, with_last}
-use Rattle.cparse.proofs.Turns.{goes, fails, closes, is_over}
+use Rattle.cexpr.proofs.Turns.{goes, fails, closes, is_over}
 use Rattle.cparse.proofs.constants.constants.Goals as goal
 
 pub loop-turn-init : goal.loop-turn-init

@@ -1,15 +1,14 @@
 use Rattle.std.specs.Prelude.{◌&&◌, nat_le, is_none, map, Some}
 use Rattle.semantics.specs.Source.Grammar.{elements}
-use Rattle.std.proofs.Common.{ℕ, ◌≡◌, List, [], length, refl, sym, ap, ◌∙◌, arith}
+use Rattle.std.proofs.Common.{[], length, sym, ap, ◌∙◌}
 use Rattle.std.proofs.lemmas.Result.{err_from_is_err_and}
 use Rattle.std.proofs.lemmas.List.{length-map}
 use Rattle.ktree.specs.View.{declaration_of}
-use Rattle.cparse.specs.TextReader.{kernel, Decls}
 use Rattle.cparse.specs.DeclarationViews.{decls_of}
-use Rattle.cparse.specs.Names.{names_of, seen}
-use Rattle.cparse.specs.Lexemes.{tokens_of}
-use Rattle.cparse.specs.Rows.{items_in}
-use Rattle.cparse.specs.Tallies.{told_of}
+use Rattle.cexpr.specs.Names.{names_of, seen}
+use Rattle.cexpr.specs.Lexemes.{tokens_of}
+use Rattle.cstmt.specs.Rows.{items_in}
+use Rattle.cstmt.specs.Tallies.{told_of}
 use Rattle.cparse.proofs.KernelLemmas.{whole, kernel_items, body_fails, brace_fails, end_fails, kernel_done}
 use Rattle.cparse.proofs.kernel.kernel.Goals as goal
 
@@ -18,7 +17,7 @@ returns-in_err-body c =
     let ts = tokens_of c.args.tokens.now in
     let ds = decls_of (names_of c.declarations.new.scope) c.in_ok-declared.declared in
     let inner = tokens_of c.in_ok-inner.inner.now in
-    let h = kernel_items ts (tokens_of c.behind_headers.result.now) inner (names_of (record { bindings = c.new.result })) ds c.in_ok-next.next c.behind_headers.ensures (ap (seen []) c.new.ensures.items) c.in_ok-declared.ensures c.in_ok-inner.ensures
+    let h = kernel_items ts (tokens_of c.behind_headers.result.now) inner (names_of c.empty-scope.result) ds c.in_ok-next.next c.behind_headers.ensures (ap (seen []) c.empty-scope.ensures) c.in_ok-declared.ensures c.in_ok-inner.ensures
     (c.in_ok-next.ensures.next ∙ ap length c.deref.ensures.value ∙ sym (length-map c.in_ok-declared.declared.variables.items declaration_of)) in
     let p = err_from_is_err_and c.from_residual-in_err-body.result c.from_residual-in_err-body.ensures.1 in
     rw (p.1, p.2) (body_fails _ ts inner ds c.in_ok-next.next h c.in_err-body.ensures.items)
@@ -28,7 +27,7 @@ returns-in_err-behind c =
     let ts = tokens_of c.args.tokens.now in
     let ds = decls_of (names_of c.declarations.new.scope) c.in_ok-declared.declared in
     let inner = tokens_of c.in_ok-inner.inner.now in
-    let h = kernel_items ts (tokens_of c.behind_headers.result.now) inner (names_of (record { bindings = c.new.result })) ds c.in_ok-next.next c.behind_headers.ensures (ap (seen []) c.new.ensures.items) c.in_ok-declared.ensures c.in_ok-inner.ensures
+    let h = kernel_items ts (tokens_of c.behind_headers.result.now) inner (names_of c.empty-scope.result) ds c.in_ok-next.next c.behind_headers.ensures (ap (seen []) c.empty-scope.ensures) c.in_ok-declared.ensures c.in_ok-inner.ensures
     (c.in_ok-next.ensures.next ∙ ap length c.deref.ensures.value ∙ sym (length-map c.in_ok-declared.declared.variables.items declaration_of)) in
     let p = err_from_is_err_and c.from_residual-in_err-behind.result c.from_residual-in_err-behind.ensures.1 in
     rw (p.1, p.2) (brace_fails _ ts inner ds c.in_ok-next.next (told_of items_in c.in_ok-body.field-0) h c.in_ok-body.ensures.items c.in_err-behind.ensures)
@@ -38,7 +37,7 @@ returns-in_err-at_end c =
     let ts = tokens_of c.args.tokens.now in
     let ds = decls_of (names_of c.declarations.new.scope) c.in_ok-declared.declared in
     let inner = tokens_of c.in_ok-inner.inner.now in
-    let h = kernel_items ts (tokens_of c.behind_headers.result.now) inner (names_of (record { bindings = c.new.result })) ds c.in_ok-next.next c.behind_headers.ensures (ap (seen []) c.new.ensures.items) c.in_ok-declared.ensures c.in_ok-inner.ensures
+    let h = kernel_items ts (tokens_of c.behind_headers.result.now) inner (names_of c.empty-scope.result) ds c.in_ok-next.next c.behind_headers.ensures (ap (seen []) c.empty-scope.ensures) c.in_ok-declared.ensures c.in_ok-inner.ensures
     (c.in_ok-next.ensures.next ∙ ap length c.deref.ensures.value ∙ sym (length-map c.in_ok-declared.declared.variables.items declaration_of)) in
     let p = err_from_is_err_and c.from_residual-in_err-at_end.result c.from_residual-in_err-at_end.ensures.1 in
     rw (p.1, p.2) (end_fails _ ts inner ds c.in_ok-next.next (told_of items_in c.in_ok-body.field-0) (tokens_of c.in_ok-behind.behind.now) h c.in_ok-body.ensures.items c.in_ok-behind.ensures c.in_err-at_end.ensures)
@@ -49,7 +48,7 @@ returns c =
     let ds = decls_of (names_of c.declarations.new.scope) c.in_ok-declared.declared in
     let inner = tokens_of c.in_ok-inner.inner.now in
     let is = told_of items_in c.in_ok-body.field-0 in
-    let h = kernel_items ts (tokens_of c.behind_headers.result.now) inner (names_of (record { bindings = c.new.result })) ds c.in_ok-next.next c.behind_headers.ensures (ap (seen []) c.new.ensures.items) c.in_ok-declared.ensures c.in_ok-inner.ensures
+    let h = kernel_items ts (tokens_of c.behind_headers.result.now) inner (names_of c.empty-scope.result) ds c.in_ok-next.next c.behind_headers.ensures (ap (seen []) c.empty-scope.ensures) c.in_ok-declared.ensures c.in_ok-inner.ensures
     (c.in_ok-next.ensures.next ∙ ap length c.deref.ensures.value ∙ sym (length-map c.in_ok-declared.declared.variables.items declaration_of)) in
     kernel_done ts inner ds c.in_ok-next.next is (tokens_of c.in_ok-behind.behind.now) _ h c.in_ok-body.ensures.items c.in_ok-behind.ensures c.in_ok-at_end.ensures
     ∙ ap (λ b. Some (record { tree = (whole ds is).tree; sound = b }))

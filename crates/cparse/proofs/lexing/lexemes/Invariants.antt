@@ -1,4 +1,4 @@
-use Rattle.std.proofs.Common.{List, take}
+use Rattle.std.proofs.Common.{take}
 use Rattle.cparse.specs.SameTokens.{AreLexed}
 use Rattle.cparse.proofs.lexing.lexemes.Given as goal
 

@@ -1,8 +1,13 @@
 use Rattle.std.proofs.Common.{arith}
-use Rattle.team.proofs.Applying.{runs}
+use Rattle.team.proofs.Applying.{runs, ends}
 use Rattle.team.proofs.team.run_loop.Goals as goal
 
 pub returns-clause-runs : goal.returns-clause-runs
-returns-clause-runs g c = λ name.
+returns-clause-runs g c =
     let most = c.requires.bound in
-    runs c.args.lowered.now c.args.store c.apply_all.new.store c.in_ok-changes.changes.items c.in_ok-changes.ensures.changes c.apply_all.ensures.written name c.requires.fits (omega arith) c.apply_all.ensures.others
+    runs c.args.lowered.now c.args.store.now c.apply_all.new.store c.in_ok-changes.changes.items c.in_ok-changes.ensures.changes c.apply_all.ensures.written c.requires.fits (omega arith) c.apply_all.ensures.others
+
+pub returns-clause-ends : goal.returns-clause-ends
+returns-clause-ends g c =
+    let most = c.requires.bound in
+    ends c.args.lowered.now c.args.store.now c.apply_all.new.store c.in_ok-changes.changes.items c.in_ok-changes.ensures.changes c.apply_all.ensures.written c.requires.fits (omega arith) c.apply_all.ensures.others

@@ -1,0 +1,9 @@
+pub mod Reading
+pub mod Operators
+pub mod ExpressionReader
+pub mod Lexemes
+pub mod Infixes
+pub mod Names
+pub mod Operands
+pub mod Outcome
+pub mod Steps

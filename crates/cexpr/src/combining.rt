@@ -1,0 +1,213 @@
+//! What follows from parts that were read.
+
+ghost use Rattle.std.specs.Prelude.{◌≡◌, ◌&&◌, true, Some, is_none};
+ghost use Rattle.semantics.specs.Tree.{Number, Truth, Not, Choose, no_exprs};
+ghost use Rattle.ktree.specs.View.{unary_of, expr_of};
+ghost use Rattle.cexpr.specs.Reading.{got};
+ghost use Rattle.cexpr.specs.Operators.{cond_in};
+ghost use Rattle.cexpr.specs.ExpressionReader.{unary_of as unary_reading, join, choice};
+ghost use Rattle.cexpr.specs.Steps.{with_subscript};
+ghost use Rattle.cexpr.specs.Infixes.{infix_in};
+ghost use Rattle.cexpr.specs.Lexemes.{tokens_of};
+ghost use Rattle.cexpr.specs.Outcome.{Gives, got_of, operand_of, subscripts_of};
+
+use crate::context::Outcome;
+use crate::joining::{Union, joined, truth};
+use crate::lexeme::Lexeme;
+use crate::numeric::Numeric;
+use crate::operand::Operand;
+use crate::operator::Infix;
+use crate::parsed::{Parsed, Subscripts};
+use crate::stop::{Flaw, Stop, earlier, told, unless};
+use crate::wanted::{cond_in, number_in};
+use ktree::{Cond, Expr, Place, Source, UnaryOp};
+use std::alloc::Global;
+
+/// A left operand, an operator, and a right operand that begins somewhere.
+pub fn join<'s, 't>(
+    alloc: Global,
+    operator: Infix,
+    place: Place,
+    begin: Place,
+    left: Parsed<'s, 't, Operand>,
+    right: Parsed<'s, 't, Operand>,
+) -> Outcome<'s, 't, Operand>
+    ensures { Gives (got_of operand_of) result (Some (join (got_of operand_of left.entry) (infix_in operator) (got_of operand_of right.entry))) }
+{
+    let Parsed {
+        tree: a,
+        fault: left_fault,
+        rest: _,
+    } = left;
+    let Parsed {
+        tree: b,
+        fault: right_fault,
+        rest,
+    } = right;
+    let Union { operand, misfit } = joined(alloc, operator, place, begin, a, b)?;
+    let fault = told(earlier(left_fault, right_fault), misfit);
+    Ok(Parsed {
+        tree: operand,
+        fault,
+        rest,
+    })
+}
+
+/// `-` or `~` in front of a typed operand (C11 6.5.3.3).
+pub fn changed<'s, 't>(
+    alloc: Global,
+    operator: UnaryOp,
+    place: Place,
+    operand: Parsed<'s, 't, Operand>,
+) -> Outcome<'s, 't, Operand>
+    ensures { Gives (got_of operand_of) result (unary_reading (unary_of operator) (got_of operand_of operand.entry)) }
+{
+    let Parsed { tree, fault, rest } = operand;
+    let Numeric {
+        expr,
+        is_number,
+        typed,
+        plain,
+    } = number_in(tree);
+    let source = Source::Number(Expr::Unary(operator, Box::new(alloc, expr)?));
+    let own = unless(is_number && typed, Flaw::Operands, place);
+    let tree = Operand {
+        source,
+        typed,
+        constant: None,
+        plain,
+        place,
+    };
+    Ok(Parsed {
+        tree,
+        fault: earlier(fault, own),
+        rest,
+    })
+}
+
+/// `!` in front of a condition (C11 6.5.3.3).
+pub fn opposite<'s, 't>(
+    alloc: Global,
+    place: Place,
+    operand: Parsed<'s, 't, Operand>,
+) -> Outcome<'s, 't, Operand>
+    ensures { Gives (got_of operand_of) result (got (Truth (Not (cond_in (operand_of operand.entry.tree)))) (is_none operand.entry.fault) (tokens_of operand.entry.rest.now)) }
+{
+    let Parsed { tree, fault, rest } = operand;
+    let plain = tree.plain;
+    let c = Box::new(alloc, cond_in(alloc, tree.source)?)?;
+    Ok(Parsed {
+        tree: truth(Cond::Not(c), plain, place),
+        fault,
+        rest,
+    })
+}
+
+/// `c ? a : b` of two arithmetic arms (C11 6.5.15).
+pub fn choice<'s, 't>(
+    alloc: Global,
+    place: Place,
+    condition: Parsed<'s, 't, Operand>,
+    first: Parsed<'s, 't, Operand>,
+    second: Parsed<'s, 't, Operand>,
+) -> Outcome<'s, 't, Operand>
+    ensures { Gives (got_of operand_of) result (choice (got_of operand_of condition.entry) (got_of operand_of first.entry) (got_of operand_of second.entry)) }
+{
+    let Parsed {
+        tree: c,
+        fault: condition_fault,
+        rest: _,
+    } = condition;
+    let Parsed {
+        tree: a,
+        fault: first_fault,
+        rest: _,
+    } = first;
+    let Parsed {
+        tree: b,
+        fault: second_fault,
+        rest,
+    } = second;
+    let (a, b) = (number_in(a), number_in(b));
+    let own = unless(a.is_number && b.is_number, Flaw::Operands, place);
+    let arms = earlier(first_fault, second_fault);
+    let fault = earlier(condition_fault, earlier(arms, own));
+    let tree = chosen(alloc, c, a, b, place)?;
+    Ok(Parsed { tree, fault, rest })
+}
+
+/// `c ? a : b` of a condition and two arithmetic expressions.
+fn chosen(
+    alloc: Global,
+    condition: Operand,
+    a: Numeric,
+    b: Numeric,
+    place: Place,
+) -> Result<Operand, Stop>
+    ensures { Gives operand_of result (Some (Number (Choose (cond_in (operand_of condition)) (expr_of a.expr) (expr_of b.expr)))) }
+{
+    let typed = a.typed || b.typed;
+    let plain = condition.plain && a.plain && b.plain;
+    let c = Box::new(alloc, cond_in(alloc, condition.source)?)?;
+    let (a, b) = (Box::new(alloc, a.expr)?, Box::new(alloc, b.expr)?);
+    let source = Source::Number(Expr::Choose(c, a, b));
+    Ok(Operand {
+        source,
+        typed,
+        constant: None,
+        plain,
+        place,
+    })
+}
+
+/// No subscripts in front of these tokens.
+pub fn no_subscripts<'s, 't>(alloc: Global, rest: &'s [Lexeme<'t>]) -> Parsed<'s, 't, Subscripts>
+    ensures { Some (got_of subscripts_of result) ≡ got no_exprs true (tokens_of rest.now) }
+{
+    let tree = Subscripts {
+        exprs: Vec::new(alloc),
+        places: Vec::new(alloc),
+    };
+    Parsed {
+        tree,
+        fault: None,
+        rest,
+    }
+}
+
+/// Subscripts of an array whose name stands at a place, and one more that begins somewhere, with the tokens behind it.
+#[tactic(auto, using(crate::proofs::TreeLemmas::and_one_of))]
+pub fn with_subscript<'s, 't>(
+    row: Parsed<'s, 't, Subscripts>,
+    subscript: Parsed<'s, 't, Operand>,
+    place: Place,
+    begin: Place,
+    behind: &'s [Lexeme<'t>],
+) -> Outcome<'s, 't, Subscripts>
+    ensures { Gives (got_of subscripts_of) result (Some (with_subscript (got_of subscripts_of row.entry) (got_of operand_of subscript.entry) (tokens_of behind.now))) }
+{
+    let Parsed {
+        tree: subscripts,
+        fault: row_fault,
+        rest: _,
+    } = row;
+    let Subscripts {
+        mut exprs,
+        mut places,
+    } = subscripts;
+    let Parsed {
+        tree,
+        fault,
+        rest: _,
+    } = subscript;
+    let number = number_in(tree);
+    let own = unless(number.is_number, Flaw::Operands, place);
+    exprs.push(number.expr)?;
+    places.push(begin)?;
+    let tree = Subscripts { exprs, places };
+    Ok(Parsed {
+        tree,
+        fault: earlier(row_fault, earlier(fault, own)),
+        rest: behind,
+    })
+}

@@ -1,0 +1,7 @@
+pub mod StatementComplete
+pub mod StatementSound
+pub mod StepLemmas
+pub mod FormatLemmas
+pub mod FillLemmas
+pub mod ItemLemmas
+pub mod ItemRun

@@ -1,0 +1,32 @@
+-- The steps that the code takes are those of the definitions' reader.
+use Rattle.std.proofs.Common.{◌≡◌, true, false, List, [], ◌∷◌, Some, None, refl}
+use Rattle.std.specs.Prelude.{if◌then◌else◌}
+use Rattle.semantics.specs.Tree.{Name, Source}
+use Rattle.semantics.specs.Source.Token.{Token, Word, Sign, PlusPlus, MinusMinus}
+use Rattle.semantics.specs.Source.Scope.{Scope, is_reserved}
+use Rattle.cexpr.specs.Reading.{Reader, ◌>>=◌}
+use Rattle.cstmt.specs.StatementReader.{new_name, step}
+use Rattle.cstmt.specs.Steps.{next_word, step_before, step_of}
+
+pub new_name_by : (ts : List Token) → new_name ts ≡ next_word ts >>= λ w. if is_reserved w.0 then None else Some w
+new_name_by [] = refl
+new_name_by (Word w ∷ ts) = refl
+new_name_by (t ∷ ts) = refl
+
+pub step_up : (whole : Reader Source) (scope : Scope) (ts : List Token) → step whole scope (Sign PlusPlus ∷ ts) ≡ step_before scope true ts
+unfolding step
+step_up whole scope [] = refl
+step_up whole scope (Word w ∷ ts) = refl
+step_up whole scope (t ∷ ts) = refl
+
+pub step_down : (whole : Reader Source) (scope : Scope) (ts : List Token) → step whole scope (Sign MinusMinus ∷ ts) ≡ step_before scope false ts
+unfolding step
+step_down whole scope [] = refl
+step_down whole scope (Word w ∷ ts) = refl
+step_down whole scope (t ∷ ts) = refl
+
+pub step_word : (whole : Reader Source) (scope : Scope) (w : Name) (ts : List Token) → step whole scope (Word w ∷ ts) ≡ step_of whole scope w ts
+unfolding step
+step_word whole scope w [] = refl
+step_word whole scope w (Sign s ∷ ts) = refl
+step_word whole scope w (t ∷ ts) = refl

@@ -1,0 +1,47 @@
+use Rattle.std.proofs.Common.{◌≡◌, ◌+◌, ◌-◌, ◌*◌, length, take}
+use Rattle.cexpr.specs.Names.{names_of}
+use Rattle.cexpr.specs.Lexemes.{tokens_of}
+use Rattle.cstmt.specs.StatementReader.{statement, items}
+use Rattle.cstmt.specs.Tallies.{tally_of}
+use Rattle.cstmt.specs.Rows.{row_of}
+use Rattle.cstmt.proofs.ItemRun.{items_run}
+use Rattle.cstmt.proofs.statement.+statement.Given as goal
+
+-- each call has less room, or is of a function further down
+
+abbrev pub decreases-items : goal.decreases-items
+decreases-items l = 8 * l.room + 7
+
+abbrev pub decreases-item : goal.decreases-item
+decreases-item l = 8 * l.room + 6
+
+abbrev pub decreases-stated : goal.decreases-stated
+decreases-stated l = 8 * l.room + 5
+
+abbrev pub decreases-statement : goal.decreases-statement
+decreases-statement l = 8 * l.room + 4
+
+abbrev pub decreases-counted : goal.decreases-counted
+decreases-counted l = 8 * l.room + 3
+
+abbrev pub decreases-headed : goal.decreases-headed
+decreases-headed l = 8 * l.room + 2
+
+abbrev pub decreases-block : goal.decreases-block
+decreases-block l = 8 * l.room + 1
+
+abbrev pub decreases-selection : goal.decreases-selection
+decreases-selection l = 8 * l.room + 1
+
+abbrev pub decreases-iteration : goal.decreases-iteration
+decreases-iteration l = 8 * l.room + 1
+
+-- what is left is read as the whole is, and the names from before are still there
+abbrev pub invariant-items-loop-turn : goal.invariant-items-loop-turn
+invariant-items-loop-turn l =
+    let read = statement l.room in
+    let count = length (tokens_of l.tokens) in
+    record {
+      same : items_run l.room read (count - l._turn) (row_of (names_of l.scope) l.row) ≡ items count l.room read (names_of l.fn.scope) (tally_of l.fn.tally) (tokens_of l.tokens);
+      front : take (length l.fn.scope) l.scope ≡ l.fn.scope;
+    }

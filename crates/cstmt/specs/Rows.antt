@@ -1,0 +1,23 @@
+-- What the code's items stand for.
+use Rattle.std.specs.Prelude.{is_none}
+use Rattle.std.specs.Global.{Vec}
+use Rattle.semantics.specs.Tree.{Items, no_items}
+use Rattle.semantics.specs.Source.Scope.{Scope}
+use Rattle.ktree.specs.declared.statement.Item.{Item}
+use Rattle.ktree.specs.View as view
+use Rattle.cstmt.specs.declared.told.Told.{Told}
+use Rattle.cexpr.specs.Lexemes.{tokens_of}
+use Rattle.cstmt.specs.Tallies.{tally_of}
+use Rattle.cstmt.specs.Bodies.{Row}
+
+-- a list of items
+abbrev pub items_in : Vec Item → Items
+items_in v = view.items_of v.items
+
+-- with what is visible behind them
+abbrev pub row_of : Scope → Told (Vec Item) → Row
+row_of scope t = record { tree = items_in t.tree; sound = is_none t.fault; scope = scope; tally = tally_of t.tally; rest = tokens_of t.rest.now }
+
+-- one item
+abbrev pub item_of : Scope → Told Item → Row
+item_of scope t = record { tree = view.with_item t.tree no_items; sound = is_none t.fault; scope = scope; tally = tally_of t.tally; rest = tokens_of t.rest.now }

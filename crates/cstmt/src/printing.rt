@@ -1,0 +1,165 @@
+//! printf (C11 7.21.6.3).
+
+ghost use Rattle.std.specs.Prelude.{◌≡◌, ◌&&◌, length, count_by, is_none, map, Some};
+ghost use Rattle.ktree.specs.View.{expr_of, part_of, stmt_of};
+ghost use Rattle.cexpr.specs.ExpressionReader.{expression};
+ghost use Rattle.cstmt.specs.StatementReader.{arguments, filled, fills, printed};
+ghost use Rattle.cstmt.specs.Printing.{with_argument, part_at, arguments_behind};
+ghost use Rattle.cexpr.specs.Names.{names_of};
+ghost use Rattle.cexpr.specs.Lexemes.{tokens_of};
+ghost use Rattle.cexpr.specs.Outcome.{Gives, got_of, operand_of};
+ghost use Rattle.cstmt.specs.Spots.{spot_of, spots_of, is_place, arguments_of, arguments_left, parts_of};
+
+use crate::format::{Spot, format};
+use crate::punctuation::{comma, open_paren};
+use cexpr::context::{Context, Outcome, opened};
+use cexpr::expression::whole;
+use cexpr::lexeme::Lexeme;
+use cexpr::operand::Operand;
+use cexpr::parsed::Parsed;
+use cexpr::punctuation::close_paren;
+use cexpr::stop::{Fault, Flaw, Stop, earlier, unless};
+use cexpr::wanted::number_in;
+use ktree::{Expr, Place, PrintPart, Stmt, Suffix};
+use std::alloc::Global;
+
+/// What is wrong with an argument of the printf at a place: its sort, and what is wrong inside of it. An operation whose
+/// operands have the wrong sort counts as typed, and an unknown name as a variable.
+fn argument_fault(
+    inside: Option<Fault>,
+    is_number: bool,
+    typed: bool,
+    plain: bool,
+    place: Place,
+) -> Option<Fault>
+    ensures { is_none result ≡ (is_none inside && (is_number && typed && plain)) }
+{
+    let own = unless(is_number && typed && plain, Flaw::Operands, place);
+    match inside {
+        Some(fault) if fault.flaw == Flaw::Operands && is_number && plain => inside,
+        Some(fault) if fault.flaw == Flaw::UnknownName && is_number && typed => inside,
+        _ => earlier(inside, own),
+    }
+}
+
+/// Arguments of the printf at a place, and one more.
+fn with_argument<'s, 't>(
+    row: Parsed<'s, 't, Vec<Expr>>,
+    argument: Parsed<'s, 't, Operand>,
+    place: Place,
+) -> Outcome<'s, 't, Vec<Expr>>
+    ensures { Gives (got_of arguments_of) result (Some (with_argument (got_of arguments_of row.entry) (got_of operand_of argument.entry))) }
+{
+    let Parsed {
+        tree: mut arguments,
+        fault: row_fault,
+        rest: _,
+    } = row;
+    let Parsed { tree, fault, rest } = argument;
+    let number = number_in(tree);
+    let own = argument_fault(fault, number.is_number, number.typed, number.plain, place);
+    arguments.push(number.expr)?;
+    Ok(Parsed {
+        tree: arguments,
+        fault: earlier(row_fault, own),
+        rest,
+    })
+}
+
+/// The arguments behind the format of the printf at a place.
+fn arguments<'s, 't>(
+    context: Context<'_, 't>,
+    room: u32,
+    place: Place,
+    tokens: &'s [Lexeme<'t>],
+) -> Outcome<'s, 't, Vec<Expr>>
+    ensures { Gives (got_of arguments_of) result (arguments (length (tokens_of tokens.now)) (expression room (names_of context.entry.scope.now)) (tokens_of tokens.now)) }
+{
+    let mut row = Parsed {
+        tree: Vec::new(context.alloc),
+        fault: None,
+        rest: tokens,
+    };
+    for _turn in 0..tokens.len() {
+        let Some(inner) = comma(row.rest) else {
+            return Ok(row);
+        };
+        let argument = whole(context, room, inner)?;
+        row = with_argument(row, argument, place)?;
+    }
+    Ok(row)
+}
+
+/// How many places for numbers there are.
+fn places(spots: &[Spot]) -> usize
+    ensures { result ≡ count_by is_place spots.now }
+{
+    spots
+        .iter()
+        .filter(|spot| matches!(spot, Spot::Number))
+        .count()
+}
+
+/// Whether there are as many arguments as places for them.
+#[tactic(auto, using(crate::proofs::FillLemmas::fills_by))]
+fn fills(spots: &[Spot], arguments: &[Expr]) -> bool
+    ensures { result ≡ fills (map spot_of spots.now) (map expr_of arguments.now) }
+{
+    places(spots) == arguments.len()
+}
+
+/// What is printed for a part of a format; a place takes the last argument.
+fn part(spot: Spot, arguments: &mut Vec<Expr>) -> PrintPart
+    ensures part { part_of result ≡ part_at (spot_of spot) (arguments_left arguments.old) }
+    ensures arguments { arguments_left arguments.new ≡ arguments_behind (spot_of spot) (arguments_left arguments.old) }
+{
+    match spot {
+        Spot::Characters(characters) => PrintPart::Characters(characters),
+        Spot::Number => match arguments.pop() {
+            Some(expr) => PrintPart::Decimal(expr),
+            None => PrintPart::Decimal(Expr::Literal(0, Suffix::Ull)),
+        },
+    }
+}
+
+/// What is printed: each place has its argument.
+fn filled(
+    alloc: Global,
+    mut spots: Vec<Spot>,
+    mut arguments: Vec<Expr>,
+) -> Result<Vec<PrintPart>, Stop>
+    ensures { Gives parts_of result (Some (filled (spots_of spots) (arguments_of arguments))) }
+{
+    let mut parts = Vec::new(alloc);
+    spots.reverse();
+    arguments.reverse();
+    while let Some(spot) = spots.pop() {
+        parts.push(part(spot, &mut arguments))?;
+    }
+    Ok(parts)
+}
+
+/// What stands behind the word printf, whose place this is.
+#[tactic(auto, unfolding(crate::specs::StatementReader::printed))]
+pub fn printed<'s, 't>(
+    context: Context<'_, 't>,
+    room: u32,
+    place: Place,
+    tokens: &'s [Lexeme<'t>],
+) -> Outcome<'s, 't, Stmt>
+    ensures { Gives (got_of stmt_of) result (printed room (names_of context.entry.scope.now) (tokens_of tokens.now)) }
+{
+    let room = opened(room, place)?;
+    let inner = open_paren(tokens, context.end)?;
+    let spots = format(context.alloc, inner, context.end)?;
+    let arguments = arguments(context, room, place, spots.rest)?;
+    let rest = close_paren(arguments.rest, context.end)?;
+    let own = unless(fills(&spots.tree, &arguments.tree), Flaw::Operands, place);
+    let fault = earlier(arguments.fault, own);
+    let parts = filled(context.alloc, spots.tree, arguments.tree)?;
+    Ok(Parsed {
+        tree: Stmt::Print(parts, place),
+        fault,
+        rest,
+    })
+}

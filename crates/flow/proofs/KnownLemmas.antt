@@ -1,0 +1,130 @@
+-- How changes of what is known are seen.
+use Rattle.std.proofs.Common.{◌≡◌, ◌≢◌, ℕ, zero, suc, ◌+◌, ◌<◌, ◌≤◌, Bool, true, false, cond, List, [], ◌∷◌, ◌++◌, length, get_or, refl, sym, ap, ◌∙◌, arith}
+use Rattle.std.specs.Prelude.{◌==◌, ◌&&◌, nat_lt, slice_set, replicate}
+use Rattle.std.proofs.Math.Path.{fun_ext}
+use Rattle.std.proofs.lemmas.Bool.{eqb-true, eqb-false, ltb-true, ltb-false, lt-ltb, le-ltb}
+use Rattle.semantics.specs.Meaning.Definite.{Known, known_with}
+use Rattle.flow.specs.Judged.{known_of}
+
+pushed_at : (bs : List Bool) (x : ℕ) → known_of (bs ++ false ∷ []) x ≡ known_of bs x
+pushed_at [] zero = refl
+pushed_at [] (suc x) = refl
+pushed_at (b ∷ bs) zero = refl
+pushed_at (b ∷ bs) (suc x) = pushed_at bs x
+
+-- one more that is not known changes nothing
+pub pushed : (bs : List Bool) → known_of (bs ++ false ∷ []) ≡ known_of bs
+pushed bs = fun_ext (pushed_at bs)
+
+-- nothing is known behind the last
+pub past : (bs : List Bool) (x : ℕ) → length bs ≤ x → known_of bs x ≡ false
+past [] x le = refl
+past (b ∷ bs) zero le = absurd (omega arith)
+past (b ∷ bs) (suc x) le = past bs x (omega arith)
+
+set_same : (bs : List Bool) (i : ℕ) (b : Bool) → i < length bs → known_of (slice_set bs i b) i ≡ b
+set_same [] i b lt = absurd (omega arith)
+set_same (c ∷ bs) zero b lt = refl
+set_same (c ∷ bs) (suc i) b lt = set_same bs i b (omega arith)
+
+set_other : (bs : List Bool) (i j : ℕ) (b : Bool) → j ≢ i → known_of (slice_set bs i b) j ≡ known_of bs j
+set_other [] i j b ne = refl
+set_other (c ∷ bs) zero zero b ne = absurd (ne refl)
+set_other (c ∷ bs) zero (suc j) b ne = refl
+set_other (c ∷ bs) (suc i) zero b ne = refl
+set_other (c ∷ bs) (suc i) (suc j) b ne = set_other bs i j b (λ e. ne (ap suc e))
+
+set_at : (bs : List Bool) (i : ℕ) (b : Bool) → i < length bs → (j : ℕ) → known_of (slice_set bs i b) j ≡ known_with (known_of bs) i b j
+set_at bs i b lt j = go (j == i) refl
+  where
+    go : (t : Bool) → (j == i) ≡ t → known_of (slice_set bs i b) j ≡ cond t b (known_of bs j)
+    go true e = ap (λ k. known_of (slice_set bs i b) k) (eqb-true j i e) ∙ set_same bs i b lt
+    go false e = set_other bs i j b (eqb-false j i e)
+
+-- one that is set is the one that changes
+pub set : (bs : List Bool) (i : ℕ) (b : Bool) → i < length bs → known_of (slice_set bs i b) ≡ known_with (known_of bs) i b
+set bs i b lt = fun_ext (set_at bs i b lt)
+
+past_at : (bs : List Bool) (i : ℕ) → length bs ≤ i → (j : ℕ) → known_of bs j ≡ known_with (known_of bs) i false j
+past_at bs i le j = go (j == i) refl
+  where
+    go : (t : Bool) → (j == i) ≡ t → known_of bs j ≡ cond t false (known_of bs j)
+    go true e = ap (known_of bs) (eqb-true j i e) ∙ past bs i le
+    go false e = refl
+
+-- one behind the last need not be forgotten
+pub past_forgotten : (bs : List Bool) (i : ℕ) → length bs ≤ i → known_of bs ≡ known_with (known_of bs) i false
+past_forgotten bs i le = fun_ext (past_at bs i le)
+
+-- the first of these are known only where those are
+abbrev pub met_below : Known → Known → ℕ → Known
+met_below a b n y = cond (nat_lt y n) (a y && b y) (a y)
+
+pub met_none : (a b : Known) → a ≡ met_below a b 0
+met_none a b = fun_ext (λ y. ap (λ t. cond t (a y && b y) (a y)) (sym (le-ltb y 0 (omega arith))))
+
+met_at : (a b : Known) (i : ℕ) (y : ℕ) (t u : Bool) → nat_lt y i ≡ t → (y == i) ≡ u → met_below a b (i + 1) y ≡ cond u (a i && b i) (cond t (a y && b y) (a y))
+met_at a b i y true true e f =
+    let lt : y < i = ltb-true y i e in
+    let is : y ≡ i = eqb-true y i f in
+    absurd (omega arith)
+met_at a b i y true false e f =
+    let lt : y < i = ltb-true y i e in
+    ap (λ v. cond v (a y && b y) (a y)) (lt-ltb y (i + 1) (omega arith))
+met_at a b i y false true e f =
+    let is : y ≡ i = eqb-true y i f in
+    ap (λ v. cond v (a y && b y) (a y)) (lt-ltb y (i + 1) (omega arith)) ∙ ap (λ z. a z && b z) is
+met_at a b i y false false e f =
+    let le : i ≤ y = ltb-false y i e in
+    let ne : y ≢ i = eqb-false y i f in
+    ap (λ v. cond v (a y && b y) (a y)) (le-ltb y (i + 1) (omega arith))
+
+-- one more
+met_on : (a b : Known) (i : ℕ) → known_with (met_below a b i) i (met_below a b i i && b i) ≡ met_below a b (i + 1)
+met_on a b i = fun_ext (λ y. go y (nat_lt y i) (y == i) refl refl)
+  where
+    here : met_below a b i i ≡ a i
+    here = ap (λ v. cond v (a i && b i) (a i)) (le-ltb i i (omega arith))
+
+    go : (y : ℕ) (t u : Bool) → nat_lt y i ≡ t → (y == i) ≡ u → known_with (met_below a b i) i (met_below a b i i && b i) y ≡ met_below a b (i + 1) y
+    go y t true e f = ap (λ v. cond v (met_below a b i i && b i) (met_below a b i y)) f ∙ ap (λ v. v && b i) here ∙ sym (met_at a b i y t true e f)
+    go y t false e f = ap (λ v. cond v (met_below a b i i && b i) (met_below a b i y)) f ∙ ap (λ v. cond v (a y && b y) (a y)) e ∙ sym (met_at a b i y t false e f)
+
+held : (bs : List Bool) (i : ℕ) (v : Bool) → i < length bs → v ≡ get_or bs i v → known_of bs i ≡ v
+held [] i v lt is = absurd (omega arith)
+held (b ∷ bs) zero v lt is = sym is
+held (b ∷ bs) (suc i) v lt is = held bs i v (omega arith) is
+
+-- a slot that is set to what is known here and there
+pub met_set : (bs : List Bool) (a b : Known) (i : ℕ) (v w : Bool) → i < length bs → v ≡ get_or bs i v → w ≡ b i → known_of bs ≡ met_below a b i → known_of (slice_set bs i (v && w)) ≡ met_below a b (i + 1)
+met_set bs a b i v w lt is known so_far =
+    let at : v ≡ met_below a b i i = sym (held bs i v lt is) ∙ ap (λ k. k i) so_far in
+    set bs i (v && w) lt ∙ ap (λ k. known_with k i (v && w)) so_far ∙ ap (λ x. known_with (met_below a b i) i (x && w)) at ∙ ap (λ x. known_with (met_below a b i) i (met_below a b i i && x)) known ∙ met_on a b i
+
+-- all of them
+pub met_all : (bs : List Bool) (b : Known) (n : ℕ) → length bs ≤ n → met_below (known_of bs) b n ≡ (λ y. known_of bs y && b y)
+met_all bs b n le = fun_ext (λ y. go y (nat_lt y n) refl)
+  where
+    go : (y : ℕ) (t : Bool) → nat_lt y n ≡ t → met_below (known_of bs) b n y ≡ (known_of bs y && b y)
+    go y true e = ap (λ v. cond v (known_of bs y && b y) (known_of bs y)) e
+    go y false e =
+        let le' : n ≤ y = ltb-false y n e in
+        let none : known_of bs y ≡ false = past bs y (omega arith) in
+        ap (λ v. cond v (known_of bs y && b y) (known_of bs y)) e ∙ none ∙ ap (λ v. v && b y) (sym none)
+
+first_at : (n x : ℕ) → known_of (replicate n true) x ≡ nat_lt x n
+first_at zero x = sym (le-ltb x 0 (omega arith))
+first_at (suc n) zero = sym (lt-ltb 0 (suc n) (omega arith))
+first_at (suc n) (suc x) = first_at n x ∙ shifted (nat_lt x n) refl
+  where
+    shifted : (t : Bool) → nat_lt x n ≡ t → t ≡ nat_lt (suc x) (suc n)
+    shifted true e =
+        let lt : x < n = ltb-true x n e in
+        sym (lt-ltb (suc x) (suc n) (omega arith))
+    shifted false e =
+        let le : n ≤ x = ltb-false x n e in
+        sym (le-ltb (suc x) (suc n) (omega arith))
+
+-- the first variables
+pub first : (n : ℕ) → known_of (replicate n true) ≡ (λ y. nat_lt y n)
+first n = fun_ext (first_at n)

@@ -1,0 +1,36 @@
+-- How the judgement on a text's names ends.
+use Rattle.std.specs.Prelude.{◌≡◌, ◌⊎◌, Bool, true, false, List, Option, Some, None, slice_get}
+use Rattle.semantics.specs.Tree
+use Rattle.semantics.specs.Tree.{Variable}
+use Rattle.semantics.specs.Meaning.Definite.{Known, may_read, no_privates, IsDefinite}
+use Rattle.ktree.specs.Numbers.{number_of}
+use Rattle.ktree.specs.View.{kernel_of}
+use Rattle.ktree.specs.declared.refusal.Refusal.{Refusal}
+use Rattle.ktree.specs.declared.refusal.Refusal.TheVariants.{OutOfMemory}
+use Rattle.ktree.specs.declared.statement.Kernel.{Kernel}
+
+-- nothing is known behind the last
+abbrev pub known_at : Option Bool → Bool
+known_at None = false
+known_at (Some b) = b
+
+-- what is known, by the numbers of variables
+abbrev pub known_of : List Bool → Known
+known_of bs x = known_at (slice_get bs x)
+
+-- K10, since something is read that may not be
+abbrev pub Unread : Bool → Refusal → Type 0
+Unread ok refusal = (number_of refusal ≡ 10) × (ok ≡ false)
+
+-- want of memory, or K10 where nothing is known after it, since something is read that may not be
+abbrev pub Refuses : Option Known → Refusal → Type 0
+Refuses after refusal = (refusal ≡ OutOfMemory) ⊎ ((number_of refusal ≡ 10) × (after ≡ None))
+
+-- want of memory, or K10 where a local of the text may be read before it is assigned
+abbrev pub MayBeUnassigned : Kernel → Refusal → Type 0
+MayBeUnassigned kernel refusal = (refusal ≡ OutOfMemory) ⊎ ((number_of refusal ≡ 10) × (IsDefinite no_privates (kernel_of kernel) → ⊥))
+
+-- of one part of what printf writes
+abbrev pub may_part : Known → Tree.PrintPart → Bool
+may_part k (Tree.Characters bs) = true
+may_part k (Tree.Decimal e) = may_read k e

@@ -1,0 +1,307 @@
+//! Texts with a scalar `s` and an array `A` at file scope, which are the variables 0 and 1; `x` is the local 2, and the
+//! variable of a loop 3.
+
+use super::*;
+use ktree::{
+    BinaryOp, CompareOp, Cond, Declaration, Expr, Head, Increment, Item, Kernel, Local, Mention,
+    Place, PrintPart, Refusal, Source, Stmt, Suffix, Target, VarId,
+};
+use std::alloc::{AllocError, Global};
+use std::test::Fail;
+
+const S: VarId = VarId(0);
+
+const A: VarId = VarId(1);
+
+const X: VarId = VarId(2);
+
+const I: VarId = VarId(3);
+
+fn at(column: u32) -> Place {
+    Place { line: 1, column }
+}
+
+fn number(n: u64) -> Expr {
+    Expr::Literal(n, Suffix::Bare)
+}
+
+fn mention(alloc: Global, column: u32) -> Mention {
+    Mention {
+        name: at(column),
+        subscripts: Vec::new(alloc),
+    }
+}
+
+/// A name at a column.
+fn named(alloc: Global, variable: VarId, column: u32) -> Expr {
+    Expr::Object(variable, Vec::new(alloc), mention(alloc, column))
+}
+
+/// `A[at]`, with a name in its subscript at a column.
+fn element(alloc: Global, variable: VarId, column: u32) -> Result<Target, AllocError> {
+    let mut subscripts = Vec::new(alloc);
+    subscripts.push(named(alloc, variable, column))?;
+    Ok(Target {
+        variable: A,
+        subscripts,
+        mention: mention(alloc, 1),
+    })
+}
+
+/// A name that is assigned, at a column.
+fn target(alloc: Global, variable: VarId, column: u32) -> Target {
+    Target {
+        variable,
+        subscripts: Vec::new(alloc),
+        mention: mention(alloc, column),
+    }
+}
+
+/// `variable = value;`
+fn assign(alloc: Global, variable: VarId, value: Expr) -> Stmt {
+    Stmt::Assign(target(alloc, variable, 1), Source::Number(value))
+}
+
+/// `name op n`, with the name at a column.
+fn compare(alloc: Global, variable: VarId, column: u32, n: u64) -> Result<Cond, AllocError> {
+    let left = Box::new(alloc, named(alloc, variable, column))?;
+    let right = Box::new(alloc, number(n))?;
+    Ok(Cond::Compare(CompareOp::Less, left, right, at(1)))
+}
+
+/// `if (s < 3) x = 1;`, with or without `else x = 2;`.
+fn choice(alloc: Global, has_else: bool) -> Result<Stmt, AllocError> {
+    let then = Box::new(alloc, assign(alloc, X, number(1)))?;
+    let other = if has_else {
+        Some(Box::new(alloc, assign(alloc, X, number(2)))?)
+    } else {
+        None
+    };
+    Ok(Stmt::If(compare(alloc, S, 1, 3)?, then, other))
+}
+
+/// `for (i = start; i < 8; step) body`, with the place of `for` at column 70.
+fn turns(alloc: Global, start: Expr, step: Increment, body: Stmt) -> Result<Stmt, AllocError> {
+    let head = Head {
+        variable: I,
+        name: String::from_str(alloc, "i")?,
+        start: Source::Number(start),
+        test: compare(alloc, I, 71, 8)?,
+        step,
+        place: at(70),
+        start_place: at(70),
+    };
+    Ok(Stmt::For(head, Box::new(alloc, body)?))
+}
+
+fn item(alloc: Global, stmt: Stmt) -> Result<Item, AllocError> {
+    Ok(Item::Statement(Box::new(alloc, stmt)?))
+}
+
+/// `uint64_t x;` or `uint64_t x = start;`
+fn local(alloc: Global, start: Option<Expr>) -> Result<Item, AllocError> {
+    let start = match start {
+        Some(value) => Some(Source::Number(value)),
+        None => None,
+    };
+    Ok(Item::Local(Local {
+        variable: X,
+        name: String::from_str(alloc, "x")?,
+        start,
+        place: at(1),
+    }))
+}
+
+fn variable(alloc: Global, name: &str) -> Result<Declaration, AllocError> {
+    Ok(Declaration {
+        name: String::from_str(alloc, name)?,
+        lengths: Vec::new(alloc),
+        place: at(1),
+    })
+}
+
+/// Where the first name stands that may be read unassigned in a text of these items.
+fn fault(alloc: Global, body: Vec<Item>) -> Result<Option<Place>, AllocError> {
+    let mut variables = Vec::new(alloc);
+    variables.push(variable(alloc, "s")?)?;
+    variables.push(variable(alloc, "A")?)?;
+    let kernel = Kernel {
+        constants: Vec::new(alloc),
+        variables,
+        body,
+    };
+    match definite(alloc, &kernel) {
+        Ok(()) => Ok(None),
+        Err(Refusal::MayBeUnassigned(place)) => Ok(Some(place)),
+        Err(_refusal) => Err(AllocError),
+    }
+}
+
+/// The same for `uint64_t x;` and a statement.
+fn fault_in(alloc: Global, stmt: Stmt) -> Result<Option<Place>, AllocError> {
+    let mut items = Vec::new(alloc);
+    items.push(local(alloc, None)?)?;
+    items.push(item(alloc, stmt)?)?;
+    fault(alloc, items)
+}
+
+/// The same for `uint64_t x;`, a statement and `s = variable;`, with that name at column 30.
+fn fault_behind(alloc: Global, stmt: Stmt, variable: VarId) -> Result<Option<Place>, AllocError> {
+    let mut items = Vec::new(alloc);
+    items.push(local(alloc, None)?)?;
+    items.push(item(alloc, stmt)?)?;
+    items.push(item(alloc, assign(alloc, S, named(alloc, variable, 30)))?)?;
+    fault(alloc, items)
+}
+
+/// The same for `uint64_t x = name; s = x;`, with that name at column 7.
+fn fault_from(alloc: Global, variable: VarId) -> Result<Option<Place>, AllocError> {
+    let mut items = Vec::new(alloc);
+    items.push(local(alloc, Some(named(alloc, variable, 7)))?)?;
+    items.push(item(alloc, assign(alloc, S, named(alloc, X, 30)))?)?;
+    fault(alloc, items)
+}
+
+#[test]
+fn branches_both_assign(rt: HostRuntime) -> Result<(), Fail> {
+    let alloc = rt.alloc();
+    assert_eq!(rt;
+        fault_behind(alloc, choice(alloc, false)?, X)?,
+        Some(at(30))
+    );
+    assert_eq!(rt; fault_behind(alloc, choice(alloc, true)?, X)?, None);
+    Ok(())
+}
+
+#[test]
+fn initialisers_assign(rt: HostRuntime) -> Result<(), Fail> {
+    let alloc = rt.alloc();
+    assert_eq!(rt; fault_from(alloc, S)?, None);
+    assert_eq!(rt; fault_from(alloc, X)?, Some(at(7)));
+    Ok(())
+}
+
+#[test]
+fn updates_read_their_variable_first(rt: HostRuntime) -> Result<(), Fail> {
+    let alloc = rt.alloc();
+    let update = Stmt::Update(target(alloc, X, 4), BinaryOp::Plus, named(alloc, X, 9));
+    assert_eq!(rt; fault_in(alloc, update)?, Some(at(4)));
+    Ok(())
+}
+
+#[test]
+fn subscripts_are_read_before_the_right_side(rt: HostRuntime) -> Result<(), Fail> {
+    let alloc = rt.alloc();
+    let stmt = Stmt::Assign(element(alloc, X, 3)?, Source::Number(named(alloc, X, 8)));
+    assert_eq!(rt; fault_in(alloc, stmt)?, Some(at(3)));
+    Ok(())
+}
+
+#[test]
+fn bodies_know_the_variable_of_their_loop(rt: HostRuntime) -> Result<(), Fail> {
+    let alloc = rt.alloc();
+    let body = assign(alloc, S, named(alloc, I, 20));
+    let stmt = turns(alloc, number(0), Increment::Up(I), body)?;
+    assert_eq!(rt; fault_in(alloc, stmt)?, None);
+    Ok(())
+}
+
+#[test]
+fn loops_leave_what_was_known(rt: HostRuntime) -> Result<(), Fail> {
+    let alloc = rt.alloc();
+    let stmt = turns(
+        alloc,
+        number(0),
+        Increment::Up(I),
+        assign(alloc, X, number(1)),
+    )?;
+    assert_eq!(rt; fault_behind(alloc, stmt, X)?, Some(at(30)));
+    let stmt = turns(
+        alloc,
+        number(0),
+        Increment::Up(I),
+        assign(alloc, X, number(1)),
+    )?;
+    assert_eq!(rt; fault_behind(alloc, stmt, I)?, Some(at(30)));
+    Ok(())
+}
+
+#[test]
+fn a_start_stands_before_its_variable(rt: HostRuntime) -> Result<(), Fail> {
+    let alloc = rt.alloc();
+    let body = assign(alloc, S, number(1));
+    let stmt = turns(alloc, named(alloc, I, 5), Increment::Up(I), body)?;
+    assert_eq!(rt; fault_in(alloc, stmt)?, Some(at(5)));
+    Ok(())
+}
+
+#[test]
+fn a_step_stands_behind_the_body(rt: HostRuntime) -> Result<(), Fail> {
+    let alloc = rt.alloc();
+    let step = Increment::Change(I, BinaryOp::Plus, named(alloc, X, 6));
+    let stmt = turns(alloc, number(0), step, assign(alloc, X, number(1)))?;
+    assert_eq!(rt; fault_in(alloc, stmt)?, None);
+    let stmt = turns(
+        alloc,
+        number(0),
+        Increment::Up(X),
+        assign(alloc, S, number(1)),
+    )?;
+    assert_eq!(rt; fault_in(alloc, stmt)?, Some(at(70)));
+    Ok(())
+}
+
+/// `printf("%llu %llu", s, x);`, with `x` at column 6.
+fn line(alloc: Global) -> Result<Stmt, AllocError> {
+    let mut parts = Vec::new(alloc);
+    parts.push(PrintPart::Decimal(named(alloc, S, 2)))?;
+    parts.push(PrintPart::Characters(Vec::from_slice(alloc, b" ")?))?;
+    parts.push(PrintPart::Decimal(named(alloc, X, 6)))?;
+    Ok(Stmt::Print(parts, at(1)))
+}
+
+#[test]
+fn arguments_are_read(rt: HostRuntime) -> Result<(), Fail> {
+    let alloc = rt.alloc();
+    assert_eq!(rt; fault_in(alloc, line(alloc)?)?, Some(at(6)));
+    Ok(())
+}
+
+/// `s = s < 3 ? 1 : x;`, with `x` at column 6.
+fn guarded(alloc: Global) -> Result<Stmt, AllocError> {
+    let test = Box::new(alloc, compare(alloc, S, 2, 3)?)?;
+    let one = Box::new(alloc, number(1))?;
+    let other = Box::new(alloc, named(alloc, X, 6))?;
+    Ok(assign(alloc, S, Expr::Choose(test, one, other)))
+}
+
+/// `if (s < 3 && x < 3) x = 1;`, with that `x` at column 8.
+fn guarded_test(alloc: Global) -> Result<Stmt, AllocError> {
+    let first = Box::new(alloc, compare(alloc, S, 2, 3)?)?;
+    let second = Box::new(alloc, compare(alloc, X, 8, 3)?)?;
+    let then = Box::new(alloc, assign(alloc, X, number(1)))?;
+    Ok(Stmt::If(Cond::Both(first, second), then, None))
+}
+
+#[test]
+fn names_are_read_whatever_guards_them(rt: HostRuntime) -> Result<(), Fail> {
+    let alloc = rt.alloc();
+    assert_eq!(rt; fault_in(alloc, guarded(alloc)?)?, Some(at(6)));
+    assert_eq!(rt; fault_in(alloc, guarded_test(alloc)?)?, Some(at(8)));
+    Ok(())
+}
+
+/// `{` a directive line, `x = 1; }`.
+fn block(alloc: Global) -> Result<Stmt, AllocError> {
+    let mut items = Vec::new(alloc);
+    items.push(Item::Directive(at(1)))?;
+    items.push(item(alloc, assign(alloc, X, number(1)))?)?;
+    Ok(Stmt::Block(items))
+}
+
+#[test]
+fn blocks_hand_on_what_is_known(rt: HostRuntime) -> Result<(), Fail> {
+    let alloc = rt.alloc();
+    assert_eq!(rt; fault_behind(alloc, block(alloc)?, X)?, None);
+    Ok(())
+}

@@ -1,0 +1,60 @@
+//! Loops and the stores that they run on.
+
+ghost use Rattle.std.specs.Prelude.{◌≤◌, ◌^◌, IsTrue, ◌↔◌, slice_get};
+ghost use Rattle.overlay.specs.Kept.{Covers};
+ghost use Rattle.overlay.specs.Loop.{OperandCovers, FormulaCovers, Fits};
+
+use ktree::VarId;
+use overlay::{Array, Formula, LoweredLoop, Operand, Store};
+
+/// Whether an array is there, has one dimension, and reaches so far.
+fn covers(arrays: &[Array], bound: u64, array: VarId) -> bool
+    ensures { IsTrue result ↔ Covers bound (slice_get arrays.now array.0) }
+{
+    let Some(array) = arrays.get(array.0 as usize) else {
+        return false;
+    };
+    // An array has as many values as elements.
+    let _values = array.values();
+    match array.lengths() {
+        [] => false,
+        [length] => bound <= *length,
+        [_, _, ..] => false,
+    }
+}
+
+/// The same for an operand, of which elements alone ask for it.
+fn operand_covers(arrays: &[Array], bound: u64, operand: Operand) -> bool
+    ensures { IsTrue result ↔ OperandCovers bound arrays.now operand }
+{
+    match operand {
+        Operand::Element(array) => covers(arrays, bound, array),
+        Operand::Counter => true,
+        Operand::Literal(_) => true,
+    }
+}
+
+/// The same for a right side.
+fn formula_covers(arrays: &[Array], bound: u64, formula: Formula) -> bool
+    ensures { IsTrue result ↔ FormulaCovers bound arrays.now formula }
+{
+    match formula {
+        Formula::One(operand) => operand_covers(arrays, bound, operand),
+        Formula::Two(_operation, left, right) => {
+            operand_covers(arrays, bound, left) && operand_covers(arrays, bound, right)
+        }
+    }
+}
+
+/// Whether a loop has 2^24 iterations at most, each array that it names has one dimension and reaches as far, and its
+/// counter is no file-scope variable.
+pub fn fits(lowered: &LoweredLoop, store: &Store) -> bool
+    ensures { IsTrue result ↔ (Fits lowered.now store.now × (lowered.now.bound ≤ 2 ^ 24)) }
+{
+    let arrays = store.arrays();
+    let bound = lowered.bound;
+    bound <= 1 << 24
+        && arrays.len() <= lowered.counter.0 as usize
+        && covers(arrays, bound, lowered.target)
+        && formula_covers(arrays, bound, lowered.formula)
+}
