@@ -36,4 +36,4 @@ subscripts_of s = exprs_of s.exprs.items
 
 -- what an operator made of operands, and whether it may have them
 abbrev pub union_of : Union → Tree.Source × Bool
-union_of j = (operand_of j.operand, is_none j.misfit)
+union_of j = (operand_of j.operand, j.fits)

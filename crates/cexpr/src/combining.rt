@@ -18,8 +18,9 @@ use crate::numeric::Numeric;
 use crate::operand::Operand;
 use crate::operator::Infix;
 use crate::parsed::{Parsed, Subscripts};
-use crate::stop::{Flaw, Stop, earlier, told, unless};
+use crate::stop::{Stop, earlier, told, told_sort};
 use crate::wanted::{cond_in, number_in};
+use crate::written::{Sort, Written};
 use ktree::{Cond, Expr, Place, Source, UnaryOp};
 use std::alloc::Global;
 
@@ -44,8 +45,12 @@ pub fn join<'s, 't>(
         fault: right_fault,
         rest,
     } = right;
-    let Union { operand, misfit } = joined(alloc, operator, place, begin, a, b)?;
-    let fault = told(earlier(left_fault, right_fault), misfit);
+    let Union {
+        operand,
+        fits,
+        misfit,
+    } = joined(alloc, operator, place, begin, a, b)?;
+    let fault = told(earlier(left_fault, right_fault), fits, misfit, place);
     Ok(Parsed {
         tree: operand,
         fault,
@@ -68,21 +73,22 @@ pub fn changed<'s, 't>(
         is_number,
         typed,
         plain,
+        written,
     } = number_in(tree);
     let source = Source::Number(Expr::Unary(operator, Box::new(alloc, expr)?));
-    let own = unless(is_number && typed, Flaw::Operands, place);
+    let fault = told_sort(fault, is_number && typed, written.is_typed(), place);
     let tree = Operand {
         source,
         typed,
         constant: None,
         plain,
-        place,
+        written: Written {
+            sort: Sort::Typed,
+            has_ull: written.has_ull,
+            place,
+        },
     };
-    Ok(Parsed {
-        tree,
-        fault: earlier(fault, own),
-        rest,
-    })
+    Ok(Parsed { tree, fault, rest })
 }
 
 /// `!` in front of a condition (C11 6.5.3.3).
@@ -95,9 +101,14 @@ pub fn opposite<'s, 't>(
 {
     let Parsed { tree, fault, rest } = operand;
     let plain = tree.plain;
+    let written = Written {
+        sort: Sort::Condition,
+        has_ull: tree.written.has_ull,
+        place,
+    };
     let c = Box::new(alloc, cond_in(alloc, tree.source)?)?;
     Ok(Parsed {
-        tree: truth(Cond::Not(c), plain, place),
+        tree: truth(Cond::Not(c), plain, written),
         fault,
         rest,
     })
@@ -129,11 +140,22 @@ pub fn choice<'s, 't>(
         rest,
     } = second;
     let (a, b) = (number_in(a), number_in(b));
-    let own = unless(a.is_number && b.is_number, Flaw::Operands, place);
+    let numbers = a.written.is_number() && b.written.is_number();
     let arms = earlier(first_fault, second_fault);
-    let fault = earlier(condition_fault, earlier(arms, own));
+    let arms = told_sort(arms, a.is_number && b.is_number, numbers, place);
+    let fault = earlier(condition_fault, arms);
     let tree = chosen(alloc, c, a, b, place)?;
     Ok(Parsed { tree, fault, rest })
+}
+
+/// `c ? a : b` as it was written.
+fn written_choice(condition: Written, a: Written, b: Written, place: Place) -> Written {
+    let typed = a.is_typed() || b.is_typed();
+    Written {
+        sort: if typed { Sort::Typed } else { Sort::Untyped },
+        has_ull: condition.has_ull || a.has_ull || b.has_ull,
+        place,
+    }
 }
 
 /// `c ? a : b` of a condition and two arithmetic expressions.
@@ -148,6 +170,7 @@ fn chosen(
 {
     let typed = a.typed || b.typed;
     let plain = condition.plain && a.plain && b.plain;
+    let written = written_choice(condition.written, a.written, b.written, place);
     let c = Box::new(alloc, cond_in(alloc, condition.source)?)?;
     let (a, b) = (Box::new(alloc, a.expr)?, Box::new(alloc, b.expr)?);
     let source = Source::Number(Expr::Choose(c, a, b));
@@ -156,7 +179,7 @@ fn chosen(
         typed,
         constant: None,
         plain,
-        place,
+        written,
     })
 }
 
@@ -201,13 +224,13 @@ pub fn with_subscript<'s, 't>(
         rest: _,
     } = subscript;
     let number = number_in(tree);
-    let own = unless(number.is_number, Flaw::Operands, place);
+    let fault = told_sort(fault, number.is_number, number.written.is_number(), place);
     exprs.push(number.expr)?;
     places.push(begin)?;
     let tree = Subscripts { exprs, places };
     Ok(Parsed {
         tree,
-        fault: earlier(row_fault, earlier(fault, own)),
+        fault: earlier(row_fault, fault),
         rest: behind,
     })
 }

@@ -8,8 +8,9 @@ ghost use Rattle.cexpr.specs.Operators.{number_in};
 ghost use Rattle.cexpr.specs.Outcome.{operand_of};
 
 use crate::operand::Operand;
-use crate::stop::{Fault, Flaw};
+use crate::stop::{Fault, Flaw, unless};
 use crate::typing::{constant, may_shift, not_zero};
+use crate::written::{Sort, Written};
 use ktree::{BinaryOp, Expr, Place, Source, Suffix};
 
 /// Whether an operand may divide: a constant expression or a literal with `ull`, and not 0 (C11 6.5.5).
@@ -53,36 +54,61 @@ fn may_be_constant(operator: BinaryOp) -> bool {
     matches!(operator, BinaryOp::Plus | BinaryOp::Minus | BinaryOp::Times)
 }
 
-/// Where the value of an operation is at fault: at the first token that a constant expression may not have, or else at
-/// the operator.
-pub fn blamed(operator: BinaryOp, place: Place, left: &Operand, right: &Operand) -> Place {
-    if left.constant.is_none() {
+/// Whether an operator is a shift.
+fn is_shift(operator: BinaryOp) -> bool {
+    matches!(operator, BinaryOp::ShiftLeft | BinaryOp::ShiftRight)
+}
+
+/// An operation as it was written. One at fault counts as typed (C11 6.3.1.8).
+pub fn written(operator: BinaryOp, place: Place, left: Written, right: Written) -> Written {
+    let sort = match (left.sort, right.sort) {
+        (Sort::Constant(a), Sort::Constant(b)) if may_be_constant(operator) => {
+            Sort::Constant(constant(operator, a, b))
+        }
+        _ => Sort::Typed,
+    };
+    let place = if !left.is_constant() {
         left.place
-    } else if may_be_constant(operator) && right.constant.is_none() {
+    } else if may_be_constant(operator) && !right.is_constant() {
         right.place
     } else {
         place
+    };
+    let has_ull = left.has_ull || right.has_ull;
+    Written {
+        sort,
+        has_ull,
+        place,
     }
 }
 
-/// What is wrong with operands that do not fit.
-pub fn misfit(operator: BinaryOp, place: Place, left: &Operand, right: &Operand) -> Fault {
-    let typed = is_typed(operator, left, right);
-    let constants = left.constant.is_some() && right.constant.is_some();
-    if may_be_constant(operator) && constants {
-        Fault {
-            place,
-            flaw: Flaw::NumberOutOfRange,
+/// What is wrong with a divisor or with the count of a shift.
+fn constant_fault(operator: BinaryOp, right: &Operand) -> Option<Fault> {
+    let holds = match right.written.sort {
+        Sort::Constant(None) => true,
+        Sort::Constant(value) if is_shift(operator) => may_shift(value),
+        Sort::Constant(value) => not_zero(value),
+        _ => !is_shift(operator) && may_divide(right),
+    };
+    let fault = right.written.out_of_range();
+    unless(holds, fault.flaw, fault.place)
+}
+
+/// What is wrong with an operator at a place between operands as they were written.
+pub fn misfit(operator: BinaryOp, place: Place, left: &Operand, right: &Operand) -> Option<Fault> {
+    let (a, b) = (left.written, right.written);
+    let numbers = a.is_number() && b.is_number();
+    let typed = a.is_typed() || (b.is_typed() && !is_shift(operator));
+    match (a.sort, b.sort) {
+        (Sort::Constant(m), Sort::Constant(n)) if may_be_constant(operator) => {
+            let holds = m.is_none() || n.is_none() || constant(operator, m, n).is_some();
+            unless(holds, Flaw::NumberOutOfRange, place)
         }
-    } else if typed {
-        Fault {
-            place: right.place,
-            flaw: Flaw::NumberOutOfRange,
-        }
-    } else {
-        Fault {
-            place,
-            flaw: Flaw::Operands,
-        }
+        _ if !numbers || !typed => unless(false, Flaw::Operands, place),
+        _ => match operator {
+            BinaryOp::Divide | BinaryOp::Remainder | BinaryOp::ShiftLeft | BinaryOp::ShiftRight =>
+                constant_fault(operator, right),
+            _ => None,
+        },
     }
 }

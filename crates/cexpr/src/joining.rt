@@ -8,25 +8,27 @@ ghost use Rattle.cexpr.specs.Operators.{Arithmetic, Comparing, joined, joins};
 ghost use Rattle.cexpr.specs.Infixes.{infix_in};
 ghost use Rattle.cexpr.specs.Outcome.{Gives, operand_of, union_of};
 
-use crate::fitting::{blamed, fit, is_typed, misfit};
+use crate::fitting::{fit, is_typed, misfit, written};
 use crate::leaf::stand_in;
 use crate::operand::Operand;
 use crate::operator::Infix;
 use crate::stop::{Fault, Flaw, Stop, unless};
 use crate::typing::constant;
 use crate::wanted::cond_in;
+use crate::written::{Sort, Written};
 use ktree::{BinaryOp, CompareOp, Cond, Expr, Place, Source};
 use std::alloc::Global;
 
-/// What an operator makes of its operands, and what is wrong with them.
+/// What an operator makes of its operands, whether it may have them, and what is wrong with them as they were written.
 #[derive(Drop)]
 pub struct Union {
     pub operand: Operand,
+    pub fits: bool,
     pub misfit: Option<Fault>,
 }
 
 /// A condition as an operand.
-pub fn truth(cond: Cond, plain: bool, place: Place) -> Operand
+pub fn truth(cond: Cond, plain: bool, written: Written) -> Operand
     requires { plain ≡ plain_cond (cond_of cond) }
     ensures { operand_of result ≡ Truth (cond_of cond) }
 {
@@ -36,16 +38,20 @@ pub fn truth(cond: Cond, plain: bool, place: Place) -> Operand
         typed: true,
         constant: None,
         plain,
-        place,
+        written,
     }
 }
 
-/// Where the value of a condition is at fault: at its left operand, or else at its operator.
-fn blamed_in_condition(left: &Operand, place: Place) -> Place {
-    if left.constant.is_none() {
-        left.place
-    } else {
-        place
+/// A condition as it was written: its value is at fault at its left operand, or else at its operator.
+fn condition(place: Place, left: Written, right: Written) -> Written {
+    Written {
+        sort: Sort::Condition,
+        has_ull: left.has_ull || right.has_ull,
+        place: if left.is_constant() {
+            place
+        } else {
+            left.place
+        },
     }
 }
 
@@ -58,12 +64,12 @@ fn arithmetic(
 ) -> Result<Union, Stop>
     ensures { Gives union_of result (Some (joined (Arithmetic (binary_of operator)) (operand_of left) (operand_of right), joins (Arithmetic (binary_of operator)) (operand_of left) (operand_of right))) }
 {
-    let wrong = misfit(operator, place, &left, &right);
+    let misfit = misfit(operator, place, &left, &right);
     let fits = fit(operator, &left, &right);
     let typed = is_typed(operator, &left, &right);
     let constant = constant(operator, left.constant, right.constant);
     let plain = left.plain && right.plain;
-    let blamed = blamed(operator, place, &left, &right);
+    let written = written(operator, place, left.written, right.written);
     match (left.source, right.source) {
         (Source::Number(a), Source::Number(b)) => {
             let source = Source::Number(Expr::Binary(
@@ -76,18 +82,19 @@ fn arithmetic(
                 typed,
                 constant,
                 plain,
-                place: blamed,
+                written,
             };
-            let misfit = unless(fits, wrong.flaw, wrong.place);
-            Ok(Union { operand, misfit })
-        }
-        _ => {
-            let misfit = unless(false, Flaw::Operands, place);
             Ok(Union {
-                operand: stand_in(place),
+                operand,
+                fits,
                 misfit,
             })
         }
+        _ => Ok(Union {
+            operand: stand_in(written),
+            fits: false,
+            misfit,
+        }),
     }
 }
 
@@ -103,23 +110,24 @@ fn comparison(
 {
     let typed = left.typed || right.typed;
     let plain = left.plain && right.plain;
-    let blamed = blamed_in_condition(&left, place);
+    let (a, b) = (left.written, right.written);
+    let holds = a.is_number() && b.is_number() && (a.is_typed() || b.is_typed());
+    let misfit = unless(holds, Flaw::Operands, place);
+    let written = condition(place, a, b);
     match (left.source, right.source) {
         (Source::Number(a), Source::Number(b)) => {
             let cond = Cond::Compare(operator, Box::new(alloc, a)?, Box::new(alloc, b)?, begin);
-            let misfit = unless(typed, Flaw::Operands, place);
             Ok(Union {
-                operand: truth(cond, plain, blamed),
+                operand: truth(cond, plain, written),
+                fits: typed,
                 misfit,
             })
         }
-        _ => {
-            let misfit = unless(false, Flaw::Operands, place);
-            Ok(Union {
-                operand: stand_in(place),
-                misfit,
-            })
-        }
+        _ => Ok(Union {
+            operand: stand_in(written),
+            fits: false,
+            misfit,
+        }),
     }
 }
 
@@ -139,21 +147,23 @@ pub fn joined(
         Infix::Comparing(op) => comparison(alloc, op, place, begin, left, right),
         Infix::AndAlso => {
             let plain = left.plain && right.plain;
-            let blamed = blamed_in_condition(&left, place);
+            let written = condition(place, left.written, right.written);
             let c = Box::new(alloc, cond_in(alloc, left.source)?)?;
             let d = Box::new(alloc, cond_in(alloc, right.source)?)?;
             Ok(Union {
-                operand: truth(Cond::Both(c, d), plain, blamed),
+                operand: truth(Cond::Both(c, d), plain, written),
+                fits: true,
                 misfit: None,
             })
         }
         Infix::OrElse => {
             let plain = left.plain && right.plain;
-            let blamed = blamed_in_condition(&left, place);
+            let written = condition(place, left.written, right.written);
             let c = Box::new(alloc, cond_in(alloc, left.source)?)?;
             let d = Box::new(alloc, cond_in(alloc, right.source)?)?;
             Ok(Union {
-                operand: truth(Cond::Either(c, d), plain, blamed),
+                operand: truth(Cond::Either(c, d), plain, written),
+                fits: true,
                 misfit: None,
             })
         }

@@ -16,6 +16,7 @@ use crate::parsed::{Parsed, Subscripts};
 use crate::scope::Entity;
 use crate::stop::{Fault, Flaw, Stop, earlier, unless};
 use crate::typing::{in_int, in_range};
+use crate::written::{Sort, Written};
 use ktree::{Expr, Mention, Place, Source, Suffix, VarId};
 use std::alloc::Global;
 
@@ -43,21 +44,29 @@ pub fn literal<'s, 't>(
             typed: false,
             constant: in_int(n),
             plain: true,
-            place,
+            written: Written {
+                sort: Sort::Constant(if fault.is_none() { in_int(n) } else { None }),
+                has_ull: false,
+                place,
+            },
         },
         Suffix::Ull => Operand {
             source,
             typed: true,
             constant: None,
             plain: false,
-            place,
+            written: Written {
+                sort: Sort::Typed,
+                has_ull: true,
+                place,
+            },
         },
     };
     Parsed { tree, fault, rest }
 }
 
 /// An expression with a type of its own, which stands where one is missing.
-pub fn stand_in(place: Place) -> Operand
+pub fn stand_in(written: Written) -> Operand
     ensures { operand_of result ≡ Number (Literal 0 Ull) }
 {
     let source = Source::Number(Expr::Literal(0, Suffix::Ull));
@@ -66,7 +75,7 @@ pub fn stand_in(place: Place) -> Operand
         typed: true,
         constant: None,
         plain: false,
-        place,
+        written,
     }
 }
 
@@ -85,7 +94,7 @@ fn object(x: VarId, place: Place, subscripts: Subscripts) -> Operand
         typed: true,
         constant: None,
         plain: true,
-        place,
+        written: Written::variable(place),
     }
 }
 
@@ -99,7 +108,11 @@ fn constant(alloc: Global, name: &str, n: u32, place: Place) -> Result<Operand, 
         typed: false,
         constant: Some(n),
         plain: true,
-        place,
+        written: Written {
+            sort: Sort::Constant(Some(n)),
+            has_ull: false,
+            place,
+        },
     })
 }
 
@@ -124,7 +137,7 @@ pub fn named<'s, 't>(
         None => {
             let fault = earlier(fault, unless(false, Flaw::UnknownName, place));
             Ok(Parsed {
-                tree: stand_in(place),
+                tree: stand_in(Written::variable(place)),
                 fault,
                 rest,
             })

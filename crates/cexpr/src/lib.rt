@@ -19,3 +19,4 @@ pub mod stop;
 mod tests;
 mod typing;
 pub mod wanted;
+pub mod written;

@@ -3,6 +3,7 @@
 ghost use Rattle.std.specs.Prelude.{◌≡◌};
 ghost use Rattle.cexpr.specs.Operands.{expr_typed, expr_plain};
 
+use crate::written::Written;
 use ktree::Expr;
 
 /// An arithmetic expression with what is known of it, and whether one was read.
@@ -12,6 +13,7 @@ pub struct Numeric {
     pub is_number: bool,
     pub typed: bool,
     pub plain: bool,
+    pub written: Written,
     ghost type_known: { typed ≡ expr_typed expr },
     ghost literals_known: { plain ≡ expr_plain expr },
 }

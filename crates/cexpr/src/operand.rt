@@ -3,7 +3,8 @@
 ghost use Rattle.std.specs.Prelude.{◌≡◌};
 ghost use Rattle.cexpr.specs.Operands.{typed_in, constant_in, plain_in};
 
-use ktree::{Place, Source};
+use crate::written::Written;
+use ktree::Source;
 
 /// What was read as an operand: a number or a condition.
 #[derive(Drop)]
@@ -15,8 +16,7 @@ pub struct Operand {
     pub constant: Option<u32>,
     /// Whether it has no literal with `ull` outside of subscripts.
     pub plain: bool,
-    /// Where the value is at fault: the first token that a constant expression may not have, or else its top operator.
-    pub place: Place,
+    pub written: Written,
     ghost type_known: { typed ≡ typed_in source },
     ghost value_known: { constant ≡ constant_in source },
     ghost literals_known: { plain ≡ plain_in source },

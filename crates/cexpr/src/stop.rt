@@ -33,11 +33,12 @@ impl<T: Drop> From<AllocFailed<T>> for Stop {
     }
 }
 
-/// A fault of names and sorts, in the order of the refusals' numbers.
+/// A fault of names and sorts, in the order in which they are told at one place: an unknown name has no value for that, and
+/// else it is the order of the refusals' numbers.
 #[derive(Clone, Copy, PartialEq, Eq, Drop)]
 pub enum Flaw {
-    NumberOutOfRange,
     UnknownName,
+    NumberOutOfRange,
     NameTwice,
     Operands,
     Limit,
@@ -51,18 +52,11 @@ pub struct Fault {
 }
 
 impl Fault {
-    /// Whether a fault is told before another one: that of the earlier place, and at one place that of the lower number.
+    /// Whether a fault is told before another one: that of the earlier place, and at one place that of the first flaw.
     fn comes_before(self, other: Fault) -> bool {
         let here = (self.place.line, self.place.column, self.flaw as u8);
         let there = (other.place.line, other.place.column, other.flaw as u8);
         here < there
-    }
-
-    /// Whether a value is missing because of another fault, which is then the one that is told.
-    fn comes_of(self, inside: Fault) -> bool {
-        let here = (self.place.line, self.place.column);
-        let there = (inside.place.line, inside.place.column);
-        self.flaw == Flaw::NumberOutOfRange && inside.flaw != Flaw::Operands && here >= there
     }
 }
 
@@ -88,13 +82,21 @@ pub fn unless(right: bool, flaw: Flaw, place: Place) -> Option<Fault>
     }
 }
 
-/// What is told of faults inside of operands and of operands that do not fit. A constant with a fault inside has no
-/// value, and that it has none is not told; that an operand is no constant is.
-pub fn told(inside: Option<Fault>, misfit: Option<Fault>) -> Option<Fault>
-    ensures { is_none result ≡ (is_none inside && is_none misfit) }
+/// What is told of a fault inside of operands and of one in how they were written, where an operator may have them or not.
+/// Operands that do not fit because of a fault inside alone have none of their own.
+pub fn told(inside: Option<Fault>, right: bool, own: Option<Fault>, place: Place) -> Option<Fault>
+    ensures { is_none result ≡ (is_none inside && right) }
 {
-    match (inside, misfit) {
-        (Some(first), Some(second)) if second.comes_of(first) => inside,
-        _ => earlier(inside, misfit),
+    match (inside, own) {
+        (None, None) => unless(right, Flaw::Operands, place),
+        (None, Some(fault)) => unless(right, fault.flaw, fault.place),
+        (Some(_), _) => earlier(inside, own),
     }
+}
+
+/// The same of the sort of an operand, which is as wanted, or counts so.
+pub fn told_sort(inside: Option<Fault>, right: bool, counts: bool, place: Place) -> Option<Fault>
+    ensures { is_none result ≡ (is_none inside && right) }
+{
+    told(inside, right, unless(counts, Flaw::Operands, place), place)
 }

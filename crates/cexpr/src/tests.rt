@@ -55,10 +55,30 @@ fn products_are_tighter_than_sums(rt: HostRuntime) -> Result<(), Fail> {
     Ok(())
 }
 
+/// Where operands are told not to fit in an expression of these tokens, or 0.
+fn misfit_column(alloc: Global, tokens: &[Lexeme]) -> Result<u32, Fail> {
+    let scope = visible(alloc)?;
+    let context = Context {
+        alloc,
+        scope: &scope,
+        end: END,
+    };
+    let parsed = whole(context, 64, tokens)
+        .ok()
+        .ok_or("the tokens are an expression")?;
+    match parsed.fault {
+        Some(
+            Fault {
+                place,
+                flaw: Flaw::Operands,
+            },
+        ) => Ok(place.column),
+        _ => Ok(0),
+    }
+}
+
 #[test]
 fn condition_is_no_operand_of_a_product(rt: HostRuntime) -> Result<(), Fail> {
-    let alloc = rt.alloc();
-    let scope = visible(alloc)?;
     let tokens = [
         token(1, Kind::Sign(Symbol::MinusSign)),
         token(2, Kind::Sign(Symbol::OpenParen)),
@@ -68,24 +88,21 @@ fn condition_is_no_operand_of_a_product(rt: HostRuntime) -> Result<(), Fail> {
         token(8, Kind::Sign(Symbol::Bang)),
         token(9, Kind::Word("y")),
     ];
-    let context = Context {
-        alloc,
-        scope: &scope,
-        end: END,
-    };
-    let parsed = whole(context, 64, &tokens)
-        .ok()
-        .ok_or("the tokens are an expression")?;
-    let told = match parsed.fault {
-        Some(
-            Fault {
-                place,
-                flaw: Flaw::Operands,
-            },
-        ) => place.column,
-        _ => 0,
-    };
-    assert_eq!(rt; told, 6);
+    assert_eq!(rt; misfit_column(rt.alloc(), &tokens)?, 6);
+    Ok(())
+}
+
+#[test]
+fn operation_at_fault_counts_as_typed(rt: HostRuntime) -> Result<(), Fail> {
+    let tokens = [
+        token(1, Kind::Sign(Symbol::MinusSign)),
+        token(2, Kind::Sign(Symbol::OpenParen)),
+        token(3, Kind::Digits(Some(1), Suffix::Bare)),
+        token(5, Kind::Sign(Symbol::DoubleGreater)),
+        token(8, Kind::Digits(Some(0), Suffix::Bare)),
+        token(9, Kind::Sign(Symbol::CloseParen)),
+    ];
+    assert_eq!(rt; misfit_column(rt.alloc(), &tokens)?, 5);
     Ok(())
 }
 

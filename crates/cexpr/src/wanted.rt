@@ -20,6 +20,7 @@ pub fn number_in(operand: Operand) -> Numeric
         source,
         typed,
         plain,
+        written,
         ..
     } = operand;
     match source {
@@ -28,6 +29,7 @@ pub fn number_in(operand: Operand) -> Numeric
             is_number: true,
             typed,
             plain,
+            written,
         },
         Source::Truth(_) => {
             let expr = Expr::Literal(0, Suffix::Ull);
@@ -36,6 +38,7 @@ pub fn number_in(operand: Operand) -> Numeric
                 is_number: false,
                 typed: true,
                 plain: false,
+                written,
             }
         }
     }

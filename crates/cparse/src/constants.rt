@@ -1,6 +1,6 @@
 //! Constant expressions and enumerations (C11 6.6, 6.7.2.2).
 
-ghost use Rattle.std.specs.Prelude.{◌≡◌, ◌∷◌, length, Some, IfOk, OnOk};
+ghost use Rattle.std.specs.Prelude.{◌≡◌, ◌∷◌, ◌&&◌, is_none, length, Some, IfOk, OnOk};
 ghost use Rattle.semantics.specs.Source.Scope.{with_constants};
 ghost use Rattle.cparse.specs.DeclarationSteps.{constant_read, one_constant, and_then, visible};
 ghost use Rattle.cparse.specs.DeclarationViews.{value_in, valued_of, enumerators_of};
@@ -15,18 +15,40 @@ use cexpr::lexeme::Lexeme;
 use cexpr::parsed::{Parsed, and_then};
 use cexpr::punctuation::first_place;
 use cexpr::scope::{Entity, Scope, add, find};
-use cexpr::stop::{Flaw, Stop, earlier, told, unless};
+use cexpr::stop::{Fault, Flaw, Stop, earlier, told, unless};
 use cexpr::wanted::number_in;
+use cexpr::written::{Sort, Written};
 use cstmt::punctuation::{becomes, comma};
 use cstmt::words::new_name;
-use ktree::{Enumerator, Place};
+use ktree::Enumerator;
 use std::alloc::Global;
 
-/// The value of a constant expression, if it has one, and the place that is told where it has none.
+/// The value of a constant expression, if it has one, and how it was written.
 #[derive(Clone, Copy, Drop)]
 pub struct Constant {
     pub value: Option<u32>,
-    pub place: Place,
+    pub written: Written,
+}
+
+impl Constant {
+    /// What is wrong where a constant expression of this value or more was to be written. A fault inside that leaves it
+    /// without a value draws no other one.
+    fn misfit(self, least: u32) -> Option<Fault> {
+        let holds = match self.written.sort {
+            Sort::Constant(Some(n)) => n >= least,
+            Sort::Constant(None) => true,
+            _ => false,
+        };
+        let fault = self.written.out_of_range();
+        unless(holds, fault.flaw, fault.place)
+    }
+
+    /// The fault that is told where this value or more is wanted, and whether it has one that is right.
+    pub fn told(self, inside: Option<Fault>, right: bool, least: u32) -> Option<Fault>
+        ensures { is_none result ≡ (is_none inside && right) }
+    {
+        told(inside, right, self.misfit(least), self.written.place)
+    }
 }
 
 /// A constant expression.
@@ -39,13 +61,12 @@ pub fn constant_expression<'s, 't>(
     let Parsed { tree, fault, rest } = whole(context, 64, tokens)?;
     let constant = Constant {
         value: tree.constant,
-        place: tree.place,
+        written: tree.written,
     };
     let number = number_in(tree);
-    let own = unless(number.is_number, Flaw::NumberOutOfRange, constant.place);
     Ok(Parsed {
         tree: constant,
-        fault: told(fault, own),
+        fault: constant.told(fault, number.is_number, 0),
         rest,
     })
 }
@@ -72,14 +93,14 @@ fn enumerator<'s, 't>(
         name.place,
     );
     let Parsed { tree, fault, rest } = constant_expression(context, behind)?;
-    let own = unless(tree.value.is_some(), Flaw::NumberOutOfRange, tree.place);
+    let fault = tree.told(fault, tree.value.is_some(), 0);
     let tree = Valued {
         name: name.name,
         value: tree.value.unwrap_or(0),
     };
     Ok(Parsed {
         tree,
-        fault: earlier(twice, told(fault, own)),
+        fault: earlier(twice, fault),
         rest,
     })
 }

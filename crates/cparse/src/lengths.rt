@@ -12,7 +12,6 @@ use cexpr::context::{Context, Outcome};
 use cexpr::lexeme::Lexeme;
 use cexpr::parsed::{Parsed, and_then};
 use cexpr::punctuation::{close_bracket, open_bracket};
-use cexpr::stop::{Flaw, earlier, told, unless};
 
 /// A length, 1 where there is none.
 #[tactic(auto, using(crate::proofs::DeclarationLemmas::length_some))]
@@ -42,10 +41,9 @@ fn dimension<'s, 't>(context: Context<'_, 't>, tokens: &'s [Lexeme<'t>]) -> Outc
 {
     let Parsed { tree, fault, rest } = constant_expression(context, tokens)?;
     let rest = close_bracket(rest, context.end)?;
-    let own = unless(is_length(tree.value), Flaw::NumberOutOfRange, tree.place);
     Ok(Parsed {
         tree: length_of(tree.value),
-        fault: told(fault, own),
+        fault: tree.told(fault, is_length(tree.value), 1),
         rest,
     })
 }

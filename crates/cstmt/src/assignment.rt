@@ -19,7 +19,7 @@ use cexpr::lexeme::Lexeme;
 use cexpr::operator::update_of;
 use cexpr::parsed::{Parsed, Subscripts};
 use cexpr::scope::Entity;
-use cexpr::stop::{Fault, Flaw, Stop, earlier, unless};
+use cexpr::stop::{Stop, earlier, told_sort};
 use cexpr::wanted::number_in;
 use ctoken::Symbol;
 use ktree::{BinaryOp, Mention, Place, Stmt, Target};
@@ -89,8 +89,9 @@ fn update<'s, 't>(
     let own = target_fault(entity, &subscripts.exprs, place);
     let Parsed { tree, fault, rest } = whole(context, room, sign.rest)?;
     let number = number_in(tree);
-    let sort = unless(number.is_number, Flaw::Operands, sign.place);
-    let fault = earlier(row_fault, earlier(own, earlier(fault, sort)));
+    let counts = number.written.is_number();
+    let fault = told_sort(fault, number.is_number, counts, sign.place);
+    let fault = earlier(row_fault, earlier(own, fault));
     Ok(Parsed {
         tree: Stmt::Update(target(entity, place, subscripts), operator, number.expr),
         fault,

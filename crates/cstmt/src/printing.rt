@@ -1,6 +1,6 @@
 //! printf (C11 7.21.6.3).
 
-ghost use Rattle.std.specs.Prelude.{◌≡◌, ◌&&◌, length, count_by, is_none, map, Some};
+ghost use Rattle.std.specs.Prelude.{◌≡◌, length, count_by, map, Some};
 ghost use Rattle.ktree.specs.View.{expr_of, part_of, stmt_of};
 ghost use Rattle.cexpr.specs.ExpressionReader.{expression};
 ghost use Rattle.cstmt.specs.StatementReader.{arguments, filled, fills, printed};
@@ -18,29 +18,10 @@ use cexpr::lexeme::Lexeme;
 use cexpr::operand::Operand;
 use cexpr::parsed::Parsed;
 use cexpr::punctuation::close_paren;
-use cexpr::stop::{Fault, Flaw, Stop, earlier, unless};
+use cexpr::stop::{Flaw, Stop, earlier, told_sort, unless};
 use cexpr::wanted::number_in;
 use ktree::{Expr, Place, PrintPart, Stmt, Suffix};
 use std::alloc::Global;
-
-/// What is wrong with an argument of the printf at a place: its sort, and what is wrong inside of it. An operation whose
-/// operands have the wrong sort counts as typed, and an unknown name as a variable.
-fn argument_fault(
-    inside: Option<Fault>,
-    is_number: bool,
-    typed: bool,
-    plain: bool,
-    place: Place,
-) -> Option<Fault>
-    ensures { is_none result ≡ (is_none inside && (is_number && typed && plain)) }
-{
-    let own = unless(is_number && typed && plain, Flaw::Operands, place);
-    match inside {
-        Some(fault) if fault.flaw == Flaw::Operands && is_number && plain => inside,
-        Some(fault) if fault.flaw == Flaw::UnknownName && is_number && typed => inside,
-        _ => earlier(inside, own),
-    }
-}
 
 /// Arguments of the printf at a place, and one more.
 fn with_argument<'s, 't>(
@@ -57,7 +38,13 @@ fn with_argument<'s, 't>(
     } = row;
     let Parsed { tree, fault, rest } = argument;
     let number = number_in(tree);
-    let own = argument_fault(fault, number.is_number, number.typed, number.plain, place);
+    let counts = number.written.is_typed() && !number.written.has_ull;
+    let own = told_sort(
+        fault,
+        number.is_number && number.typed && number.plain,
+        counts,
+        place,
+    );
     arguments.push(number.expr)?;
     Ok(Parsed {
         tree: arguments,

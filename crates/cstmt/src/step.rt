@@ -19,7 +19,7 @@ use cexpr::lexeme::{Kind, Lexeme};
 use cexpr::operator::update_of;
 use cexpr::parsed::Parsed;
 use cexpr::scope::Entity;
-use cexpr::stop::{Flaw, Stop, earlier, unless};
+use cexpr::stop::{Stop, earlier, told_sort};
 use cexpr::wanted::number_in;
 use ctoken::Symbol;
 use ktree::{BinaryOp, Increment, Place};
@@ -56,8 +56,9 @@ fn changed_by<'s, 't>(
 {
     let Parsed { tree, fault, rest } = whole(context, room, sign.rest)?;
     let number = number_in(tree);
-    let own = unless(number.is_number, Flaw::Operands, sign.place);
-    let fault = earlier(step_fault(entity, place), earlier(fault, own));
+    let counts = number.written.is_number();
+    let fault = told_sort(fault, number.is_number, counts, sign.place);
+    let fault = earlier(step_fault(entity, place), fault);
     Ok(Parsed {
         tree: Increment::Change(target_of(entity), operator, number.expr),
         fault,
