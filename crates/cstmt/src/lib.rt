@@ -14,5 +14,7 @@ pub mod statement;
 mod step;
 pub mod tally;
 mod target;
+#[cfg(test)]
+mod tests;
 pub mod told;
 pub mod words;
