@@ -18,9 +18,9 @@ known_at (Some b) = b
 abbrev pub known_of : List Bool → Known
 known_of bs x = known_at (slice_get bs x)
 
--- K10, since something is read that may not be
-abbrev pub Unread : Bool → Refusal → Type 0
-Unread ok refusal = (number_of refusal ≡ 10) × (ok ≡ false)
+-- something is read that may not be
+abbrev pub Unread : {E : Type 0} → Bool → E → Type 0
+Unread ok name = ok ≡ false
 
 -- want of memory, or K10 where nothing is known after it, since something is read that may not be
 abbrev pub Refuses : Option Known → Refusal → Type 0

@@ -50,10 +50,14 @@ fn statement(stmt: &Stmt, known: &mut Known) -> Result<(), Refusal>
         Stmt::For(head, body) => {
             let mut inside = enter(head, known)?;
             statement(body, &mut inside)?;
-            read_step(&head.step, head.place, &inside)
+            read_step(&head.step, head.place, &inside)?;
+            Ok(())
         }
         Stmt::Block(items) => block(items, known),
-        Stmt::Print(parts, _place) => read_parts(parts, known),
+        Stmt::Print(parts, _place) => {
+            read_parts(parts, known)?;
+            Ok(())
+        }
     }
 }
 
@@ -118,7 +122,8 @@ fn update(target: &Target, expr: &Expr, known: &Known) -> Result<(), Refusal>
 {
     known.read(target.variable, target.mention.name)?;
     read_all(&target.subscripts, known)?;
-    read(expr, known)
+    read(expr, known)?;
+    Ok(())
 }
 
 /// Judges a loop's start and its test, and answers what may be read in its body (C11 6.8.5.3).

@@ -2,11 +2,26 @@
 
 ghost use Rattle.std.specs.Prelude.{◌≡◌, ◌&&◌, List, Bool, true, false, OnOk, IfOk, IfErr, replicate};
 ghost use Rattle.semantics.specs.Meaning.Definite.{known_with};
+ghost use Rattle.ktree.specs.Numbers.{number_of};
 ghost use Rattle.flow.specs.Judged.{known_of, Unread};
 
 use ktree::{Place, Refusal, VarId};
 use std::alloc::{AllocError, Global};
 use std::marker::Model;
+
+/// A name that may be read unassigned, by its place alone: walks over deep expressions hand it up at each step.
+#[derive(Clone, Copy, Drop)]
+pub(crate) struct Unassigned {
+    place: Place,
+}
+
+impl From<Unassigned> for Refusal {
+    ghost from_gives = { λ _ refusal. number_of refusal ≡ 10 };
+
+    fn from(name: Unassigned) -> Refusal {
+        Refusal::MayBeUnassigned(name.place)
+    }
+}
 
 /// The variables that may be read, by their numbers; none behind the last.
 #[derive(Drop)]
@@ -61,15 +76,15 @@ impl Known {
     ///
     /// # Errors
     ///
-    /// `MayBeUnassigned` where it may not.
-    pub(crate) fn read(&self, variable: VarId, place: Place) -> Result<(), Refusal>
+    /// Where it may not.
+    pub(crate) fn read(&self, variable: VarId, place: Place) -> Result<(), Unassigned>
         ensures known { OnOk result (known_of self.now variable.0 ≡ true) }
         ensures refused { IfErr result (Unread (known_of self.now variable.0)) }
     {
         if self.knows(variable.0 as usize) {
             Ok(())
         } else {
-            Err(Refusal::MayBeUnassigned(place))
+            Err(Unassigned { place })
         }
     }
 

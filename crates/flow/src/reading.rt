@@ -5,16 +5,16 @@ ghost use Rattle.semantics.specs.Meaning.Definite.{may_read, may_read_all, may_t
 ghost use Rattle.ktree.specs.View.{expr_of, exprs_of, cond_of, source_of, increment_of, part_of};
 ghost use Rattle.flow.specs.Judged.{known_of, may_part, Unread};
 
-use crate::known::Known;
-use ktree::{Cond, Expr, Increment, Place, PrintPart, Refusal, Source};
+use crate::known::{Known, Unassigned};
+use ktree::{Cond, Expr, Increment, Place, PrintPart, Source};
 
 /// Looks at each name in an expression, whatever guards it.
 ///
 /// # Errors
 ///
-/// `MayBeUnassigned` at the first that may not be read; so for all below.
+/// At the first that may not be read; so for all below.
 #[cycle(reading)]
-pub(crate) fn read(expr: &Expr, known: &Known) -> Result<(), Refusal>
+pub(crate) fn read(expr: &Expr, known: &Known) -> Result<(), Unassigned>
     ensures known { OnOk result (may_read (known_of known.now) (expr_of expr.now) ≡ true) }
     ensures refused { IfErr result (Unread (may_read (known_of known.now) (expr_of expr.now))) }
 {
@@ -40,7 +40,7 @@ pub(crate) fn read(expr: &Expr, known: &Known) -> Result<(), Refusal>
 
 /// Looks at the names in subscripts, from the left.
 #[cycle(reading)]
-pub(crate) fn read_all(subscripts: &[Expr], known: &Known) -> Result<(), Refusal>
+pub(crate) fn read_all(subscripts: &[Expr], known: &Known) -> Result<(), Unassigned>
     ensures known { OnOk result (may_read_all (known_of known.now) (exprs_of subscripts.now) ≡ true) }
     ensures refused { IfErr result (Unread (may_read_all (known_of known.now) (exprs_of subscripts.now))) }
 {
@@ -52,7 +52,7 @@ pub(crate) fn read_all(subscripts: &[Expr], known: &Known) -> Result<(), Refusal
 
 /// Looks at the names in a condition.
 #[cycle(reading)]
-pub(crate) fn read_test(cond: &Cond, known: &Known) -> Result<(), Refusal>
+pub(crate) fn read_test(cond: &Cond, known: &Known) -> Result<(), Unassigned>
     ensures known { OnOk result (may_test (known_of known.now) (cond_of cond.now) ≡ true) }
     ensures refused { IfErr result (Unread (may_test (known_of known.now) (cond_of cond.now))) }
 {
@@ -75,7 +75,7 @@ pub(crate) fn read_test(cond: &Cond, known: &Known) -> Result<(), Refusal>
 }
 
 /// Looks at the names in a right side or an initialiser.
-pub(crate) fn read_source(source: &Source, known: &Known) -> Result<(), Refusal>
+pub(crate) fn read_source(source: &Source, known: &Known) -> Result<(), Unassigned>
     ensures known { OnOk result (may_take (known_of known.now) (source_of source.now) ≡ true) }
     ensures refused { IfErr result (Unread (may_take (known_of known.now) (source_of source.now))) }
 {
@@ -86,7 +86,7 @@ pub(crate) fn read_source(source: &Source, known: &Known) -> Result<(), Refusal>
 }
 
 /// Looks at the names in a loop's step; its own variable is told at the loop's place.
-pub(crate) fn read_step(step: &Increment, place: Place, known: &Known) -> Result<(), Refusal>
+pub(crate) fn read_step(step: &Increment, place: Place, known: &Known) -> Result<(), Unassigned>
     ensures known { OnOk result (may_step (known_of known.now) (increment_of step.now) ≡ true) }
     ensures refused { IfErr result (Unread (may_step (known_of known.now) (increment_of step.now))) }
 {
@@ -102,7 +102,7 @@ pub(crate) fn read_step(step: &Increment, place: Place, known: &Known) -> Result
 }
 
 /// Looks at the names in one part of what printf writes.
-fn read_part(part: &PrintPart, known: &Known) -> Result<(), Refusal>
+fn read_part(part: &PrintPart, known: &Known) -> Result<(), Unassigned>
     ensures known { OnOk result (may_part (known_of known.now) (part_of part.now) ≡ true) }
     ensures refused { IfErr result (Unread (may_part (known_of known.now) (part_of part.now))) }
 {
@@ -113,7 +113,7 @@ fn read_part(part: &PrintPart, known: &Known) -> Result<(), Refusal>
 }
 
 /// Looks at the names in printf's arguments, in their order.
-pub(crate) fn read_parts(parts: &[PrintPart], known: &Known) -> Result<(), Refusal>
+pub(crate) fn read_parts(parts: &[PrintPart], known: &Known) -> Result<(), Unassigned>
     ensures known { OnOk result (may_print (known_of known.now) (map part_of parts.now) ≡ true) }
     ensures refused { IfErr result (Unread (may_print (known_of known.now) (map part_of parts.now))) }
 {

@@ -58,19 +58,19 @@ statement-returns-in_err-statement-in-For-clause-refused t c =
     rw (p.1, p.2, c.in-For.is) (body_refused head.variable.0 (string_bytes head.name) (source_of head.start) (cond_of head.test) (increment_of head.step) (stmt_of c.in-For.body.value) (known_of c.args.known.now)
     (known_of c.in_ok-inside-in-For.inside) c.in_ok-inside-in-For.ensures.inside c.in_ok-inside-in-For.ensures.read _ (rw c.deref-in-For.ensures at c.in_err-statement-in-For.ensures.refused))
 
-pub statement-returns-in_ok-statement-in-For-clause-after : goal.statement-returns-in_ok-statement-in-For-clause-after
-statement-returns-in_ok-statement-in-For-clause-after t c =
+pub statement-returns-in_ok-read_step-in-For-clause-after : goal.statement-returns-in_ok-read_step-in-For-clause-after
+statement-returns-in_ok-read_step-in-For-clause-after t c =
     let head = c.in-For.head in
     let k = known_of c.args.known.now in
     let is = loop_stepped head.variable.0 (string_bytes head.name) (source_of head.start) (cond_of head.test) (increment_of head.step) (stmt_of c.in-For.body.value) k (known_of c.in_ok-inside-in-For.inside) c.in_ok-inside-in-For.ensures.inside c.in_ok-inside-in-For.ensures.read _ (rw c.deref-in-For.ensures at c.in_ok-statement-in-For.ensures.after) in
     let whole = ap (λ s. definite no_privates (stmt_of s) k) c.in-For.is ∙ is in
-    on_ok_weaker c.read_step.result (λ ok. whole ∙ ap (λ b. cond b (Some k) None) ok) c.read_step.ensures.known
+    whole ∙ ap (λ b. cond b (Some k) None) c.in_ok-read_step-in-For.ensures.known
 
-pub statement-returns-in_ok-statement-in-For-clause-refused : goal.statement-returns-in_ok-statement-in-For-clause-refused
-statement-returns-in_ok-statement-in-For-clause-refused t c =
+pub statement-returns-in_err-read_step-in-For-clause-refused : goal.statement-returns-in_err-read_step-in-For-clause-refused
+statement-returns-in_err-read_step-in-For-clause-refused t c =
     let head = c.in-For.head in
     let k = known_of c.args.known.now in
     let is = loop_stepped head.variable.0 (string_bytes head.name) (source_of head.start) (cond_of head.test) (increment_of head.step) (stmt_of c.in-For.body.value) k (known_of c.in_ok-inside-in-For.inside) c.in_ok-inside-in-For.ensures.inside c.in_ok-inside-in-For.ensures.read _ (rw c.deref-in-For.ensures at c.in_ok-statement-in-For.ensures.after) in
     let whole = ap (λ s. definite no_privates (stmt_of s) k) c.in-For.is ∙ is in
-    IfErr-weaker c.read_step.result (Unread (may_step (known_of c.statement-in-For.new.known) (increment_of head.step))) (Refuses (definite no_privates (stmt_of c.args.stmt.now) k))
-    (λ r (ten, unread). inr (ten, whole ∙ ap (λ b. cond b (Some k) None) unread)) c.read_step.ensures.refused
+    let p = err_from_is_err_and c.from_residual-in_err-read_step-in-For.result c.from_residual-in_err-read_step-in-For.ensures.1 in
+    rw p.1 (inr (p.2, whole ∙ ap (λ b. cond b (Some k) None) c.in_err-read_step-in-For.ensures.refused))
