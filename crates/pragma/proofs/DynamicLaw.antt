@@ -23,10 +23,10 @@ pub line_read : (line rest : List ℕ) (us : List Token) (k : ℕ) → is_direct
 line_read line rest us k is e f size =
     record { is_line = is; reads = subst (λ ts. ReadsDirective ts (dynamic_for k)) (sym f ∙ ap words e) (words_directive us k size) }
 
-pub read_number : (w : List ℕ) (k : ℕ) → is_decimal w ≡ true → k ≡ decimal_from 0 w → 1 ≤ k → k ≤ 2 ^ 24 → ReadsNumber (2 ^ 24) w k
-read_number w k d e low high =
-    subst (ReadsNumber (2 ^ 24) w) (sym e)
-    (number d (passes (nat_le 1 (decimal_from 0 w)) _ (le-leb 1 (decimal_from 0 w) (omega arith)) (le-leb (decimal_from 0 w) (2 ^ 24) (omega arith))))
+pub read_number : (most : ℕ) (w : List ℕ) (k : ℕ) → is_decimal w ≡ true → k ≡ decimal_from 0 w → 1 ≤ k → k ≤ most → ReadsNumber most w k
+read_number most w k d e low high =
+    subst (ReadsNumber most w) (sym e)
+    (number d (passes (nat_le 1 (decimal_from 0 w)) _ (le-leb 1 (decimal_from 0 w) (omega arith)) (le-leb (decimal_from 0 w) most (omega arith))))
   where
     passes : (a b : Bool) → a ≡ true → b ≡ true → (a && b) ≡ true
     passes true b e f = f

@@ -1,2 +1,4 @@
 pub mod Words
 pub mod Dynamic
+pub mod Clauses
+pub mod Forms

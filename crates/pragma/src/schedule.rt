@@ -38,7 +38,7 @@ fn are_digits(bytes: &[u8]) -> bool
 }
 
 /// Whether a word is `0`, or digits of which the first is not `0` (C11 6.4.4.1).
-fn is_decimal(word: &[u8]) -> bool
+pub fn is_decimal(word: &[u8]) -> bool
     ensures { result ≡ is_decimal word.now }
 {
     match word {
@@ -49,7 +49,7 @@ fn is_decimal(word: &[u8]) -> bool
 }
 
 /// The value of decimal digits, if it is at most 2^24.
-fn value(digits: &[u8]) -> Option<u64>
+pub fn value(digits: &[u8]) -> Option<u64>
     ensures { SomeIff result (decimal_from 0 digits.now ≤ 2 ^ 24) (decimal_from 0 digits.now) }
 {
     let mut value = 0u64;
@@ -63,7 +63,7 @@ fn value(digits: &[u8]) -> Option<u64>
 }
 
 /// The size that a word is: a decimal from 1 to 2^24.
-fn size(word: &[u8], place: Place) -> Result<ChunkSize, Refusal>
+pub fn size(word: &[u8], place: Place) -> Result<ChunkSize, Refusal>
     ensures ok { IfOk result (ReadsNumber (2 ^ 24) word.now) }
     ensures err { IfErr result (λ r. IsFault place (IsLarge word.now) r × ((k : ℕ) → ReadsNumber (2 ^ 24) word.now k → ⊥)) }
 {
