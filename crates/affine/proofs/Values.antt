@@ -1,5 +1,5 @@
 -- What sums, multiples and substitutions stand for.
-use Rattle.std.proofs.Common.{◌≡◌, ◌≢◌, ℕ, ℤ, pos, ◌<◌, ◌+ℤ◌, ◌*ℤ◌, ◌==◌, Bool, true, false, cond, List, [], ◌∷◌, All, refl, sym, ap, ◌∙◌, subst, arith}
+use Rattle.std.proofs.Common.{◌≡◌, ◌≢◌, ℕ, ℤ, pos, negsuc, ◌<◌, ◌+ℤ◌, ◌-ℤ◌, ◌*ℤ◌, ◌==◌, Bool, true, false, cond, List, [], ◌∷◌, All, refl, sym, ap, ◌∙◌, subst, arith}
 use Rattle.std.proofs.lemmas.Int.{ints}
 use Rattle.std.proofs.lemmas.Bool.Decides.{Decides-eqb, nat_tests}
 use Rattle.std.proofs.lemmas.List.Elements.{All-cons, All-head, All-tail}
@@ -70,6 +70,12 @@ value-sum_form a b v = value-plus_multiple a (pos 1) b v ∙ once (value a v) (v
   where
     once : (m n : ℤ) → m +ℤ pos 1 *ℤ n ≡ m +ℤ n
     once m n = omega (arith, ints)
+
+pub value-difference : (a b : Affine) (v : Variable → ℤ) → value (plus_multiple a (negsuc 0) b) v ≡ value a v -ℤ value b v
+value-difference a b v = value-plus_multiple a (negsuc 0) b v ∙ less (value a v) (value b v)
+  where
+    less : (m n : ℤ) → m +ℤ negsuc 0 *ℤ n ≡ m -ℤ n
+    less m n = omega (arith, ints)
 
 pub value-multiple_form : (a : Affine) (f : ℤ) (v : Variable → ℤ) → value (multiple_form a f) v ≡ value a v *ℤ f
 value-multiple_form a f v = value-plus_multiple (constant_form (pos 0)) f a v ∙ turned f (value a v)

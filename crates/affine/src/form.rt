@@ -1,6 +1,6 @@
 //! Affine forms.
 
-ghost use Rattle.std.specs.Prelude.{◌≡◌, ℤ, ◌+ℤ◌, ◌*ℤ◌, ◌↔◌, ◌^◌, IsNone, IfSome, IsTrue, IfOk, IfErr};
+ghost use Rattle.std.specs.Prelude.{◌≡◌, ℤ, negsuc, ◌+ℤ◌, ◌-ℤ◌, ◌*ℤ◌, ◌↔◌, ◌^◌, IsNone, IfSome, IsTrue, IfOk, IfErr};
 ghost use Rattle.semantics.specs.Tree.{Variable};
 ghost use Rattle.ktree.specs.declared.refusal.Refusal.TheVariants.{Limit};
 ghost use Rattle.affine.specs.Affine.{value, with_value, coefficient_at, IsCanonical};
@@ -114,6 +114,20 @@ impl Form {
         ensures refusal { IfErr result (Refuses place (sum_form self.now other.now)) }
     {
         plus_multiple(self.constant, self.terms.as_slice(), 1, other, place)
+    }
+
+    /// The form without the other.
+    ///
+    /// # Errors
+    ///
+    /// Refuses by the limit, at the place, where the difference passes the limits of forms, and where memory runs out.
+    pub fn subtract(&self, other: &Form, place: Place) -> Result<Form, Refusal>
+        ensures ok { IfOk result (λ form. form ≡ with_multiple_of self.now (negsuc 0) other.now) }
+        ensures value { IfOk result (λ form. (values : Variable → ℤ) → value form values ≡ value self.now values -ℤ value other.now values) }
+        ensures fits { IfOk result Fits }
+        ensures refusal { IfErr result (Refuses place (with_multiple_of self.now (negsuc 0) other.now)) }
+    {
+        plus_multiple(self.constant, self.terms.as_slice(), -1, other, place)
     }
 
     /// The form times this number.

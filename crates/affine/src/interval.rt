@@ -1,6 +1,7 @@
 //! The values that variables may have.
 
 ghost use Rattle.std.specs.Prelude.{◌≡◌, ◌⊎◌, ◌∷◌, ◌↔◌, ◌<◌, ◌*ℤ◌, ◌≤◌, ◌^◌, [], ◌==◌, position, length, drop, unsigned_abs, OnOk, OnErr, IfErr, IsTrue};
+ghost use Rattle.std.specs.List.{list_any};
 ghost use Rattle.ktree.specs.declared.refusal.Refusal.TheVariants.{Limit, OutOfMemory};
 
 use ktree::{Place, Refusal, VarId};
@@ -150,6 +151,20 @@ impl VarBox {
             Some(at) => self.sides[at].interval,
             None => Interval::ONLY_ZERO,
         }
+    }
+
+    /// How often a variable was given values that were not taken back.
+    pub fn len(&self) -> usize
+        ensures { result ≡ length self.now }
+    {
+        self.sides.len()
+    }
+
+    /// Whether the variable was given values.
+    pub fn has(&self, variable: VarId) -> bool
+        ensures { result ≡ list_any (λ s. s.variable.0 == variable.0) self.now }
+    {
+        self.sides.iter().any(|side| side.variable == variable)
     }
 
     /// Whether some variable has no value.

@@ -98,6 +98,19 @@ fn limits(rt: HostRuntime) {
     );
 }
 
+/// 5 * i + 1 without 2 * i - 3.
+fn difference(alloc: Global) -> Result<Form, Refusal> {
+    line(alloc, 5, I, 1)?.subtract(&line(alloc, 2, I, -3)?, HERE)
+}
+
+#[test]
+fn differences(rt: HostRuntime) -> Result<(), Fail> {
+    let form = difference(rt.alloc()).map_err(|_| "refused")?;
+    assert_eq!(rt; form.constant_term(), 4);
+    assert_eq!(rt; form.coefficient(I), 3);
+    Ok(())
+}
+
 /// The sum of so many variables.
 fn variables(alloc: Global, count: u32) -> Result<Form, Refusal> {
     let mut form = number(alloc, 0)?;
@@ -148,6 +161,10 @@ fn sides(rt: HostRuntime) -> Result<(), Fail> {
     );
     assert!(rt; !bounds.is_empty());
     assert!(rt; copy.is_empty());
+    assert_eq!(rt; bounds.len(), 1);
+    assert_eq!(rt; copy.len(), 2);
+    assert!(rt; bounds.has(I));
+    assert!(rt; !bounds.has(J));
     let mut bounds = bounds;
     assert!(rt;
         matches!(

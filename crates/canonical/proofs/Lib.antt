@@ -1,0 +1,12 @@
+pub mod Trees
+pub mod Boxes
+pub mod Steps
+pub mod Unique
+pub mod Laws
+pub mod Residues
+pub mod Numbers
+pub mod FormValues
+pub mod Visible
+pub mod Ways
+pub mod Heads
+pub mod Increments

@@ -1,0 +1,54 @@
+//! Variables that statements assign.
+
+ghost use Rattle.std.specs.Prelude.{◌≡◌};
+ghost use Rattle.semantics.specs.Tree.{no_items};
+ghost use Rattle.ktree.specs.View.{stmt_of, with_item, items_of};
+ghost use Rattle.canonical.specs.Canonical.{assigns, assigns_among};
+
+use ktree::{Item, Stmt, VarId};
+
+/// Whether a statement assigns the variable: not by the head of a loop, whose step assigns its own alone.
+#[cycle(statement)]
+pub fn assigns(variable: VarId, statement: &Stmt) -> bool
+    ensures { result ≡ assigns variable.0 (stmt_of statement.now) }
+{
+    match statement {
+        Stmt::Assign(target, _) => target.variable.0 == variable.0,
+        Stmt::Update(target, _, _) => target.variable.0 == variable.0,
+        Stmt::If(_, then, other) => {
+            if let Some(other) = other {
+                assigns(variable, then) || assigns(variable, other)
+            } else {
+                assigns(variable, then)
+            }
+        }
+        Stmt::For(_, body) => assigns(variable, body),
+        Stmt::Block(items) => some_assigns(variable, items.as_slice()),
+        Stmt::Print(_, _) => false,
+    }
+}
+
+/// Whether one of a block's items does.
+#[cycle(statement)]
+fn some_assigns(variable: VarId, items: &[Item]) -> bool
+    ensures { result ≡ assigns_among variable.0 (items_of items.now) }
+{
+    for item in items {
+        if item_assigns(variable, item) {
+            return true;
+        }
+    }
+    false
+}
+
+/// Whether an item does.
+#[cycle(statement)]
+fn item_assigns(variable: VarId, item: &Item) -> bool
+    ensures { result ≡ assigns_among variable.0 (with_item item.now no_items) }
+{
+    match item {
+        Item::Directive(_) => false,
+        Item::Local(_) => false,
+        Item::Statement(statement) => assigns(variable, statement),
+    }
+}

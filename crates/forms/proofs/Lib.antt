@@ -1,0 +1,3 @@
+pub mod Trees
+pub mod Keeping
+pub mod Shaping
