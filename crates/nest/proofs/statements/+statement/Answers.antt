@@ -1,0 +1,49 @@
+use Rattle.std.specs.Prelude.{◌≡◌, ◌⊎◌}
+use Rattle.std.proofs.Common.{Box, Global, sym, ap, ◌∙◌, subst}
+use Rattle.semantics.specs.Tree.{Stmt, no_items}
+use Rattle.ktree.specs.View.{stmt_of, with_item}
+use Rattle.ktree.specs.declared.statement.Head.{Head}
+use Rattle.ktree.specs.declared.statement.Stmt as code
+use Rattle.forms.specs.declared.faults.Fault.TheVariants.{OutOfMemory}
+use Rattle.canonical.proofs.Trees.{block_is}
+use Rattle.nest.specs.Nests.{Has, Have}
+use Rattle.nest.specs.Judged.{asked, Decides, Entered}
+use Rattle.nest.proofs.Walks.{loop_of, head_refused, body_refused, item_more, item_refused}
+use Rattle.nest.proofs.statements.+statement.Goals as goal
+
+-- the loop that a statement is
+for_is : (s : code.Stmt) (head : Head) (body : Box code.Stmt Global) (inner : code.Stmt) → s ≡ code.For head body → inner ≡ body.value → loop_of head (stmt_of inner) ≡ stmt_of s
+for_is s head body inner e f = ap (λ b. loop_of head (stmt_of b)) f ∙ sym (ap stmt_of e)
+
+pub block-returns-in-Err-clause-decides : goal.block-returns-in-Err-clause-decides
+block-returns-in-Err-clause-decides t c =
+    let P = asked c.args.question in
+    item_refused P c.args.bounds.now c.args.items.now c.loop-item.item-index c.item-item.result c.in-Err.fault c.loop-item-test.true c.item-item.is c.loop-item.invariant.1
+    (subst (λ box. (c.in-Err.fault ≡ OutOfMemory) ⊎ (Have P box (with_item c.item-item.result no_items) → ⊥)) c.loop-item.invariant.0 c.in-Err.ensures.decides)
+
+pub block-loop-item-preserved : goal.block-loop-item-preserved
+block-loop-item-preserved t c =
+    let P = asked c.args.question in (
+      c.in-Ok.ensures.back ∙ c.loop-item.invariant.0,
+      item_more P c.args.bounds.now c.args.items.now c.loop-item.item-index c.item-item.result c.loop-item-test.true c.item-item.is c.loop-item.invariant.1
+          (subst (λ box. Have P box (with_item c.item-item.result no_items)) c.loop-item.invariant.0 c.in-Ok.ensures.decides),
+    )
+
+pub statement-returns-in-Err-clause-decides : goal.statement-returns-in-Err-clause-decides
+statement-returns-in-Err-clause-decides t c =
+    subst (λ (s : Stmt). (c.in-Err.fault ≡ OutOfMemory) ⊎ (Has (asked c.args.question) c.args.bounds.now s → ⊥))
+    (for_is c.args.walked.now c.in-For.head c.in-For.body c.deref-in-For.result.now c.in-For.is c.deref-in-For.ensures)
+    (head_refused (asked c.args.question) c.args.bounds.now c.in-For.head (stmt_of c.deref-in-For.result.now) c.in-Err.fault c.in-Err.ensures.fault)
+
+pub statement-returns-in-Err-statement-clause-decides : goal.statement-returns-in-Err-statement-clause-decides
+statement-returns-in-Err-statement-clause-decides t c =
+    subst (λ (s : Stmt). (c.in-Err-statement.fault ≡ OutOfMemory) ⊎ (Has (asked c.args.question) c.args.bounds.now s → ⊥))
+    (for_is c.args.walked.now c.in-For.head c.in-For.body c.deref-in-For-2.result.now c.in-For.is c.deref-in-For-2.ensures)
+    (body_refused (asked c.args.question) c.args.bounds.now c.entered.new.bounds c.in-For.head (stmt_of c.deref-in-For-2.result.now) c.in-Err-statement.fault
+    (subst (λ b. Entered c.args.bounds.now c.entered.new.bounds c.in-For.head (stmt_of b)) (c.deref-in-For.ensures ∙ sym c.deref-in-For-2.ensures) c.in-Ok.ensures.ok)
+    c.in-Err-statement.ensures.decides)
+
+pub statement-returns-in-Block-clause-decides : goal.statement-returns-in-Block-clause-decides
+statement-returns-in-Block-clause-decides t c =
+    subst (λ (s : Stmt). Decides c.block.result (Has (asked c.args.question) c.args.bounds.now s))
+    (sym (block_is c.args.walked.now c.in-Block.items c.deref-in-Block.result.now c.in-Block.is c.deref-in-Block.ensures.value)) c.block.ensures.decides

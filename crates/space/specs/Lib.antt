@@ -1,0 +1,4 @@
+pub mod Heads
+pub mod Nests
+pub mod Numbers
+pub mod Space

@@ -1,0 +1,14 @@
+//! The iterations of a nest, by their numbers.
+#![tactic(auto)]
+
+mod bounds;
+mod iterations;
+mod nests;
+mod turns;
+
+pub use bounds::{Value, turns_at};
+pub use iterations::Space;
+pub use turns::LoopTurns;
+
+#[cfg(test)]
+mod tests;
