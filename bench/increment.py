@@ -1,8 +1,8 @@
 #!/usr/bin/env python3
 """Times `A[i] = A[i] + i` under schedule(dynamic, k), beside the same loop by gcc -O2 -fopenmp.
 
-The program's time for a loop is that of a run less that of a run of the same variables without the loop; the C program
-times its loop itself. A line for each number of iterations, size of chunks and number of workers: nanoseconds an iteration
+The program's time for a loop is that of a kernel that has it several times less that of one that has it once, so that
+starting, reading and writing count for neither; the C program times its loop itself. A line for each number of iterations, size of chunks and number of workers: nanoseconds an iteration
 of both, their ratio, and the peak memory of the run.
 """
 import os
@@ -17,6 +17,8 @@ PROGRAM = TOP / "crates/ompk_cli/out/ompk_cli"
 ITERATIONS = [1 << 16, 1 << 20, 1 << 24]
 SIZES = [1, 64, 65536]
 WORKERS = [1, 4]
+# how often the loop is repeated, by the size of the chunks
+REPEATED = {1: 1, 64: 4, 65536: 8}
 # nanoseconds an iteration, by the size of the chunks, for one worker
 TARGETS = {65536: 20, 1: 500}
 
@@ -78,11 +80,12 @@ def main():
         folder = pathlib.Path(name)
         for n in ITERATIONS:
             for workers in WORKERS:
-                base, _ = run_program(KERNEL.format(n=n, loop=""), workers, folder)
                 for k in SIZES:
-                    text = KERNEL.format(n=n, loop=LOOP.format(n=n, k=k))
-                    seconds, peak = run_program(text, workers, folder)
-                    ours = max(seconds - base, 0) * 1e9 / n
+                    loop = LOOP.format(n=n, k=k)
+                    text = KERNEL.format(n=n, loop=loop)
+                    base, _ = run_program(text, workers, folder)
+                    seconds, peak = run_program(KERNEL.format(n=n, loop=loop * (1 + REPEATED[k])), workers, folder)
+                    ours = max(seconds - base, 0) * 1e9 / (n * REPEATED[k])
                     theirs = run_c(text, workers, folder) / n
                     target = TARGETS.get(k) if workers == 1 else None
                     verdict = "" if target is None else ("met" if ours < target else f"missed: {target}")

@@ -6,6 +6,7 @@ mod running;
 mod writing;
 
 pub use running::{block, run_item, statement};
+pub use writing::increment;
 
 #[cfg(test)]
 mod tests;

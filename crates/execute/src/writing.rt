@@ -89,12 +89,13 @@ pub(crate) fn declare(
     }
 }
 
-/// What a loop does behind each turn (C11 6.5.2.4, 6.5.3.1, 6.5.16).
-pub(crate) fn increment(
-    frame: &mut Frame,
-    store: &mut Store,
-    step: &Increment,
-) -> Result<(), AllocError>
+/// What a loop does behind each turn, which it can do where these locals and file-scope variables stand
+/// (C11 6.5.2.4, 6.5.3.1, 6.5.16).
+///
+/// # Errors
+///
+/// Where memory runs out.
+pub fn increment(frame: &mut Frame, store: &mut Store, step: &Increment) -> Result<(), AllocError>
     requires { IsSome (incremented (standing frame.old store.old) (increment_of step.now)) }
     ensures done { OnOk result (Ended (incremented (standing frame.old store.old) (increment_of step.now)) (standing frame.old store.old) (standing frame.new store.new)) }
     ensures shape { lengths_of store.new ≡ lengths_of store.old }

@@ -1,5 +1,5 @@
-pub mod TreeLaw
-pub mod PathLaw
-pub mod LineLaw
-pub mod ReadyLaw
+pub mod DirectedLaw
 pub mod FitLaw
+pub mod LineLaw
+pub mod PathLaw
+pub mod TreeLaw

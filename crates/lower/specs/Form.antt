@@ -17,7 +17,7 @@ use Rattle.lower.specs.declared.form.Form.{Form}
 
 -- an operand without its place
 abbrev pub operand_in : Part → Operand
-operand_in (Element x place) = operands.Element x
+operand_in (Element x) = operands.Element x
 operand_in Counter = operands.Counter
 operand_in (Literal n) = operands.Literal n
 

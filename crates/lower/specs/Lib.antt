@@ -1,6 +1,4 @@
+pub mod Directed
 pub mod Faults
-pub mod FirstPath
 pub mod Form
-pub mod Judged
 pub mod Lines
-pub mod Ready

@@ -8,29 +8,24 @@ ghost use Rattle.overlay.specs.declared.lowered.LoweredLoop as lowered;
 ghost use Rattle.overlay.specs.declared.lowered.Formula as formulas;
 ghost use Rattle.lower.specs.Form.{formula_in, loop_of, below, block_of, assigned, HasHead};
 
-use crate::part::{Right, is_at_counter, is_counter, right_in, subscript_place};
-use ktree::{
-    ChunkSize, CompareOp, Cond, Expr, Head, Increment, Item, Place, Source, Stmt, Suffix, VarId,
-};
+use crate::part::{Right, is_at_counter, is_counter, right_in};
+use ktree::{ChunkSize, CompareOp, Cond, Expr, Head, Increment, Item, Source, Stmt, Suffix, VarId};
 use overlay::LoweredLoop;
 
-/// A loop as it stands in the text, with the places of its `for` and of its target's subscript.
+/// A loop as it stands in the text.
 #[derive(Clone, Copy)]
 pub struct Form {
     pub counter: VarId,
     pub bound: u64,
     pub target: VarId,
     pub right: Right,
-    pub place: Place,
-    pub subscript: Place,
 }
 
-/// What a loop's body assigns, with the place of its target's subscript.
+/// What a loop's body assigns.
 #[derive(Clone, Copy)]
 struct Assignment {
     target: VarId,
     right: Right,
-    subscript: Place,
 }
 
 impl Form {
@@ -152,7 +147,6 @@ fn element_assigned(statement: &Stmt, counter: VarId) -> Option<Assignment>
             Some(Assignment {
                 target: target.variable,
                 right,
-                subscript: subscript_place(&target.mention, 0),
             })
         }
         _ => None,
@@ -175,8 +169,6 @@ pub fn read_form(statement: &Stmt) -> Option<Form>
         bound,
         target: assignment.target,
         right: assignment.right,
-        place: head.place,
-        subscript: assignment.subscript,
     })
 }
 

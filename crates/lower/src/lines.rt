@@ -12,7 +12,7 @@ ghost use Rattle.std.specs.Prelude.{drop};
 
 use crate::faults::Fault;
 use ktree::{ChunkSize, Place, Refusal};
-use pragma::dynamic_loop;
+use pragma::{dynamic_loop, parallel_for};
 use std::alloc::{AllocError, Global};
 use std::marker::Model;
 
@@ -117,6 +117,14 @@ impl<'t> Directives<'t> {
         match dynamic_loop(self.line(place.line), place) {
             Ok(size) => Ok(size),
             Err(refusal) => Err(line_fault(&refusal, place)),
+        }
+    }
+
+    /// What is told of a line that gives no size: where it is a `parallel for` with other clauses, that no team runs it yet.
+    pub(crate) fn told(&self, place: Place) -> Fault {
+        match parallel_for(self.line(place.line), place) {
+            Ok(_clauses) => Fault::Unsupported(place),
+            Err(refusal) => line_fault(&refusal, place),
         }
     }
 }

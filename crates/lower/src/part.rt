@@ -9,13 +9,13 @@ ghost use Rattle.overlay.specs.declared.lowered.Operation as operations;
 ghost use Rattle.overlay.specs.declared.lowered.Formula as formulas;
 ghost use Rattle.lower.specs.Form.{operand_in, formula_in};
 
-use ktree::{BinaryOp, Expr, Mention, Place, Source, Suffix, VarId};
+use ktree::{BinaryOp, Expr, Source, Suffix, VarId};
 use overlay::{Formula, Operand, Operation};
 
-/// An operand as it stands in the text: an element has the place of its subscript.
+/// An operand as it stands in the text.
 #[derive(Clone, Copy)]
 pub enum Part {
-    Element(VarId, Place),
+    Element(VarId),
     Counter,
     Literal(u64),
 }
@@ -33,7 +33,7 @@ impl Part {
         ensures { result ≡ operand_in self }
     {
         match self {
-            Part::Element(array, _place) => Operand::Element(array),
+            Part::Element(array) => Operand::Element(array),
             Part::Counter => Operand::Counter,
             Part::Literal(value) => Operand::Literal(value),
         }
@@ -51,14 +51,6 @@ impl Right {
                 Formula::Two(operation, left.operand(), right.operand())
             }
         }
-    }
-}
-
-/// Where a subscript stands, counted from 0.
-pub fn subscript_place(mention: &Mention, index: usize) -> Place {
-    match mention.subscripts.get(index) {
-        Some(place) => *place,
-        None => mention.name,
     }
 }
 
@@ -96,9 +88,9 @@ fn part_of(expr: &Expr, counter: VarId) -> Option<Part>
     }
     match expr {
         Expr::Literal(value, Suffix::Ull) => Some(Part::Literal(*value)),
-        Expr::Object(array, subscripts, mention) => {
+        Expr::Object(array, subscripts, _mention) => {
             if is_at_counter(subscripts.as_slice(), counter) {
-                Some(Part::Element(*array, subscript_place(mention, 0)))
+                Some(Part::Element(*array))
             } else {
                 None
             }

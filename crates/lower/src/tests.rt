@@ -1,4 +1,4 @@
-//! Kernels that are run, and the first faults of others.
+//! Directive lines, and the loops that a team runs.
 
 use super::*;
 use ktree::{
@@ -11,9 +11,6 @@ use std::test::Fail;
 
 /// An array of eight elements.
 const A: VarId = VarId(0);
-
-/// An array of two rows of three.
-const B: VarId = VarId(1);
 
 /// A local, or a loop's counter.
 const I: VarId = VarId(2);
@@ -30,11 +27,6 @@ fn plain(alloc: Global, variable: VarId) -> Expr {
         subscripts: Vec::new(alloc),
     };
     Expr::Object(variable, Vec::new(alloc), mention)
-}
-
-/// A literal with `ull`.
-fn long(value: u64) -> Expr {
-    Expr::Literal(value, Suffix::Ull)
 }
 
 /// A literal without `ull`.
@@ -77,21 +69,6 @@ fn element(alloc: Global, subscript: Expr, line: u32) -> Result<Expr, AllocError
         mention,
     } = target(alloc, A, subscript, line)?;
     Ok(Expr::Object(variable, subscripts, mention))
-}
-
-/// `B[row][column]`, with the subscripts in columns 3 and 6.
-fn cell(alloc: Global, row: Expr, column: Expr, line: u32) -> Result<Expr, AllocError> {
-    let mut subscripts = Vec::new(alloc);
-    subscripts.push(row)?;
-    subscripts.push(column)?;
-    let mut places = Vec::new(alloc);
-    places.push(at(line, 3))?;
-    places.push(at(line, 6))?;
-    let mention = Mention {
-        name: at(line, 1),
-        subscripts: places,
-    };
-    Ok(Expr::Object(B, subscripts, mention))
 }
 
 /// `A[subscript] = value;` on this line.
@@ -144,18 +121,13 @@ fn counted(
     looped(alloc, start, bound, items, line)
 }
 
-/// A kernel of the two arrays and this body.
+/// A kernel of the array and this body.
 fn kernel(alloc: Global, body: Vec<Item>) -> Result<Kernel, AllocError> {
     let mut variables = Vec::new(alloc);
     variables.push(Declaration {
         name: String::from_str(alloc, "A")?,
         lengths: Vec::from_slice(alloc, &[8])?,
         place: at(1, 10),
-    })?;
-    variables.push(Declaration {
-        name: String::from_str(alloc, "B")?,
-        lengths: Vec::from_slice(alloc, &[2, 3])?,
-        place: at(2, 10),
     })?;
     Ok(Kernel {
         constants: Vec::new(alloc),
@@ -206,110 +178,9 @@ fn faults_have_numbers(rt: HostRuntime) -> Result<(), Fail> {
     let here = at(1, 2);
     assert_eq!(rt; Fault::Directive(here).refusal().number(), 11);
     assert_eq!(rt; Fault::Size(here).refusal().number(), 21);
-    assert_eq!(rt; Fault::Loop(here).refusal().number(), 6);
-    assert_eq!(rt; Fault::Subscript(here).refusal().number(), 8);
-    assert_eq!(rt; Fault::Range(here).refusal().number(), 9);
-    assert!(rt; Fault::Range(here).is_of_ranges());
-    assert!(rt; !Fault::Loop(here).is_of_ranges());
-    Ok(())
-}
-
-/// The first fault of `A[subscript] = 0ull;` on the fifth line.
-fn as_subscript(alloc: Global, subscript: Expr) -> Result<Option<Fault>, AllocError> {
-    alone(alloc, assign(alloc, subscript, long(0), 5)?)
-}
-
-/// The same, with a subscript `left op right`.
-fn computed(
-    alloc: Global,
-    op: BinaryOp,
-    left: Expr,
-    right: Expr,
-) -> Result<Option<Fault>, AllocError> {
-    as_subscript(alloc, binary(alloc, op, left, right)?)
-}
-
-#[test]
-fn constants_are_subscripts(rt: HostRuntime) -> Result<(), Fail> {
-    let alloc = rt.alloc();
-    let other = Some(Fault::Subscript(at(5, 3)));
-    assert_eq!(rt; computed(alloc, BinaryOp::Plus, bare(3), bare(4))?, None);
-    assert_eq!(rt;
-        computed(alloc, BinaryOp::Times, bare(2), bare(4))?,
-        Some(Fault::Range(at(5, 3)))
-    );
-    assert_eq!(rt; computed(alloc, BinaryOp::Minus, bare(3), bare(4))?, other);
-    assert_eq!(rt; computed(alloc, BinaryOp::Plus, long(1), bare(1))?, other);
-    assert_eq!(rt; computed(alloc, BinaryOp::Divide, bare(4), bare(2))?, other);
-    Ok(())
-}
-
-/// The first fault of `A[0] = B[row][column];`, with the source on the fifth line.
-fn as_cell(alloc: Global, row: Expr, column: Expr) -> Result<Option<Fault>, AllocError> {
-    let value = cell(alloc, row, column, 5)?;
-    alone(alloc, assign(alloc, bare(0), value, 4)?)
-}
-
-#[test]
-fn each_subscript_is_looked_at(rt: HostRuntime) -> Result<(), Fail> {
-    let alloc = rt.alloc();
-    assert_eq!(rt; as_cell(alloc, bare(1), bare(2))?, None);
-    assert_eq!(rt;
-        as_cell(alloc, bare(1), bare(3))?,
-        Some(Fault::Range(at(5, 6)))
-    );
-    assert_eq!(rt;
-        as_cell(alloc, bare(2), bare(3))?,
-        Some(Fault::Range(at(5, 3)))
-    );
-    assert_eq!(rt;
-        as_cell(alloc, bare(2), plain(alloc, I))?,
-        Some(Fault::Subscript(at(5, 6)))
-    );
-    let whole = alone(alloc, assign(alloc, bare(0), plain(alloc, A), 4)?)?;
-    assert_eq!(rt; whole, Some(Fault::Range(at(9, 1))));
-    Ok(())
-}
-
-/// `if (1) { A[then] = 1; } else { A[other] = 1; }`, on the fifth and the sixth line.
-fn chosen(alloc: Global, then: u64, other: u64) -> Result<Stmt, AllocError> {
-    let cond = Cond::NotZero(Box::new(alloc, bare(1))?);
-    let then = Box::new(alloc, assign(alloc, bare(then), bare(1), 5)?)?;
-    let other = Box::new(alloc, assign(alloc, bare(other), bare(1), 6)?)?;
-    Ok(Stmt::If(cond, then, Some(other)))
-}
-
-#[test]
-fn branches_are_looked_at(rt: HostRuntime) -> Result<(), Fail> {
-    let alloc = rt.alloc();
-    let first = chosen(alloc, 8, 8)?;
-    assert_eq!(rt; alone(alloc, first)?, Some(Fault::Range(at(5, 3))));
-    let second = chosen(alloc, 7, 8)?;
-    assert_eq!(rt; alone(alloc, second)?, Some(Fault::Range(at(6, 3))));
-    Ok(())
-}
-
-/// The first fault of a loop on the fourth line.
-fn loop_alone(
-    alloc: Global,
-    start: u64,
-    bound: u64,
-    value: Expr,
-) -> Result<Option<Fault>, AllocError> {
-    alone(alloc, counted(alloc, start, bound, value, 4)?)
-}
-
-#[test]
-fn loops_are_of_one_form(rt: HostRuntime) -> Result<(), Fail> {
-    let alloc = rt.alloc();
-    let other = Some(Fault::Loop(at(4, 1)));
-    assert_eq!(rt; loop_alone(alloc, 0, 8, plain(alloc, I))?, None);
-    assert_eq!(rt; loop_alone(alloc, 1, 8, plain(alloc, I))?, other);
-    assert_eq!(rt; loop_alone(alloc, 0, 8, bare(1))?, other);
-    assert_eq!(rt;
-        loop_alone(alloc, 0, 9, plain(alloc, I))?,
-        Some(Fault::Range(at(4, 3)))
-    );
+    assert_eq!(rt; Fault::Unsupported(here).refusal().number(), 11);
+    assert!(rt; Fault::Unsupported(here).is_unsupported());
+    assert!(rt; !Fault::Size(here).is_unsupported());
     Ok(())
 }
 
@@ -330,34 +201,30 @@ fn a_directive_stands_before_its_loop(rt: HostRuntime) -> Result<(), Fail> {
     let alloc = rt.alloc();
     let line = Some(Fault::Directive(at(3, 1)));
     assert_eq!(rt; line_and_loop(alloc, TEXT, 0)?, None);
-    assert_eq!(rt; line_and_loop(alloc, TEXT, 1)?, Some(Fault::Loop(at(4, 1))));
+    assert_eq!(rt;
+        line_and_loop(alloc, TEXT, 1)?,
+        Some(Fault::Unsupported(at(3, 1)))
+    );
     assert_eq!(rt;
         line_and_loop(alloc, b"\n\n#pragma omp simd\nfor", 1)?,
         line
     );
+    for other in [
+        b"\n\n#pragma omp parallel for\n".as_slice(),
+        b"\n\n#pragma omp parallel for collapse(2), schedule(dynamic, 3)\n",
+    ] {
+        assert_eq!(rt;
+            line_and_loop(alloc, other, 0)?,
+            Some(Fault::Unsupported(at(3, 1)))
+        );
+    }
+    assert_eq!(rt;
+        line_and_loop(alloc, b"\n\n#pragma omp parallel for collapse(5)", 0)?,
+        Some(Fault::Size(at(3, 1)))
+    );
     let mut last = Vec::new(alloc);
     last.push(Item::Directive(at(3, 1)))?;
     assert_eq!(rt; told(alloc, last, TEXT)?, line);
-    Ok(())
-}
-
-/// The first fault of `A[0] = A[left] + A[right];`, with the operands on the fifth and the sixth line.
-fn as_sum(alloc: Global, left: Expr, right: Expr) -> Result<Option<Fault>, AllocError> {
-    let left = element(alloc, left, 5)?;
-    let right = element(alloc, right, 6)?;
-    let sum = binary(alloc, BinaryOp::Plus, left, right)?;
-    alone(alloc, assign(alloc, bare(0), sum, 4)?)
-}
-
-#[test]
-fn the_earlier_pass_is_told(rt: HostRuntime) -> Result<(), Fail> {
-    let alloc = rt.alloc();
-    let later = Some(Fault::Subscript(at(6, 3)));
-    assert_eq!(rt;
-        as_sum(alloc, bare(8), bare(9))?,
-        Some(Fault::Range(at(5, 3)))
-    );
-    assert_eq!(rt; as_sum(alloc, bare(8), plain(alloc, I))?, later);
     Ok(())
 }
 
@@ -412,5 +279,19 @@ fn loops_fit_their_stores(rt: HostRuntime) -> Result<(), Fail> {
     assert!(rt; fits(&over(I, 4, size), &store));
     assert!(rt; !fits(&over(I, 5, size), &store));
     assert!(rt; !fits(&over(A, 4, size), &store));
+    Ok(())
+}
+
+/// A loop that no team runs, then a line that is no directive of this language.
+#[test]
+fn a_line_is_told_before_a_loop(rt: HostRuntime) -> Result<(), Fail> {
+    let alloc = rt.alloc();
+    let mut body = Vec::new(alloc);
+    body.push(Item::Directive(at(1, 1)))?;
+    body.push(item(alloc, counted(alloc, 1, 8, plain(alloc, I), 2)?)?)?;
+    body.push(Item::Directive(at(3, 1)))?;
+    body.push(item(alloc, counted(alloc, 0, 8, plain(alloc, I), 4)?)?)?;
+    let text = b"#pragma omp parallel for schedule(dynamic)\n\n#pragma omp simd\n";
+    assert_eq!(rt; told(alloc, body, text)?, Some(Fault::Directive(at(3, 1))));
     Ok(())
 }

@@ -10,7 +10,7 @@ use Rattle.semantics.specs.Meaning.Places.{all_indexes}
 use Rattle.semantics.specs.Meaning.Output.{Given, IsInput, AreGiven, start, cell_text, dump_from, dump, output, Outputs}
 use Rattle.ktree.specs.View.{kernel_of}
 use Rattle.seqrun.specs.Reading.{AreVariables}
-use Rattle.total.proofs.Ready.{ready_kernels_run}
+use Rattle.total.proofs.Nested.{nested_kernels_run}
 use Rattle.total.proofs.StripRun.{strip_keeps_runs}
 use Rattle.ompk.specs.Accepted.{Accepted, tree_of, IsAccepted, RunsOfAccepted}
 use Rattle.ompk.proofs.Declared.{variables_of}
@@ -31,7 +31,7 @@ named a is = variables_of a.text (kernel_of a.kernel) is.reads
 -- it has a run
 pub body_runs : (a : Accepted) (given : Given) → IsAccepted a → AreGiven (tree_of a).variables given → IsSome (body_run a (first_state a given))
 body_runs a given is g =
-    ready_kernels_run a.text (kernel_of a.kernel) (first_state a given) is.reads is.ready is.definite (start_is_state (tree_of a).variables given g) (λ x. refl)
+    nested_kernels_run a.text (kernel_of a.kernel) (first_state a given) is.reads is.in_range is.definite (start_is_state (tree_of a).variables given g) (λ x. refl)
 
 abbrev shown_of : Accepted → Given → Effect → List ℕ
 shown_of a given e = e.text ++ dump (tree_of a).variables (overwritten (first_state a given) e.writes)

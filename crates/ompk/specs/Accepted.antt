@@ -10,9 +10,12 @@ use Rattle.ktree.specs.declared.statement.Kernel as code
 use Rattle.ktree.specs.declared.refusal.Refusal.{Refusal}
 use Rattle.ktree.specs.declared.refusal.Refusal.TheVariants.{OutOfMemory}
 use Rattle.cparse.specs.Parsed.{RefusesTree}
-use Rattle.lower.specs.Ready.{IsReadyKernel}
-use Rattle.lower.specs.Faults.{refusal_of}
-use Rattle.lower.specs.declared.faults.Fault.{Fault}
+use Rattle.lower.specs.Directed.{IsDirectedKernel}
+use Rattle.lower.specs.Faults as lines
+use Rattle.lower.specs.declared.faults.Fault as line_faults
+use Rattle.forms.specs.Faults as loops
+use Rattle.forms.specs.declared.faults.Fault as loop_faults
+use Rattle.nest.specs.Nests.{IsNested, IsInRange}
 
 -- a text and its tree with the directive lines
 pub record Accepted : Type 0 where
@@ -23,16 +26,29 @@ pub record Accepted : Type 0 where
 abbrev pub tree_of : Accepted → Kernel
 tree_of a = strip (kernel_of a.kernel)
 
--- what holds of each accepted text: its tree is one that is run, and no local is read before it is assigned
+-- what holds of each accepted text: its loops are canonical and never wrap, no subscript leaves its array, its directive lines are those that are run, and no local is read before it is assigned
 pub record IsAccepted (a : Accepted) : Type 0 where
   pub reads : ReadsText a.text (kernel_of a.kernel)
-  pub ready : IsReadyKernel a.text (kernel_of a.kernel)
+  pub in_range : IsInRange (kernel_of a.kernel)
+  pub directed : IsDirectedKernel a.text (kernel_of a.kernel)
   pub definite : IsDefinite no_privates (kernel_of a.kernel)
+
+-- memory was refused, or a loop is not canonical or may wrap, or a subscript is not affine
+abbrev pub RefusesNests : Kernel → Refusal → Type 0
+RefusesNests tree r = (r ≡ OutOfMemory) ⊎ ((f : loop_faults.Fault) × (r ≡ loops.refusal_of f) × (IsNested tree → ⊥))
+
+-- memory was refused, or a subscript leaves its array
+abbrev pub RefusesRanges : Kernel → Refusal → Type 0
+RefusesRanges tree r = (r ≡ OutOfMemory) ⊎ ((f : loop_faults.Fault) × (r ≡ loops.refusal_of f) × (IsInRange tree → ⊥))
+
+-- a directive line is none of those that are run
+abbrev pub RefusesLines : List ℕ → Kernel → Refusal → Type 0
+RefusesLines text tree r = (f : line_faults.Fault) × (r ≡ lines.refusal_of f) × (IsDirectedKernel text tree → ⊥)
 
 -- memory was refused, the tree is none that is run, or a local may be read before it is assigned
 abbrev pub RefusesKernel : List ℕ → Kernel → Refusal → Type 0
 RefusesKernel text tree r =
-    (r ≡ OutOfMemory) ⊎ (((f : Fault) × (r ≡ refusal_of f) × (IsReadyKernel text tree → ⊥)) ⊎ ((number_of r ≡ 10) × (IsDefinite no_privates tree → ⊥)))
+    (RefusesNests tree r ⊎ RefusesRanges tree r) ⊎ (RefusesLines text tree r ⊎ ((number_of r ≡ 10) × (IsDefinite no_privates tree → ⊥)))
 
 -- no tree is read from the text, or one that is refused
 abbrev pub RefusesText : List ℕ → Refusal → Type 0

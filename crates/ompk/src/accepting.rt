@@ -4,13 +4,15 @@ ghost use Rattle.std.specs.Prelude.{◌≡◌, map, IfOk, IfErr};
 ghost use Rattle.ktree.specs.View.{declaration_of, kernel_of};
 ghost use Rattle.semantics.specs.Theorems.{StandsFor};
 ghost use Rattle.semantics.specs.Meaning.Definite.{IsDefinite, no_privates};
-ghost use Rattle.lower.specs.Ready.{IsReadyKernel};
-ghost use Rattle.ompk.specs.Accepted.{tree_of, IsAccepted, RefusesKernel, RefusesText};
+ghost use Rattle.lower.specs.Directed.{IsDirectedKernel};
+ghost use Rattle.nest.specs.Nests.{IsNested, IsInRange};
+ghost use Rattle.ompk.specs.Accepted.{tree_of, IsAccepted, RefusesNests, RefusesRanges, RefusesKernel, RefusesText};
 
 use cparse::parse;
 use flow::definite;
 use ktree::{Declaration, Item, Kernel, Refusal};
 use lower::{Directives, first_fault};
+use nest::{in_range, nests};
 use std::alloc::Global;
 use std::marker::Model;
 
@@ -57,20 +59,45 @@ impl Checked {
     }
 }
 
-// Refuses a tree that is none of those that are run, in the order of the passes: directives and loops, locals, ranges.
+// Refuses a kernel whose loops are not canonical or may wrap, or with a subscript that is not affine.
+fn judge_nests(alloc: Global, kernel: &Kernel) -> Result<(), Refusal>
+    ensures { IfErr result (RefusesNests (kernel_of kernel.now)) }
+{
+    match nests(alloc, kernel) {
+        Ok(()) => Ok(()),
+        Err(fault) => Err(fault.refusal()),
+    }
+}
+
+// Refuses a kernel with a subscript that leaves its array.
+fn judge_ranges(alloc: Global, kernel: &Kernel) -> Result<(), Refusal>
+    ensures ok { IfOk result (λ _. IsInRange (kernel_of kernel.now)) }
+    ensures refusal { IfErr result (RefusesRanges (kernel_of kernel.now)) }
+{
+    match in_range(alloc, kernel) {
+        Ok(()) => Ok(()),
+        Err(fault) => Err(fault.refusal()),
+    }
+}
+
+// Refuses a tree that is none of those that are run, in the order of the passes: directive lines, loops, locals, ranges, and
+// loops that no team runs.
 fn judge(alloc: Global, kernel: &Kernel, text: &[u8]) -> Result<(), Refusal>
-    ensures ready { IfOk result (λ _. IsReadyKernel text.now (kernel_of kernel.now)) }
+    ensures in_range { IfOk result (λ _. IsInRange (kernel_of kernel.now)) }
+    ensures directed { IfOk result (λ _. IsDirectedKernel text.now (kernel_of kernel.now)) }
     ensures definite { IfOk result (λ _. IsDefinite no_privates (kernel_of kernel.now)) }
     ensures refusal { IfErr result (RefusesKernel text.now (kernel_of kernel.now)) }
 {
     let directives = Directives::read(alloc, text)?;
     let fault = first_fault(kernel, &directives);
     if let Some(fault) = fault {
-        if !fault.is_of_ranges() {
+        if !fault.is_unsupported() {
             return Err(fault.refusal());
         }
     }
+    judge_nests(alloc, kernel)?;
     definite(alloc, kernel)?;
+    judge_ranges(alloc, kernel)?;
     match fault {
         Some(fault) => Err(fault.refusal()),
         None => Ok(()),

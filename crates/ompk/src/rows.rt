@@ -108,6 +108,103 @@ fn statements_run_as_those_of_c(rt: HostRuntime) -> Result<(), Fail> {
     Ok(())
 }
 
+// The body `for (uint64_t HEAD) { BODY }`.
+fn looped(alloc: Global, head: &[u8], body: &[u8]) -> Result<Vec<u8>, AllocError> {
+    let mut text = Vec::from_slice(alloc, b"for (uint64_t ")?;
+    text.extend_from_slice(head)?;
+    text.extend_from_slice(b") { ")?;
+    text.extend_from_slice(body)?;
+    text.extend_from_slice(b" }")?;
+    Ok(text)
+}
+
+#[test]
+fn loops_run_as_those_of_c(rt: HostRuntime) -> Result<(), Fail> {
+    let heap = rt.alloc();
+    for (head, body, output) in [
+        (
+            b"i = 10; i > 2; i -= 3".as_slice(),
+            b"s = s * 100 + i;".as_slice(),
+            b"s = 100704\nd = 0 0 0\n".as_slice(),
+        ),
+        (
+            b"i = 7; i != 3; i--",
+            b"s = s * 10 + i;",
+            b"s = 7654\nd = 0 0 0\n",
+        ),
+        (
+            b"i = 0; i <= 4; i = 2 + i",
+            b"s = s * 10 + i;",
+            b"s = 24\nd = 0 0 0\n",
+        ),
+        (
+            b"i = 0; i < 3; i++",
+            b"for (uint64_t j = i; j < 3; j++) { d[j] += i + 1; }",
+            b"s = 0\nd = 1 3 6\n",
+        ),
+        (
+            b"i = 1; i < 3; ++i",
+            b"for (uint64_t j = 0; j < i - 1; j++) { d[i - j] = 5 + j; }",
+            b"s = 0\nd = 0 0 5\n",
+        ),
+        (
+            b"i = 0; i < 0; i++",
+            b"d[i + 7] = 1;",
+            b"s = 0\nd = 0 0 0\n",
+        ),
+    ] {
+        let text = looped(heap, head, body)?;
+        writes(&rt, heap, text.as_slice(), output)?;
+    }
+    let again =
+        b"uint64_t x = 3; for (uint64_t t = 0; t < 3; t++) { for (uint64_t i = 0; i < 3; i++) { d[i] = d[i] + t; } x *= 2; } s = x;";
+    writes(&rt, heap, again, b"s = 24\nd = 3 3 3\n")?;
+    Ok(())
+}
+
+#[test]
+fn loops_are_refused(rt: HostRuntime) -> Result<(), Fail> {
+    let heap = rt.alloc();
+    for (head, body, number) in [
+        (b"i = 0; i; i++".as_slice(), b"s = i;".as_slice(), 6),
+        (b"i = 0; i < 3; i += 0", b"s = i;", 6),
+        (b"i = 0; i > 3; i++", b"s = i;", 6),
+        (b"i = 9; i != 3; i -= 2", b"s = i;", 6),
+        (b"i = 0; i < 3; i++", b"i = 2;", 6),
+        (b"i = i; i < 3; i++", b"s = i;", 6),
+        (b"i = 9; i >= 0; i--", b"s = i;", 7),
+        (b"i = 6; i > 0; i -= 2", b"s = i;", 7),
+        (b"i = 10; i > 1; i -= 3", b"s = i;", 7),
+        (b"i = 3; i != 7; i--", b"s = i;", 7),
+        (
+            b"i = 0; i < 8; i++",
+            b"for (uint64_t j = 0; j < i - 1; j++) { s = j; }",
+            7,
+        ),
+        (b"i = 0; i < s; i++", b"s = i;", 8),
+        (b"i = 0; i < 2; i++", b"d[i * i] = 1;", 8),
+        (b"i = 0; i < 4; i++", b"d[i] = i;", 9),
+        (b"i = 0; i < 3; i++", b"s = d[i + 1];", 9),
+        (b"i = 0; i < 3; i++", b"if (i < 2) d[i + 1] = 1;", 9),
+        (b"i = 0; i < 4294967297; i++", b"s = i;", 2),
+        (b"i = 0; i < 4294967297ull; i++", b"s = i;", 21),
+    ] {
+        let text = looped(heap, head, body)?;
+        refused(&rt, heap, text.as_slice(), number)?;
+    }
+    let mut text = Vec::from_slice(heap, b"s = 1;")?;
+    for name in [b'a', b'b', b'c', b'e', b'f', b'g', b'h', b'i', b'j'] {
+        let mut head = Vec::from_slice(heap, b"x = 0; x < 1; x++")?;
+        head[0] = name;
+        head[7] = name;
+        head[14] = name;
+        text = looped(heap, head.as_slice(), text.as_slice())?;
+        let number = if name == b'j' { 21 } else { 0 };
+        refused(&rt, heap, text.as_slice(), number)?;
+    }
+    Ok(())
+}
+
 #[test]
 fn text_is_printed_before_the_variables(rt: HostRuntime) -> Result<(), Fail> {
     let heap = rt.alloc();
@@ -130,21 +227,9 @@ fn bodies_are_refused(rt: HostRuntime) -> Result<(), Fail> {
     refused(&rt, heap, b"s = (0ull < 2) + 1ull;", 5)?;
     refused(&rt, heap, b"s = ~0;", 5)?;
     refused(&rt, heap, b"printf(\"%\" PRIu64 \"\\n\", s + 7ull);", 5)?;
-    refused(
-        &rt,
-        heap,
-        b"for (uint64_t i = 9; i > 0; i--) { d[0] = i; }",
-        6,
-    )?;
     refused(&rt, heap, b"d[s] = 1;", 8)?;
     refused(&rt, heap, b"d[3] = 1;", 9)?;
     refused(&rt, heap, b"s = d[3ull];", 9)?;
-    refused(
-        &rt,
-        heap,
-        b"for (uint64_t i = 0; i < 4; i++) { d[i] = i; }",
-        9,
-    )?;
     refused(&rt, heap, b"uint64_t x; if (s > 3) x = 1; s = x;", 10)?;
     refused(&rt, heap, b"uint64_t x = x;", 10)?;
     refused(
@@ -158,6 +243,18 @@ fn bodies_are_refused(rt: HostRuntime) -> Result<(), Fail> {
         heap,
         b"\n#pragma omp parallel for schedule(dynamic, 2)\ns = 1;",
         11,
+    )?;
+    refused(
+        &rt,
+        heap,
+        b"\n#pragma omp parallel for schedule(dynamic, 2)\nfor (uint64_t i = 1; i < 3; i++) { d[i] = i; }",
+        11,
+    )?;
+    refused(
+        &rt,
+        heap,
+        b"\n#pragma omp parallel for schedule(dynamic, 2)\nfor (uint64_t i = 1; i < 4; i++) { d[i] = i; }",
+        9,
     )?;
     Ok(())
 }

@@ -11,8 +11,8 @@ ghost use Rattle.evaluate.specs.Standing.{locals_of, standing};
 ghost use Rattle.seqrun.specs.Told.{AddsBeginning, Refuses};
 ghost use Rattle.execute.specs.Ran.{Ran, Ended, text_of, lengths_of};
 
-use evaluate::{Frame, Slot, holds};
-use execute::{run_item, statement};
+use evaluate::{Frame, Slot, holds, source_value};
+use execute::{increment, run_item, statement};
 use ktree::{Item, Place, Refusal, Stmt, VarId, Workers};
 use lower::{Directives, fits, lowered_loop};
 use overlay::{Formula, LoweredLoop, Operand, Store};
@@ -138,8 +138,20 @@ fn team_statement<R: Threads + Wait + Sync, G: Gate, S: Sink>(
                 Ok(())
             }
         }
+        Stmt::For(head, body) => {
+            let first = source_value(&head.start, frame, store);
+            frame.set(head.variable, Slot::Holds(first))?;
+            for _turn in 0..u64::MAX {
+                if !holds(&head.test, frame, store) {
+                    return Ok(());
+                }
+                team_statement(body, team, frame, store, sink)?;
+                increment(frame, store, &head.step)?;
+            }
+            Ok(())
+        }
         Stmt::Block(items) => team_block(items, team, frame, store, sink),
-        Stmt::Assign(_, _) | Stmt::Update(_, _, _) | Stmt::For(_, _) | Stmt::Print(_, _) => {
+        Stmt::Assign(_, _) | Stmt::Update(_, _, _) | Stmt::Print(_, _) => {
             statement(stmt, frame, store, sink)
         }
     }

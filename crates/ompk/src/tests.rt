@@ -1,12 +1,11 @@
 //! A kernel that is checked and run, and what is said of refusals.
 
-ghost use Rattle.std.specs.Prelude.{◌+◌, ◌<◌, ◌≤◌, ◌^◌};
+ghost use Rattle.std.specs.Prelude.{◌≡◌, ◌+◌, ◌<◌, ◌≤◌, ◌^◌};
 
 use crate::{check, run, status, tell};
 use ktree::{Cause, Conflict, InputFault, NotShown, Place, Refusal, Workers};
-use seqrun::{Memory, Sink, SinkFault, Writer};
+use seqrun::{Memory, Sink, SinkFault};
 use std::alloc::{AllocError, Global};
-use std::io::{Error, ErrorKind, Write};
 use std::process::Abort;
 use std::sync::Wait;
 use std::sync::atomic::{AtomicU64, Ordering};
@@ -43,24 +42,45 @@ impl Sink for Closed {
     }
 }
 
-// A writer that takes one byte a call, and fails at a call.
+// A sink that takes one byte a call, and fails at a call.
 #[derive(Drop)]
 struct OneByte {
-    calls: usize,
-    failing: usize,
+    bytes: Vec<u8>,
+    calls: u64,
+    failing: u64,
+    failures: u64,
 }
 
-impl Write for OneByte {
-    fn write(&mut self, buf: &[u8]) -> std::io::Result<usize> {
-        self.calls = self.calls.wrapping_add(1);
-        if self.calls == self.failing {
-            return Err(Error::from(ErrorKind::Other));
+impl OneByte {
+    fn new(alloc: Global, failing: u64) -> OneByte
+        ensures { result.failures ≡ 0 }
+    {
+        OneByte {
+            bytes: Vec::new(alloc),
+            calls: 0,
+            failing,
+            failures: 0,
         }
-        Ok(buf.len().min(1))
+    }
+}
+
+impl Sink for OneByte {
+    ghost told = { λ s. s.bytes.items };
+
+    ghost failed = { λ s. s.failures };
+
+    fn put(&mut self, bytes: &[u8]) -> Result<usize, SinkFault> {
+        self.calls = self.calls.wrapping_add(1);
+        let count = bytes.len().min(1);
+        if self.calls == self.failing || self.bytes.extend_from_slice(&bytes[..count]).is_err() {
+            self.failures += 1;
+            return Err(SinkFault);
+        }
+        Ok(count)
     }
 
-    fn flush(&mut self) -> std::io::Result<()> {
-        Ok(())
+    fn failures(&self) -> u64 {
+        self.failures
     }
 }
 
@@ -209,19 +229,21 @@ fn a_closed_sink_is_told(rt: HostRuntime) {
 }
 
 #[test]
-fn a_slow_sink_takes_all(rt: HostRuntime) {
+fn a_slow_sink_is_told_all_before_it_fails(rt: HostRuntime) {
     // The output has 20 bytes.
-    let mut sink = Writer::new(OneByte {
-        calls: 0,
-        failing: 21,
-    });
+    let mut sink = OneByte::new(rt.alloc(), 21);
     assert!(rt; increment(&rt, rt.alloc(), ONES, 2, &OpenGate, &mut sink).is_ok());
     assert_eq!(rt; sink.failures(), 0);
-    for failing in [8, 20] {
-        let mut sink = Writer::new(OneByte { calls: 0, failing });
+    assert_eq!(rt; sink.bytes.as_slice(), b"A = 1 2 3 4 5 6 7 8\n".as_slice());
+    for (failing, told) in [
+        (8, b"A = 1 2".as_slice()),
+        (20, b"A = 1 2 3 4 5 6 7 8".as_slice()),
+    ] {
+        let mut sink = OneByte::new(rt.alloc(), failing);
         let ran = increment(&rt, rt.alloc(), ONES, 2, &OpenGate, &mut sink);
         assert!(rt; matches!(ran, Err(Refusal::OutputFailed)), "at {failing}");
         assert_eq!(rt; sink.failures(), 1);
+        assert_eq!(rt; sink.bytes.as_slice(), told);
     }
 }
 

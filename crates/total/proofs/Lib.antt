@@ -1,8 +1,13 @@
 pub mod StripRun
 pub mod Going
-pub mod Visible
+pub mod There
 pub mod Values
-pub mod LoopRuns
+pub mod SideValues
+pub mod Assigning
 pub mod Points
+pub mod Growing
+pub mod Turning
+pub mod Inside
+pub mod Loops
 pub mod StatementsRun
-pub mod Ready
+pub mod Nested

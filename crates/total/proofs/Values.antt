@@ -1,48 +1,39 @@
 -- Expressions that read what is known, and stay inside their arrays, have values.
-use Rattle.std.specs.Prelude.{ℕ, zero, suc, Bool, true, false, not as negated, ◌≡◌, ◌<◌, ◌≤◌, ◌==◌, ◌&&◌, ◌||◌, nat_lt, List, [], ◌∷◌, ◌++◌, length, Option, Some, None, slice_get, option_and_then}
+use Rattle.std.specs.Prelude.{ℕ, ℤ, ◌^◌, zero, suc, true, false, not as negated, ◌≡◌, ◌<◌, ◌≤◌, ◌==◌, ◌&&◌, ◌||◌, nat_lt, List, [], ◌∷◌, ◌++◌, length, Option, Some, None, slice_get, option_and_then}
 use Rattle.std.specs.Fmt.{decimal}
 use Rattle.std.proofs.Common.{refl, sym, inl, inr, ap, ◌∙◌, subst, cond, arith}
+use Rattle.std.proofs.lemmas.Bool.{lt-ltb}
+use Rattle.std.proofs.lemmas.Int.{ints}
 use Rattle.std.proofs.lemmas.Option.{same_Some, slice_get_within}
-use Rattle.semantics.specs.Tree.{Variable, BinaryOp, Plus, Minus, Times, Divide, Remainder, BitAnd, BitOr, BitXor, ShiftLeft, ShiftRight, Bare, Ull, Expr, Literal, Constant, Object, Unary, Binary, Choose, Exprs, Cond, Source, PrintPart, Characters, Decimal, Declaration}
+use Rattle.semantics.specs.Tree.{Variable, BinaryOp, Plus, Minus, Times, Divide, Remainder, BitAnd, BitOr, BitXor, ShiftLeft, ShiftRight, Bare, Ull, Expr, Literal, Constant, Object, Unary, Binary, Choose, Exprs, no_exprs, more_exprs, Cond, Source, PrintPart, Characters, Decimal, Declaration}
 use Rattle.semantics.specs.Source.Token.{Token}
 use Rattle.semantics.specs.Source.Scope.{Scope}
 use Rattle.semantics.specs.Source.Typing.{typed, constant, not_zero, may_divide, may_shift, fit}
-use Rattle.semantics.specs.Source.Expressions.{ReadsExpr, literal, enumerator, object, parens, unary, binary, choose, tighter, ReadsSubscripts, no_subscripts, subscript, ReadsCond, numeric, cond_parens, not, compare, both, either, cond_tighter}
+use Rattle.semantics.specs.Source.Expressions.{ReadsExpr, literal, enumerator, object, parens, unary, binary, choose, tighter, ReadsCond, numeric, cond_parens, not, compare, both, either, cond_tighter}
 use Rattle.semantics.specs.Source.Statements.{ReadsSource, number, truth, ReadsArguments, argument, Fills}
 use Rattle.semantics.specs.Meaning.State.{State, Slot, Outside, Empty, Holds, look_in, is_there, is_object, is_object_in, no_indexes}
-use Rattle.semantics.specs.Meaning.Value.{value, values, holds, source_value, map_option, both_then, by_test, change, operate, if_divisor, if_count}
+use Rattle.semantics.specs.Meaning.Value.{value, values, holds, source_value, map_option, by_test, change, operate, if_divisor, if_count}
 use Rattle.semantics.specs.Meaning.Value as meaning
 use Rattle.semantics.specs.Meaning.Runs.{print_text}
 use Rattle.semantics.specs.Meaning.Places.{within}
 use Rattle.semantics.specs.Meaning.Definite.{Known, may_read, may_read_all, may_test, may_take, may_print}
 use Rattle.semantics.specs.Theorems.{is_declared}
 use Rattle.semantics.proofs.EraseTokenLaw.{first_of, second_of}
-use Rattle.lower.specs.Ready.{index_of, is_below, stay, lengths_of, object_stays, expr_stays, cond_stays, source_stays, parts_stay}
+use Rattle.affine.specs.declared.interval.Side.{Side}
+use Rattle.affine.specs.Affine.{Affine}
+use Rattle.forms.specs.Forms.{form_of}
+use Rattle.nest.specs.Nests.{ExprHas, CondHas, SourceHas, PartsHave, StaysBelow, AllStay, lengths_of, StaysInside}
 use Rattle.total.proofs.Going.{stands, is_held, HoldsKnown, IsUsable}
-use Rattle.total.proofs.Visible.{Each, IsSmall, constant_there}
+use Rattle.canonical.specs.Constants.{Each, IsSmall}
+use Rattle.canonical.proofs.Visible.{constant_there}
+use Rattle.total.proofs.There.{There, there_mapped, there_both, there_tested, found_there, not_zero_there, shift_there, divides, counts}
+use Rattle.canonical.specs.Turn.{AtTurn}
+use Rattle.canonical.proofs.FormValues.{operation_is, form_number}
 
 -- the objects of the declarations are there and no other, and no local has their numbers
 pub record IsGood (ds : List Declaration) (s : State) : Type 0 where
   pub cells : (x : Variable) (is : List ℕ) → is_there (s.cells x is) ≡ is_declared (slice_get ds x) is
   pub outside : (x : Variable) → x < length ds → s.locals x ≡ Outside
-
--- something is there
-abbrev pub There : {A : Type 0} → Option A → Type 0
-There {A} o = (a : A) × (o ≡ Some a)
-
-there_mapped : {A B : Type 0} (f : A → B) (o : Option A) → There o → There (map_option f o)
-there_mapped f o h = (f h.0, ap (map_option f) h.1)
-
-there_both : {A B C : Type 0} (f : A → B → C) (o : Option A) (p : Option B) → There o → There p → There (meaning.both f o p)
-there_both f o p h g = (f h.0 g.0, ap (λ q. meaning.both f q p) h.1 ∙ ap (λ q. meaning.both f (Some h.0) q) g.1)
-
-there_tested : {A : Type 0} (t : Option Bool) (o p : Option A) → There t → There o → There p → There (by_test t o p)
-there_tested t o p (true, e) h g = (h.0, ap (λ q. by_test q o p) e ∙ h.1)
-there_tested t o p (false, e) h g = (g.0, ap (λ q. by_test q o p) e ∙ g.1)
-
-pub found_there : (o : Option ℕ) → is_there o ≡ true → There o
-found_there None e = absurd cc
-found_there (Some v) e = (v, refl)
 
 -- no declaration has this number
 beyond : (ds : List Declaration) (x : ℕ) → slice_get ds x ≡ None → length ds ≤ x
@@ -64,46 +55,43 @@ standing_object Outside s x js e h = absurd cc
 standing_object Empty s x js e h = h
 standing_object (Holds v) s x js e h = h
 
-below_there : (o : Option ℕ) (n : ℕ) → is_below o n ≡ true → (i : ℕ) × (o ≡ Some i) × (nat_lt i n ≡ true)
-below_there None n e = absurd cc
-below_there (Some i) n e = (i, refl, e)
+-- lengths below 2^64
+abbrev pub AreShort : List ℕ → Type 0
+AreShort [] = Unit {0}
+AreShort (n ∷ ns) = (n < 2 ^ 64) × AreShort ns
 
-not_zero_there : (o : Option ℕ) → not_zero o ≡ true → (n : ℕ) × (o ≡ Some n) × (negated (n == 0) ≡ true)
-not_zero_there None e = absurd cc
-not_zero_there (Some n) e = (n, refl, e)
+-- of all declarations
+abbrev pub HaveShort : List Declaration → Type 0
+HaveShort [] = Unit {0}
+HaveShort (d ∷ ds) = AreShort d.lengths × HaveShort ds
 
-shift_there : (o : Option ℕ) → may_shift o ≡ true → (n : ℕ) × (o ≡ Some n) × (nat_lt n 64 ≡ true)
-shift_there None e = absurd cc
-shift_there (Some n) e = (n, refl, e)
+short_lengths : (ds : List Declaration) (x : ℕ) → HaveShort ds → AreShort (lengths_of (slice_get ds x))
+short_lengths [] x h = tt
+short_lengths (d ∷ ds) zero h = h.0
+short_lengths (d ∷ ds) (suc x) h = short_lengths ds x h.1
 
-divides : (n m : ℕ) → negated (n == 0) ≡ true → There (if_divisor n m)
-divides zero m e = absurd cc
-divides (suc n) m e = (m, refl)
-
-counts : (n m : ℕ) → nat_lt n 64 ≡ true → There (if_count n m)
-counts n m e = (m, ap (λ b. cond b (Some m) None) e)
-
--- the values that a state gives
-module _ (ds : List Declaration) (scope : Scope) (small : Each IsSmall scope) (s : State) (good : IsGood ds s) where
-  index_value : {o l : ℕ} {ts : List Token} (e : Expr) (n : ℕ) → ReadsExpr scope o l ts e → index_of e ≡ Some n → value s e ≡ Some n
-  index_value (Literal m Ull) n r q = q
-  index_value (Literal m Bare) n r q = (constant_there s n small r q).0
-  index_value (Constant name m) n r q = (constant_there s n small r q).0
-  index_value (Object x is) n r q = (constant_there s n small r q).0
-  index_value (Unary op a) n r q = (constant_there s n small r q).0
-  index_value (Binary op a b) n r q = (constant_there s n small r q).0
-  index_value (Choose c a b) n r q = (constant_there s n small r q).0
+-- the values that a state gives at a turn
+module _ (ds : List Declaration) (short : HaveShort ds) (scope : Scope) (small : Each IsSmall scope) (s : State) (good : IsGood ds s) (box : List Side) (turn_values : Variable → ℤ) (turn : AtTurn box turn_values s) where
+  -- a subscript is below its length
+  index_there : (e : Expr) (n : ℕ) (o : Option Affine) → form_of box e ≡ o → n < 2 ^ 64 → StaysBelow box n o → (i : ℕ) × (value s e ≡ Some i) × (nat_lt i n ≡ true)
+  index_there e n None is less h = absurd h
+  index_there e n (Some f) is less h =
+      let range = h turn_values turn.inside in
+      let low = range.0 in let high = range.1 in
+      let i = form_number box turn_values s turn.counters e f is low (omega (arith, ints)) in
+      let same = i.2 in
+      (i.0, i.1, lt-ltb i.0 n (omega (arith, ints)))
 
   -- subscripts that stay below the lengths
-  pub subscripts_there : {o : ℕ} {ts : List Token} {is : Exprs} (ls : List ℕ) → ReadsSubscripts scope o ts is → stay ls is ≡ true → (js : List ℕ) × (values s is ≡ Some js) × (within ls js ≡ true)
-  subscripts_there [] no_subscripts h = ([], refl, refl)
-  subscripts_there (n ∷ ls) no_subscripts h = absurd cc
-  subscripts_there [] (subscript b r q) h = absurd cc
-  subscripts_there (n ∷ ls) (subscript {e = e} {is = is} b r q) h =
-      let i = below_there (index_of e) n (first_of (is_below (index_of e) n) (stay ls is) h) in
-      let js = subscripts_there ls q (second_of (is_below (index_of e) n) (stay ls is) h) in (
+  pub subscripts_there : (ls : List ℕ) (is : Exprs) → AreShort ls → AllStay box ls is → (js : List ℕ) × (values s is ≡ Some js) × (within ls js ≡ true)
+  subscripts_there [] no_exprs short h = ([], refl, refl)
+  subscripts_there (n ∷ ls) no_exprs short h = absurd h
+  subscripts_there [] (more_exprs e is) short h = absurd h
+  subscripts_there (n ∷ ls) (more_exprs e is) short h =
+      let i = index_there e n (form_of box e) refl short.0 h.0 in
+      let js = subscripts_there ls is short.1 h.1 in (
         i.0 ∷ js.0,
-        ap (λ p. meaning.both (λ k ks. k ∷ ks) p (values s is)) (index_value e i.0 r i.1) ∙ ap (λ p. meaning.both (λ k ks. k ∷ ks) (Some i.0) p) js.1,
+        ap (λ p. meaning.both (λ k ks. k ∷ ks) p (values s is)) i.1 ∙ ap (λ p. meaning.both (λ k ks. k ∷ ks) (Some i.0) p) js.1,
         ap (λ b. b && within ls js.0) i.2 ∙ js.2,
       )
 
@@ -115,36 +103,35 @@ module _ (ds : List Declaration) (scope : Scope) (small : Each IsSmall scope) (s
   file_outside x d e = good.outside x (slice_get_within ds x d e)
 
   -- what is assigned is there
-  pub target_there : {o : ℕ} {ts : List Token} {is : Exprs} (x : Variable) → IsUsable ds s x → ReadsSubscripts scope o ts is → object_stays ds x is ≡ true
-      → (js : List ℕ) × (values s is ≡ Some js) × (is_object s x js ≡ true)
-  target_there {is = is} x usable r h = go (slice_get ds x) refl h
+  pub target_there : (x : Variable) (is : Exprs) → IsUsable ds s x → StaysInside ds box x is → (js : List ℕ) × (values s is ≡ Some js) × (is_object s x js ≡ true)
+  target_there x is usable h = go (slice_get ds x) refl (short_lengths ds x short) h
     where
       local_object : (u : IsUsable ds s x) (js : List ℕ) → length ds ≤ x → no_indexes js ≡ true → is_object s x js ≡ true
       local_object (inl lt) js le e = absurd (omega arith)
       local_object (inr up) js le e = standing_object (s.locals x) s x js up e
 
-      go : (o : Option Declaration) → slice_get ds x ≡ o → stay (lengths_of o) is ≡ true → (js : List ℕ) × (values s is ≡ Some js) × (is_object s x js ≡ true)
-      go None e q = let js = subscripts_there [] r q in (js.0, js.1, local_object usable js.0 (beyond ds x e) (no_index js.0 js.2))
-      go (Some d) e q =
-          let js = subscripts_there d.lengths r q in
+      go : (o : Option Declaration) → slice_get ds x ≡ o → AreShort (lengths_of o) → AllStay box (lengths_of o) is → (js : List ℕ) × (values s is ≡ Some js) × (is_object s x js ≡ true)
+      go None e b q = let js = subscripts_there [] is b q in (js.0, js.1, local_object usable js.0 (beyond ds x e) (no_index js.0 js.2))
+      go (Some d) e b q =
+          let js = subscripts_there d.lengths is b q in
           (js.0, js.1, ap (λ slot. is_object_in slot s x js.0) (file_outside x d e) ∙ declared_there x d js.0 e js.2)
 
   -- values of what is known
   module _ (k : Known) (known : HoldsKnown ds k s) where
-    pub object_there : {o : ℕ} {ts : List Token} {is : Exprs} (x : Variable) → k x ≡ true → ReadsSubscripts scope o ts is → object_stays ds x is ≡ true → There (value s (Object x is))
-    object_there {is = is} x have r h = go (slice_get ds x) refl h
+    pub object_there : (x : Variable) (is : Exprs) → k x ≡ true → StaysInside ds box x is → There (value s (Object x is))
+    object_there x is have h = go (slice_get ds x) refl (short_lengths ds x short) h
       where
-        go : (o : Option Declaration) → slice_get ds x ≡ o → stay (lengths_of o) is ≡ true → There (value s (Object x is))
-        go None e q =
-            let js = subscripts_there [] r q in
+        go : (o : Option Declaration) → slice_get ds x ≡ o → AreShort (lengths_of o) → AllStay box (lengths_of o) is → There (value s (Object x is))
+        go None e b q =
+            let js = subscripts_there [] is b q in
             let held = held_there (s.locals x) (known x (beyond ds x e) have) in (
               held.0,
               ap (λ p. option_and_then (λ ks. look_in (s.locals x) s x ks) p) js.1
                   ∙ ap (λ slot. look_in slot s x js.0) held.1
                   ∙ ap (λ b. cond b (Some held.0) None) (no_index js.0 js.2),
             )
-        go (Some d) e q =
-            let js = subscripts_there d.lengths r q in
+        go (Some d) e b q =
+            let js = subscripts_there d.lengths is b q in
             let held = found_there (s.cells x js.0) (declared_there x d js.0 e js.2) in (
               held.0,
               ap (λ p. option_and_then (λ ks. look_in (s.locals x) s x ks) p) js.1
@@ -190,60 +177,59 @@ module _ (ds : List Declaration) (scope : Scope) (small : Each IsSmall scope) (s
 
     mutual
       -- an expression has a value
-      pub expr_there : {o l : ℕ} {ts : List Token} {e : Expr} → ReadsExpr scope o l ts e → may_read k e ≡ true → expr_stays ds e ≡ true → There (value s e)
+      pub expr_there : {o l : ℕ} {ts : List Token} {e : Expr} → ReadsExpr scope o l ts e → may_read k e ≡ true → ExprHas (StaysInside ds) box e → There (value s e)
       expr_there (literal {n = n} r) m h = (n, refl)
       expr_there (enumerator {n = n} f) m h = (n, refl)
-      expr_there (object {x = x} {is = is} f r) m h = object_there x (first_of (k x) (may_read_all k is) m) r h
+      expr_there (object {x = x} {is = is} f r) m h = object_there x is (first_of (k x) (may_read_all k is) m) h
       expr_there (parens b r) m h = expr_there r m h
       expr_there (unary {e = a} {op = op} b u t r) m h = there_mapped (change op) (value s a) (expr_there r m h)
       expr_there (binary {a = a} {b = b} {op = op} sign f r q) m h =
-          let v = expr_there r (first_of (may_read k a) (may_read k b) m) (first_of (expr_stays ds a) (expr_stays ds b) h) in
-          let w = expr_there q (second_of (may_read k a) (may_read k b) m) (second_of (expr_stays ds a) (expr_stays ds b) h) in
+          let v = expr_there r (first_of (may_read k a) (may_read k b) m) h.0 in
+          let w = expr_there q (second_of (may_read k a) (may_read k b) m) h.1 in
           let u = operated op a b f q v.0 w.0 w.1 in
-          (u.0, ap (λ p. both_then (operate op) p (value s b)) v.1 ∙ ap (λ p. both_then (operate op) (Some v.0) p) w.1 ∙ u.1)
+          (u.0, operation_is op (value s a) (value s b) v.0 w.0 u.0 v.1 w.1 u.1)
       expr_there (choose {c = c} {a = a} {b = b} less t r q) m h =
           let m' = first_of (may_test k c && may_read k a) (may_read k b) m in
-          let h' = first_of (cond_stays ds c && expr_stays ds a) (expr_stays ds b) h in
           there_tested (holds s c) (value s a) (value s b)
-          (cond_there t (first_of (may_test k c) (may_read k a) m') (first_of (cond_stays ds c) (expr_stays ds a) h'))
-          (expr_there r (second_of (may_test k c) (may_read k a) m') (second_of (cond_stays ds c) (expr_stays ds a) h'))
-          (expr_there q (second_of (may_test k c && may_read k a) (may_read k b) m) (second_of (cond_stays ds c && expr_stays ds a) (expr_stays ds b) h))
+          (cond_there t (first_of (may_test k c) (may_read k a) m') h.0)
+          (expr_there r (second_of (may_test k c) (may_read k a) m') h.1)
+          (expr_there q (second_of (may_test k c && may_read k a) (may_read k b) m) h.2)
       expr_there (tighter r) m h = expr_there r m h
 
       -- a condition holds or not
-      pub cond_there : {o l : ℕ} {ts : List Token} {c : Cond} → ReadsCond scope o l ts c → may_test k c ≡ true → cond_stays ds c ≡ true → There (holds s c)
+      pub cond_there : {o l : ℕ} {ts : List Token} {c : Cond} → ReadsCond scope o l ts c → may_test k c ≡ true → CondHas (StaysInside ds) box c → There (holds s c)
       cond_there (numeric {e = e} r) m h = there_mapped (λ v. negated (v == 0)) (value s e) (expr_there r m h)
       cond_there (cond_parens b r) m h = cond_there r m h
       cond_there (not {c = c} b r) m h = there_mapped negated (holds s c) (cond_there r m h)
       cond_there (compare {a = a} {b = b} {op = op} sign f r q) m h =
           there_both (meaning.compare op) (value s a) (value s b)
-          (expr_there r (first_of (may_read k a) (may_read k b) m) (first_of (expr_stays ds a) (expr_stays ds b) h))
-          (expr_there q (second_of (may_read k a) (may_read k b) m) (second_of (expr_stays ds a) (expr_stays ds b) h))
+          (expr_there r (first_of (may_read k a) (may_read k b) m) h.0)
+          (expr_there q (second_of (may_read k a) (may_read k b) m) h.1)
       cond_there (both {c = c} {d = d} r q) m h =
           there_tested (holds s c) (holds s d) (Some false)
-          (cond_there r (first_of (may_test k c) (may_test k d) m) (first_of (cond_stays ds c) (cond_stays ds d) h))
-          (cond_there q (second_of (may_test k c) (may_test k d) m) (second_of (cond_stays ds c) (cond_stays ds d) h))
+          (cond_there r (first_of (may_test k c) (may_test k d) m) h.0)
+          (cond_there q (second_of (may_test k c) (may_test k d) m) h.1)
           (false, refl)
       cond_there (either {c = c} {d = d} r q) m h =
           there_tested (holds s c) (Some true) (holds s d)
-          (cond_there r (first_of (may_test k c) (may_test k d) m) (first_of (cond_stays ds c) (cond_stays ds d) h))
+          (cond_there r (first_of (may_test k c) (may_test k d) m) h.0)
           (true, refl)
-          (cond_there q (second_of (may_test k c) (may_test k d) m) (second_of (cond_stays ds c) (cond_stays ds d) h))
+          (cond_there q (second_of (may_test k c) (may_test k d) m) h.1)
       cond_there (cond_tighter r) m h = cond_there r m h
 
     -- a right side has one
-    pub source_there : {o : ℕ} {ts : List Token} {e : Source} → ReadsSource scope o ts e → may_take k e ≡ true → source_stays ds e ≡ true → There (source_value s e)
+    pub source_there : {o : ℕ} {ts : List Token} {e : Source} → ReadsSource scope o ts e → may_take k e ≡ true → SourceHas (StaysInside ds) box e → There (source_value s e)
     source_there (number r) m h = expr_there r m h
     source_there (truth {c = c} t r) m h = there_mapped (λ b. cond b 1 0) (holds s c) (cond_there r m h)
 
     -- and printf's arguments
     pub print_there : {o : ℕ} {ts : List Token} (spots : List (Option (List ℕ))) (es : List Expr) (parts : List PrintPart) → ReadsArguments scope o ts es → Fills spots es parts
-        → may_print k parts ≡ true → parts_stay ds parts ≡ true → There (print_text s parts)
+        → may_print k parts ≡ true → PartsHave (StaysInside ds) box parts → There (print_text s parts)
     print_there [] [] [] r f m h = ([], refl)
     print_there (Some bs ∷ spots) es (Characters cs ∷ parts) r f m h =
         there_both (λ a b. a ++ b) (Some cs) (print_text s parts) (cs, refl) (print_there spots es parts r f.1 m h)
     print_there (None ∷ spots) (e ∷ es) (Decimal d ∷ parts) (argument t p r q) f m h =
         there_both (λ a b. a ++ b) (map_option decimal (value s d)) (print_text s parts)
-        (there_mapped decimal (value s d) (subst (λ d. may_read k d ≡ true → expr_stays ds d ≡ true → There (value s d)) f.0 (expr_there r) (first_of (may_read k d) (may_print k parts) m) (first_of (expr_stays ds d) (parts_stay ds parts) h)))
-        (print_there spots es parts q f.1 (second_of (may_read k d) (may_print k parts) m) (second_of (expr_stays ds d) (parts_stay ds parts) h))
+        (there_mapped decimal (value s d) (subst (λ d. may_read k d ≡ true → ExprHas (StaysInside ds) box d → There (value s d)) f.0 (expr_there r) (first_of (may_read k d) (may_print k parts) m) h.0))
+        (print_there spots es parts q f.1 (second_of (may_read k d) (may_print k parts) m) h.1)
     print_there _ _ _ r f m h = absurd f
