@@ -36,6 +36,9 @@ SHAPES = {
     "one product of sums": lambda size: "uint64_t s;\n" + HEAD + "s = " + "(s + 3ull) * " * ((size - 100) // 13) + "s;\n}\n",
     "one condition": lambda size: "uint64_t s;\n" + HEAD + "s = " + "s || " * ((size - 100) // 5) + "s;\n}\n",
     "one printf": lambda size: "uint64_t s;\n" + HEAD + "printf(" + '"%" PRIu64 ' * ((size - 100) // 13) + '""' + ",s" * ((size - 100) // 13) + ");\n}\n",
+    "one subscript": lambda size: "uint64_t A[9];\n" + HEAD + "A[" + "0+" * ((size - 100) // 2) + "1] = 1;\n}\n",
+    "one bound": lambda size: "uint64_t s;\n" + HEAD + "for (uint64_t i = 0; i < " + "0+" * ((size - 100) // 2) + "1; i++) { s = i; }\n}\n",
+    "elements": lambda size: "uint64_t A[9];\nuint64_t s;\n" + HEAD + "s=" + "A[3]+" * ((size - 100) // 5) + "s;\n}\n",
     "comments": lambda size: "/* a comment */\n" * ((size - 100) // 16) + HEAD + "}\n",
 }
 
