@@ -1,2 +1,4 @@
 pub mod Stays
 pub mod Walks
+pub mod Exact
+pub mod Constant
