@@ -1,6 +1,7 @@
 pub mod Trees
 pub mod Boxes
 pub mod Steps
+pub mod Turning
 pub mod Unique
 pub mod Laws
 pub mod Residues

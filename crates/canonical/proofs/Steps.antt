@@ -11,7 +11,7 @@ use Rattle.canonical.specs.Sides.{IsCount}
 use Rattle.canonical.specs.Whole.{IsSpan, IsWalked}
 
 -- as many steps reach so far as the quotient says, and the first one
-counts : (by d k : ℕ) → 1 ≤ by → (k < d / by + 1) ↔ (by * k ≤ d)
+pub counts : (by d k : ℕ) → 1 ≤ by → (k < d / by + 1) ↔ (by * k ≤ d)
 counts by d k one = (
   λ (h : k < d / by + 1). let scaled : by * k ≤ by * (d / by) = mul-le-mul_left by (omega arith) in omega arith,
   λ (h : by * k ≤ d). by_order k (d / by + 1) (λ l. l) (λ (far : d / by + 1 ≤ k).

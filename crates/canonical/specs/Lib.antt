@@ -5,3 +5,4 @@ pub mod Mentions
 pub mod Whole
 pub mod Loops
 pub mod Turn
+pub mod Most

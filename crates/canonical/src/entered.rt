@@ -22,9 +22,9 @@ const DEEPEST: usize = 8;
 
 /// A loop with the numbers that its variable may have.
 #[derive(Drop)]
-struct Loop {
-    canonical: Canonical,
-    numbers: Interval,
+pub struct Loop {
+    pub canonical: Canonical,
+    pub numbers: Interval,
 }
 
 /// What is told first of a head whose loop is not canonical or has a bound without a form.
@@ -46,8 +46,13 @@ fn first_fault(head: &Head, body: &Stmt, bounds: &VarBox, fault: Fault) -> Fault
     }
 }
 
-/// The loop of a head inside those of a box.
-fn loop_of(alloc: Global, head: &Head, body: &Stmt, bounds: &VarBox) -> Result<Loop, Fault>
+/// The loop of a head inside those of a box (OpenMP 5.2, 4.4.1 and 4.4.2).
+///
+/// # Errors
+///
+/// At the `for`: `NotCanonical`, also where the body assigns the loop's variable; where both bounds have forms, `MayWrap`;
+/// `Limit` inside 8 loops. Else the fault of a bound. Or `OutOfMemory`.
+pub fn loop_of(alloc: Global, head: &Head, body: &Stmt, bounds: &VarBox) -> Result<Loop, Fault>
     ensures ok { IfOk result (λ made. IsLoop bounds.now head.now.variable.0 (source_of head.now.start) (cond_of head.now.test) (increment_of head.now.step) (stmt_of body.now) made.canonical made.numbers) }
     ensures fits { IfOk result (λ made. EndsFit made.numbers.least made.numbers.greatest) }
     ensures fault { IfErr result (λ fault. (fault ≡ OutOfMemory) ⊎ ((l : canonicals.Canonical) (i : intervals.Interval)
@@ -74,8 +79,7 @@ fn loop_of(alloc: Global, head: &Head, body: &Stmt, bounds: &VarBox) -> Result<L
 ///
 /// # Errors
 ///
-/// At the `for`: `NotCanonical`, also where the body assigns the loop's variable; where both bounds have forms, `MayWrap`;
-/// `Limit` inside 8 loops. Else the fault of a bound. Or `OutOfMemory`. The box is then as it was.
+/// Those of [`loop_of`]. The box is then as it was.
 pub fn enter(
     alloc: Global,
     head: &Head,

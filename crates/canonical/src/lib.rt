@@ -5,14 +5,17 @@ mod assigned;
 mod entered;
 mod head;
 mod mentioned;
+mod most;
 mod range;
 mod stride;
 mod walked;
 mod wrapping;
 
 pub use assigned::assigns;
-pub use entered::enter;
+pub use entered::{Loop, enter, loop_of};
 pub use head::{Canonical, canonical_of};
+pub use mentioned::{mentions, source_mentions};
+pub use most::{distance, most_turns, turns_within};
 pub use stride::{Bound, Direction, Stride, stride_of};
 pub use walked::side;
 pub use wrapping::wraps;

@@ -8,7 +8,7 @@ use ktree::{Cond, Expr, Source, VarId};
 
 /// Whether the variable stands in an expression.
 #[cycle(expression)]
-pub(crate) fn mentions(variable: VarId, expr: &Expr) -> bool
+pub fn mentions(variable: VarId, expr: &Expr) -> bool
     ensures { result ≡ mentions variable.0 (expr_of expr.now) }
 {
     match expr {
@@ -55,7 +55,7 @@ fn cond_mentions(variable: VarId, cond: &Cond) -> bool
 }
 
 /// Whether it stands in a right side.
-pub(crate) fn source_mentions(variable: VarId, source: &Source) -> bool
+pub fn source_mentions(variable: VarId, source: &Source) -> bool
     ensures { result ≡ mentions_source variable.0 (source_of source.now) }
 {
     match source {

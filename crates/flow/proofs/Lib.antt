@@ -1,3 +1,4 @@
 pub mod KnownLemmas
 pub mod ReadLemmas
 pub mod JudgeLemmas
+pub mod PrivateLemmas

@@ -6,6 +6,7 @@ use ktree::{
     BinaryOp, CompareOp, Cond, Declaration, Expr, Head, Increment, Item, Kernel, Local, Mention,
     Place, PrintPart, Refusal, Source, Stmt, Suffix, Target, VarId,
 };
+use pragma::Directives;
 use std::alloc::{AllocError, Global};
 use std::test::Fail;
 
@@ -304,4 +305,133 @@ fn blocks_hand_on_what_is_known(rt: HostRuntime) -> Result<(), Fail> {
     let alloc = rt.alloc();
     assert_eq!(rt; fault_behind(alloc, block(alloc)?, X)?, None);
     Ok(())
+}
+
+/// A `parallel for` on the line 2, and one with `collapse(2)` on the line 3.
+const LINES: &[u8] = b"\n#pragma omp parallel for\n#pragma omp parallel for collapse(2)\n";
+
+/// What is wrong with the data of the parallel loops of a text with these items.
+fn data_fault(alloc: Global, body: Vec<Item>) -> Result<Option<DataFault>, AllocError> {
+    let kernel = Kernel {
+        constants: Vec::new(alloc),
+        variables: Vec::new(alloc),
+        body,
+    };
+    let directives = Directives::read(alloc, LINES)?;
+    match classify(&kernel, &directives) {
+        Ok(()) => Ok(None),
+        Err(fault) => Ok(Some(fault)),
+    }
+}
+
+/// The directive of a line.
+fn directive(line: u32) -> Item {
+    Item::Directive(Place { line, column: 1 })
+}
+
+/// `for (i = 0; i < 8; i++) body`
+fn plain(alloc: Global, body: Stmt) -> Result<Stmt, AllocError> {
+    turns(alloc, number(0), Increment::Up(I), body)
+}
+
+/// `variable = i;`, with the variable's name at column 9.
+fn set(alloc: Global, variable: VarId) -> Stmt {
+    let value = Source::Number(named(alloc, I, 13));
+    Stmt::Assign(target(alloc, variable, 9), value)
+}
+
+/// `A[i] = 1;`
+fn fill(alloc: Global) -> Result<Stmt, AllocError> {
+    Ok(Stmt::Assign(element(alloc, I, 3)?, Source::Number(number(1))))
+}
+
+/// `{ uint64_t x; x = i; }`
+fn set_local(alloc: Global) -> Result<Stmt, AllocError> {
+    let mut items = Vec::new(alloc);
+    items.push(local(alloc, None)?)?;
+    items.push(item(alloc, set(alloc, X))?)?;
+    Ok(Stmt::Block(items))
+}
+
+/// The same for `uint64_t x;`, the directive of a line and a loop with this body.
+fn fault_under(alloc: Global, line: u32, body: Stmt) -> Result<Option<DataFault>, AllocError> {
+    let mut items = Vec::new(alloc);
+    items.push(local(alloc, None)?)?;
+    items.push(directive(line))?;
+    items.push(item(alloc, plain(alloc, body)?)?)?;
+    data_fault(alloc, items)
+}
+
+#[test]
+fn scalars_from_outside_are_shared(rt: HostRuntime) -> Result<(), Fail> {
+    let alloc = rt.alloc();
+    let file_scope = fault_under(alloc, 2, set(alloc, S))?;
+    assert_eq!(rt; file_scope, Some(DataFault::Written(at(9))));
+    let outer_local = fault_under(alloc, 2, set(alloc, X))?;
+    assert_eq!(rt; outer_local, Some(DataFault::Written(at(9))));
+    Ok(())
+}
+
+#[test]
+fn locals_and_elements_may_be_written(rt: HostRuntime) -> Result<(), Fail> {
+    let alloc = rt.alloc();
+    assert_eq!(rt; fault_under(alloc, 2, set_local(alloc)?)?, None);
+    assert_eq!(rt; fault_under(alloc, 2, fill(alloc)?)?, None);
+    Ok(())
+}
+
+#[test]
+fn parallel_loops_print_nothing(rt: HostRuntime) -> Result<(), Fail> {
+    let alloc = rt.alloc();
+    let fault = fault_under(alloc, 2, line(alloc)?)?;
+    assert_eq!(rt; fault, Some(DataFault::Printed(at(1))));
+    Ok(())
+}
+
+#[test]
+fn other_loops_may_share(rt: HostRuntime) -> Result<(), Fail> {
+    let alloc = rt.alloc();
+    let mut items = Vec::new(alloc);
+    items.push(item(alloc, plain(alloc, set(alloc, S))?)?)?;
+    items.push(item(alloc, line(alloc)?)?)?;
+    assert_eq!(rt; data_fault(alloc, items)?, None);
+    Ok(())
+}
+
+#[test]
+fn steps_are_no_assignments(rt: HostRuntime) -> Result<(), Fail> {
+    let alloc = rt.alloc();
+    let inner = plain(alloc, fill(alloc)?)?;
+    assert_eq!(rt; fault_under(alloc, 2, inner)?, None);
+    Ok(())
+}
+
+#[test]
+fn collapsed_loops_run_the_innermost_body(rt: HostRuntime) -> Result<(), Fail> {
+    let alloc = rt.alloc();
+    let inner = plain(alloc, set_local(alloc)?)?;
+    assert_eq!(rt; fault_under(alloc, 3, inner)?, None);
+    let fault = fault_under(alloc, 3, fill(alloc)?)?;
+    let place = Place { line: 3, column: 1 };
+    assert_eq!(rt; fault, Some(DataFault::Directive(place)));
+    Ok(())
+}
+
+#[test]
+fn serial_loops_are_looked_into(rt: HostRuntime) -> Result<(), Fail> {
+    let alloc = rt.alloc();
+    let mut items = Vec::new(alloc);
+    items.push(directive(2))?;
+    items.push(item(alloc, plain(alloc, set(alloc, S))?)?)?;
+    let outer = plain(alloc, Stmt::Block(items))?;
+    let mut text = Vec::new(alloc);
+    text.push(item(alloc, outer)?)?;
+    assert_eq!(rt; data_fault(alloc, text)?, Some(DataFault::Written(at(9))));
+    Ok(())
+}
+
+#[test]
+fn faults_have_their_refusals(rt: HostRuntime) {
+    assert_eq!(rt; DataFault::Written(at(9)).refusal().number(), 14);
+    assert_eq!(rt; DataFault::Printed(at(1)).refusal().number(), 18);
 }

@@ -1,5 +1,3 @@
-pub mod DirectedLaw
 pub mod FitLaw
-pub mod LineLaw
 pub mod PathLaw
 pub mod TreeLaw

@@ -1,4 +1,1 @@
-pub mod Directed
-pub mod Faults
 pub mod Form
-pub mod Lines

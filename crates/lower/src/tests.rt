@@ -1,9 +1,9 @@
-//! Directive lines, and the loops that a team runs.
+//! The loops that a team runs.
 
 use super::*;
 use ktree::{
-    BinaryOp, ChunkSize, CompareOp, Cond, Declaration, Expr, Head, Increment, Item, Kernel,
-    Mention, Place, Source, Stmt, Suffix, Target, VarId,
+    BinaryOp, ChunkSize, CompareOp, Cond, Expr, Head, Increment, Item, Mention, Place, Source,
+    Stmt, Suffix, Target, VarId,
 };
 use overlay::{Array, Formula, LoweredLoop, Operand, Operation, Store};
 use std::alloc::{AllocError, Global};
@@ -121,124 +121,6 @@ fn counted(
     looped(alloc, start, bound, items, line)
 }
 
-/// A kernel of the array and this body.
-fn kernel(alloc: Global, body: Vec<Item>) -> Result<Kernel, AllocError> {
-    let mut variables = Vec::new(alloc);
-    variables.push(Declaration {
-        name: String::from_str(alloc, "A")?,
-        lengths: Vec::from_slice(alloc, &[8])?,
-        place: at(1, 10),
-    })?;
-    Ok(Kernel {
-        constants: Vec::new(alloc),
-        variables,
-        body,
-    })
-}
-
-/// The first fault of a body in front of this text.
-fn told(alloc: Global, body: Vec<Item>, text: &[u8]) -> Result<Option<Fault>, AllocError> {
-    let directives = Directives::read(alloc, text)?;
-    let kernel = kernel(alloc, body)?;
-    Ok(first_fault(&kernel, &directives))
-}
-
-/// The first fault of one statement.
-fn alone(alloc: Global, statement: Stmt) -> Result<Option<Fault>, AllocError> {
-    let mut body = Vec::new(alloc);
-    body.push(item(alloc, statement)?)?;
-    told(alloc, body, b"")
-}
-
-#[test]
-fn lines_give_sizes(rt: HostRuntime) -> Result<(), Fail> {
-    let text =
-        b"#pragma omp parallel for schedule(dynamic)\n\n # pragma omp parallel for schedule ( dynamic , 16777216 )\n#pragma omp parallel for schedule(dynamic, 16777217)\n#pragma omp parallel for schedule(dynamic, 2)";
-    let directives = Directives::read(rt.alloc(), text)?;
-    assert_eq!(rt;
-        directives.at(at(1, 1)),
-        Ok(ChunkSize::new(1).expect(&rt, "a size"))
-    );
-    assert_eq!(rt; directives.at(at(2, 1)), Err(Fault::Directive(at(2, 1))));
-    assert_eq!(rt;
-        directives.at(at(3, 2)),
-        Ok(ChunkSize::new(16777216).expect(&rt, "a size"))
-    );
-    assert_eq!(rt; directives.at(at(4, 1)), Err(Fault::Size(at(4, 1))));
-    assert_eq!(rt;
-        directives.at(at(5, 1)),
-        Ok(ChunkSize::new(2).expect(&rt, "a size"))
-    );
-    assert_eq!(rt; directives.at(at(6, 1)), Err(Fault::Directive(at(6, 1))));
-    Ok(())
-}
-
-#[test]
-fn faults_have_numbers(rt: HostRuntime) -> Result<(), Fail> {
-    let here = at(1, 2);
-    assert_eq!(rt; Fault::Directive(here).refusal().number(), 11);
-    assert_eq!(rt; Fault::Size(here).refusal().number(), 21);
-    assert_eq!(rt; Fault::Unsupported(here).refusal().number(), 11);
-    assert!(rt; Fault::Unsupported(here).is_unsupported());
-    assert!(rt; !Fault::Size(here).is_unsupported());
-    Ok(())
-}
-
-/// A text whose third line is a directive line.
-const TEXT: &[u8] = b"\n\n#pragma omp parallel for schedule(dynamic, 3)\nfor";
-
-/// The first fault of a directive line on the third line and a loop behind it.
-fn line_and_loop(alloc: Global, text: &[u8], start: u64) -> Result<Option<Fault>, AllocError> {
-    let loops = item(alloc, counted(alloc, start, 8, plain(alloc, I), 4)?)?;
-    let mut body = Vec::new(alloc);
-    body.push(Item::Directive(at(3, 1)))?;
-    body.push(loops)?;
-    told(alloc, body, text)
-}
-
-#[test]
-fn a_directive_stands_before_its_loop(rt: HostRuntime) -> Result<(), Fail> {
-    let alloc = rt.alloc();
-    let line = Some(Fault::Directive(at(3, 1)));
-    assert_eq!(rt; line_and_loop(alloc, TEXT, 0)?, None);
-    assert_eq!(rt;
-        line_and_loop(alloc, TEXT, 1)?,
-        Some(Fault::Unsupported(at(3, 1)))
-    );
-    assert_eq!(rt;
-        line_and_loop(alloc, b"\n\n#pragma omp simd\nfor", 1)?,
-        line
-    );
-    for other in [
-        b"\n\n#pragma omp parallel for\n".as_slice(),
-        b"\n\n#pragma omp parallel for collapse(2), schedule(dynamic, 3)\n",
-    ] {
-        assert_eq!(rt;
-            line_and_loop(alloc, other, 0)?,
-            Some(Fault::Unsupported(at(3, 1)))
-        );
-    }
-    assert_eq!(rt;
-        line_and_loop(alloc, b"\n\n#pragma omp parallel for collapse(5)", 0)?,
-        Some(Fault::Size(at(3, 1)))
-    );
-    let mut last = Vec::new(alloc);
-    last.push(Item::Directive(at(3, 1)))?;
-    assert_eq!(rt; told(alloc, last, TEXT)?, line);
-    Ok(())
-}
-
-#[test]
-fn lines_inside_other_loops_are_told(rt: HostRuntime) -> Result<(), Fail> {
-    let alloc = rt.alloc();
-    let mut items = Vec::new(alloc);
-    items.push(item(alloc, assign(alloc, plain(alloc, I), bare(0), 2)?)?)?;
-    items.push(Item::Directive(at(3, 1)))?;
-    let loops = looped(alloc, 0, 8, items, 1)?;
-    assert_eq!(rt; alone(alloc, loops)?, Some(Fault::Directive(at(3, 1))));
-    Ok(())
-}
-
 #[test]
 fn a_loop_is_lowered(rt: HostRuntime) -> Result<(), Fail> {
     let alloc = rt.alloc();
@@ -279,19 +161,5 @@ fn loops_fit_their_stores(rt: HostRuntime) -> Result<(), Fail> {
     assert!(rt; fits(&over(I, 4, size), &store));
     assert!(rt; !fits(&over(I, 5, size), &store));
     assert!(rt; !fits(&over(A, 4, size), &store));
-    Ok(())
-}
-
-/// A loop that no team runs, then a line that is no directive of this language.
-#[test]
-fn a_line_is_told_before_a_loop(rt: HostRuntime) -> Result<(), Fail> {
-    let alloc = rt.alloc();
-    let mut body = Vec::new(alloc);
-    body.push(Item::Directive(at(1, 1)))?;
-    body.push(item(alloc, counted(alloc, 1, 8, plain(alloc, I), 2)?)?)?;
-    body.push(Item::Directive(at(3, 1)))?;
-    body.push(item(alloc, counted(alloc, 0, 8, plain(alloc, I), 4)?)?)?;
-    let text = b"#pragma omp parallel for schedule(dynamic)\n\n#pragma omp simd\n";
-    assert_eq!(rt; told(alloc, body, text)?, Some(Fault::Directive(at(3, 1))));
     Ok(())
 }

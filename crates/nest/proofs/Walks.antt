@@ -48,7 +48,7 @@ item_cut P box (Local l) rest = (λ h. ((h.0, tt), h.1), λ h. (h.0.0, h.1))
 item_cut P box (Statement' p s) rest = (λ h. ((h.0, tt), h.1), λ h. (h.0.0, h.1))
 
 -- the next item, and what is behind it
-next_item : (is : List Item) (i : ℕ) (e : Item) → i < length is → e ≡ get_or is i e → items_of (drop i is) ≡ with_item e (items_of (drop (i + 1) is))
+pub next_item : (is : List Item) (i : ℕ) (e : Item) → i < length is → e ≡ get_or is i e → items_of (drop i is) ≡ with_item e (items_of (drop (i + 1) is))
 next_item is i e lt p =
     let here : drop i is ≡ e ∷ drop (i + 1) is = rw add-one (drop-cons is i e lt ∙ ap (λ x. x ∷ drop (suc i) is) (sym p)) in
     ap items_of here

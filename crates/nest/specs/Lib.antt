@@ -1,3 +1,5 @@
 pub mod Judged
 pub mod Nests
+pub mod Perfect
+pub mod Heads
 pub mod Turns

@@ -17,7 +17,7 @@ use ktree::{Head, Item, Stmt};
 use std::alloc::Global;
 
 /// Goes into a loop, if it is canonical, never wraps and is one of eight at most.
-fn entered(alloc: Global, head: &Head, body: &Stmt, bounds: &mut VarBox) -> Result<(), Fault>
+pub fn entered(alloc: Global, head: &Head, body: &Stmt, bounds: &mut VarBox) -> Result<(), Fault>
     ensures ok { OnOk result (Entered bounds.old bounds.new head.now (stmt_of body.now)) }
     ensures fault { IfErr result (λ fault. (fault ≡ OutOfMemory) ⊎ ((box : List Side) → Entered bounds.old box head.now (stmt_of body.now) → ⊥)) }
 {

@@ -1,12 +1,16 @@
-//! Kernels whose loops and subscripts are looked at, and the first faults of others.
+//! Kernels whose loops, nests and subscripts are looked at, and the first faults of others.
 
 use super::*;
+use affine::VarBox;
 use forms::Fault;
 use ktree::{
-    BinaryOp, CompareOp, Cond, Declaration, Expr, Head, Increment, Item, Kernel, Mention, Place,
-    Source, Stmt, Suffix, Target, VarId,
+    BinaryOp, CompareOp, Cond, Declaration, Expr, Head, Increment, Item, Kernel, Local, Mention,
+    Place, Source, Stmt, Suffix, Target, VarId,
 };
+use pragma::Directives;
+use space::{Space, Value};
 use std::alloc::Global;
+use std::test::Fail;
 
 /// An array of 8 elements.
 const A: VarId = VarId(0);
@@ -191,8 +195,9 @@ fn told_of(alloc: Global, body: Vec<Item>) -> Result<Faults, Fault> {
         variables,
         body,
     };
+    let directives = Directives::read(alloc, b"")?;
     Ok(Faults {
-        nested: nests(alloc, &kernel).err(),
+        nested: nests(alloc, &kernel, &directives).err(),
         ranged: in_range(alloc, &kernel).err(),
     })
 }
@@ -386,4 +391,164 @@ fn other_statements(rt: HostRuntime) {
     assert_eq!(rt; behind_a_loop(alloc, bare(7)), Ok(FINE));
     assert_eq!(rt; behind_a_loop(alloc, bare(8)), leaves(FIRST));
     assert_eq!(rt; by_its_variable(alloc), both(Fault::NotAffine(FIRST)));
+}
+
+/// The directive line that joins two loops.
+const JOINED: &[u8] = b"#pragma omp parallel for collapse(2)";
+
+/// The directive line that takes one loop.
+const ALONE: &[u8] = b"#pragma omp parallel for";
+
+/// The place of a directive line in its own text.
+const LINE: Place = Place { line: 1, column: 1 };
+
+/// This directive line before a statement.
+fn directed(alloc: Global, statement: Stmt) -> Result<Vec<Item>, Fault> {
+    let mut items = Vec::new(alloc);
+    items.push(Item::Directive(LINE))?;
+    items.push(item(alloc, statement)?)?;
+    Ok(items)
+}
+
+/// What is told of a body whose directive lines say this.
+fn nested(alloc: Global, line: &[u8], body: Vec<Item>) -> Result<Option<Fault>, Fault> {
+    let kernel = Kernel {
+        constants: Vec::new(alloc),
+        variables: Vec::new(alloc),
+        body,
+    };
+    let directives = Directives::read(alloc, line)?;
+    Ok(nests(alloc, &kernel, &directives).err())
+}
+
+/// An empty block.
+fn nothing(alloc: Global) -> Stmt {
+    Stmt::Block(Vec::new(alloc))
+}
+
+/// What is told of this line before two loops, one in the other, that turn so often.
+fn two_loops(alloc: Global, line: &[u8], first: u64, second: u64) -> Result<Option<Fault>, Fault> {
+    let body = inner(alloc, CompareOp::Less, bare(second), nothing(alloc))?;
+    nested(alloc, line, directed(alloc, outer(alloc, first, body)?)?)
+}
+
+#[test]
+fn iterations_have_a_limit(rt: HostRuntime) {
+    let alloc = rt.alloc();
+    let limit = Ok(Some(Fault::Limit(OUTER)));
+    assert_eq!(rt; two_loops(alloc, JOINED, 3, 4), Ok(None));
+    assert_eq!(rt; two_loops(alloc, ALONE, 16777216, 4), Ok(None));
+    assert_eq!(rt; two_loops(alloc, ALONE, 16777217, 4), limit);
+    assert_eq!(rt; two_loops(alloc, JOINED, 4096, 4096), Ok(None));
+    assert_eq!(rt; two_loops(alloc, JOINED, 4097, 4096), limit);
+    assert_eq!(rt; two_loops(alloc, JOINED, 4294967296, 0), Ok(None));
+}
+
+/// What is told of this line before an outer loop of 3 turns whose body is `j <= i`.
+fn joined_triangle(alloc: Global, line: &[u8]) -> Result<Option<Fault>, Fault> {
+    let body = inner(
+        alloc,
+        CompareOp::LessEqual,
+        plain(alloc, I)?,
+        nothing(alloc),
+    )?;
+    nested(alloc, line, directed(alloc, outer(alloc, 3, body)?)?)
+}
+
+#[test]
+fn nests_are_rectangular(rt: HostRuntime) {
+    let alloc = rt.alloc();
+    assert_eq!(rt; joined_triangle(alloc, ALONE), Ok(None));
+    assert_eq!(rt;
+        joined_triangle(alloc, JOINED),
+        Ok(Some(Fault::NotPerfect(INNER)))
+    );
+}
+
+/// What is told of this line before an outer loop of 3 turns whose body has a local before the inner loop.
+fn with_local(alloc: Global, line: &[u8]) -> Result<Option<Fault>, Fault> {
+    let mut items = Vec::new(alloc);
+    items.push(Item::Local(Local {
+        variable: LOCAL,
+        name: String::from_str(alloc, "x")?,
+        start: None,
+        place: NAME,
+    }))?;
+    let body = inner(alloc, CompareOp::Less, bare(4), nothing(alloc))?;
+    items.push(item(alloc, body)?)?;
+    nested(
+        alloc,
+        line,
+        directed(alloc, outer(alloc, 3, Stmt::Block(items))?)?,
+    )
+}
+
+/// What is told of this line before one loop.
+fn one_loop(alloc: Global, line: &[u8]) -> Result<Option<Fault>, Fault> {
+    let body = outer(alloc, 3, nothing(alloc))?;
+    nested(alloc, line, directed(alloc, body)?)
+}
+
+#[test]
+fn nests_are_perfect(rt: HostRuntime) {
+    let alloc = rt.alloc();
+    let imperfect = Ok(Some(Fault::NotPerfect(OUTER)));
+    assert_eq!(rt; with_local(alloc, ALONE), Ok(None));
+    assert_eq!(rt; with_local(alloc, JOINED), imperfect);
+    assert_eq!(rt; one_loop(alloc, ALONE), Ok(None));
+    assert_eq!(rt; one_loop(alloc, JOINED), imperfect);
+}
+
+/// What is told of a parallel loop of 16,777,217 turns inside a serial loop that turns so often.
+fn in_serial(alloc: Global, turns: u64) -> Result<Option<Fault>, Fault> {
+    let parallel = inner(alloc, CompareOp::Less, bare(16777217), nothing(alloc))?;
+    let body = Stmt::Block(directed(alloc, parallel)?);
+    let mut items = Vec::new(alloc);
+    items.push(item(alloc, outer(alloc, turns, body)?)?)?;
+    nested(alloc, ALONE, items)
+}
+
+#[test]
+fn nests_in_loops_that_never_turn(rt: HostRuntime) {
+    let alloc = rt.alloc();
+    assert_eq!(rt; in_serial(alloc, 0), Ok(None));
+    assert_eq!(rt; in_serial(alloc, 1), Ok(Some(Fault::Limit(INNER))));
+}
+
+/// How many iterations a nest of two loops has, the inner one up to the value of a variable round it.
+fn iterations(alloc: Global, limit: u64) -> Result<Option<u64>, Fault> {
+    let mut bounds = VarBox::new(alloc);
+    if bounds.bound(LOCAL, 0, 9, NAME).is_err() {
+        return Err(Fault::OutOfMemory);
+    }
+    let body = inner(alloc, CompareOp::Less, plain(alloc, LOCAL)?, nothing(alloc))?;
+    let statement = outer(alloc, 3, body)?;
+    let nest = Nest::new(alloc, 2, &statement, &bounds, LINE)?;
+    let around = Value {
+        variable: LOCAL,
+        value: limit,
+    };
+    Ok(nest.at(alloc, &[around]).map(|space: Space| space.count()))
+}
+
+#[test]
+fn nests_have_spaces(rt: HostRuntime) {
+    assert_eq!(rt; iterations(rt.alloc(), 5), Ok(Some(15)));
+}
+
+#[test]
+fn the_first_fault_is_told(rt: HostRuntime) -> Result<(), Fail> {
+    let alloc = rt.alloc();
+    let body = inner(
+        alloc,
+        CompareOp::LessEqual,
+        plain(alloc, SCALAR)?,
+        nothing(alloc),
+    )?;
+    let nest = outer(alloc, 16777217, body)?;
+    assert_eq!(rt;
+        nested(alloc, ALONE, directed(alloc, nest)?),
+        Ok(Some(Fault::Limit(OUTER)))
+    );
+    Ok(())
 }

@@ -105,6 +105,9 @@ fn statements_run_as_those_of_c(rt: HostRuntime) -> Result<(), Fail> {
     let parallel =
         b"if (s < 1) {\n#pragma omp parallel for schedule(dynamic, 2)\nfor (uint64_t i = 0; i < 3; i++) { d[i] = d[i] + 7ull; }\ns = 9; }";
     writes(&rt, heap, parallel, b"s = 9\nd = 7 7 7\n")?;
+    let joined =
+        b"\n#pragma omp parallel for collapse(2)\nfor (uint64_t i = 1; i < 3; i++) for (uint64_t j = 0; j < 1; j++) { d[i] = i; }";
+    writes(&rt, heap, joined, b"s = 0\nd = 0 1 2\n")?;
     Ok(())
 }
 
@@ -247,8 +250,20 @@ fn bodies_are_refused(rt: HostRuntime) -> Result<(), Fail> {
     refused(
         &rt,
         heap,
-        b"\n#pragma omp parallel for schedule(dynamic, 2)\nfor (uint64_t i = 1; i < 3; i++) { d[i] = i; }",
+        b"\n#pragma omp parallel for\nfor (uint64_t i = 0; i < 3; i++) {\n#pragma omp parallel for\nfor (uint64_t j = 0; j < 3; j++) { d[j] = i; } }",
         11,
+    )?;
+    refused(
+        &rt,
+        heap,
+        b"\n#pragma omp parallel for collapse(2)\nfor (uint64_t i = 0; i < 3; i++) { d[i] = i; }",
+        12,
+    )?;
+    refused(
+        &rt,
+        heap,
+        b"\n#pragma omp parallel for\nfor (uint64_t i = 0; i < 16777217; i++) { d[0] = 1; }",
+        21,
     )?;
     refused(
         &rt,

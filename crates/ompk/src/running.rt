@@ -11,7 +11,7 @@ use crate::teaming::{Teaming, team_block};
 use evaluate::Frame;
 use execute::block;
 use ktree::{Refusal, Workers};
-use lower::Directives;
+use pragma::Directives;
 use seqrun::{Sink, dump, input as read_input};
 use std::alloc::Global;
 use std::sync::Wait;

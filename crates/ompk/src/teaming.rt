@@ -13,9 +13,10 @@ ghost use Rattle.execute.specs.Ran.{Ran, Ended, text_of, lengths_of};
 
 use evaluate::{Frame, Slot, holds, source_value};
 use execute::{increment, run_item, statement};
-use ktree::{Item, Place, Refusal, Stmt, VarId, Workers};
-use lower::{Directives, fits, lowered_loop};
+use ktree::{ChunkSize, Item, Place, Refusal, Stmt, VarId, Workers};
+use lower::{fits, lowered_loop};
 use overlay::{Formula, LoweredLoop, Operand, Store};
+use pragma::Directives;
 use seqrun::Sink;
 use std::alloc::Global;
 use std::sync::Wait;
@@ -67,6 +68,14 @@ fn is_open(lowered: &LoweredLoop, frame: &Frame) -> bool
     }
 }
 
+// The size of the chunks of the loop behind the directive line at this place, if it has a dynamic schedule.
+fn chunk_size(directives: &Directives, directive: Place) -> Option<ChunkSize> {
+    match directives.at(directive) {
+        Ok(line) => line.schedule,
+        Err(_refusal) => None,
+    }
+}
+
 // Runs the loop behind the directive line at this place by the team, and answers true; leaves any other statement alone, and
 // answers false.
 fn run_construct<R: Threads + Wait + Sync, G: Gate>(
@@ -82,7 +91,7 @@ fn run_construct<R: Threads + Wait + Sync, G: Gate>(
     ensures refusal { IfErr result (λ refusal. refusal ≡ OutOfMemory) }
     ensures shape { lengths_of store.new ≡ lengths_of store.old }
 {
-    let Ok(size) = team.directives.at(directive) else {
+    let Some(size) = chunk_size(team.directives, directive) else {
         return Ok(false);
     };
     let Some(lowered) = lowered_loop(stmt, size) else {

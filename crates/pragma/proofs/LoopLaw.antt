@@ -12,11 +12,11 @@ use Rattle.semantics.specs.Directives.Directive.{Clause, ParallelFor}
 use Rattle.semantics.specs.Directives.DirectiveGrammar as grammar
 use Rattle.semantics.specs.Directives.DirectiveGrammar.{words, ReadsNumber, number, schedule, dynamic, dynamic_size, collapse, ReadsClause, ReadsFurther, each_once, on_parallel_for, ReadsDirective, parallel_for, ReadsLine}
 use Rattle.pragma.specs.Clauses.{Says, nothing, a_schedule, a_collapse, ReadsLoop, is_literal, Part, Plain, Sized, Deep, words_of, Held, adds, HasFurther, no_further, next, next_behind_comma, HasForm, no_clauses, first, HasLoop, IsCounted, no_number, a_number}
-use Rattle.pragma.specs.Dynamic.{IsFault}
+use Rattle.pragma.specs.Faults.{IsFault}
 use Rattle.ktree.specs.declared.place.Place.{Place}
 use Rattle.ktree.specs.declared.refusal.Refusal.{Refusal}
 use Rattle.ktree.specs.declared.refusal.Refusal.TheVariants as refusals
-use Rattle.pragma.proofs.DynamicLaw.{read_number}
+use Rattle.pragma.proofs.NumberLaw.{read_number}
 use Rattle.pragma.proofs.ClauseLaw.{same_form}
 
 -- what one more clause makes of the numbers
@@ -240,3 +240,26 @@ too_large place r line text h d is e f n = (inl (d, large_loop line text h is e 
 pub malformed : (place : Place) (line text : List ℕ) → text ≡ behind_omp line → ((h : Held) → HasForm (words text) h → ⊥)
     → IsFault place (HasLoop line) (refusals.Directive place) × ((k c : Option ℕ) → ReadsLoop line k c → ⊥)
 malformed place line text e n = (inr (refl, no_form_not_large line text e n), no_form_no_loop line text e n)
+
+-- a line is read in one way
+numbers_of : {most : ℕ} {w : List ℕ} {n : ℕ} → ReadsNumber most w n → n ≡ decimal_from 0 w
+numbers_of (number d b) = refl
+
+same_counted : {most : ℕ} (v w : Option (List ℕ)) (m n : Option ℕ) → IsCounted most v m → IsCounted most w n → v ≡ w → m ≡ n
+same_counted None None None None no_number no_number e = refl
+same_counted (Some v) (Some w) (Some m) (Some n) (a_number r) (a_number q) e =
+    let words : v ≡ w = cc e in
+    ap Some (numbers_of r ∙ ap (decimal_from 0) words ∙ sym (numbers_of q))
+same_counted None (Some w) m n r q e = absurd (cc e)
+same_counted (Some v) None m n r q e = absurd (cc e)
+same_counted None None (Some m) n x q e = elim x [ ]
+same_counted None None None (Some n) r x e = elim x [ ]
+same_counted (Some v) (Some w) None n x q e = elim x [ ]
+same_counted (Some v) (Some w) (Some m) None r x e = elim x [ ]
+
+pub read_once : (line : List ℕ) (k c m d : Option ℕ) → ReadsLoop line k c → ReadsLoop line m d → (k ≡ m) × (c ≡ d)
+read_once line k c m d p q =
+    let f = held_form p.reads.reads p.says in
+    let g = held_form q.reads.reads q.says in
+    let same : f.numbers ≡ g.numbers = same_form f.has g.has refl in
+    (same_counted (f.numbers.0) (g.numbers.0) k m f.size g.size (ap (λ (h : Held). h.0) same), same_counted (f.numbers.1) (g.numbers.1) c d f.depth g.depth (ap (λ (h : Held). h.1) same))

@@ -1,4 +1,7 @@
 pub mod Words
-pub mod Dynamic
+pub mod Faults
 pub mod Clauses
 pub mod Forms
+pub mod Lines
+pub mod Parallel
+pub mod Plain

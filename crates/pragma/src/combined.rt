@@ -3,7 +3,7 @@
 ghost use Rattle.std.specs.Prelude.{◌≡◌, ℕ, ◌^◌, MatchOption, IfOk, IfErr, Option, option_map};
 ghost use Rattle.semantics.specs.Directives.DirectiveGrammar.{ReadsNumber};
 ghost use Rattle.ktree.specs.declared.refusal.Refusal.TheVariants as refusals;
-ghost use Rattle.pragma.specs.Dynamic.{IsFault};
+ghost use Rattle.pragma.specs.Faults.{IsFault};
 ghost use Rattle.pragma.specs.Clauses.{IsCounted, ReadsLoop, HasLoop};
 
 use crate::clauses::read_form;

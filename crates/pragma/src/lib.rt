@@ -4,13 +4,18 @@
 mod clauses;
 mod collapse;
 mod combined;
+mod faults;
 mod line;
+mod lines;
+mod placed;
 mod schedule;
 mod word;
 
 pub use collapse::Collapse;
 pub use combined::{ParallelFor, parallel_for};
-pub use schedule::dynamic_loop;
+pub use faults::Fault;
+pub use lines::Directives;
+pub use placed::first_fault;
 pub use word::{Sign, Word, next_word};
 
 #[cfg(test)]

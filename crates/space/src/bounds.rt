@@ -79,8 +79,8 @@ fn sum_at(terms: &[Term], values: &[Value]) -> i128
     }
 }
 
-/// The form's value at these values.
-fn value_at(form: &Form, values: &[Value]) -> i128
+/// The form's value where the variables have these values, and those without a value are 0.
+pub fn value_at(form: &Form, values: &[Value]) -> i128
     requires { AreModest values.now }
     ensures { result ≡ value form.now (given values.now) }
 {

@@ -6,7 +6,7 @@ mod iterations;
 mod nests;
 mod turns;
 
-pub use bounds::{Value, turns_at};
+pub use bounds::{Value, turns_at, value_at};
 pub use iterations::Space;
 pub use turns::LoopTurns;
 

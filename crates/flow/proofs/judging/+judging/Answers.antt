@@ -1,9 +1,9 @@
 use Rattle.std.proofs.Common.{◌≡◌, cond, [], Some, None, string_bytes, sym, ap, ◌∙◌, subst, inr}
 use Rattle.std.specs.Prelude.{◌&&◌, OnOk, IfErr}
-use Rattle.std.proofs.lemmas.Result.{err_from_is_err_and, IfErr-weaker, on_ok_weaker}
-use Rattle.semantics.specs.Meaning.Definite.{definite, definite_items, may_step, no_privates}
+use Rattle.std.proofs.lemmas.Result.{err_from_is_err_and}
+use Rattle.semantics.specs.Meaning.Definite.{definite, definite_items, no_privates}
 use Rattle.ktree.specs.View.{stmt_of, items_of, source_of, cond_of, increment_of}
-use Rattle.flow.specs.Judged.{Refuses, Unread, known_of}
+use Rattle.flow.specs.Judged.{Refuses, known_of}
 use Rattle.flow.proofs.JudgeLemmas.{block_of, item_judged, item_refused, loop_not_entered, body_refused, loop_stepped, one_branch, two_branches}
 use Rattle.flow.proofs.judging.+judging.Goals as goal
 use Rattle.flow.proofs.judging.+judging.Goals.{statement-in-Some+in_ok-statement-in-If-2, statement-in_default}

@@ -5,7 +5,7 @@ use Rattle.ompk.proofs.teaming.run_construct.Goals as goal
 
 pub returns-clause-ran : goal.returns-clause-ran
 returns-clause-ran g c = λ taken.
-    let found = c.in-Some.ensures in
+    let found = c.in-Some-lowered_loop.ensures in
     let done = c.in_ok-run_loop.ensures.ends found.0 (locals_of c.args.frame.now) (c.if-not-is_open.ensures refl) in
     record {
       writes = done.writes;

@@ -4,7 +4,7 @@ use Rattle.semantics.specs.Source.Token.{Token, Sign, Comma}
 use Rattle.semantics.specs.Directives.DirectiveGrammar.{words}
 use Rattle.pragma.specs.Clauses.{Held, HasFurther, HasForm}
 use Rattle.pragma.specs.Forms.{held}
-use Rattle.pragma.proofs.DynamicLaw.{match_weaker}
+use Rattle.pragma.proofs.NumberLaw.{match_weaker}
 use Rattle.pragma.proofs.ClauseLaw.{form_of, further_of, none_is}
 use Rattle.pragma.proofs.clauses.read_form.Goals as goal
 

@@ -1,6 +1,6 @@
 use Rattle.std.proofs.Common.{◌∙◌, true, ◌≡◌, ◌^◌, rules}
 use Rattle.semantics.specs.Source.Cuts.{is_decimal}
-use Rattle.pragma.proofs.DynamicLaw.{read_number}
+use Rattle.pragma.proofs.NumberLaw.{read_number}
 use Rattle.pragma.proofs.schedule.size.Goals as goal
 
 pub returns-in-Some-new-clause-ok : goal.returns-in-Some-new-clause-ok

@@ -1,0 +1,4 @@
+pub mod Copies
+pub mod Lists
+pub mod Meeting
+pub mod Walks

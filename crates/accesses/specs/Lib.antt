@@ -1,0 +1,4 @@
+pub mod Sites
+pub mod Found
+pub mod Walk
+pub mod Refused

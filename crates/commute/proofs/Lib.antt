@@ -1,0 +1,9 @@
+pub mod Same
+pub mod Lists
+pub mod Values
+pub mod Paths
+pub mod Matched
+pub mod Framed
+pub mod Orders
+pub mod Changes
+pub mod Iterations

@@ -1,0 +1,4 @@
+pub mod Indexes
+pub mod Entering
+pub mod Finding
+pub mod Meetings

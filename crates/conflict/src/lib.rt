@@ -1,0 +1,12 @@
+//! The first two iterations of a nest at which two accesses touch one element.
+#![tactic(auto)]
+
+mod elements;
+mod entered;
+mod meeting;
+
+pub use elements::Touch;
+pub use meeting::{Meeting, first_meeting};
+
+#[cfg(test)]
+mod tests;

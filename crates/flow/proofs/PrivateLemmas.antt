@@ -1,0 +1,237 @@
+-- The data of parallel loops, statement by statement.
+use Rattle.std.specs.Prelude.{ℕ, suc, ◌+◌, ◌-◌, Bool, true, false, ◌||◌, ◌&&◌, ◌==◌, ◌≡◌, ◌<◌, ◌≤◌, ◌↔◌, List, [], ◌∷◌, ◌++◌, length, get_or, take, drop, Option, Some, None, is_none, option_map, option_and_then, string_bytes}
+use Rattle.std.proofs.Common.{Box, Global, refl, sym, ap, ◌∙◌, subst, cond, arith}
+use Rattle.std.proofs.lemmas.List.Folds.{list_any-append}
+use Rattle.semantics.specs.Tree
+use Rattle.semantics.specs.Tree.{Variable}
+use Rattle.semantics.specs.Source.Text.{line_at}
+use Rattle.semantics.specs.Meaning.Agrees.{is_among, declared_in, declared_among}
+use Rattle.semantics.specs.Meaning.Value.{map_option}
+use Rattle.semantics.specs.Loops.Nest.{Loop, as_loop, holds_none, nest_of}
+use Rattle.ktree.specs.View.{exprs_of, source_of, cond_of, increment_of, stmt_of, items_of, with_item}
+use Rattle.ktree.specs.declared.expression.Expr.{Expr}
+use Rattle.ktree.specs.declared.statement.Stmt.{Stmt, For}
+use Rattle.ktree.specs.declared.statement.Head.{Head}
+use Rattle.ktree.specs.declared.statement.Item.{Item, Directive, Local, Statement'}
+use Rattle.pragma.specs.Clauses.{ReadsLoop}
+use Rattle.pragma.specs.Parallel.{associated, FirstHas, LineHas, LoopsHave, ItemsHave}
+use Rattle.pragma.specs.Plain.{Judges}
+use Rattle.pragma.proofs.LoopLaw.{read_once}
+use Rattle.pragma.proofs.PlainLaw.{next_item, all_behind, judges_same}
+use Rattle.flow.specs.Private.{is_own, keeps, keeps_all, is_private_body, IsPrivate, loop_body_of, nest_body_of, only_body_of, first_stmt_of, FirstLineIsPrivate, FirstLoopsArePrivate}
+
+or_false : (b : Bool) → (b || false) ≡ b
+or_false true = refl
+or_false false = refl
+
+and_true : (b : Bool) → (b && true) ≡ b
+and_true true = refl
+and_true false = refl
+
+-- a variable of the first, or of the others
+pub among_both : (xs ys : List Variable) (x : Variable) → is_among (xs ++ ys) x ≡ (is_among xs x || is_among ys x)
+among_both xs ys x = list_any-append (λ y. y == x) xs ys
+
+-- one that a statement declares alone
+pub declared_alone : (s : Tree.Stmt) (x : Variable) → is_among (declared_among (Tree.stmt s Tree.no_items)) x ≡ is_among (declared_in s) x
+declared_alone s x = among_both (declared_in s) [] x ∙ or_false (is_among (declared_in s) x)
+
+declared_cut : (x : Variable) (i : Item) (rest : Tree.Items)
+    → is_among (declared_among (with_item i rest)) x ≡ (is_among (declared_among (with_item i Tree.no_items)) x || is_among (declared_among rest) x)
+declared_cut x (Directive place) rest = refl
+declared_cut x (Local l) rest = ap (λ b. b || is_among (declared_among rest) x) (sym (or_false (l.variable.0 == x)))
+declared_cut x (Statement' p s) rest = among_both (declared_in (stmt_of s)) (declared_among rest) x ∙ ap (λ b. b || is_among (declared_among rest) x) (sym (declared_alone (stmt_of s) x))
+
+keeps_cut : (own : Variable → Bool) (i : Item) (rest : Tree.Items) → keeps_all own (with_item i rest) ≡ (keeps_all own (with_item i Tree.no_items) && keeps_all own rest)
+keeps_cut own (Directive place) rest = refl
+keeps_cut own (Local l) rest = refl
+keeps_cut own (Statement' p s) rest = ap (λ b. b && keeps_all own rest) (sym (and_true (keeps own (stmt_of s))))
+
+-- an item, and what is behind it
+module _ (x : Variable) (is : List Item) (i : ℕ) (e : Item) (lt : i < length is) (at : e ≡ get_or is i e) (left : is_among (declared_among (items_of (drop i is))) x ≡ is_among (declared_among (items_of is)) x) where
+  declared_next : is_among (declared_among (items_of is)) x ≡ (is_among (declared_among (with_item e Tree.no_items)) x || is_among (declared_among (items_of (drop (i + 1) is))) x)
+  declared_next = sym left ∙ ap (λ items. is_among (declared_among items) x) (next_item is i e lt at) ∙ declared_cut x e (items_of (drop (i + 1) is))
+
+  -- this item declares it
+  pub declared_here : is_among (declared_among (with_item e Tree.no_items)) x ≡ true → is_among (declared_among (items_of is)) x ≡ true
+  declared_here here = declared_next ∙ ap (λ b. b || is_among (declared_among (items_of (drop (i + 1) is))) x) here
+
+  -- it does not
+  pub declared_later : is_among (declared_among (with_item e Tree.no_items)) x ≡ false → is_among (declared_among (items_of (drop (i + 1) is))) x ≡ is_among (declared_among (items_of is)) x
+  declared_later here = sym (declared_next ∙ ap (λ b. b || is_among (declared_among (items_of (drop (i + 1) is))) x) here)
+
+module _ (own : Variable → Bool) (is : List Item) (i : ℕ) (e : Item) (lt : i < length is) (at : e ≡ get_or is i e) (left : keeps_all own (items_of (drop i is)) ≡ keeps_all own (items_of is)) where
+  keeps_next : keeps_all own (items_of is) ≡ (keeps_all own (with_item e Tree.no_items) && keeps_all own (items_of (drop (i + 1) is)))
+  keeps_next = sym left ∙ ap (keeps_all own) (next_item is i e lt at) ∙ keeps_cut own e (items_of (drop (i + 1) is))
+
+  -- this item does not keep to its own
+  pub fault_here : keeps_all own (with_item e Tree.no_items) ≡ false → keeps_all own (items_of is) ≡ false
+  fault_here here = keeps_next ∙ ap (λ b. b && keeps_all own (items_of (drop (i + 1) is))) here
+
+  -- it does
+  pub fault_later : keeps_all own (with_item e Tree.no_items) ≡ true → keeps_all own (items_of (drop (i + 1) is)) ≡ keeps_all own (items_of is)
+  fault_later here = sym (keeps_next ∙ ap (λ b. b && keeps_all own (items_of (drop (i + 1) is))) here)
+
+-- an element is assigned
+pub element : (own : Variable → Bool) (x : Variable) (es : List Expr) → 0 < length es → true ≡ is_own own x (exprs_of es)
+element own x [] lt = absurd (omega arith)
+element own x (e ∷ es) lt = refl
+
+-- an item is left
+holds_item : (i : Item) (rest : Tree.Items) → holds_none (with_item i rest) ≡ false
+holds_item (Directive place) rest = refl
+holds_item (Local l) rest = refl
+holds_item (Statement' p s) rest = refl
+
+two_items : (i j : Item) (rest : Tree.Items) → None ≡ only_body_of (with_item i (with_item j rest))
+two_items (Directive place) j rest = refl
+two_items (Local l) j rest = refl
+two_items (Statement' p s) j rest = ap (λ b. option_map (λ (found : Loop × Tree.Stmt). found.1) (cond b (as_loop (stmt_of s)) None)) (sym (holds_item j rest))
+
+-- two items are no loop
+pub no_only_body : (is : List Item) → 2 ≤ length is → None ≡ only_body_of (items_of is)
+no_only_body [] le = absurd (omega arith)
+no_only_body (i ∷ []) le = absurd (omega arith)
+no_only_body (i ∷ j ∷ is) le = two_items i j (items_of is)
+
+-- the body of a nest, loop by loop
+pub nest_on : (n : ℕ) (s : Tree.Stmt) → nest_body_of (suc n) s ≡ option_and_then (nest_body_of n) (loop_body_of s)
+nest_on n s = go (as_loop s)
+  where
+    inner : (l : Loop) (o : Option (List Loop × Tree.Stmt)) → option_map (λ (nest : List Loop × Tree.Stmt). nest.1) (map_option (λ (inner : List Loop × Tree.Stmt). (l ∷ inner.0, inner.1)) o) ≡ option_map (λ (nest : List Loop × Tree.Stmt). nest.1) o
+    inner l None = refl
+    inner l (Some nest) = refl
+
+    go : (o : Option (Loop × Tree.Stmt))
+        → option_map (λ (nest : List Loop × Tree.Stmt). nest.1) (option_and_then (λ (found : Loop × Tree.Stmt). map_option (λ (inner : List Loop × Tree.Stmt). (found.0 ∷ inner.0, inner.1)) (nest_of n found.1)) o)
+        ≡ option_and_then (nest_body_of n) (option_map (λ (found : Loop × Tree.Stmt). found.1) o)
+    go None = refl
+    go (Some found) = inner found.0 (nest_of n found.1)
+
+module _ (depth i : ℕ) (s body : Tree.Stmt) (lt : i < depth) (left : nest_body_of (depth - i) body ≡ nest_body_of depth s) where
+  nest_left : option_and_then (nest_body_of (depth - (i + 1))) (loop_body_of body) ≡ nest_body_of depth s
+  nest_left =
+      let count : depth - i ≡ suc (depth - (i + 1)) = omega arith in
+      sym (nest_on (depth - (i + 1)) body) ∙ ap (λ n. nest_body_of n body) (sym count) ∙ left
+
+  -- one loop further in
+  pub nest_more : (inner : Tree.Stmt) → Some inner ≡ loop_body_of body → nest_body_of (depth - (i + 1)) inner ≡ nest_body_of depth s
+  nest_more inner is = ap (option_and_then (nest_body_of (depth - (i + 1)))) is ∙ nest_left
+
+  -- no loop is there
+  pub nest_ends : None ≡ loop_body_of body → None ≡ nest_body_of depth s
+  nest_ends none = ap (option_and_then (nest_body_of (depth - (i + 1)))) none ∙ nest_left
+
+-- a nest with a body
+nest_with : (n : ℕ) (s b : Tree.Stmt) → Some b ≡ nest_body_of n s → (loops : List Loop) × (nest_of n s ≡ Some (loops, b))
+nest_with n s b e = go (nest_of n s) refl e
+  where
+    go : (o : Option (List Loop × Tree.Stmt)) → nest_of n s ≡ o → Some b ≡ option_map (λ (nest : List Loop × Tree.Stmt). nest.1) o → (loops : List Loop) × (nest_of n s ≡ Some (loops, b))
+    go None is f = absurd (cc f)
+    go (Some nest) is f = let same : b ≡ nest.1 = cc f in (nest.0, is ∙ ap (λ c. Some (nest.0, c)) (sym same))
+
+pub body_of_nest : (n : ℕ) (s b : Tree.Stmt) (loops : List Loop) → nest_of n s ≡ Some (loops, b) → nest_body_of n s ≡ Some b
+body_of_nest n s b loops e = ap (option_map (λ (nest : List Loop × Tree.Stmt). nest.1)) e
+
+-- what is asked of the statement that stands first
+pub first_is : (n : ℕ) (rest : Tree.Items) (s : Tree.Stmt) → Some s ≡ first_stmt_of rest → FirstHas IsPrivate [] n rest ↔ IsPrivate [] n s
+first_is n Tree.no_items s e = absurd (cc e)
+first_is n (Tree.mark line rest) s e = absurd (cc e)
+first_is n (Tree.local x name start rest) s e = absurd (cc e)
+first_is n (Tree.stmt t rest) s e =
+    let same : s ≡ t = cc e in
+    (subst (IsPrivate [] n) (sym same), subst (IsPrivate [] n) same)
+
+-- no statement stands first
+pub no_first : (n : ℕ) (rest : Tree.Items) → None ≡ first_stmt_of rest → FirstHas IsPrivate [] n rest → ⊥
+no_first n Tree.no_items e h = h
+no_first n (Tree.mark line rest) e h = h
+no_first n (Tree.local x name start rest) e h = h
+no_first n (Tree.stmt t rest) e h = absurd (cc e)
+
+-- a directive that has a statement behind it
+module _ (text : List ℕ) (line : ℕ) (rest : Tree.Items) (k c : Option ℕ) (reads : ReadsLoop (line_at text line) k c) (s : Tree.Stmt) (first : Some s ≡ first_stmt_of rest) where
+  asked : LineHas text IsPrivate [] line rest → IsPrivate [] (associated c) s
+  asked h =
+      let once : (h.0 ≡ k) × (h.1 ≡ c) = read_once (line_at text line) h.0 h.1 k c h.2 reads in
+      subst (λ d. IsPrivate [] (associated d) s) once.1 ((first_is (associated h.1) rest s first).0 h.3)
+
+  -- but no nest
+  pub no_nest : None ≡ nest_body_of (associated c) s → LineHas text IsPrivate [] line rest → ⊥
+  no_nest none h =
+      let private = asked h in
+      absurd (cc (none, body_of_nest (associated c) s private.1 private.0 private.2))
+
+  -- and a nest
+  pub nest_judged : {A : Type 0} (o : Option A) (b : Tree.Stmt) → Some b ≡ nest_body_of (associated c) s → is_none o ≡ is_private_body b → Judges o (LineHas text IsPrivate [] line rest)
+  nest_judged None b nest judged =
+      let found = nest_with (associated c) s b nest in
+      (k, c, reads, (first_is (associated c) rest s first).1 (found.0, b, found.1, sym judged))
+  nest_judged (Some fault) b nest judged = λ h.
+      let private = asked h in
+      let same : b ≡ private.1 = cc (nest, body_of_nest (associated c) s private.1 private.0 private.2) in
+      absurd (cc (judged, ap is_private_body same, private.3))
+
+abbrev mutual
+  -- whatever stands round a statement, the same is asked of the loops in it
+  same_round : (text : List ℕ) (a b : List Loop) (s : Tree.Stmt) → LoopsHave text IsPrivate a s → LoopsHave text IsPrivate b s
+  same_round text a b (Tree.Assign x is e) h = h
+  same_round text a b (Tree.Update x is op e) h = h
+  same_round text a b (Tree.If c s) h = same_round text a b s h
+  same_round text a b (Tree.IfElse c s t) h = (same_round text a b s h.0, same_round text a b t h.1)
+  same_round text a b (Tree.For x name start test step body) h = same_round text (a ++ _) (b ++ _) body h
+  same_round text a b (Tree.Block items) h = same_items text a b items h
+  same_round text a b (Tree.Print parts) h = h
+
+  same_items : (text : List ℕ) (a b : List Loop) (items : Tree.Items) → ItemsHave text IsPrivate a items → ItemsHave text IsPrivate b items
+  same_items text a b Tree.no_items h = h
+  same_items text a b (Tree.mark line rest) h = (same_line text a b line rest h.0, same_items text a b rest h.1)
+  same_items text a b (Tree.local x name start rest) h = same_items text a b rest h
+  same_items text a b (Tree.stmt s rest) h = (same_round text a b s h.0, same_items text a b rest h.1)
+
+  same_line : (text : List ℕ) (a b : List Loop) (line : ℕ) (rest : Tree.Items) → LineHas text IsPrivate a line rest → LineHas text IsPrivate b line rest
+  same_line text a b line Tree.no_items h = h
+  same_line text a b line (Tree.mark other rest) h = h
+  same_line text a b line (Tree.local x name start rest) h = h
+  same_line text a b line (Tree.stmt s rest) h = h
+
+-- a loop's statement, by its head and body
+abbrev loop_of : Head → Tree.Stmt → Tree.Stmt
+loop_of head body = Tree.For head.variable.0 (string_bytes head.name) (source_of head.start) (cond_of head.test) (increment_of head.step) body
+
+-- a loop is judged by its body
+pub loop_judged : {A : Type 0} (o : Option A) (text : List ℕ) (s : Stmt) (head : Head) (body : Box Stmt Global) (inner : Stmt) → s ≡ For head body → inner ≡ body.value
+    → Judges o (LoopsHave text IsPrivate [] (stmt_of inner)) → Judges o (LoopsHave text IsPrivate [] (stmt_of s))
+loop_judged o text s head body inner e f h =
+    let is : loop_of head (stmt_of inner) ≡ stmt_of s = ap (λ b. loop_of head (stmt_of b)) f ∙ sym (ap stmt_of e) in
+    subst (λ t. Judges o (LoopsHave text IsPrivate [] t)) is (judges_same o (same_round text [] _ (stmt_of inner)) (same_round text _ [] (stmt_of inner)) h)
+
+-- an item, and the others
+item_cut : (text : List ℕ) (i : Item) (rest : Tree.Items)
+    → ItemsHave text IsPrivate [] (with_item i rest) ↔ FirstLineIsPrivate text (with_item i Tree.no_items) rest × FirstLoopsArePrivate text (with_item i Tree.no_items) × ItemsHave text IsPrivate [] rest
+item_cut text (Directive place) rest = (λ h. (h.0, tt, h.1), λ h. (h.0, h.2))
+item_cut text (Local l) rest = (λ h. (tt, tt, h), λ h. h.2)
+item_cut text (Statement' p s) rest = (λ h. (tt, h.0, h.1), λ h. (h.1, h.2))
+
+-- the items that are left decide
+abbrev pub Left : List ℕ → List Item → ℕ → Type 0
+Left text is i = ItemsHave text IsPrivate [] (items_of (drop i is)) ↔ ItemsHave text IsPrivate [] (items_of is)
+
+module _ (text : List ℕ) (is : List Item) (i : ℕ) (e : Item) (lt : i < length is) (at : e ≡ get_or is i e) (left : Left text is i) where
+  -- an item that is so
+  pub item_more : FirstLineIsPrivate text (with_item e Tree.no_items) (items_of (take (length is - (i + 1)) (drop (i + 1) is))) → FirstLoopsArePrivate text (with_item e Tree.no_items) → Left text is (i + 1)
+  item_more line loops =
+      let cut = item_cut text e (items_of (drop (i + 1) is)) in
+      let next = next_item is i e lt at in
+      let here = subst (λ xs. FirstLineIsPrivate text (with_item e Tree.no_items) (items_of xs)) (all_behind is (i + 1)) line in
+      (λ h. left.0 (subst (ItemsHave text IsPrivate []) (sym next) (cut.1 (here, loops, h))), λ h. (cut.0 (subst (ItemsHave text IsPrivate []) next (left.1 h))).2)
+
+  -- what the whole asks of an item
+  pub item_parts : ItemsHave text IsPrivate [] (items_of is) → FirstLineIsPrivate text (with_item e Tree.no_items) (items_of (drop (i + 1) is)) × FirstLoopsArePrivate text (with_item e Tree.no_items)
+  item_parts h =
+      let parts = (item_cut text e (items_of (drop (i + 1) is))).0 (subst (ItemsHave text IsPrivate []) (next_item is i e lt at) (left.1 h)) in
+      (parts.0, parts.1)
+
+  -- a line before these items that is not so
+  pub line_refused : (FirstLineIsPrivate text (with_item e Tree.no_items) (items_of (take (length is - (i + 1)) (drop (i + 1) is))) → ⊥) → ItemsHave text IsPrivate [] (items_of is) → ⊥
+  line_refused none h = none (subst (λ xs. FirstLineIsPrivate text (with_item e Tree.no_items) (items_of xs)) (sym (all_behind is (i + 1))) (item_parts h).0)

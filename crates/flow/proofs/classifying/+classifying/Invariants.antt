@@ -1,0 +1,6 @@
+use Rattle.flow.proofs.PrivateLemmas.{Left}
+use Rattle.flow.proofs.classifying.+classifying.Given as goal
+
+-- the items that are left decide
+abbrev pub invariant-items_fault-loop-i : goal.invariant-items_fault-loop-i
+invariant-items_fault-loop-i l = Left l.directives l.items l.i

@@ -1,0 +1,119 @@
+//! The data of the parallel loops of a kernel.
+
+ghost use Rattle.std.specs.Prelude.{◌≡◌, ℕ, [], Option, option_map, OnOk, IfErr};
+ghost use Rattle.semantics.specs.Tree.{no_items};
+ghost use Rattle.ktree.specs.View.{stmt_of, with_item, items_of, kernel_of};
+ghost use Rattle.pragma.specs.Parallel.{associated, LineHas, LoopsHave, ItemsHave};
+ghost use Rattle.pragma.specs.Plain.{Judges};
+ghost use Rattle.flow.specs.Private.{IsPrivate, FirstLineIsPrivate, FirstLoopsArePrivate};
+
+use crate::bodies::{first_statement, nest_body};
+use crate::fault::DataFault;
+use crate::sharing::body_fault;
+use ktree::{Item, Kernel, Place, Stmt};
+use pragma::{Collapse, Directives};
+
+/// How many loops a directive associates (OpenMP 5.2, 4.4.3).
+fn depth(collapse: Option<Collapse>) -> u64
+    ensures { result ≡ associated collapse }
+{
+    match collapse {
+        None => 1,
+        Some(loops) => loops.get(),
+    }
+}
+
+/// What is wrong with the parallel loop of the directive line at a place, before these items.
+fn loop_fault(directives: &Directives, place: Place, rest: &[Item]) -> Option<DataFault>
+    ensures { Judges result (LineHas directives.now IsPrivate [] place.line (items_of rest.now)) }
+{
+    let Ok(said) = directives.at(place) else {
+        return Some(DataFault::Directive(place));
+    };
+    let Some(statement) = first_statement(rest) else {
+        return Some(DataFault::Directive(place));
+    };
+    let Some(body) = nest_body(statement, depth(said.collapse)) else {
+        return Some(DataFault::Directive(place));
+    };
+    body_fault(body)
+}
+
+/// What is wrong with an item that is a directive line, before these items.
+fn line_fault(directives: &Directives, item: &Item, rest: &[Item]) -> Option<DataFault>
+    ensures { Judges result (FirstLineIsPrivate directives.now (with_item item.now no_items) (items_of rest.now)) }
+{
+    match item {
+        Item::Directive(place) => loop_fault(directives, *place, rest),
+        Item::Local(_) => None,
+        Item::Statement(_) => None,
+    }
+}
+
+/// What is wrong with the parallel loops in a statement.
+#[cycle(classifying)]
+fn statement_fault(directives: &Directives, statement: &Stmt) -> Option<DataFault>
+    ensures { Judges result (LoopsHave directives.now IsPrivate [] (stmt_of statement.now)) }
+{
+    match statement {
+        Stmt::Assign(_, _) => None,
+        Stmt::Update(_, _, _) => None,
+        Stmt::If(_, then, other) => {
+            if let Some(fault) = statement_fault(directives, then) {
+                return Some(fault);
+            }
+            match other {
+                None => None,
+                Some(other) => statement_fault(directives, other),
+            }
+        }
+        Stmt::For(_, body) => statement_fault(directives, body),
+        Stmt::Block(items) => items_fault(directives, items),
+        Stmt::Print(_, _) => None,
+    }
+}
+
+/// What is wrong with those among a block's items.
+#[cycle(classifying)]
+fn items_fault(directives: &Directives, items: &[Item]) -> Option<DataFault>
+    ensures { Judges result (ItemsHave directives.now IsPrivate [] (items_of items.now)) }
+{
+    for (i, item) in items.iter().enumerate() {
+        if let Some(fault) = line_fault(directives, item, &items[i + 1..]) {
+            return Some(fault);
+        }
+        if let Some(fault) = item_fault(directives, item) {
+            return Some(fault);
+        }
+    }
+    None
+}
+
+/// What is wrong with those in an item.
+#[cycle(classifying)]
+fn item_fault(directives: &Directives, item: &Item) -> Option<DataFault>
+    ensures { Judges result (FirstLoopsArePrivate directives.now (with_item item.now no_items)) }
+{
+    match item {
+        Item::Directive(_) => None,
+        Item::Local(_) => None,
+        Item::Statement(statement) => statement_fault(directives, statement),
+    }
+}
+
+/// Whether the iterations of each parallel loop keep to data of their own: the variables of its associated loops and
+/// those that it declares are private, all others are shared; its body writes no shared scalar, and prints nothing
+/// (OpenMP 5.2, 5.1.1, 5.4 and 15.10).
+///
+/// # Errors
+///
+/// The first place in the text where it is not so.
+pub fn classify(kernel: &Kernel, directives: &Directives) -> Result<(), DataFault>
+    ensures ok { OnOk result (ItemsHave directives.now IsPrivate [] (kernel_of kernel.now).body) }
+    ensures err { IfErr result (λ _. ItemsHave directives.now IsPrivate [] (kernel_of kernel.now).body → ⊥) }
+{
+    match items_fault(directives, kernel.body.as_slice()) {
+        None => Ok(()),
+        Some(fault) => Err(fault),
+    }
+}

@@ -1,0 +1,21 @@
+use Rattle.std.proofs.Common.{inr}
+use Rattle.ktree.specs.View.{source_of, cond_of, increment_of}
+use Rattle.canonical.proofs.Laws.{canonical_well}
+use Rattle.nest.specs.Heads.{head_of}
+use Rattle.nest.proofs.PerfectLaw.{wraps_not}
+use Rattle.nest.proofs.perfect.turns_of.Goals as goal
+
+pub most_turns-requires-clause-by_one : goal.most_turns-requires-clause-by_one
+most_turns-requires-clause-by_one c =
+    let head = c.args.head.now in
+    let well = canonical_well c.args.bounds.now head.variable.0 (source_of head.start) (cond_of head.test) (increment_of head.step) c.in-Ok.canonical c.in-Ok.ensures.ok in
+    well.by_one
+
+pub side-numbers-requires-clause-well : goal.side-numbers-requires-clause-well
+side-numbers-requires-clause-well c =
+    let head = c.args.head.now in
+    canonical_well c.args.bounds.now head.variable.0 (source_of head.start) (cond_of head.test) (increment_of head.step) c.in-Ok.canonical c.in-Ok.ensures.ok
+
+pub returns-then-branch-clause-err : goal.returns-then-branch-clause-err
+returns-then-branch-clause-err c =
+    inr (λ i n turns. wraps_not c.args.bounds.now (head_of c.args.head.now) c.in-Ok.canonical i n c.in-Ok.ensures.ok (c.in_ok-wraps.ensures.wraps c.if-branch.true) turns)

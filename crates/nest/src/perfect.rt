@@ -1,0 +1,282 @@
+//! The nests of parallel loops (OpenMP 5.2, 4.4.1 to 4.4.3).
+
+ghost use Rattle.std.specs.Prelude.{◌≡◌, ◌⊎◌, ◌*◌, ◌≤◌, ◌^◌, ℕ, false, List, ◌++◌, length, IfOk, IfErr, IfSome, OnOk, MatchOption, Some};
+ghost use Rattle.std.specs.Option.{SomeIff};
+ghost use Rattle.ktree.specs.View.{stmt_of};
+ghost use Rattle.affine.specs.Box.{EndsFit};
+ghost use Rattle.affine.specs.declared.interval.Interval as intervals;
+ghost use Rattle.forms.specs.Forms.{is_counter};
+ghost use Rattle.forms.specs.declared.faults.Fault.TheVariants.{OutOfMemory};
+ghost use Rattle.canonical.specs.Canonical.{canonical};
+ghost use Rattle.canonical.specs.declared.head.Canonical as canonicals;
+ghost use Rattle.canonical.specs.Loops.{inside};
+ghost use Rattle.nest.specs.Heads.{head_of};
+ghost use Rattle.nest.specs.Judged.{Decides};
+ghost use Rattle.space.specs.Space.{Turns, IsSpace};
+ghost use Rattle.space.specs.Nests.{given, AreModest, AreRunsOf};
+ghost use Rattle.space.specs.Heads.{HasIterations};
+ghost use Rattle.nest.specs.Perfect.{NestHas, AreRectangular, TurnsMost, HasProduct, IsRightNest};
+
+use crate::earlier::both;
+use crate::heads::{as_loop, depends_on_nest, is_perfect};
+use affine::{Interval, VarBox};
+use canonical::{Canonical, canonical_of, most_turns, side, wraps};
+use forms::Fault;
+use ktree::{Head, Place, Stmt};
+use space::{Space, Value};
+use std::alloc::Global;
+
+/// A loop's form in the box of the loops round its nest, of which none has its variable.
+fn independent(alloc: Global, head: &Head, bounds: &VarBox) -> Result<Canonical, Fault>
+    ensures ok { IfOk result (λ l. (canonical bounds.now (head_of head.now).variable (head_of head.now).start (head_of head.now).test (head_of head.now).step ≡ Some l) × (is_counter bounds.now (head_of head.now).variable ≡ false)) }
+    ensures err { IfErr result (λ fault. (fault ≡ OutOfMemory) ⊎ ((l : canonicals.Canonical)
+        → canonical bounds.now (head_of head.now).variable (head_of head.now).start (head_of head.now).test (head_of head.now).step ≡ Some l → is_counter bounds.now (head_of head.now).variable ≡ false → ⊥)) }
+{
+    let canonical = canonical_of(alloc, head, bounds)?;
+    if bounds.has(head.variable) {
+        return Err(Fault::NotPerfect(head.place));
+    }
+    Ok(canonical)
+}
+
+/// What is told of a loop that has no form there: that the nest is not rectangular, where a bound mentions one of the nest's
+/// variables.
+fn told(head: &Head, mentions: bool, fault: Fault) -> Fault
+    ensures { fault ≡ OutOfMemory → result ≡ OutOfMemory }
+{
+    match fault {
+        Fault::NotAffine(_) if mentions => Fault::NotPerfect(head.place),
+        _ => fault,
+    }
+}
+
+/// Puts down the forms of so many loops, one directly in the other, in the box of the loops round them. They are the
+/// innermost of a nest of `whole` loops, whose outermost is `first`.
+fn forms(
+    alloc: Global,
+    depth: u64,
+    statement: &Stmt,
+    bounds: &VarBox,
+    whole: u64,
+    first: &Stmt,
+    place: Place,
+) -> Result<Vec<Canonical>, Fault>
+    ensures ok { IfOk result (λ ls. NestHas (λ loops. AreRectangular bounds.now loops ls.items) depth (stmt_of statement.now)) }
+    ensures err { IfErr result (λ fault. (fault ≡ OutOfMemory) ⊎ (NestHas (λ loops. (ls : List canonicals.Canonical) × AreRectangular bounds.now loops ls) depth (stmt_of statement.now) → ⊥)) }
+{
+    if depth == 0 {
+        return Ok(Vec::new(alloc));
+    }
+    let Some(level) = as_loop(statement) else {
+        return Err(Fault::NotPerfect(place));
+    };
+    let canonical = match independent(alloc, level.head, bounds) {
+        Ok(canonical) => canonical,
+        Err(fault) => {
+            let mentions = depends_on_nest(level.head, whole, first);
+            return Err(told(level.head, mentions, fault));
+        }
+    };
+    let mut forms = match forms(alloc, depth - 1, level.body, bounds, whole, first, place) {
+        Ok(forms) => forms,
+        Err(fault) => return Err(fault),
+    };
+    forms.insert(0, canonical)?;
+    Ok(forms)
+}
+
+/// The numbers of a loop's variable, and how often the loop turns at most.
+#[derive(Clone, Copy)]
+struct Turning {
+    numbers: Interval,
+    most: u64,
+}
+
+/// How a loop inside those of a box turns.
+fn turns_of(alloc: Global, head: &Head, bounds: &VarBox) -> Result<Turning, Fault>
+    ensures ok { IfOk result (λ turning. TurnsMost bounds.now (head_of head.now) turning.numbers turning.most) }
+    ensures fits { IfOk result (λ turning. EndsFit turning.numbers.least turning.numbers.greatest) }
+    ensures err { IfErr result (λ fault. (fault ≡ OutOfMemory) ⊎ ((i : intervals.Interval) (n : ℕ) → TurnsMost bounds.now (head_of head.now) i n → ⊥)) }
+{
+    let canonical = match canonical_of(alloc, head, bounds) {
+        Ok(canonical) => canonical,
+        Err(fault) => return Err(fault),
+    };
+    if wraps(&canonical, bounds, head.place)? {
+        return Err(Fault::MayWrap(head.place));
+    }
+    let most = most_turns(alloc, &canonical, bounds, head.place)?;
+    let numbers = side(&canonical, bounds);
+    Ok(Turning { numbers, most })
+}
+
+/// So many times a product, if at most 2^24.
+fn within(count: u64, rest: Option<u64>) -> Option<u64>
+    ensures { (n : ℕ) → SomeIff rest (n ≤ 2 ^ 24) n → SomeIff result (count * n ≤ 2 ^ 24) (count * n) }
+{
+    if count == 0 {
+        return Some(0);
+    }
+    let all = match rest {
+        None => return None,
+        Some(rest) => count.checked_mul(rest),
+    };
+    match all {
+        Some(all) if all <= 1 << 24 => Some(all),
+        _ => None,
+    }
+}
+
+/// Goes into a loop whose variable has these numbers.
+fn go_into(head: &Head, numbers: Interval, bounds: &mut VarBox) -> Result<(), Fault>
+    requires { EndsFit numbers.least numbers.greatest }
+    ensures ok { OnOk result (bounds.new ≡ inside bounds.old (head_of head.now).variable numbers) }
+    ensures err { IfErr result (λ fault. fault ≡ OutOfMemory) }
+{
+    let least = i128::from(numbers.least);
+    let greatest = i128::from(numbers.greatest);
+    match bounds.bound(head.variable, least, greatest, head.place) {
+        Ok(()) => Ok(()),
+        Err(_) => Err(Fault::OutOfMemory),
+    }
+}
+
+/// The greatest counts of so many loops, one directly in the other, multiplied, if they are at most 2^24.
+fn product(
+    alloc: Global,
+    depth: u64,
+    statement: &Stmt,
+    bounds: &mut VarBox,
+    place: Place,
+) -> Result<Option<u64>, Fault>
+    ensures ok { IfOk result (λ product. NestHas (λ loops. (n : ℕ) × HasProduct bounds.old loops n × SomeIff product (n ≤ 2 ^ 24) n) depth (stmt_of statement.now)) }
+    ensures back { OnOk result (bounds.new ≡ bounds.old) }
+    ensures err { IfErr result (λ fault. (fault ≡ OutOfMemory) ⊎ (NestHas (λ loops. (n : ℕ) × HasProduct bounds.old loops n) depth (stmt_of statement.now) → ⊥)) }
+{
+    if depth == 0 {
+        return Ok(Some(1));
+    }
+    let Some(level) = as_loop(statement) else {
+        return Err(Fault::NotPerfect(place));
+    };
+    let turning = match turns_of(alloc, level.head, bounds) {
+        Ok(turning) => turning,
+        Err(fault) => return Err(fault),
+    };
+    match go_into(level.head, turning.numbers, bounds) {
+        Ok(()) => {}
+        Err(fault) => return Err(fault),
+    }
+    let inner = match product(alloc, depth - 1, level.body, bounds, place) {
+        Ok(inner) => inner,
+        Err(fault) => return Err(fault),
+    };
+    bounds.unbound();
+    Ok(within(turning.most, inner))
+}
+
+/// Whether so many loops have few iterations.
+fn is_small(
+    alloc: Global,
+    depth: u64,
+    statement: &Stmt,
+    bounds: &mut VarBox,
+    place: Place,
+) -> Result<(), Fault>
+    ensures decides { Decides result (NestHas (λ loops. (n : ℕ) × HasProduct bounds.old loops n × (n ≤ 2 ^ 24)) depth (stmt_of statement.now)) }
+    ensures back { OnOk result (bounds.new ≡ bounds.old) }
+{
+    match product(alloc, depth, statement, bounds, place) {
+        Ok(Some(_product)) => Ok(()),
+        Ok(None) => Err(Fault::Limit(place)),
+        Err(fault) => Err(fault),
+    }
+}
+
+/// Whether each of so many loops has a form in the box of the loops round them.
+fn is_rectangular(
+    alloc: Global,
+    depth: u64,
+    statement: &Stmt,
+    bounds: &VarBox,
+    place: Place,
+) -> Result<(), Fault>
+    ensures { Decides result (NestHas (λ loops. (ls : List canonicals.Canonical) × AreRectangular bounds.now loops ls) depth (stmt_of statement.now)) }
+{
+    match forms(alloc, depth, statement, bounds, depth, statement, place) {
+        Ok(_forms) => Ok(()),
+        Err(fault) => Err(fault),
+    }
+}
+
+/// Where a loop's `for` stands, or else its directive line.
+fn first_place(statement: &Stmt, directive: Place) -> Place {
+    match as_loop(statement) {
+        Some(level) => level.head.place,
+        None => directive,
+    }
+}
+
+/// Whether a statement behind a directive line at a place is a right nest of so many loops.
+pub fn right_nest(
+    alloc: Global,
+    depth: u64,
+    statement: &Stmt,
+    bounds: &mut VarBox,
+    directive: Place,
+) -> Result<(), Fault>
+    ensures decides { Decides result (IsRightNest bounds.old depth (stmt_of statement.now)) }
+    ensures back { OnOk result (bounds.new ≡ bounds.old) }
+{
+    let place = first_place(statement, directive);
+    if !is_perfect(depth, statement) {
+        return Err(Fault::NotPerfect(place));
+    }
+    let rectangular = is_rectangular(alloc, depth, statement, bounds, place);
+    let small = is_small(alloc, depth, statement, bounds, place);
+    both(small, rectangular)
+}
+
+/// The loops of a perfect, rectangular nest, the outermost first, each with its form in the box of the loops round the nest
+/// (OpenMP 5.2, 4.4.1 and 4.4.3).
+#[derive(Drop)]
+pub struct Nest {
+    pub loops: Vec<Canonical>,
+}
+
+impl Nest {
+    /// The nest of so many loops that a statement is, inside the loops of a box.
+    ///
+    /// # Errors
+    ///
+    /// `NotPerfect`, at the first `for` where there are no such loops, one directly in the other, and at the `for` of a loop
+    /// whose bounds mention the variable of another; the fault of a loop that is not canonical; `OutOfMemory`.
+    pub fn new(
+        alloc: Global,
+        depth: u64,
+        statement: &Stmt,
+        bounds: &VarBox,
+        directive: Place,
+    ) -> Result<Nest, Fault>
+        ensures ok { IfOk result (λ nest. NestHas (λ loops. AreRectangular bounds.now loops nest.loops.items) depth (stmt_of statement.now)) }
+        ensures err { IfErr result (λ fault. (fault ≡ OutOfMemory) ⊎ (NestHas (λ loops. (ls : List canonicals.Canonical) × AreRectangular bounds.now loops ls) depth (stmt_of statement.now) → ⊥)) }
+    {
+        let place = first_place(statement, directive);
+        let loops = match forms(alloc, depth, statement, bounds, depth, statement, place) {
+            Ok(loops) => loops,
+            Err(fault) => return Err(fault),
+        };
+        Ok(Nest { loops })
+    }
+
+    /// Its iterations where the variables round it have these values, and those without a value are 0; None as for
+    /// [`Space::at`] (OpenMP 5.2, 4.4.2).
+    pub fn at(&self, alloc: Global, values: &[Value]) -> Option<Space>
+        ensures exact { MatchOption result ((ts : List Turns) → AreModest values.now → AreRunsOf self.now.loops.items (given values.now) ts → IsSpace ts → ⊥)
+            (λ ts. AreRunsOf self.now.loops.items (given values.now) ts) }
+        ensures loops { IfSome result (λ ts. length ts ≡ length self.now.loops.items) }
+        ensures iterations { IfSome result (λ ts. HasIterations self.now.loops.items (given values.now) ts) }
+    {
+        Space::at(alloc, self.loops.as_slice(), values)
+    }
+}

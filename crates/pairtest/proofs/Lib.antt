@@ -1,0 +1,5 @@
+pub mod Sums
+pub mod CounterLists
+pub mod Summaries
+pub mod Solutions
+pub mod OneLoop

@@ -1,0 +1,4 @@
+pub mod Equations
+pub mod Cases
+pub mod Reached
+pub mod Meetings

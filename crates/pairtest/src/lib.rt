@@ -1,0 +1,14 @@
+//! The test of two accesses of one array: whether two different iterations of a nest of parallel loops can touch one element.
+#![tactic(auto)]
+
+mod access;
+mod case;
+mod laws;
+mod reach;
+
+pub use access::{Access, Mode, Nest, PastLimit, Subscript};
+pub use case::independent;
+pub use laws::{one_loop_is_exact, refuted_equations_have_no_solution, refuted_pairs_do_not_meet};
+
+#[cfg(test)]
+mod tests;

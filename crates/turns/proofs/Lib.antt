@@ -1,0 +1,10 @@
+pub mod FormsAt
+pub mod OneLoop
+pub mod Standing
+pub mod Joining
+pub mod Iterating
+pub mod Entered
+pub mod Turned
+pub mod Told
+pub mod Differing
+pub mod Laws
