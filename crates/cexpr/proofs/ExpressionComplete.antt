@@ -9,11 +9,12 @@ use Rattle.semantics.specs.Source.Typing.{in_range, typed}
 use Rattle.semantics.specs.Source.Scope.{Scope, Entity, AVariable, AConstant, find, count}
 use Rattle.semantics.specs.Source.Expressions.{UnarySign, minus, tilde, BinarySign, CompareSign, ReadsExpr, literal, enumerator, object, parens, unary, binary, choose, tighter, ReadsSubscripts, no_subscripts, subscript, ReadsCond, numeric, cond_parens, compare, both, either, cond_tighter}
 use Rattle.semantics.specs.Source.Expressions as grammar
-use Rattle.cexpr.specs.Reading.{Got, ◌>>=◌, got, chosen}
+use Rattle.creader.specs.Reading.{Got, ◌>>=◌, got, chosen}
 use Rattle.cexpr.specs.Operators.{Infix, Arithmetic, Comparing, AndAlso, OrElse, reach, infix_of, number_in, is_number, cond_in, joined, joins}
+use Rattle.creader.specs.NextTokens as ahead
 use Rattle.cexpr.specs.ExpressionReader as reader
 use Rattle.cexpr.specs.ExpressionReader.{Inner, subscripts, primary, unary_of, next_infix, reaching, join, further, whole, inside}
-use Rattle.cexpr.proofs.Binds.{bind_to}
+use Rattle.creader.proofs.Binds.{bind_to}
 
 -- a condition as it is read
 abbrev pub as_source : Cond → Source
@@ -208,7 +209,7 @@ unary_primary scope inner (Sign s ∷ ts) r h = h
 unary_primary scope inner (Header m ∷ ts) r h = h
 unary_primary scope inner (Line m ∷ ts) r h = h
 
-no_question : (ts : List Token) → stops ts ≡ true → reader.question_mark ts ≡ None
+no_question : (ts : List Token) → stops ts ≡ true → ahead.question_mark ts ≡ None
 no_question [] h = refl
 no_question (Word w ∷ ts) h = refl
 no_question (Digits m s ∷ ts) h = refl
@@ -221,8 +222,8 @@ no_question (Line m ∷ ts) h = refl
 -- the arms of `?:`, if they come
 abbrev pub arms : Inner → Got Source → Option (Got Source)
 arms inner c =
-    chosen (reader.question_mark c.rest) (Some c)
-    (λ behind. inner.whole behind >>= λ a. reader.colon a.rest >>= λ other. inner.whole other >>= λ b. reader.choice c a b)
+    chosen (ahead.question_mark c.rest) (Some c)
+    (λ behind. inner.whole behind >>= λ a. ahead.colon a.rest >>= λ other. inner.whole other >>= λ b. reader.choice c a b)
 
 pub whole_by : (scope : Scope) (inner : Inner) (ts : List Token) → whole scope inner ts ≡ (reader.binary 10 scope inner ts >>= arms inner)
 unfolding whole
@@ -250,7 +251,7 @@ tighter_reads scope room zero ts s c = at
         let r = claim_at 0 scope room ts s 11 refl c rest (stops_ends 10 rest h) in
         whole_by scope inner (ts ++ rest)
         ∙ bind_to (arms inner) (r.2 ∙ further_done r.0 10 scope inner s rest (stops_ends 11 rest h))
-        ∙ ap (λ o. chosen o (Some (right s rest)) (λ behind. inner.whole behind >>= λ a. reader.colon a.rest >>= λ other. inner.whole other >>= λ b. reader.choice (right s rest) a b)) (no_question rest h)
+        ∙ ap (λ o. chosen o (Some (right s rest)) (λ behind. inner.whole behind >>= λ a. ahead.colon a.rest >>= λ other. inner.whole other >>= λ b. reader.choice (right s rest) a b)) (no_question rest h)
 
 reads_literal : (scope : Scope) (room n : ℕ) (suffix : Suffix) → in_range suffix n ≡ true → Claim 12 scope room (Digits n suffix ∷ []) (Number (Literal n suffix))
 unfolding primary
@@ -265,7 +266,7 @@ primary_name : (scope : Scope) (inner : Inner) (name : Name) (e : Entity) (is : 
     → primary scope inner (Word name ∷ ts) ≡ reader.named (Some e) name (right is rest)
 unfolding primary
 primary_name scope inner name e is ts rest f h =
-    ap (λ o. cond (reader.may_be_named o name) (subscripts (length ts) inner ts >>= λ x. reader.named o name x) None) f ∙ bind_to (reader.named (Some e) name) h
+    ap (λ o. cond (ahead.may_be_named o name) (subscripts (length ts) inner ts >>= λ x. reader.named o name x) None) f ∙ bind_to (reader.named (Some e) name) h
 
 reads_enumerator : (scope : Scope) (room : ℕ) (name : Name) (n : ℕ) → find scope name ≡ Some (AConstant n) → Claim 12 scope room (Word name ∷ []) (Number (Constant name n))
 reads_enumerator scope room name n f = (0, refl, λ rest h. primary_name scope (inside room scope) name (AConstant n) no_exprs rest rest f (subs_none (length rest) (inside room scope) rest h))
@@ -280,7 +281,7 @@ reads_object scope room name x is ts f c = (
 
 primary_parens : (scope : Scope) (inner : Inner) (ts rest : List Token) (s : Source) → inner.whole ts ≡ Some (right s (Sign CloseParen ∷ rest)) → primary scope inner (Sign OpenParen ∷ ts) ≡ Some (right s rest)
 unfolding primary
-primary_parens scope inner ts rest s h = ap (λ o. o >>= λ e. reader.close_paren e.rest >>= λ behind. got e.tree e.sound behind) h
+primary_parens scope inner ts rest s h = ap (λ o. o >>= λ e. ahead.close_paren e.rest >>= λ behind. got e.tree e.sound behind) h
 
 reads_parens : (scope : Scope) (room o : ℕ) (ts : List Token) (s : Source) → o < 64 → room + o ≡ 64 → ((room : ℕ) → room + suc o ≡ 64 → Claim 0 scope room ts s) → Claim 12 scope room (Sign OpenParen ∷ (ts ++ Sign CloseParen ∷ [])) s
 reads_parens scope zero o ts s b e c = absurd (omega arith)
@@ -348,7 +349,7 @@ reads_choose scope (suc room) o ts us vs c a b k h first second third = at
 
     tail : (rest : List Token) → stops rest ≡ true → arms inner (right (as_source c) (Sign Question ∷ (us ++ Sign Colon ∷ (vs ++ rest)))) ≡ Some (right (Number (Choose c a b)) rest)
     tail rest d =
-        ap (λ o. o >>= λ x. reader.colon x.rest >>= λ other. inner.whole other >>= λ y. reader.choice (right (as_source c) (Sign Question ∷ (us ++ Sign Colon ∷ (vs ++ rest)))) x y)
+        ap (λ o. o >>= λ x. ahead.colon x.rest >>= λ other. inner.whole other >>= λ y. reader.choice (right (as_source c) (Sign Question ∷ (us ++ Sign Colon ∷ (vs ++ rest)))) x y)
         (second room (omega arith) (Sign Colon ∷ (vs ++ rest)) refl)
         ∙ ap (λ o. o >>= λ y. reader.choice (right (as_source c) (Sign Question ∷ (us ++ Sign Colon ∷ (vs ++ rest)))) (right (Number a) (Sign Colon ∷ (vs ++ rest))) y) (third room (omega arith) rest d)
         ∙ ap (λ d. Some (right (Number (Choose d a b)) rest)) (cond_as_source c)
@@ -361,7 +362,7 @@ reads_subscript : (scope : Scope) (room o : ℕ) (ts us : List Token) (e : Expr)
 reads_subscript scope zero o ts us e is b h c d n k rest x = absurd (omega arith)
 reads_subscript scope (suc room) o ts us e is b h c d zero k rest x = absurd (omega arith)
 reads_subscript scope (suc room) o ts us e is b h c d (suc n) k rest x =
-    ap (λ o. o >>= λ y. reader.close_bracket y.rest >>= λ behind. subscripts n inner behind >>= λ es. got (more_exprs (number_in y.tree) es.tree) (y.sound && (is_number y.tree && es.sound)) es.rest)
+    ap (λ o. o >>= λ y. ahead.close_bracket y.rest >>= λ behind. subscripts n inner behind >>= λ es. got (more_exprs (number_in y.tree) es.tree) (y.sound && (is_number y.tree && es.sound)) es.rest)
     (ap (whole scope (inside room scope)) (append_assoc ts (Sign CloseBracket ∷ us) rest) ∙ c room (omega arith) (Sign CloseBracket ∷ (us ++ rest)) refl)
     ∙ ap (λ o. o >>= λ es. got (more_exprs e es.tree) (true && (true && es.sound)) es.rest) (d n (let l = length-append ts (Sign CloseBracket ∷ us) in omega arith) rest x)
   where

@@ -11,11 +11,12 @@ use Rattle.semantics.specs.Source.Scope.{Scope, Entity, AVariable, AConstant, fi
 use Rattle.semantics.specs.Source.Expressions.{UnarySign, BinarySign, CompareSign, ReadsExpr, literal, enumerator, object, parens, unary, binary, choose, tighter, ReadsSubscripts, no_subscripts, subscript, ReadsCond, numeric, cond_parens, compare, both, either, cond_tighter}
 use Rattle.semantics.specs.Source.Expressions as grammar
 use Rattle.semantics.specs.Source.Statements.{is_truth}
-use Rattle.cexpr.specs.Reading.{Got, Reader, ◌>>=◌, got, chosen}
+use Rattle.creader.specs.Reading.{Got, Reader, ◌>>=◌, got, chosen}
 use Rattle.cexpr.specs.Operators.{Infix, Arithmetic, Comparing, AndAlso, OrElse, reach, infix_of, number_in, is_number, cond_in, joined, joins}
+use Rattle.creader.specs.NextTokens as ahead
 use Rattle.cexpr.specs.ExpressionReader as reader
 use Rattle.cexpr.specs.ExpressionReader.{Inner, subscripts, primary, unary_of, next_infix, reaching, join, further, whole, inside}
-use Rattle.cexpr.proofs.Binds.{bind_some, first_true, second_true}
+use Rattle.creader.proofs.Binds.{bind_some, first_true, second_true}
 use Rattle.cexpr.proofs.ExpressionComplete.{arms, whole_by}
 
 -- what the grammar has as this tree
@@ -56,22 +57,22 @@ out {A} {x} {y} e = same_Some x y e
 pub no_some : {A P : Type 0} {x : A} → None ≡ Some x → P
 no_some e = absurd (cc)
 
-pub close_paren_is : (ts us : List Token) → reader.close_paren ts ≡ Some us → ts ≡ Sign CloseParen ∷ us
+pub close_paren_is : (ts us : List Token) → ahead.close_paren ts ≡ Some us → ts ≡ Sign CloseParen ∷ us
 close_paren_is (Sign CloseParen ∷ ts) us e = ap (λ xs. Sign CloseParen ∷ xs) (out e)
 close_paren_is (Sign s ∷ ts) us e = no_some e
 close_paren_is _ us e = no_some e
 
-pub close_bracket_is : (ts us : List Token) → reader.close_bracket ts ≡ Some us → ts ≡ Sign CloseBracket ∷ us
+pub close_bracket_is : (ts us : List Token) → ahead.close_bracket ts ≡ Some us → ts ≡ Sign CloseBracket ∷ us
 close_bracket_is (Sign CloseBracket ∷ ts) us e = ap (λ xs. Sign CloseBracket ∷ xs) (out e)
 close_bracket_is (Sign s ∷ ts) us e = no_some e
 close_bracket_is _ us e = no_some e
 
-colon_is : (ts us : List Token) → reader.colon ts ≡ Some us → ts ≡ Sign Colon ∷ us
+colon_is : (ts us : List Token) → ahead.colon ts ≡ Some us → ts ≡ Sign Colon ∷ us
 colon_is (Sign Colon ∷ ts) us e = ap (λ xs. Sign Colon ∷ xs) (out e)
 colon_is (Sign s ∷ ts) us e = no_some e
 colon_is _ us e = no_some e
 
-question_is : (ts us : List Token) → reader.question_mark ts ≡ Some us → ts ≡ Sign Question ∷ us
+question_is : (ts us : List Token) → ahead.question_mark ts ≡ Some us → ts ≡ Sign Question ∷ us
 question_is (Sign Question ∷ ts) us e = ap (λ xs. Sign Question ∷ xs) (out e)
 question_is (Sign s ∷ ts) us e = no_some e
 question_is _ us e = no_some e
@@ -82,8 +83,8 @@ subs_none scope o ts g e = subst (λ x. Front (ReadsSubscripts scope o) ts x) (o
 
 pub subs_sound : (scope : Scope) (o : ℕ) (inner : Inner) → InnerSound scope o inner → (n : ℕ) → IsSound (subscripts n inner) (ReadsSubscripts scope o)
 subs_sound scope o inner k (suc n) (Sign OpenBracket ∷ ts) g e h =
-    let a = bind_some (inner.whole ts) (λ e. reader.close_bracket e.rest >>= λ behind. subscripts n inner behind >>= λ es. got (more_exprs (number_in e.tree) es.tree) (e.sound && (is_number e.tree && es.sound)) es.rest) g e in
-    let b = bind_some (reader.close_bracket a.0.rest) (λ behind. subscripts n inner behind >>= λ es. got (more_exprs (number_in a.0.tree) es.tree) (a.0.sound && (is_number a.0.tree && es.sound)) es.rest) g a.2 in
+    let a = bind_some (inner.whole ts) (λ e. ahead.close_bracket e.rest >>= λ behind. subscripts n inner behind >>= λ es. got (more_exprs (number_in e.tree) es.tree) (e.sound && (is_number e.tree && es.sound)) es.rest) g e in
+    let b = bind_some (ahead.close_bracket a.0.rest) (λ behind. subscripts n inner behind >>= λ es. got (more_exprs (number_in a.0.tree) es.tree) (a.0.sound && (is_number a.0.tree && es.sound)) es.rest) g a.2 in
     let c = bind_some (subscripts n inner b.0) (λ es. got (more_exprs (number_in a.0.tree) es.tree) (a.0.sound && (is_number a.0.tree && es.sound)) es.rest) g b.2 in
     let all : (a.0.sound && (is_number a.0.tree && c.0.sound)) ≡ true = ap (λ x. x.sound) (out c.2) ∙ h in
     let rest : (is_number a.0.tree && c.0.sound) ≡ true = second_true a.0.sound _ all in
@@ -144,10 +145,10 @@ as_parens scope o ts (Number e) b r = parens b r
 as_parens scope o ts (Truth c) b r = (r.0, cond_parens b r.1)
 
 parens_sound : (scope : Scope) (o : ℕ) (inner : Inner) (ts : List Token) (g : Got Source) → InnerSound scope o inner
-    → (inner.whole ts >>= λ e. reader.close_paren e.rest >>= λ behind. got e.tree e.sound behind) ≡ Some g → g.sound ≡ true → Front (AsAt scope o 12) (Sign OpenParen ∷ ts) g
+    → (inner.whole ts >>= λ e. ahead.close_paren e.rest >>= λ behind. got e.tree e.sound behind) ≡ Some g → g.sound ≡ true → Front (AsAt scope o 12) (Sign OpenParen ∷ ts) g
 parens_sound scope o inner ts g k d h =
-    let a = bind_some (inner.whole ts) (λ e. reader.close_paren e.rest >>= λ behind. got e.tree e.sound behind) g d in
-    let b = bind_some (reader.close_paren a.0.rest) (λ behind. got a.0.tree a.0.sound behind) g a.2 in
+    let a = bind_some (inner.whole ts) (λ e. ahead.close_paren e.rest >>= λ behind. got e.tree e.sound behind) g d in
+    let b = bind_some (ahead.close_paren a.0.rest) (λ behind. got a.0.tree a.0.sound behind) g a.2 in
     let first = k.whole ts a.0 a.1 (ap (λ x. x.sound) (out b.2) ∙ h) in
     subst (λ x. Front (AsAt scope o 12) (Sign OpenParen ∷ ts) x) (out b.2)
     (record {
@@ -159,7 +160,7 @@ parens_sound scope o inner ts g k d h =
 pub primary_sound : (scope : Scope) (o : ℕ) (inner : Inner) → InnerSound scope o inner → IsSound (primary scope inner) (AsAt scope o 12)
 unfolding primary
 primary_sound scope o inner k (Digits n suffix ∷ ts) g e h = literal_sound scope o n suffix ts g e h
-primary_sound scope o inner k (Word name ∷ ts) g e h = name_sound scope o inner name ts g k (find scope name) refl (reader.may_be_named (find scope name) name) e h
+primary_sound scope o inner k (Word name ∷ ts) g e h = name_sound scope o inner name ts g k (find scope name) refl (ahead.may_be_named (find scope name) name) e h
 primary_sound scope o inner k (Sign OpenParen ∷ ts) g e h = parens_sound scope o inner ts g k e h
 primary_sound scope o inner k (Sign s ∷ ts) g e h = no_some e
 primary_sound scope o inner k _ g e h = no_some e
@@ -337,13 +338,13 @@ binary_sound scope o inner k (suc j) l level ts g e h =
     further_sound scope o l j (reader.binary j scope inner) level tighter_sound (length a.0.rest) a.0 g a.2 h ts first.front first.split (as_tighter scope o l first.front a.0.tree first.reads)
 
 -- the arms of `?:`, where they come
-arms_sound : (scope : Scope) (o : ℕ) (inner : Inner) → InnerSound scope o inner → (c g : Got Source) (x : Option (List Token)) → reader.question_mark c.rest ≡ x
-    → chosen x (Some c) (λ behind. inner.whole behind >>= λ a. reader.colon a.rest >>= λ other. inner.whole other >>= λ b. reader.choice c a b) ≡ Some g → g.sound ≡ true
+arms_sound : (scope : Scope) (o : ℕ) (inner : Inner) → InnerSound scope o inner → (c g : Got Source) (x : Option (List Token)) → ahead.question_mark c.rest ≡ x
+    → chosen x (Some c) (λ behind. inner.whole behind >>= λ a. ahead.colon a.rest >>= λ other. inner.whole other >>= λ b. reader.choice c a b) ≡ Some g → g.sound ≡ true
     → (ts : List Token) → (c.sound ≡ true → Front (AsAt scope o 1) ts c) → Front (AsAt scope o 0) ts g
 arms_sound scope o inner k c g None f e h ts first = subst (λ x. Front (AsAt scope o 0) ts x) (out e) (looser scope o 0 ts c (first (ap (λ x. x.sound) (out e) ∙ h)))
 arms_sound scope o inner k c g (Some behind) f e h ts first =
-    let a = bind_some (inner.whole behind) (λ a. reader.colon a.rest >>= λ other. inner.whole other >>= λ b. reader.choice c a b) g e in
-    let d = bind_some (reader.colon a.0.rest) (λ other. inner.whole other >>= λ b. reader.choice c a.0 b) g a.2 in
+    let a = bind_some (inner.whole behind) (λ a. ahead.colon a.rest >>= λ other. inner.whole other >>= λ b. reader.choice c a b) g e in
+    let d = bind_some (ahead.colon a.0.rest) (λ other. inner.whole other >>= λ b. reader.choice c a.0 b) g a.2 in
     let b = bind_some (inner.whole d.0) (λ b. reader.choice c a.0 b) g d.2 in
     let all : (c.sound && ((a.0.sound && is_number a.0.tree) && (b.0.sound && is_number b.0.tree))) ≡ true = ap (λ x. x.sound) (out b.2) ∙ h in
     let some : ((a.0.sound && is_number a.0.tree) && (b.0.sound && is_number b.0.tree)) ≡ true = second_true c.sound _ all in
@@ -366,7 +367,7 @@ arms_sound scope o inner k c g (Some behind) f e h ts first =
 pub whole_sound : (scope : Scope) (o : ℕ) (inner : Inner) → InnerSound scope o inner → IsSound (whole scope inner) (AsAt scope o 0)
 whole_sound scope o inner k ts g e h =
     let c = bind_some (reader.binary 10 scope inner ts) (arms inner) g (sym (whole_by scope inner ts) ∙ e) in
-    arms_sound scope o inner k c.0 g (reader.question_mark c.0.rest) refl c.2 h ts (λ d. binary_sound scope o inner k 10 1 refl ts c.0 c.1 d)
+    arms_sound scope o inner k c.0 g (ahead.question_mark c.0.rest) refl c.2 h ts (λ d. binary_sound scope o inner k 10 1 refl ts c.0 c.1 d)
 
 -- inside of what is opened
 pub inside_sound : (scope : Scope) (room o : ℕ) → room + o ≡ 64 → InnerSound scope o (inside room scope)

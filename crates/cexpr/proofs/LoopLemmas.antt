@@ -3,13 +3,14 @@ use Rattle.std.proofs.Common.{◌≡◌, ℕ, zero, suc, ◌+◌, ◌-◌, ◌<�
 use Rattle.std.specs.Prelude.{◌&&◌}
 use Rattle.semantics.specs.Tree.{Exprs, no_exprs, more_exprs, Source}
 use Rattle.semantics.specs.Source.Token.{Token, Sign, OpenBracket}
-use Rattle.cexpr.specs.Reading.{Got, Reader, ◌>>=◌, got, chosen}
+use Rattle.creader.specs.Reading.{Got, Reader, ◌>>=◌, got, chosen}
 use Rattle.cexpr.specs.Operators.{Infix, number_in, is_number}
-use Rattle.cexpr.specs.ExpressionReader.{Inner, subscripts, close_bracket, next_infix, join, further}
-use Rattle.cexpr.specs.declared.stop.Stop.{Stop}
-use Rattle.cexpr.specs.declared.stop.Stop.TheVariants.{Memory, Syntax, Limit}
-use Rattle.cexpr.specs.Outcome.{Fails}
-use Rattle.cexpr.specs.Steps.{open_bracket, and_one, with_subscript}
+use Rattle.cexpr.specs.ExpressionReader.{Inner, subscripts, next_infix, join, further}
+use Rattle.creader.specs.NextTokens.{close_bracket, open_bracket}
+use Rattle.creader.specs.declared.stop.Stop.{Stop}
+use Rattle.creader.specs.declared.stop.Stop.TheVariants.{Memory, Syntax, Limit}
+use Rattle.creader.specs.Outcome.{Fails}
+use Rattle.cexpr.specs.Steps.{and_one, with_subscript}
 
 -- one list of subscripts behind another
 abbrev pub append_exprs : Exprs → Exprs → Exprs

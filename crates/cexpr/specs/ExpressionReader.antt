@@ -1,29 +1,12 @@
 -- The reading of expressions from the front of a list of tokens, with how much may still be opened.
-use Rattle.std.specs.Prelude.{ℕ, zero, suc, Bool, true, false, not, ◌&&◌, ◌==◌, if◌then◌else◌, List, ◌∷◌, length, Option, Some, None}
+use Rattle.std.specs.Prelude.{ℕ, zero, suc, Bool, true, false, ◌&&◌, ◌==◌, if◌then◌else◌, List, ◌∷◌, length, Option, Some, None}
 use Rattle.semantics.specs.Tree.{Name, Suffix, UnaryOp, Negate, Complement, Expr, Literal, Constant, Object, Unary, Choose, Exprs, no_exprs, more_exprs, Not, Source, Number, Truth}
-use Rattle.semantics.specs.Source.Token.{Token, Word, Digits, Sign, OpenParen, CloseParen, OpenBracket, CloseBracket, MinusSign, Tilde, Bang, Question, Colon}
+use Rattle.semantics.specs.Source.Token.{Token, Word, Digits, Sign, OpenParen, OpenBracket, MinusSign, Tilde, Bang}
 use Rattle.semantics.specs.Source.Typing.{in_range, typed}
-use Rattle.semantics.specs.Source.Scope.{Scope, Entity, AVariable, AConstant, find, count, is_reserved}
-use Rattle.cexpr.specs.Reading.{Got, Reader, ◌>>=◌, got, chosen}
+use Rattle.semantics.specs.Source.Scope.{Scope, Entity, AVariable, AConstant, find, count}
+use Rattle.creader.specs.Reading.{Got, Reader, ◌>>=◌, got, chosen}
+use Rattle.creader.specs.NextTokens.{close_paren, close_bracket, question_mark, colon, may_be_named}
 use Rattle.cexpr.specs.Operators.{Infix, reach, infix_of, stand_in, number_in, is_number, cond_in, joined, joins}
-
--- the symbols that end what they enclose
-abbrev pub close_paren : List Token → Option (List Token)
-close_paren (Sign CloseParen ∷ ts) = Some ts
-close_paren _ = None
-
-abbrev pub close_bracket : List Token → Option (List Token)
-close_bracket (Sign CloseBracket ∷ ts) = Some ts
-close_bracket _ = None
-
--- those of `?:`
-abbrev pub question_mark : List Token → Option (List Token)
-question_mark (Sign Question ∷ ts) = Some ts
-question_mark _ = None
-
-abbrev pub colon : List Token → Option (List Token)
-colon (Sign Colon ∷ ts) = Some ts
-colon _ = None
 
 -- what is read inside something opened: a whole expression, and the operand of a unary operator
 pub record Inner : Type 0 where
@@ -40,11 +23,6 @@ subscripts n inner ts = got no_exprs true ts
 -- a literal with its value where it has one
 abbrev pub literal_tree : ℕ → Suffix → Expr
 literal_tree n suffix = if in_range suffix n then Literal n suffix else Literal 0 suffix
-
--- a word that is no name stands for nothing
-abbrev pub may_be_named : Option Entity → Name → Bool
-may_be_named None name = not (is_reserved name)
-may_be_named (Some e) name = true
 
 -- what a name with subscripts stands for
 abbrev pub name_tree : Option Entity → Name → Exprs → Expr

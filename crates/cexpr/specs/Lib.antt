@@ -1,9 +1,6 @@
-pub mod Reading
 pub mod Operators
 pub mod ExpressionReader
-pub mod Lexemes
 pub mod Infixes
-pub mod Names
 pub mod Operands
-pub mod Outcome
+pub mod OperandViews
 pub mod Steps

@@ -1,16 +1,12 @@
 -- The steps of reading, as the code takes them.
-use Rattle.std.specs.Prelude.{◌&&◌, if◌then◌else◌, List, ◌∷◌, length, Option, Some, None}
+use Rattle.std.specs.Prelude.{◌&&◌, if◌then◌else◌, List, length, None}
 use Rattle.semantics.specs.Tree.{Name, Expr, Exprs, no_exprs, more_exprs, Source}
-use Rattle.semantics.specs.Source.Token.{Token, Sign, OpenBracket}
+use Rattle.semantics.specs.Source.Token.{Token}
 use Rattle.semantics.specs.Source.Scope.{Scope, find}
-use Rattle.cexpr.specs.Reading.{Got, Reader, ◌>>=◌}
+use Rattle.creader.specs.Reading.{Got, Reader, ◌>>=◌}
 use Rattle.cexpr.specs.Operators.{number_in, is_number}
-use Rattle.cexpr.specs.ExpressionReader.{Inner, subscripts, may_be_named, named}
-
--- the tokens behind `[`
-abbrev pub open_bracket : List Token → Option (List Token)
-open_bracket (Sign OpenBracket ∷ ts) = Some ts
-open_bracket _ = None
+use Rattle.cexpr.specs.ExpressionReader.{Inner, subscripts, named}
+use Rattle.creader.specs.NextTokens.{may_be_named}
 
 -- subscripts and one more
 abbrev pub and_one : Exprs → Expr → Exprs

@@ -3,24 +3,25 @@
 ghost use Rattle.std.specs.Prelude.{◌≡◌, ◌&&◌, true, Some, is_none};
 ghost use Rattle.semantics.specs.Tree.{Number, Truth, Not, Choose, no_exprs};
 ghost use Rattle.ktree.specs.View.{unary_of, expr_of};
-ghost use Rattle.cexpr.specs.Reading.{got};
+ghost use Rattle.creader.specs.Reading.{got};
 ghost use Rattle.cexpr.specs.Operators.{cond_in};
 ghost use Rattle.cexpr.specs.ExpressionReader.{unary_of as unary_reading, join, choice};
 ghost use Rattle.cexpr.specs.Steps.{with_subscript};
 ghost use Rattle.cexpr.specs.Infixes.{infix_in};
-ghost use Rattle.cexpr.specs.Lexemes.{tokens_of};
-ghost use Rattle.cexpr.specs.Outcome.{Gives, got_of, operand_of, subscripts_of};
+ghost use Rattle.creader.specs.Lexemes.{tokens_of};
+ghost use Rattle.creader.specs.Outcome.{Gives, got_of, subscripts_of};
+ghost use Rattle.cexpr.specs.OperandViews.{operand_of};
 
-use crate::context::Outcome;
 use crate::joining::{Union, joined, truth};
-use crate::lexeme::Lexeme;
 use crate::numeric::Numeric;
 use crate::operand::Operand;
 use crate::operator::Infix;
-use crate::parsed::{Parsed, Subscripts};
-use crate::stop::{Stop, earlier, told, told_sort};
 use crate::wanted::{cond_in, number_in};
-use crate::written::{Sort, Written};
+use creader::context::Outcome;
+use creader::lexeme::Lexeme;
+use creader::parsed::{Parsed, Subscripts};
+use creader::stop::{Stop, earlier, told, told_sort};
+use creader::written::{Sort, Written};
 use ktree::{Cond, Expr, Place, Source, UnaryOp};
 use std::alloc::Global;
 

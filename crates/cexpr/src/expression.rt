@@ -3,22 +3,23 @@
 ghost use Rattle.std.specs.Prelude.{◌≡◌, ◌≤◌, length, suc};
 ghost use Rattle.cexpr.specs.ExpressionReader.{subscripts, primary, unary, further, binary, whole, inside};
 ghost use Rattle.cexpr.specs.Steps.{at_name};
-ghost use Rattle.cexpr.specs.Names.{names_of};
-ghost use Rattle.cexpr.specs.Lexemes.{tokens_of};
-ghost use Rattle.cexpr.specs.Outcome.{Gives, got_of, operand_of, subscripts_of};
+ghost use Rattle.creader.specs.Names.{names_of};
+ghost use Rattle.creader.specs.Lexemes.{tokens_of};
+ghost use Rattle.creader.specs.Outcome.{Gives, got_of, subscripts_of};
+ghost use Rattle.cexpr.specs.OperandViews.{operand_of};
 
 use crate::combining::{changed, choice, join, no_subscripts, opposite, with_subscript};
-use crate::context::{Context, Outcome, opened, tighter};
 use crate::leaf::{literal, named};
-use crate::lexeme::{Kind, Lexeme};
 use crate::operand::Operand;
 use crate::operator::next_infix;
-use crate::parsed::{Parsed, Subscripts};
-use crate::punctuation::{
+use creader::context::{Context, Outcome, opened, tighter};
+use creader::lexeme::{Kind, Lexeme};
+use creader::parsed::{Parsed, Subscripts};
+use creader::punctuation::{
     close_bracket, close_paren, colon, first_place, open_bracket, question_mark,
 };
-use crate::scope::{find, is_reserved};
-use crate::stop::Stop;
+use creader::scope::{find, is_reserved};
+use creader::stop::Stop;
 use ctoken::Symbol;
 use ktree::{Place, UnaryOp};
 

@@ -5,12 +5,12 @@ ghost use Rattle.semantics.specs.Tree.{Binary};
 ghost use Rattle.semantics.specs.Source.Typing.{typed, fit, may_divide};
 ghost use Rattle.ktree.specs.View.{binary_of};
 ghost use Rattle.cexpr.specs.Operators.{number_in};
-ghost use Rattle.cexpr.specs.Outcome.{operand_of};
+ghost use Rattle.cexpr.specs.OperandViews.{operand_of};
 
 use crate::operand::Operand;
-use crate::stop::{Fault, Flaw, unless};
 use crate::typing::{constant, may_shift, not_zero};
-use crate::written::{Sort, Written};
+use creader::stop::{Fault, Flaw, unless};
+use creader::written::{Sort, Written};
 use ktree::{BinaryOp, Expr, Place, Source, Suffix};
 
 /// Whether an operand may divide: a constant expression or a literal with `ull`, and not 0 (C11 6.5.5).

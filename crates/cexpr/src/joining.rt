@@ -6,16 +6,17 @@ ghost use Rattle.semantics.specs.Source.Typing.{plain_cond};
 ghost use Rattle.ktree.specs.View.{cond_of, binary_of, compare_of};
 ghost use Rattle.cexpr.specs.Operators.{Arithmetic, Comparing, joined, joins};
 ghost use Rattle.cexpr.specs.Infixes.{infix_in};
-ghost use Rattle.cexpr.specs.Outcome.{Gives, operand_of, union_of};
+ghost use Rattle.creader.specs.Outcome.{Gives};
+ghost use Rattle.cexpr.specs.OperandViews.{operand_of, union_of};
 
 use crate::fitting::{fit, is_typed, misfit, written};
 use crate::leaf::stand_in;
 use crate::operand::Operand;
 use crate::operator::Infix;
-use crate::stop::{Fault, Flaw, Stop, unless};
 use crate::typing::constant;
 use crate::wanted::cond_in;
-use crate::written::{Sort, Written};
+use creader::stop::{Fault, Flaw, Stop, unless};
+use creader::written::{Sort, Written};
 use ktree::{BinaryOp, CompareOp, Cond, Expr, Place, Source};
 use std::alloc::Global;
 

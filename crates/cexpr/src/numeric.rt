@@ -3,7 +3,7 @@
 ghost use Rattle.std.specs.Prelude.{◌≡◌};
 ghost use Rattle.cexpr.specs.Operands.{expr_typed, expr_plain};
 
-use crate::written::Written;
+use creader::written::Written;
 use ktree::Expr;
 
 /// An arithmetic expression with what is known of it, and whether one was read.

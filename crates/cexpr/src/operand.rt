@@ -3,7 +3,7 @@
 ghost use Rattle.std.specs.Prelude.{◌≡◌};
 ghost use Rattle.cexpr.specs.Operands.{typed_in, constant_in, plain_in};
 
-use crate::written::Written;
+use creader::written::Written;
 use ktree::Source;
 
 /// What was read as an operand: a number or a condition.

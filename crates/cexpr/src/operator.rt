@@ -5,10 +5,10 @@ ghost use Rattle.ktree.specs.View.{binary_of};
 ghost use Rattle.ctoken.specs.Meant.{symbol_of};
 ghost use Rattle.cexpr.specs.Operators.{reach, infix_of, update_of};
 ghost use Rattle.cexpr.specs.ExpressionReader.{next_infix};
-ghost use Rattle.cexpr.specs.Lexemes.{tokens_of};
+ghost use Rattle.creader.specs.Lexemes.{tokens_of};
 ghost use Rattle.cexpr.specs.Infixes.{infix_in};
 
-use crate::lexeme::{Kind, Lexeme};
+use creader::lexeme::{Kind, Lexeme};
 use ctoken::Symbol;
 use ktree::{BinaryOp, CompareOp, Place};
 

@@ -1,10 +1,10 @@
 //! Trees and faults of tokens that are made by hand.
 
-use crate::context::Context;
 use crate::expression::whole;
-use crate::lexeme::{Kind, Lexeme};
-use crate::scope::{Entity, Scope, add, empty};
-use crate::stop::{Fault, Flaw, Stop};
+use creader::context::Context;
+use creader::lexeme::{Kind, Lexeme};
+use creader::scope::{Entity, Scope, add, empty};
+use creader::stop::{Fault, Flaw, Stop};
 use ctoken::Symbol;
 use ktree::{BinaryOp, Expr, Place, Source, Suffix, VarId};
 use std::alloc::{AllocError, Global};

@@ -3,11 +3,12 @@
 ghost use Rattle.std.specs.Prelude.{◌≡◌, Some};
 ghost use Rattle.ktree.specs.View.{source_of, expr_of, cond_of};
 ghost use Rattle.cexpr.specs.Operators.{number_in, is_number, cond_in};
-ghost use Rattle.cexpr.specs.Outcome.{Gives, operand_of};
+ghost use Rattle.creader.specs.Outcome.{Gives};
+ghost use Rattle.cexpr.specs.OperandViews.{operand_of};
 
 use crate::numeric::Numeric;
 use crate::operand::Operand;
-use crate::stop::Stop;
+use creader::stop::Stop;
 use ktree::{Cond, Expr, Source, Suffix};
 use std::alloc::Global;
 

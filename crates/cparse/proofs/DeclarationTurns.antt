@@ -5,13 +5,13 @@ use Rattle.std.proofs.lemmas.List.{append_assoc, append-nil, length-append}
 use Rattle.semantics.specs.Tree.{Name, Declaration}
 use Rattle.semantics.specs.Source.Token.{Token, Word, Digits, Quoted, Sign, Header, Line}
 use Rattle.semantics.specs.Source.Scope.{Scope, AVariable, with_constants, same_name}
-use Rattle.cexpr.specs.Reading.{Got, ◌>>=◌}
-use Rattle.cstmt.specs.StatementReader.{word}
+use Rattle.creader.specs.Reading.{Got, ◌>>=◌}
+use Rattle.creader.specs.NextTokens.{word}
 use Rattle.cparse.specs.TextReader.{Decls, enumeration, variable, declarations}
 use Rattle.cparse.specs.DeclarationSteps.{enum_step, variable_step}
-use Rattle.cexpr.specs.Outcome.{Fails}
-use Rattle.cexpr.specs.declared.stop.Stop.{Stop}
-use Rattle.cexpr.specs.declared.stop.Stop.TheVariants.{Memory, Syntax, Limit}
+use Rattle.creader.specs.Outcome.{Fails}
+use Rattle.creader.specs.declared.stop.Stop.{Stop}
+use Rattle.creader.specs.declared.stop.Stop.TheVariants.{Memory, Syntax, Limit}
 use Rattle.cparse.proofs.DeclarationLemmas.{and_apart, and_right}
 use Rattle.cstmt.proofs.StatementSound.{word_is}
 

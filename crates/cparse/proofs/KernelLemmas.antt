@@ -5,12 +5,13 @@ use Rattle.semantics.specs.Tree.{Items}
 use Rattle.semantics.specs.Source.Token.{Token}
 use Rattle.semantics.specs.Source.Scope.{Scope}
 use Rattle.semantics.specs.Source.Grammar.{elements}
-use Rattle.cexpr.specs.Reading.{◌>>=◌}
-use Rattle.cstmt.specs.StatementReader.{Told, close_brace, items, statement}
+use Rattle.creader.specs.Reading.{◌>>=◌}
+use Rattle.cstmt.specs.StatementReader.{Told, items, statement}
+use Rattle.creader.specs.NextTokens.{close_brace}
 use Rattle.cparse.specs.TextReader.{Decls, Whole, declarations, opening, behind_headers, at_end, kernel}
-use Rattle.cexpr.specs.Outcome.{Fails}
-use Rattle.cexpr.specs.declared.stop.Stop.{Stop}
-use Rattle.cexpr.specs.declared.stop.Stop.TheVariants.{Memory, Syntax, Limit}
+use Rattle.creader.specs.Outcome.{Fails}
+use Rattle.creader.specs.declared.stop.Stop.{Stop}
+use Rattle.creader.specs.declared.stop.Stop.TheVariants.{Memory, Syntax, Limit}
 
 -- behind the kernel's items
 abbrev pub whole : Decls → Told Items → Whole

@@ -9,14 +9,16 @@ use Rattle.semantics.specs.Source.Typing.{constant}
 use Rattle.semantics.specs.Source.Scope.{Scope, AVariable, AConstant, with_constants, find, IsFree}
 use Rattle.semantics.specs.Source.Statements.{statement_count}
 use Rattle.semantics.specs.Source.Grammar.{ReadsLengths, no_lengths, dimension, ReadsConstants, only, further, ReadsDecls, no_decls, enum, object, elements, headers, Reads}
-use Rattle.cexpr.specs.Reading.{Got, ◌>>=◌, got, chosen}
+use Rattle.creader.specs.Reading.{Got, ◌>>=◌, got, chosen}
 use Rattle.cexpr.specs.Operators.{number_in, is_number}
-use Rattle.cexpr.specs.ExpressionReader.{close_bracket, expression}
+use Rattle.creader.specs.NextTokens.{close_bracket, word}
+use Rattle.cexpr.specs.ExpressionReader.{expression}
+use Rattle.creader.specs.NextTokens as ahead
 use Rattle.cstmt.specs.StatementReader as reader
-use Rattle.cstmt.specs.StatementReader.{word, items, Told, Tally}
+use Rattle.cstmt.specs.StatementReader.{items, Told, Tally}
 use Rattle.cparse.specs.TextReader as text
 use Rattle.cparse.specs.TextReader.{lengths, length_of, is_length, constants, value_of, has_value, declarations, Decls, Whole, behind_headers, kernel}
-use Rattle.cexpr.proofs.Binds.{bind_to}
+use Rattle.creader.proofs.Binds.{bind_to}
 use Rattle.cexpr.proofs.ExpressionComplete.{right, expr_read}
 use Rattle.cstmt.proofs.StatementComplete.{IsClean, clean_more, items_read, tally_of}
 
@@ -38,7 +40,7 @@ lengths_read {scope} (dimension {e = e} {n = m} {ns = ns} {ts = ts} {us = us} r 
 constants_read : {scope : Scope} {ts : List Token} {cs : List (Name × ℕ)} → ReadsConstants scope ts cs → (n : ℕ) → length ts ≤ n → (rest : List Token) → constants n scope (ts ++ Sign CloseBrace ∷ rest) ≡ Some (right cs (Sign CloseBrace ∷ rest))
 constants_read (only f r c) zero h rest = absurd (omega arith)
 constants_read {scope} (only {name = w} {e = e} {n = m} {ts = ts} f r c) (suc n) h rest =
-    ap (λ x. named x >>= λ name. reader.becomes name.1 >>= λ behind. expression 64 scope behind >>= λ y. on name.0 y) f.word
+    ap (λ x. named x >>= λ name. ahead.becomes name.1 >>= λ behind. expression 64 scope behind >>= λ y. on name.0 y) f.word
     ∙ bind_to (on w) (expr_read r 64 refl (Sign CloseBrace ∷ rest) refl)
     ∙ ap (λ x. got ((w, value_of x) ∷ []) (is_none (find scope w) && ((true && true) && has_value x)) (Sign CloseBrace ∷ rest)) c
     ∙ ap (λ x. got ((w, m) ∷ []) (is_none x && ((true && true) && true)) (Sign CloseBrace ∷ rest)) f.unused
@@ -48,13 +50,13 @@ constants_read {scope} (only {name = w} {e = e} {n = m} {ts = ts} f r c) (suc n)
 
     on : Name → Got Source → Option (Got (List (Name × ℕ)))
     on w y =
-        chosen (reader.comma y.rest)
+        chosen (ahead.comma y.rest)
         (got ((w, value_of (constant (number_in y.tree))) ∷ []) (is_none (find scope w) && ((y.sound && is_number y.tree) && has_value (constant (number_in y.tree)))) y.rest)
         (λ next. constants n ((w, AConstant (value_of (constant (number_in y.tree)))) ∷ scope) next >>= λ more.
         got ((w, value_of (constant (number_in y.tree))) ∷ more.tree) ((is_none (find scope w) && ((y.sound && is_number y.tree) && has_value (constant (number_in y.tree)))) && more.sound) more.rest)
 constants_read (further f r c q) zero h rest = absurd (omega arith)
 constants_read {scope} (further {name = w} {e = e} {n = m} {cs = cs} {ts = ts} {us = us} f r c q) (suc n) h rest =
-    ap (λ x. named x >>= λ name. reader.becomes name.1 >>= λ behind. expression 64 scope behind >>= λ y. on name.0 y) f.word
+    ap (λ x. named x >>= λ name. ahead.becomes name.1 >>= λ behind. expression 64 scope behind >>= λ y. on name.0 y) f.word
     ∙ bind_to (on w) (ap (expression 64 scope) (append_assoc ts (Sign Comma ∷ us) (Sign CloseBrace ∷ rest)) ∙ expr_read r 64 refl (Sign Comma ∷ (us ++ Sign CloseBrace ∷ rest)) refl)
     ∙ ap (λ x. constants n ((w, AConstant (value_of x)) ∷ scope) (us ++ Sign CloseBrace ∷ rest) >>= λ more. got ((w, value_of x) ∷ more.tree) ((is_none (find scope w) && ((true && true) && has_value x)) && more.sound) more.rest) c
     ∙ bind_to (λ more. got ((w, m) ∷ more.tree) ((is_none (find scope w) && ((true && true) && true)) && more.sound) more.rest) (constants_read q n (let l = length-append ts (Sign Comma ∷ us) in omega arith) rest)
@@ -65,7 +67,7 @@ constants_read {scope} (further {name = w} {e = e} {n = m} {cs = cs} {ts = ts} {
 
     on : Name → Got Source → Option (Got (List (Name × ℕ)))
     on w y =
-        chosen (reader.comma y.rest)
+        chosen (ahead.comma y.rest)
         (got ((w, value_of (constant (number_in y.tree))) ∷ []) (is_none (find scope w) && ((y.sound && is_number y.tree) && has_value (constant (number_in y.tree)))) y.rest)
         (λ next. constants n ((w, AConstant (value_of (constant (number_in y.tree)))) ∷ scope) next >>= λ more.
         got ((w, value_of (constant (number_in y.tree))) ∷ more.tree) ((is_none (find scope w) && ((y.sound && is_number y.tree) && has_value (constant (number_in y.tree)))) && more.sound) more.rest)
@@ -79,7 +81,7 @@ enumeration_read : {scope : Scope} {ts : List Token} {cs : List (Name × ℕ)} �
     → text.enumeration scope (Sign OpenBrace ∷ (ts ++ Sign CloseBrace ∷ Sign Semicolon ∷ rest)) ≡ Some (right cs rest)
 unfolding text.enumeration
 enumeration_read {scope} {ts} {cs} r rest =
-    bind_to (λ cs. reader.close_brace cs.rest >>= λ behind. reader.semicolon behind >>= λ after. got cs.tree cs.sound after)
+    bind_to (λ cs. ahead.close_brace cs.rest >>= λ behind. ahead.semicolon behind >>= λ after. got cs.tree cs.sound after)
     (constants_read r (length (ts ++ Sign CloseBrace ∷ Sign Semicolon ∷ rest)) (let l = length-append ts (Sign CloseBrace ∷ Sign Semicolon ∷ rest) in omega arith) (Sign Semicolon ∷ rest))
 
 variable_read : {scope : Scope} {ts : List Token} {ns : List ℕ} (name : Name) → IsFree scope name → length ns ≤ 4 → ReadsLengths scope ts ns → (rest : List Token)
@@ -87,7 +89,7 @@ variable_read : {scope : Scope} {ts : List Token} {ns : List ℕ} (name : Name) 
 unfolding text.variable
 variable_read {scope} {ts} {ns} w f most r rest =
     ap (λ x. named x >>= on) f.word
-    ∙ bind_to (λ ns. reader.semicolon ns.rest >>= λ behind. whole w ns behind)
+    ∙ bind_to (λ ns. ahead.semicolon ns.rest >>= λ behind. whole w ns behind)
     (lengths_read r (length (ts ++ Sign Semicolon ∷ rest)) (let l = length-append ts (Sign Semicolon ∷ rest) in omega arith) rest)
     ∙ ap (λ x. declared (is_none x && (true && nat_le (length ns) 4))) f.unused ∙ ap declared (le-leb (length ns) 4 most)
   where
@@ -98,7 +100,7 @@ variable_read {scope} {ts} {ns} w f most r rest =
     whole w ns behind = got (record { name = w; lengths = ns.tree }) (is_none (find scope w) && (ns.sound && nat_le (length ns.tree) 4)) behind
 
     on : Name × List Token → Option (Got Declaration)
-    on name = lengths (length name.1) scope name.1 >>= λ ns. reader.semicolon ns.rest >>= λ behind. whole name.0 ns behind
+    on name = lengths (length name.1) scope name.1 >>= λ ns. ahead.semicolon ns.rest >>= λ behind. whole name.0 ns behind
 
     declared : Bool → Option (Got Declaration)
     declared b = got (record { name = w; lengths = ns }) b rest
@@ -161,7 +163,7 @@ kernel_read ts tree r =
     ap (λ xs. declarations (length xs) [] 0 xs >>= on) front
     ∙ bind_to on (declarations_read r.declared (length (r.decls ++ kernel_follows behind)) (let l = length-append r.decls (kernel_follows behind) in omega arith) behind)
     ∙ bind_to (within ds) (opening_read (r.body ++ Sign CloseBrace ∷ []))
-    ∙ bind_to (λ is. reader.close_brace is.rest >>= λ behind. text.at_end behind >>= λ end. whole ds is)
+    ∙ bind_to (λ is. ahead.close_brace is.rest >>= λ behind. text.at_end behind >>= λ end. whole ds is)
     (ap (λ n. items (length inner) 63 (reader.statement 63) r.scope (tally_of (length tree.variables) n) inner) left
     ∙ items_read r.items (clean_decls r.declared clean_nothing) 63 refl (length inner) (4096 - statement_count tree.body) [] (let l = length-append r.body (Sign CloseBrace ∷ []) in omega arith))
     ∙ ap (λ b. Some (record { tree = tree; sound = true && (true && b) })) (le-leb (elements tree.variables) (2 ^ 24) r.within)
@@ -180,7 +182,7 @@ kernel_read ts tree r =
 
     within : Decls → List Token → Option Whole
     within ds inner =
-        items (length inner) 63 (reader.statement 63) ds.scope (tally_of (length ds.variables) 4096) inner >>= λ is. reader.close_brace is.rest >>= λ behind. text.at_end behind >>= λ end. whole ds is
+        items (length inner) 63 (reader.statement 63) ds.scope (tally_of (length ds.variables) 4096) inner >>= λ is. ahead.close_brace is.rest >>= λ behind. text.at_end behind >>= λ end. whole ds is
 
     on : Decls → Option Whole
     on ds = text.opening ds.rest >>= λ inner. within ds inner

@@ -10,25 +10,27 @@ use Rattle.semantics.specs.Source.Scope.{Scope, AVariable, AConstant, with_const
 use Rattle.semantics.specs.Source.Expressions.{ReadsExpr}
 use Rattle.semantics.specs.Source.Statements.{statement_count}
 use Rattle.semantics.specs.Source.Grammar.{ReadsLengths, no_lengths, dimension, ReadsConstants, only, further, ReadsDecls, no_decls, enum, object, elements, headers, Reads}
-use Rattle.cexpr.specs.Reading.{Got, Reader, ◌>>=◌, got, chosen}
+use Rattle.creader.specs.Reading.{Got, Reader, ◌>>=◌, got, chosen}
 use Rattle.cexpr.specs.Operators.{number_in, is_number}
-use Rattle.cexpr.specs.ExpressionReader.{close_paren, close_bracket, expression}
+use Rattle.creader.specs.NextTokens.{close_paren, close_bracket, word}
+use Rattle.cexpr.specs.ExpressionReader.{expression}
+use Rattle.creader.specs.NextTokens as ahead
 use Rattle.cstmt.specs.StatementReader as reader
-use Rattle.cstmt.specs.StatementReader.{word, items, Told, Tally}
+use Rattle.cstmt.specs.StatementReader.{items, Told, Tally}
 use Rattle.cparse.specs.TextReader as text
 use Rattle.cparse.specs.TextReader.{lengths, length_of, is_length, constants, value_of, has_value, declarations, Decls, Whole, behind_headers, kernel}
-use Rattle.cexpr.proofs.Binds.{bind_some, first_true, second_true}
+use Rattle.creader.proofs.Binds.{bind_some, first_true, second_true}
 use Rattle.cexpr.proofs.ExpressionSound.{AsAt, as_number, Front, IsSound, out, no_some, close_paren_is, close_bracket_is, expression_sound}
 use Rattle.cstmt.proofs.StatementSound.{semicolon_is, open_paren_is, becomes_is, close_brace_is, word_is, new_name_is, free_name, items_sound, statement_sound}
 use Rattle.cstmt.proofs.StatementComplete.{same_is}
 use Rattle.cparse.proofs.TextComplete.{kernel_read}
 
-open_brace_is : (ts us : List Token) → reader.open_brace ts ≡ Some us → ts ≡ Sign OpenBrace ∷ us
+open_brace_is : (ts us : List Token) → ahead.open_brace ts ≡ Some us → ts ≡ Sign OpenBrace ∷ us
 open_brace_is (Sign OpenBrace ∷ ts) us e = ap (λ xs. Sign OpenBrace ∷ xs) (out e)
 open_brace_is (Sign s ∷ ts) us e = no_some e
 open_brace_is _ us e = no_some e
 
-comma_is : (ts us : List Token) → reader.comma ts ≡ Some us → ts ≡ Sign Comma ∷ us
+comma_is : (ts us : List Token) → ahead.comma ts ≡ Some us → ts ≡ Sign Comma ∷ us
 comma_is (Sign Comma ∷ ts) us e = ap (λ xs. Sign Comma ∷ xs) (out e)
 comma_is (Sign s ∷ ts) us e = no_some e
 comma_is _ us e = no_some e
@@ -75,7 +77,7 @@ lengths_sound scope (suc n) ts g e h = no_length scope ts g e
 -- the constants of one declaration, behind the first name
 constant_sound : (scope : Scope) (w : Name) (more : Reader (List (Name × ℕ))) (ts behind : List Token) (y : Got Source) → IsFree scope w → ts ≡ Word w ∷ Sign Becomes ∷ behind
     → (y.sound ≡ true → Front (AsAt scope 0 0) behind y) → IsSound more (ReadsConstants ((w, AConstant (value_of (constant (number_in y.tree)))) ∷ scope))
-    → (x : Option (List Token)) → reader.comma y.rest ≡ x → (g : Got (List (Name × ℕ)))
+    → (x : Option (List Token)) → ahead.comma y.rest ≡ x → (g : Got (List (Name × ℕ)))
     → chosen x
     (got ((w, value_of (constant (number_in y.tree))) ∷ []) (true && ((y.sound && is_number y.tree) && has_value (constant (number_in y.tree)))) y.rest)
     (λ next. more next >>= λ more. got ((w, value_of (constant (number_in y.tree))) ∷ more.tree) ((true && ((y.sound && is_number y.tree) && has_value (constant (number_in y.tree)))) && more.sound) more.rest) ≡ Some g
@@ -122,16 +124,16 @@ after_keeps u w more scope y (Some next) g e h =
 constants_sound : (n : ℕ) (scope : Scope) → IsSound (constants n scope) (ReadsConstants scope)
 constants_sound zero scope ts g e h = no_some e
 constants_sound (suc n) scope ts g e h =
-    let a = bind_some (reader.new_name ts) (λ name. reader.becomes name.1 >>= λ behind. expression 64 scope behind >>= λ y. after_constant (is_none (find scope name.0)) name.0 (constants n) scope y (reader.comma y.rest)) g e in
+    let a = bind_some (ahead.new_name ts) (λ name. ahead.becomes name.1 >>= λ behind. expression 64 scope behind >>= λ y. after_constant (is_none (find scope name.0)) name.0 (constants n) scope y (ahead.comma y.rest)) g e in
     let w : Name = a.0.0 in
-    let b = bind_some (reader.becomes a.0.1) (λ behind. expression 64 scope behind >>= λ y. after_constant (is_none (find scope w)) w (constants n) scope y (reader.comma y.rest)) g a.2 in
-    let c = bind_some (expression 64 scope b.0) (λ y. after_constant (is_none (find scope w)) w (constants n) scope y (reader.comma y.rest)) g b.2 in
-    let unused : is_none (find scope w) ≡ true = after_keeps (is_none (find scope w)) w (constants n) scope c.0 (reader.comma c.0.rest) g c.2 h in
+    let b = bind_some (ahead.becomes a.0.1) (λ behind. expression 64 scope behind >>= λ y. after_constant (is_none (find scope w)) w (constants n) scope y (ahead.comma y.rest)) g a.2 in
+    let c = bind_some (expression 64 scope b.0) (λ y. after_constant (is_none (find scope w)) w (constants n) scope y (ahead.comma y.rest)) g b.2 in
+    let unused : is_none (find scope w) ≡ true = after_keeps (is_none (find scope w)) w (constants n) scope c.0 (ahead.comma c.0.rest) g c.2 h in
     let name = new_name_is ts a.0 a.1 in
     constant_sound scope w (constants n ((w, AConstant (value_of (constant (number_in c.0.tree)))) ∷ scope)) ts b.0 c.0 (free_name scope w name.free unused)
     (name.split ∙ ap (λ xs. Word w ∷ xs) (becomes_is a.0.1 b.0 b.1)) (λ d. expression_sound scope 64 0 refl b.0 c.0 c.1 d)
-    (constants_sound n ((w, AConstant (value_of (constant (number_in c.0.tree)))) ∷ scope)) (reader.comma c.0.rest) refl g
-    (subst (λ u. after_constant u w (constants n) scope c.0 (reader.comma c.0.rest) ≡ Some g) unused c.2) h
+    (constants_sound n ((w, AConstant (value_of (constant (number_in c.0.tree)))) ∷ scope)) (ahead.comma c.0.rest) refl g
+    (subst (λ u. after_constant u w (constants n) scope c.0 (ahead.comma c.0.rest) ≡ Some g) unused c.2) h
 
 -- declarations at the front
 pub record DeclsFront (scope : Scope) (next : ℕ) (ts : List Token) (ds : Decls) : Type 0 where
@@ -149,10 +151,10 @@ enumeration_sound : (scope : Scope) (ts : List Token) (g : Got (List (Name × �
     → (front : List Token) × (ts ≡ Sign OpenBrace ∷ (front ++ Sign CloseBrace ∷ Sign Semicolon ∷ g.rest)) × ReadsConstants scope front g.tree
 unfolding text.enumeration
 enumeration_sound scope ts g e h =
-    let a = bind_some (reader.open_brace ts) (λ inner. constants (length inner) scope inner >>= λ cs. reader.close_brace cs.rest >>= λ behind. reader.semicolon behind >>= λ after. got cs.tree cs.sound after) g e in
-    let b = bind_some (constants (length a.0) scope a.0) (λ cs. reader.close_brace cs.rest >>= λ behind. reader.semicolon behind >>= λ after. got cs.tree cs.sound after) g a.2 in
-    let c = bind_some (reader.close_brace b.0.rest) (λ behind. reader.semicolon behind >>= λ after. got b.0.tree b.0.sound after) g b.2 in
-    let d = bind_some (reader.semicolon c.0) (λ after. got b.0.tree b.0.sound after) g c.2 in
+    let a = bind_some (ahead.open_brace ts) (λ inner. constants (length inner) scope inner >>= λ cs. ahead.close_brace cs.rest >>= λ behind. ahead.semicolon behind >>= λ after. got cs.tree cs.sound after) g e in
+    let b = bind_some (constants (length a.0) scope a.0) (λ cs. ahead.close_brace cs.rest >>= λ behind. ahead.semicolon behind >>= λ after. got cs.tree cs.sound after) g a.2 in
+    let c = bind_some (ahead.close_brace b.0.rest) (λ behind. ahead.semicolon behind >>= λ after. got b.0.tree b.0.sound after) g b.2 in
+    let d = bind_some (ahead.semicolon c.0) (λ after. got b.0.tree b.0.sound after) g c.2 in
     let r = constants_sound (length a.0) scope a.0 b.0 b.1 (ap (λ x. x.sound) (out d.2) ∙ h) in (
       r.front,
       open_brace_is ts a.0 a.1 ∙ ap (λ xs. Sign OpenBrace ∷ xs) (r.split ∙ ap (λ xs. r.front ++ xs) (close_brace_is b.0.rest c.0 c.1 ∙ ap (λ xs. Sign CloseBrace ∷ xs) (semicolon_is c.0 d.0 d.1 ∙ ap (λ x. Sign Semicolon ∷ x.rest) (out d.2)))),
@@ -165,10 +167,10 @@ unfolding text.variable
 variable_sound scope ts g e h =
     let whole : Name → Got (List ℕ) → List Token → Option (Got Declaration) =
     (λ w ns behind. got (record { name = w; lengths = ns.tree }) (is_none (find scope w) && (ns.sound && nat_le (length ns.tree) 4)) behind) in
-    let a = bind_some (reader.new_name ts) (λ name. lengths (length name.1) scope name.1 >>= λ ns. reader.semicolon ns.rest >>= λ behind. whole name.0 ns behind) g e in
+    let a = bind_some (ahead.new_name ts) (λ name. lengths (length name.1) scope name.1 >>= λ ns. ahead.semicolon ns.rest >>= λ behind. whole name.0 ns behind) g e in
     let w : Name = a.0.0 in
-    let b = bind_some (lengths (length a.0.1) scope a.0.1) (λ ns. reader.semicolon ns.rest >>= λ behind. whole w ns behind) g a.2 in
-    let c = bind_some (reader.semicolon b.0.rest) (λ behind. whole w b.0 behind) g b.2 in
+    let b = bind_some (lengths (length a.0.1) scope a.0.1) (λ ns. ahead.semicolon ns.rest >>= λ behind. whole w ns behind) g a.2 in
+    let c = bind_some (ahead.semicolon b.0.rest) (λ behind. whole w b.0 behind) g b.2 in
     let all : (is_none (find scope w) && (b.0.sound && nat_le (length b.0.tree) 4)) ≡ true = ap (λ x. x.sound) (out c.2) ∙ h in
     let some : (b.0.sound && nat_le (length b.0.tree) 4) ≡ true = second_true (is_none (find scope w)) _ all in
     let name = new_name_is ts a.0 a.1 in
@@ -262,11 +264,11 @@ at_end_is (t ∷ ts) us e = no_some e
 opening_is : (ts us : List Token) → text.opening ts ≡ Some us → ts ≡ Word (codes "void") ∷ Word (codes "kernel") ∷ Sign OpenParen ∷ Word (codes "void") ∷ Sign CloseParen ∷ Sign OpenBrace ∷ us
 unfolding text.opening
 opening_is ts us e =
-    let a = bind_some (word (codes "void") ts) (λ a. word (codes "kernel") a >>= λ b. reader.open_paren b >>= λ c. word (codes "void") c >>= λ d. close_paren d >>= λ e. reader.open_brace e) us e in
-    let b = bind_some (word (codes "kernel") a.0) (λ b. reader.open_paren b >>= λ c. word (codes "void") c >>= λ d. close_paren d >>= λ e. reader.open_brace e) us a.2 in
-    let c = bind_some (reader.open_paren b.0) (λ c. word (codes "void") c >>= λ d. close_paren d >>= λ e. reader.open_brace e) us b.2 in
-    let d = bind_some (word (codes "void") c.0) (λ d. close_paren d >>= λ e. reader.open_brace e) us c.2 in
-    let f = bind_some (close_paren d.0) (λ e. reader.open_brace e) us d.2 in
+    let a = bind_some (word (codes "void") ts) (λ a. word (codes "kernel") a >>= λ b. ahead.open_paren b >>= λ c. word (codes "void") c >>= λ d. close_paren d >>= λ e. ahead.open_brace e) us e in
+    let b = bind_some (word (codes "kernel") a.0) (λ b. ahead.open_paren b >>= λ c. word (codes "void") c >>= λ d. close_paren d >>= λ e. ahead.open_brace e) us a.2 in
+    let c = bind_some (ahead.open_paren b.0) (λ c. word (codes "void") c >>= λ d. close_paren d >>= λ e. ahead.open_brace e) us b.2 in
+    let d = bind_some (word (codes "void") c.0) (λ d. close_paren d >>= λ e. ahead.open_brace e) us c.2 in
+    let f = bind_some (close_paren d.0) (λ e. ahead.open_brace e) us d.2 in
     word_is (codes "void") ts a.0 a.1 ∙ ap (λ xs. Word (codes "void") ∷ xs) (word_is (codes "kernel") a.0 b.0 b.1 ∙ ap (λ xs. Word (codes "kernel") ∷ xs) (open_paren_is b.0 c.0 c.1 ∙ ap (λ xs. Sign OpenParen ∷ xs)
     (word_is (codes "void") c.0 d.0 d.1 ∙ ap (λ xs. Word (codes "void") ∷ xs) (close_paren_is d.0 f.0 f.1 ∙ ap (λ xs. Sign CloseParen ∷ xs) (open_brace_is f.0 us f.2)))))
 
@@ -278,12 +280,12 @@ kernel_sound ts w e h =
     (λ ds is. Some (record { tree = record { constants = ds.constants; variables = ds.variables; body = is.tree }; sound = ds.sound && (is.sound && nat_le (elements ds.variables) (2 ^ 24)) })) in
     let tally : Decls → Tally = (λ ds. record { next = length ds.variables; left = 4096 }) in
     let a = bind_some (declarations (length (behind_headers ts)) [] 0 (behind_headers ts)) (λ ds. text.opening ds.rest >>= λ inner. items (length inner) 63 (reader.statement 63) ds.scope (tally ds) inner >>= λ is.
-    reader.close_brace is.rest >>= λ behind. text.at_end behind >>= λ end. whole ds is) w e in
+    ahead.close_brace is.rest >>= λ behind. text.at_end behind >>= λ end. whole ds is) w e in
     let ds : Decls = a.0 in
-    let b = bind_some (text.opening ds.rest) (λ inner. items (length inner) 63 (reader.statement 63) ds.scope (tally ds) inner >>= λ is. reader.close_brace is.rest >>= λ behind. text.at_end behind >>= λ end. whole ds is) w a.2 in
-    let c = bind_some (items (length b.0) 63 (reader.statement 63) ds.scope (tally ds) b.0) (λ is. reader.close_brace is.rest >>= λ behind. text.at_end behind >>= λ end. whole ds is) w b.2 in
+    let b = bind_some (text.opening ds.rest) (λ inner. items (length inner) 63 (reader.statement 63) ds.scope (tally ds) inner >>= λ is. ahead.close_brace is.rest >>= λ behind. text.at_end behind >>= λ end. whole ds is) w a.2 in
+    let c = bind_some (items (length b.0) 63 (reader.statement 63) ds.scope (tally ds) b.0) (λ is. ahead.close_brace is.rest >>= λ behind. text.at_end behind >>= λ end. whole ds is) w b.2 in
     let is : Told Items = c.0 in
-    let d = bind_some (reader.close_brace is.rest) (λ behind. text.at_end behind >>= λ end. whole ds is) w c.2 in
+    let d = bind_some (ahead.close_brace is.rest) (λ behind. text.at_end behind >>= λ end. whole ds is) w c.2 in
     let f = bind_some (text.at_end d.0) (λ end. whole ds is) w d.2 in
     let all : (ds.sound && (is.sound && nat_le (elements ds.variables) (2 ^ 24))) ≡ true = ap (λ x. x.sound) (out f.2) ∙ h in
     let some : (is.sound && nat_le (elements ds.variables) (2 ^ 24)) ≡ true = second_true ds.sound _ all in

@@ -6,19 +6,19 @@ ghost use Rattle.ktree.specs.View.{declaration_of};
 ghost use Rattle.cparse.specs.TextReader.{enumeration, variable, declarations};
 ghost use Rattle.cparse.specs.DeclarationSteps.{enum_step, variable_step};
 ghost use Rattle.cparse.specs.DeclarationViews.{enumerators_of, named_of, decls_of};
-ghost use Rattle.cexpr.specs.Names.{names_of};
-ghost use Rattle.cexpr.specs.Lexemes.{tokens_of};
-ghost use Rattle.cexpr.specs.Outcome.{Gives, got_of};
+ghost use Rattle.creader.specs.Names.{names_of};
+ghost use Rattle.creader.specs.Lexemes.{tokens_of};
+ghost use Rattle.creader.specs.Outcome.{Gives, got_of};
 
 use crate::constants::constants;
 use crate::lengths::lengths;
-use cexpr::context::{Context, Outcome, Setting};
-use cexpr::lexeme::Lexeme;
-use cexpr::parsed::Parsed;
-use cexpr::scope::{Entity, Scope, add, find};
-use cexpr::stop::{Fault, Flaw, Stop, earlier, unless};
-use cstmt::punctuation::{close_brace, open_brace, semicolon};
-use cstmt::words::{if_word, new_name};
+use creader::context::{Context, Outcome, Setting};
+use creader::lexeme::Lexeme;
+use creader::parsed::Parsed;
+use creader::punctuation::{close_brace, open_brace, semicolon};
+use creader::scope::{Entity, Scope, add, find};
+use creader::stop::{Fault, Flaw, Stop, earlier, unless};
+use creader::words::{if_word, new_name};
 use ktree::{Declaration, Enumerator, Place, VarId};
 
 /// What is declared, and the tokens behind it.

@@ -1,20 +1,20 @@
 //! All tokens of a text (C11 6.9).
 
 ghost use Rattle.std.specs.Prelude.{◌≡◌, length, IfOk, IfErr};
-ghost use Rattle.cexpr.specs.declared.stop.Stop.TheVariants.{Memory};
+ghost use Rattle.creader.specs.declared.stop.Stop.TheVariants.{Memory};
 ghost use Rattle.cparse.specs.TextReader.{kernel};
 ghost use Rattle.cparse.specs.DeclarationViews.{whole_of};
-ghost use Rattle.cexpr.specs.Lexemes.{tokens_of};
-ghost use Rattle.cexpr.specs.Outcome.{Gives};
+ghost use Rattle.creader.specs.Lexemes.{tokens_of};
+ghost use Rattle.creader.specs.Outcome.{Gives};
 
 use crate::declarations::{FileScope, declarations};
 use crate::extent::too_many;
 use crate::opening::{at_end, behind_headers, opening};
-use cexpr::context::Setting;
-use cexpr::lexeme::Lexeme;
-use cexpr::scope::empty;
-use cexpr::stop::{Fault, Stop, earlier};
-use cstmt::punctuation::close_brace;
+use creader::context::Setting;
+use creader::lexeme::Lexeme;
+use creader::punctuation::close_brace;
+use creader::scope::empty;
+use creader::stop::{Fault, Stop, earlier};
 use cstmt::statement::items;
 use cstmt::tally::Tally;
 use cstmt::told::Told;

@@ -3,15 +3,15 @@
 ghost use Rattle.std.specs.Prelude.{ℕ, ◌≡◌, length};
 ghost use Rattle.cparse.specs.TextReader.{lengths, length_of, is_length};
 ghost use Rattle.cparse.specs.DeclarationSteps.{dimension};
-ghost use Rattle.cexpr.specs.Names.{names_of};
-ghost use Rattle.cexpr.specs.Lexemes.{tokens_of};
-ghost use Rattle.cexpr.specs.Outcome.{Gives, got_of};
+ghost use Rattle.creader.specs.Names.{names_of};
+ghost use Rattle.creader.specs.Lexemes.{tokens_of};
+ghost use Rattle.creader.specs.Outcome.{Gives, got_of};
 
 use crate::constants::constant_expression;
-use cexpr::context::{Context, Outcome};
-use cexpr::lexeme::Lexeme;
-use cexpr::parsed::{Parsed, and_then};
-use cexpr::punctuation::{close_bracket, open_bracket};
+use creader::context::{Context, Outcome};
+use creader::lexeme::Lexeme;
+use creader::parsed::{Parsed, and_then};
+use creader::punctuation::{close_bracket, open_bracket};
 
 /// A length, 1 where there is none.
 #[tactic(auto, using(crate::proofs::DeclarationLemmas::length_some))]

@@ -3,8 +3,8 @@
 ghost use Rattle.std.specs.Prelude.{ℕ, ◌≡◌, List, [], ◌∷◌, ◌++◌, IfOk};
 ghost use Rattle.cparse.specs.SameTokens.{IsKindOf, IsLexed, AreLexed};
 
-use cexpr::lexeme::{Kind, Lexeme};
-use cexpr::stop::Stop;
+use creader::lexeme::{Kind, Lexeme};
+use creader::stop::Stop;
 use ctoken::{Token, TokenKind};
 use std::alloc::Global;
 use std::str;

@@ -2,14 +2,13 @@
 
 ghost use Rattle.std.specs.Prelude.{◌≡◌, option_map};
 ghost use Rattle.cparse.specs.TextReader.{opening, behind_headers, at_end};
-ghost use Rattle.cexpr.specs.Lexemes.{tokens_of};
-ghost use Rattle.cexpr.specs.Outcome.{Gives};
+ghost use Rattle.creader.specs.Lexemes.{tokens_of};
+ghost use Rattle.creader.specs.Outcome.{Gives};
 
-use cexpr::lexeme::{Kind, Lexeme};
-use cexpr::punctuation::{close_paren, first_place};
-use cexpr::stop::Stop;
-use cstmt::punctuation::{open_brace, open_paren};
-use cstmt::words::word;
+use creader::lexeme::{Kind, Lexeme};
+use creader::punctuation::{close_paren, first_place, open_brace, open_paren};
+use creader::stop::Stop;
+use creader::words::word;
 use ktree::Place;
 
 /// The tokens behind the include lines (C11 6.10.2).

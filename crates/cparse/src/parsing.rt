@@ -8,8 +8,8 @@ ghost use Rattle.cparse.specs.Parsed.{HasNoTree, StopsFor, RefusesTree};
 
 use crate::kernel::{Whole, kernel};
 use crate::lexing::lexemes;
-use cexpr::context::Setting;
-use cexpr::stop::{Fault, Flaw, Stop};
+use creader::context::Setting;
+use creader::stop::{Fault, Flaw, Stop};
 use ctoken::{Scanned, Token, scan};
 use ktree::{Kernel, Place, Refusal};
 use std::alloc::Global;

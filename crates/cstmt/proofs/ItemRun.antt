@@ -4,12 +4,13 @@ use Rattle.std.specs.Prelude.{◌&&◌, if◌then◌else◌, codes}
 use Rattle.semantics.specs.Tree.{Name, Source, Stmt, Items, no_items, mark, local, stmt}
 use Rattle.semantics.specs.Source.Token.{Token, Word, Sign, Line, OpenBrace}
 use Rattle.semantics.specs.Source.Scope.{Scope, same_name}
-use Rattle.cexpr.specs.declared.stop.Stop.{Stop}
-use Rattle.cexpr.specs.declared.stop.Stop.TheVariants.{Memory, Syntax, Limit}
-use Rattle.cexpr.specs.Outcome.{Fails}
-use Rattle.cexpr.specs.Reading.{Got, ◌>>=◌}
+use Rattle.creader.specs.declared.stop.Stop.{Stop}
+use Rattle.creader.specs.declared.stop.Stop.TheVariants.{Memory, Syntax, Limit}
+use Rattle.creader.specs.Outcome.{Fails}
+use Rattle.creader.specs.Reading.{Got, ◌>>=◌}
 use Rattle.cexpr.specs.ExpressionReader.{expression}
-use Rattle.cstmt.specs.StatementReader.{Tally, Told, StmtReader, told, with_local, declared, is_unused, new_name, initial, with_stmt, items}
+use Rattle.cstmt.specs.StatementReader.{Tally, Told, StmtReader, told, with_local, declared, is_unused, initial, with_stmt, items}
+use Rattle.creader.specs.NextTokens.{new_name}
 use Rattle.cstmt.specs.Bodies.{Row, begins_item, item, stated, located, append_items, with_item}
 use Rattle.cstmt.proofs.ItemLemmas.{append_assoc, append_none}
 

@@ -12,12 +12,16 @@ use Rattle.semantics.specs.Source.Expressions.{UpdateSign, ReadsExpr, ReadsSubsc
 use Rattle.semantics.specs.Source.Expressions as grammar
 use Rattle.semantics.specs.Source.Statements.{is_truth, is_closed, stmt_count, statement_count, ReadsSource, number, truth, ReadsTarget, target, ReadsIncrement, up_before, up_behind, down_before, down_behind, set, change, ReadsFormat, end, last, place, ReadsArguments, no_arguments, argument, Fills, ReadsStmt, assign, update, if_only, if_else, for_loop, block, print, ReadsItems, no_more, line, empty_local, first_local, statement}
 use Rattle.ctoken.proofs.FrontSound.{same_bytes}
-use Rattle.cexpr.specs.Reading.{Got, Reader, ◌>>=◌, got, chosen}
+use Rattle.creader.specs.Reading.{Got, Reader, ◌>>=◌, got, chosen}
 use Rattle.cexpr.specs.Operators.{number_in, is_number, cond_in, update_of}
-use Rattle.cexpr.specs.ExpressionReader.{close_paren, may_be_named, subscripts, inside, expression}
+use Rattle.creader.specs.NextTokens.{close_paren, may_be_named, word}
+use Rattle.cexpr.specs.ExpressionReader.{subscripts, inside, expression}
+use Rattle.creader.specs.NextTokens as ahead
+use Rattle.cprintf.specs.PrintfReader as printing
 use Rattle.cstmt.specs.StatementReader as reader
-use Rattle.cstmt.specs.StatementReader.{Tally, Told, StmtReader, word, target_of, may_set, may_step, step_behind, if_named, step, assigned, assignment, format, arguments, filled, fills, items, by_head}
-use Rattle.cexpr.proofs.Binds.{bind_to, both_true}
+use Rattle.cstmt.specs.StatementReader.{Tally, Told, StmtReader, target_of, may_set, may_step, step_behind, if_named, step, assigned, assignment, items, by_head}
+use Rattle.cprintf.specs.PrintfReader.{format, arguments, filled, fills}
+use Rattle.creader.proofs.Binds.{bind_to, both_true}
 use Rattle.cexpr.proofs.ExpressionComplete.{as_source, cond_as_source, right, stops, ends, expr_read, subs_read, cond_read}
 
 -- a whole expression is read as this
@@ -107,8 +111,8 @@ assign_read : {scope : Scope} {o : ℕ} (name : Name) {x : Variable} {is : Exprs
     → (room : ℕ) → room + o ≡ 64 → (rest : List Token) → assignment room scope name (ts ++ Sign Becomes ∷ (us ++ Sign Semicolon ∷ rest)) ≡ Some (right (Assign x is s) (Sign Semicolon ∷ rest))
 unfolding assignment
 assign_read {scope} w {x = x} {is = is} {s = s} {ts = ts} {us = us} f r q room h rest =
-    ap (λ e. cond (may_be_named e w) (subscripts (length all) (inside room scope) all >>= λ y. reader.sign y.rest >>= λ z. assigned (expression room scope) e y.tree y.sound z.0 z.1) None) f
-    ∙ bind_to (λ y. reader.sign y.rest >>= λ z. assigned (expression room scope) (Some (AVariable x (count is))) y.tree y.sound z.0 z.1)
+    ap (λ e. cond (may_be_named e w) (subscripts (length all) (inside room scope) all >>= λ y. ahead.sign y.rest >>= λ z. assigned (expression room scope) e y.tree y.sound z.0 z.1) None) f
+    ∙ bind_to (λ y. ahead.sign y.rest >>= λ z. assigned (expression room scope) (Some (AVariable x (count is))) y.tree y.sound z.0 z.1)
     (subs_read r room h (length all) (let l = length-append ts (Sign Becomes ∷ (us ++ Sign Semicolon ∷ rest)) in omega arith) (Sign Becomes ∷ (us ++ Sign Semicolon ∷ rest)) refl)
     ∙ bind_to (λ y. got (Assign x is y.tree) (true && (may_set (Some (AVariable x (count is))) is && y.sound)) y.rest) (source_read q room h (Sign Semicolon ∷ rest) refl)
     ∙ ap (λ b. got (Assign x is s) (true && (b && true)) (Sign Semicolon ∷ rest)) (eq-eqb (count is) (count is) refl)
@@ -129,8 +133,8 @@ update_read : {scope : Scope} {o : ℕ} (name : Name) {x : Variable} {is : Exprs
     → ReadsExpr scope o 0 us e → (room : ℕ) → room + o ≡ 64 → (rest : List Token) → assignment room scope name (ts ++ Sign sign ∷ (us ++ Sign Semicolon ∷ rest)) ≡ Some (right (Update x is op e) (Sign Semicolon ∷ rest))
 unfolding assignment
 update_read {scope} w {x = x} {is = is} {e = e} {ts = ts} {us = us} {sign = sign} {op = op} f r u q room h rest =
-    ap (λ e. cond (may_be_named e w) (subscripts (length all) (inside room scope) all >>= λ y. reader.sign y.rest >>= λ z. assigned (expression room scope) e y.tree y.sound z.0 z.1) None) f
-    ∙ bind_to (λ y. reader.sign y.rest >>= λ z. assigned (expression room scope) (Some (AVariable x (count is))) y.tree y.sound z.0 z.1)
+    ap (λ e. cond (may_be_named e w) (subscripts (length all) (inside room scope) all >>= λ y. ahead.sign y.rest >>= λ z. assigned (expression room scope) e y.tree y.sound z.0 z.1) None) f
+    ∙ bind_to (λ y. ahead.sign y.rest >>= λ z. assigned (expression room scope) (Some (AVariable x (count is))) y.tree y.sound z.0 z.1)
     (subs_read r room h (length all) (let l = length-append ts (Sign sign ∷ (us ++ Sign Semicolon ∷ rest)) in omega arith) (Sign sign ∷ (us ++ Sign Semicolon ∷ rest)) (sign_ends u (us ++ Sign Semicolon ∷ rest)))
     ∙ assigned_update (expression room scope) (Some (AVariable x (count is))) is true (us ++ Sign Semicolon ∷ rest) u
     ∙ bind_to (λ y. got (Update x is op (number_in y.tree)) (true && (may_set (Some (AVariable x (count is))) is && (y.sound && is_number y.tree))) y.rest) (expr_read q room h (Sign Semicolon ∷ rest) refl)
@@ -141,14 +145,14 @@ update_read {scope} w {x = x} {is = is} {e = e} {ts = ts} {us = us} {sign = sign
 
 -- no string comes next
 abbrev pub no_quoted : List Token → Type 0
-no_quoted ts = reader.starts_quoted ts ≡ false
+no_quoted ts = printing.starts_quoted ts ≡ false
 
-format_more : (n : ℕ) (bs : List ℕ) (ts : List Token) (b : Bool) → reader.starts_quoted ts ≡ b → format (suc n) (Quoted bs true ∷ Word (codes "PRIu64") ∷ ts)
+format_more : (n : ℕ) (bs : List ℕ) (ts : List Token) (b : Bool) → printing.starts_quoted ts ≡ b → format (suc n) (Quoted bs true ∷ Word (codes "PRIu64") ∷ ts)
     ≡ cond b (format n ts >>= λ more. got (Some bs ∷ None ∷ more.tree) true more.rest) (got (Some bs ∷ None ∷ []) true ts)
 format_more n bs ts b e = ap (λ b. cond b (format n ts >>= λ more. got (Some bs ∷ None ∷ more.tree) true more.rest) (got (Some bs ∷ None ∷ []) true ts)) e
 
 -- a format begins with a string
-format_begins : {ts : List Token} {ps : List (Option (List ℕ))} → ReadsFormat ts ps → (rest : List Token) → reader.starts_quoted (ts ++ rest) ≡ true
+format_begins : {ts : List Token} {ps : List (Option (List ℕ))} → ReadsFormat ts ps → (rest : List Token) → printing.starts_quoted (ts ++ rest) ≡ true
 format_begins end rest = refl
 format_begins last rest = refl
 format_begins (place r) rest = refl
@@ -190,13 +194,13 @@ fills_all (None ∷ ps) (e ∷ es) (Decimal d ∷ qs) h = let r = fills_all ps e
 fills_all _ _ _ h = absurd h
 
 -- no string begins the arguments
-arguments_begin : {scope : Scope} {o : ℕ} {ts : List Token} {es : List Expr} → ReadsArguments scope o ts es → (rest : List Token) → reader.starts_quoted (ts ++ Sign CloseParen ∷ rest) ≡ false
+arguments_begin : {scope : Scope} {o : ℕ} {ts : List Token} {es : List Expr} → ReadsArguments scope o ts es → (rest : List Token) → printing.starts_quoted (ts ++ Sign CloseParen ∷ rest) ≡ false
 arguments_begin no_arguments rest = refl
 arguments_begin (argument t p r q) rest = refl
 
 print_read : (scope : Scope) (o : ℕ) (spots : List (Option (List ℕ))) (es : List Expr) (parts : List PrintPart) (ts us : List Token) → o < 64 → ReadsFormat ts spots → ReadsArguments scope (suc o) us es → Fills spots es parts
-    → (room : ℕ) → room + o ≡ 64 → (rest : List Token) → reader.printed room scope (Sign OpenParen ∷ (ts ++ (us ++ Sign CloseParen ∷ rest))) ≡ Some (right (Print parts) rest)
-unfolding reader.printed
+    → (room : ℕ) → room + o ≡ 64 → (rest : List Token) → printing.printed room scope (Sign OpenParen ∷ (ts ++ (us ++ Sign CloseParen ∷ rest))) ≡ Some (right (Print parts) rest)
+unfolding printing.printed
 print_read scope o spots es parts ts us b f a p zero h rest = absurd (omega arith)
 print_read scope o spots es parts ts us b f a p (suc room) h rest =
     bind_to (λ spots. arguments (length spots.rest) (expression room scope) spots.rest >>= λ es. close_paren es.rest >>= λ behind. got (Print (filled spots.tree es.tree)) (es.sound && fills spots.tree es.tree) behind)
@@ -214,9 +218,9 @@ heading_read : (scope : Scope) (o next left : ℕ) (name : Name) (start : Source
     ≡ Some (record { name = name; start = start; test = as_source test; step = turn; sound = true; rest = rest })
 unfolding reader.heading
 heading_read scope o next left name start test turn ts us vs free a b c room h rest =
-    ap (λ x. named x >>= λ name. reader.becomes name.1 >>= λ behind. from name.0 behind) free.word
-    ∙ bind_to (λ start. reader.semicolon start.rest >>= λ first. tested name start first) (source_read a room h (Sign Semicolon ∷ (us ++ Sign Semicolon ∷ (vs ++ Sign CloseParen ∷ rest))) refl)
-    ∙ bind_to (λ test. reader.semicolon test.rest >>= λ second. turned name (right start (Sign Semicolon ∷ (us ++ Sign Semicolon ∷ (vs ++ Sign CloseParen ∷ rest)))) test second) (cond_read b room h (Sign Semicolon ∷ (vs ++ Sign CloseParen ∷ rest)) refl)
+    ap (λ x. named x >>= λ name. ahead.becomes name.1 >>= λ behind. from name.0 behind) free.word
+    ∙ bind_to (λ start. ahead.semicolon start.rest >>= λ first. tested name start first) (source_read a room h (Sign Semicolon ∷ (us ++ Sign Semicolon ∷ (vs ++ Sign CloseParen ∷ rest))) refl)
+    ∙ bind_to (λ test. ahead.semicolon test.rest >>= λ second. turned name (right start (Sign Semicolon ∷ (us ++ Sign Semicolon ∷ (vs ++ Sign CloseParen ∷ rest)))) test second) (cond_read b room h (Sign Semicolon ∷ (vs ++ Sign CloseParen ∷ rest)) refl)
     ∙ bind_to (λ turn. close_paren turn.rest >>= λ body. whole name (right start (Sign Semicolon ∷ (us ++ Sign Semicolon ∷ (vs ++ Sign CloseParen ∷ rest)))) (right (as_source test) (Sign Semicolon ∷ (vs ++ Sign CloseParen ∷ rest))) turn body)
     (step_read c room h (Sign CloseParen ∷ rest) refl)
     ∙ ap (λ x. Some (record { name = name; start = start; test = as_source test; step = turn; sound = x && true; rest = rest })) (ap is_none free.unused)
@@ -237,10 +241,10 @@ heading_read scope o next left name start test turn ts us vs free a b c room h r
     turned name start test second = step (expression room (within name)) (within name) second >>= λ turn. close_paren turn.rest >>= λ body. whole name start test turn body
 
     tested : Name → Got Source → List Token → Option reader.Heading
-    tested name start first = expression room (within name) first >>= λ test. reader.semicolon test.rest >>= λ second. turned name start test second
+    tested name start first = expression room (within name) first >>= λ test. ahead.semicolon test.rest >>= λ second. turned name start test second
 
     from : Name → List Token → Option reader.Heading
-    from name behind = expression room (within name) behind >>= λ start. reader.semicolon start.rest >>= λ first. tested name start first
+    from name behind = expression room (within name) behind >>= λ start. ahead.semicolon start.rest >>= λ first. tested name start first
 
 -- a tally
 abbrev pub tally_of : ℕ → ℕ → Tally
@@ -281,9 +285,9 @@ by_room (suc (suc room)) scope next left ts = refl
 assignment_head : (room : ℕ) (once twice : StmtReader) (scope : Scope) (tally : Tally) (w : Name) (ts : List Token) → is_reserved w ≡ false
     → by_head room once twice scope tally (Word w ∷ ts) ≡ (assignment room scope w ts >>= λ s. reader.ended tally s)
 assignment_head room one two scope tally w ts h =
-    ap (λ b. cond b (reader.selection room one two scope tally ts) (cond (same_name w (codes "for")) (reader.iteration room one scope tally ts) (cond (same_name w (codes "printf")) (reader.printed room scope ts >>= λ s. reader.ended tally s) (assignment room scope w ts >>= λ s. reader.ended tally s)))) (other_word w (codes "if") h refl)
-    ∙ ap (λ b. cond b (reader.iteration room one scope tally ts) (cond (same_name w (codes "printf")) (reader.printed room scope ts >>= λ s. reader.ended tally s) (assignment room scope w ts >>= λ s. reader.ended tally s))) (other_word w (codes "for") h refl)
-    ∙ ap (λ b. cond b (reader.printed room scope ts >>= λ s. reader.ended tally s) (assignment room scope w ts >>= λ s. reader.ended tally s)) (other_word w (codes "printf") h refl)
+    ap (λ b. cond b (reader.selection room one two scope tally ts) (cond (same_name w (codes "for")) (reader.iteration room one scope tally ts) (cond (same_name w (codes "printf")) (printing.printed room scope ts >>= λ s. reader.ended tally s) (assignment room scope w ts >>= λ s. reader.ended tally s)))) (other_word w (codes "if") h refl)
+    ∙ ap (λ b. cond b (reader.iteration room one scope tally ts) (cond (same_name w (codes "printf")) (printing.printed room scope ts >>= λ s. reader.ended tally s) (assignment room scope w ts >>= λ s. reader.ended tally s))) (other_word w (codes "for") h refl)
+    ∙ ap (λ b. cond b (printing.printed room scope ts >>= λ s. reader.ended tally s) (assignment room scope w ts >>= λ s. reader.ended tally s)) (other_word w (codes "printf") h refl)
 
 -- the same tally
 recount : (room : ℕ) (scope : Scope) (next m n : ℕ) (ts : List Token) → m ≡ n → reader.statement room scope (tally_of next m) ts ≡ reader.statement room scope (tally_of next n) ts
@@ -388,7 +392,7 @@ blocked : (room : ℕ) (read : StmtReader) (scope : Scope) (tally : Tally) (ts r
     → items (length ts) room read scope tally ts ≡ Some (record { tree = is; sound = true; tally = after; rest = Sign CloseBrace ∷ rest })
     → reader.block (suc room) read scope tally ts ≡ Some (record { tree = Block is; sound = true; tally = after; rest = rest })
 unfolding reader.block
-blocked room read scope tally ts rest is after e = bind_to (λ is. reader.close_brace is.rest >>= λ behind. reader.told (Block is.tree) is.sound is.tally behind) e
+blocked room read scope tally ts rest is after e = bind_to (λ is. ahead.close_brace is.rest >>= λ behind. reader.told (Block is.tree) is.sound is.tally behind) e
 
 block_claim : (scope : Scope) (o next next' : ℕ) (is : Items) (ts : List Token) → o < 64 → ((room : ℕ) → room + suc o ≡ 64 → ItemsClaim scope room next ts is next')
     → (room : ℕ) → room + o ≡ 64 → StmtClaim scope room next (Sign OpenBrace ∷ (ts ++ Sign CloseBrace ∷ [])) (Block is) next'
@@ -406,7 +410,7 @@ print_claim scope o next spots es parts ts us b f a p room h left rest d =
     recount room scope next (1 + left) (suc left) (Word (codes "printf") ∷ Sign OpenParen ∷ ((ts ++ (us ++ Sign CloseParen ∷ Sign Semicolon ∷ [])) ++ rest)) (omega arith)
     ∙ by_room room scope next left (Word (codes "printf") ∷ Sign OpenParen ∷ ((ts ++ (us ++ Sign CloseParen ∷ Sign Semicolon ∷ [])) ++ rest))
     ∙ bind_to (reader.ended (tally_of next left))
-    (ap (λ xs. reader.printed room scope (Sign OpenParen ∷ xs)) (append_assoc ts (us ++ Sign CloseParen ∷ Sign Semicolon ∷ []) rest ∙ ap (λ xs. ts ++ xs) (append_assoc us (Sign CloseParen ∷ Sign Semicolon ∷ []) rest))
+    (ap (λ xs. printing.printed room scope (Sign OpenParen ∷ xs)) (append_assoc ts (us ++ Sign CloseParen ∷ Sign Semicolon ∷ []) rest ∙ ap (λ xs. ts ++ xs) (append_assoc us (Sign CloseParen ∷ Sign Semicolon ∷ []) rest))
     ∙ print_read scope o spots es parts ts us b f a p room h (Sign Semicolon ∷ rest))
 
 -- a token that a statement may begin with
@@ -454,7 +458,7 @@ items_stmt : (n room : ℕ) (read : StmtReader) (scope : Scope) (tally : Tally) 
     → items (suc n) room read scope tally (t ∷ ts) ≡ (read scope tally (t ∷ ts) >>= λ s. items n room read scope s.tally s.rest >>= λ more. reader.with_stmt s more)
 items_stmt n room read scope tally (Sign OpenBrace) ts b = refl
 items_stmt n room read scope tally (Word w) ts b =
-    ap (λ x. cond x (reader.new_name ts >>= λ name. reader.initial (expression room (reader.with_local scope name.0 tally)) name.1 >>= λ start.
+    ap (λ x. cond x (ahead.new_name ts >>= λ name. reader.initial (expression room (reader.with_local scope name.0 tally)) name.1 >>= λ start.
     items n room read (reader.with_local scope name.0 tally) (reader.declared tally) start.rest >>= λ more.
     reader.told (local tally.next name.0 start.tree more.tree) (is_none (find scope name.0) && (start.sound && more.sound)) more.tally more.rest)
     (read scope tally (Word w ∷ ts) >>= λ s. items n room read scope s.tally s.rest >>= λ more. reader.with_stmt s more)) b.0
@@ -522,7 +526,7 @@ first_claim : (scope : Scope) (room next next' : ℕ) (name : Name) (e : Source)
 first_claim scope room next next' name e ts us is free c d =
     subst (λ xs. ItemsClaim scope room next (Word (codes "uint64_t") ∷ Word name ∷ Sign Becomes ∷ xs) (local next name (Some e) is) next') (append_assoc ts (Sign Semicolon ∷ []) us)
     (local_claim scope room next next' name (Some e) (Sign Becomes ∷ (ts ++ Sign Semicolon ∷ [])) us is free
-    (λ rest. bind_to (λ e. reader.semicolon e.rest >>= λ behind. got (Some e.tree) e.sound behind) (ap (expression room ((name, AVariable next 0) ∷ scope)) (append_assoc ts (Sign Semicolon ∷ []) rest) ∙ c (Sign Semicolon ∷ rest) refl)) d)
+    (λ rest. bind_to (λ e. ahead.semicolon e.rest >>= λ behind. got (Some e.tree) e.sound behind) (ap (expression room ((name, AVariable next 0) ∷ scope)) (append_assoc ts (Sign Semicolon ∷ []) rest) ∙ c (Sign Semicolon ∷ rest) refl)) d)
 
 mutual
   -- a statement of the grammar is read as its tree

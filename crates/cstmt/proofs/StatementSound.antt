@@ -10,32 +10,36 @@ use Rattle.semantics.specs.Source.Scope.{Scope, Entity, AVariable, AConstant, fi
 use Rattle.semantics.specs.Source.Expressions.{UpdateSign, ReadsExpr, ReadsSubscripts, ReadsCond}
 use Rattle.semantics.specs.Source.Expressions as grammar
 use Rattle.semantics.specs.Source.Statements.{is_closed, stmt_count, statement_count, ReadsSource, number, truth, target, ReadsIncrement, up_before, up_behind, down_before, down_behind, set, change, ReadsFormat, end, last, place, ReadsArguments, no_arguments, argument, Fills, ReadsStmt, assign, update, if_only, if_else, for_loop, block, print, ReadsItems, no_more, line, empty_local, first_local, statement}
-use Rattle.cexpr.specs.Reading.{Got, Reader, ◌>>=◌, got, chosen}
+use Rattle.creader.specs.Reading.{Got, Reader, ◌>>=◌, got, chosen}
 use Rattle.cexpr.specs.Operators.{number_in, is_number, cond_in, update_of}
-use Rattle.cexpr.specs.ExpressionReader.{close_paren, may_be_named, subscripts, inside, expression}
+use Rattle.creader.specs.NextTokens.{close_paren, may_be_named, word}
+use Rattle.cexpr.specs.ExpressionReader.{subscripts, inside, expression}
+use Rattle.creader.specs.NextTokens as ahead
+use Rattle.cprintf.specs.PrintfReader as printing
 use Rattle.cstmt.specs.StatementReader as reader
-use Rattle.cstmt.specs.StatementReader.{Tally, Told, StmtReader, word, target_of, may_set, may_step, step_behind, step, assigned, assignment, format, arguments, filled, fills, items, by_head}
-use Rattle.cexpr.proofs.Binds.{bind_some, first_true, second_true}
+use Rattle.cstmt.specs.StatementReader.{Tally, Told, StmtReader, target_of, may_set, may_step, step_behind, step, assigned, assignment, items, by_head}
+use Rattle.cprintf.specs.PrintfReader.{format, arguments, filled, fills}
+use Rattle.creader.proofs.Binds.{bind_some, first_true, second_true}
 use Rattle.cexpr.proofs.ExpressionSound.{AsAt, as_cond, as_number, Front, IsSound, out, no_some, close_paren_is, subs_sound, inside_sound, expression_sound}
 use Rattle.cstmt.proofs.StatementComplete.{same_is}
 
 -- what comes next
-pub semicolon_is : (ts us : List Token) → reader.semicolon ts ≡ Some us → ts ≡ Sign Semicolon ∷ us
+pub semicolon_is : (ts us : List Token) → ahead.semicolon ts ≡ Some us → ts ≡ Sign Semicolon ∷ us
 semicolon_is (Sign Semicolon ∷ ts) us e = ap (λ xs. Sign Semicolon ∷ xs) (out e)
 semicolon_is (Sign s ∷ ts) us e = no_some e
 semicolon_is _ us e = no_some e
 
-pub open_paren_is : (ts us : List Token) → reader.open_paren ts ≡ Some us → ts ≡ Sign OpenParen ∷ us
+pub open_paren_is : (ts us : List Token) → ahead.open_paren ts ≡ Some us → ts ≡ Sign OpenParen ∷ us
 open_paren_is (Sign OpenParen ∷ ts) us e = ap (λ xs. Sign OpenParen ∷ xs) (out e)
 open_paren_is (Sign s ∷ ts) us e = no_some e
 open_paren_is _ us e = no_some e
 
-pub becomes_is : (ts us : List Token) → reader.becomes ts ≡ Some us → ts ≡ Sign Becomes ∷ us
+pub becomes_is : (ts us : List Token) → ahead.becomes ts ≡ Some us → ts ≡ Sign Becomes ∷ us
 becomes_is (Sign Becomes ∷ ts) us e = ap (λ xs. Sign Becomes ∷ xs) (out e)
 becomes_is (Sign s ∷ ts) us e = no_some e
 becomes_is _ us e = no_some e
 
-pub close_brace_is : (ts us : List Token) → reader.close_brace ts ≡ Some us → ts ≡ Sign CloseBrace ∷ us
+pub close_brace_is : (ts us : List Token) → ahead.close_brace ts ≡ Some us → ts ≡ Sign CloseBrace ∷ us
 close_brace_is (Sign CloseBrace ∷ ts) us e = ap (λ xs. Sign CloseBrace ∷ xs) (out e)
 close_brace_is (Sign s ∷ ts) us e = no_some e
 close_brace_is _ us e = no_some e
@@ -58,7 +62,7 @@ pub record NewName (ts : List Token) (x : Name × List Token) : Type 0 where
   pub split : ts ≡ Word x.0 ∷ x.1
   pub free : is_reserved x.0 ≡ false
 
-pub new_name_is : (ts : List Token) (x : Name × List Token) → reader.new_name ts ≡ Some x → NewName ts x
+pub new_name_is : (ts : List Token) (x : Name × List Token) → ahead.new_name ts ≡ Some x → NewName ts x
 new_name_is (Word w ∷ ts) x e = go (is_reserved w) refl e
   where
     go : (b : Bool) → is_reserved w ≡ b → cond b None (Some (w, ts)) ≡ Some x → NewName (Word w ∷ ts) x
@@ -222,7 +226,7 @@ assigned_keeps whole e is b s ts g d h = changed (update_of s) d
         let a = bind_some (whole ts) (λ y. got (Update (target_of e) is op (number_in y.tree)) (b && (may_set e is && (y.sound && is_number y.tree))) y.rest) g d in
         first_true b _ (ap (λ x. x.sound) (out a.2) ∙ h)
 
-sign_is : (ts : List Token) (x : Symbol × List Token) → reader.sign ts ≡ Some x → ts ≡ Sign x.0 ∷ x.1
+sign_is : (ts : List Token) (x : Symbol × List Token) → ahead.sign ts ≡ Some x → ts ≡ Sign x.0 ∷ x.1
 sign_is (Sign s ∷ ts) x e = ap (λ y. Sign y.0 ∷ y.1) (out e)
 sign_is [] x e = no_some e
 sign_is (Word w ∷ ts) x e = no_some e
@@ -234,9 +238,9 @@ sign_is (Line n ∷ ts) x e = no_some e
 assignment_sound : (scope : Scope) (room o : ℕ) → room + o ≡ 64 → (w : Name) → IsSound (assignment room scope w) (IsLineOf scope o w)
 unfolding assignment
 assignment_sound scope room o k w ts g e h =
-    let d = if_named_some scope w (subscripts (length ts) (inside room scope) ts >>= λ is. reader.sign is.rest >>= λ s. assigned (expression room scope) (find scope w) is.tree is.sound s.0 s.1) g e in
-    let a = bind_some (subscripts (length ts) (inside room scope) ts) (λ is. reader.sign is.rest >>= λ s. assigned (expression room scope) (find scope w) is.tree is.sound s.0 s.1) g d in
-    let b = bind_some (reader.sign a.0.rest) (λ s. assigned (expression room scope) (find scope w) a.0.tree a.0.sound s.0 s.1) g a.2 in
+    let d = if_named_some scope w (subscripts (length ts) (inside room scope) ts >>= λ is. ahead.sign is.rest >>= λ s. assigned (expression room scope) (find scope w) is.tree is.sound s.0 s.1) g e in
+    let a = bind_some (subscripts (length ts) (inside room scope) ts) (λ is. ahead.sign is.rest >>= λ s. assigned (expression room scope) (find scope w) is.tree is.sound s.0 s.1) g d in
+    let b = bind_some (ahead.sign a.0.rest) (λ s. assigned (expression room scope) (find scope w) a.0.tree a.0.sound s.0 s.1) g a.2 in
     let well : a.0.sound ≡ true = assigned_keeps (expression room scope) (find scope w) a.0.tree a.0.sound b.0.0 b.0.1 g b.2 h in
     assigned_sound scope o (expression room scope) (expression_sound scope room o k) w ts a.0 (subs_sound scope o (inside room scope) (inside_sound scope room o k) (length ts) ts a.0 a.1 well)
     b.0.0 b.0.1 (sign_is a.0.rest b.0 b.1) g (subst (λ x. assigned (expression room scope) (find scope w) a.0.tree x b.0.0 b.0.1 ≡ Some g) well b.2) h
@@ -246,8 +250,8 @@ format_sound : (n : ℕ) (ts : List Token) (g : Got (List (Option (List ℕ)))) 
 format_sound zero ts g e = no_some e
 format_sound (suc n) (Quoted bs false ∷ ts) g e = subst (λ x. Front ReadsFormat (Quoted bs false ∷ ts) x) (out e) (record { front = Quoted bs false ∷ []; split = refl; reads = end })
 format_sound (suc n) (Quoted bs true ∷ ts) g e =
-    let a = bind_some (word (codes "PRIu64") ts) (λ behind. cond (reader.starts_quoted behind) (format n behind >>= λ more. got (Some bs ∷ None ∷ more.tree) true more.rest) (got (Some bs ∷ None ∷ []) true behind)) g e in
-    go a.0 (word_is (codes "PRIu64") ts a.0 a.1) (reader.starts_quoted a.0) (format_sound n a.0) a.2
+    let a = bind_some (word (codes "PRIu64") ts) (λ behind. cond (printing.starts_quoted behind) (format n behind >>= λ more. got (Some bs ∷ None ∷ more.tree) true more.rest) (got (Some bs ∷ None ∷ []) true behind)) g e in
+    go a.0 (word_is (codes "PRIu64") ts a.0 a.1) (printing.starts_quoted a.0) (format_sound n a.0) a.2
   where
     go : (behind : List Token) → ts ≡ Word (codes "PRIu64") ∷ behind → (b : Bool) → ((g : Got (List (Option (List ℕ)))) → format n behind ≡ Some g → Front ReadsFormat behind g)
         → cond b (format n behind >>= λ more. got (Some bs ∷ None ∷ more.tree) true more.rest) (got (Some bs ∷ None ∷ []) true behind) ≡ Some g → Front ReadsFormat (Quoted bs true ∷ ts) g
@@ -296,12 +300,12 @@ fill (Some bs ∷ ps) es h = (refl, fill ps es h)
 fill (None ∷ ps) [] h = absurd (cc)
 fill (None ∷ ps) (e ∷ es) h = (refl, fill ps es h)
 
-printed_sound : (scope : Scope) (room o : ℕ) → room + o ≡ 64 → (ts : List Token) (g : Got Stmt) → reader.printed room scope ts ≡ Some g → g.sound ≡ true → Front (IsLineOf scope o (codes "printf")) ts g
-unfolding reader.printed
+printed_sound : (scope : Scope) (room o : ℕ) → room + o ≡ 64 → (ts : List Token) (g : Got Stmt) → printing.printed room scope ts ≡ Some g → g.sound ≡ true → Front (IsLineOf scope o (codes "printf")) ts g
+unfolding printing.printed
 printed_sound scope zero o k ts g e h = no_some e
 printed_sound scope (suc room) o k ts g e h =
     let whole : Reader Source = expression room scope in
-    let a = bind_some (reader.open_paren ts) (λ inner. format (length inner) inner >>= λ spots. arguments (length spots.rest) whole spots.rest >>= λ es. close_paren es.rest >>= λ behind. got (Print (filled spots.tree es.tree)) (es.sound && fills spots.tree es.tree) behind) g e in
+    let a = bind_some (ahead.open_paren ts) (λ inner. format (length inner) inner >>= λ spots. arguments (length spots.rest) whole spots.rest >>= λ es. close_paren es.rest >>= λ behind. got (Print (filled spots.tree es.tree)) (es.sound && fills spots.tree es.tree) behind) g e in
     let b = bind_some (format (length a.0) a.0) (λ spots. arguments (length spots.rest) whole spots.rest >>= λ es. close_paren es.rest >>= λ behind. got (Print (filled spots.tree es.tree)) (es.sound && fills spots.tree es.tree) behind) g a.2 in
     let c = bind_some (arguments (length b.0.rest) whole b.0.rest) (λ es. close_paren es.rest >>= λ behind. got (Print (filled b.0.tree es.tree)) (es.sound && fills b.0.tree es.tree) behind) g b.2 in
     let d = bind_some (close_paren c.0.rest) (λ behind. got (Print (filled b.0.tree c.0.tree)) (c.0.sound && fills b.0.tree c.0.tree) behind) g c.2 in
@@ -351,7 +355,7 @@ ended_sound : (scope : Scope) (o : ℕ) (w : Name) (tally : Tally) (ts : List To
     → (t : Told Stmt) → (read >>= λ s. reader.ended tally s) ≡ Some t → t.sound ≡ true → StmtFront scope o tally.next (suc tally.left) (Word w ∷ ts) t
 ended_sound scope o w tally ts read k t e h =
     let a = bind_some read (reader.ended tally) t e in
-    let b = bind_some (reader.semicolon a.0.rest) (λ behind. reader.told a.0.tree a.0.sound tally behind) t a.2 in
+    let b = bind_some (ahead.semicolon a.0.rest) (λ behind. reader.told a.0.tree a.0.sound tally behind) t a.2 in
     let r = k a.0 a.1 (ap (λ x. x.sound) (out b.2) ∙ h) in
     subst (λ x. StmtFront scope o tally.next (suc tally.left) (Word w ∷ ts) x) (out b.2)
     (record {
@@ -369,8 +373,8 @@ initial_sound scope o whole k (Sign Semicolon ∷ ts) g e h =
     subst (λ x. Front (λ us start. (((start ≡ None) × (us ≡ Sign Semicolon ∷ [])) ⊎ ((e : Source) × (vs : List Token) × (start ≡ Some e) × (us ≡ Sign Becomes ∷ (vs ++ Sign Semicolon ∷ [])) × ReadsSource scope o vs e))) (Sign Semicolon ∷ ts) x) (out e)
     (record { front = Sign Semicolon ∷ []; split = refl; reads = inl (refl, refl) })
 initial_sound scope o whole k (Sign Becomes ∷ ts) g e h =
-    let a = bind_some (whole ts) (λ e. reader.semicolon e.rest >>= λ behind. got (Some e.tree) e.sound behind) g e in
-    let b = bind_some (reader.semicolon a.0.rest) (λ behind. got (Some a.0.tree) a.0.sound behind) g a.2 in
+    let a = bind_some (whole ts) (λ e. ahead.semicolon e.rest >>= λ behind. got (Some e.tree) e.sound behind) g e in
+    let b = bind_some (ahead.semicolon a.0.rest) (λ behind. got (Some a.0.tree) a.0.sound behind) g a.2 in
     let r = k ts a.0 a.1 (ap (λ x. x.sound) (out b.2) ∙ h) in
     subst (λ x. Front (λ us start. (((start ≡ None) × (us ≡ Sign Semicolon ∷ [])) ⊎ ((e : Source) × (vs : List Token) × (start ≡ Some e) × (us ≡ Sign Becomes ∷ (vs ++ Sign Semicolon ∷ [])) × ReadsSource scope o vs e))) (Sign Becomes ∷ ts) x) (out b.2)
     (record {
@@ -419,12 +423,12 @@ local_reads scope o next next' w start us vs is f (inr d) r =
     (items_at_tokens scope o next next' _ _ _ (ap (λ xs. Word (codes "uint64_t") ∷ Word w ∷ Sign Becomes ∷ xs) (sym (append_assoc d.1 (Sign Semicolon ∷ []) vs)) ∙ ap (λ xs. Word (codes "uint64_t") ∷ Word w ∷ (xs ++ vs)) (sym d.3)) (first_local f d.4 r))
 
 local_sound : (room o : ℕ) → room + o ≡ 64 → (more : Scope → Tally → List Token → Option (Told Items)) → IsItemsSound o more → (scope : Scope) (tally : Tally) (ts : List Token) (t : Told Items)
-    → (reader.new_name ts >>= λ name. reader.initial (expression room (reader.with_local scope name.0 tally)) name.1 >>= λ start.
+    → (ahead.new_name ts >>= λ name. reader.initial (expression room (reader.with_local scope name.0 tally)) name.1 >>= λ start.
     more (reader.with_local scope name.0 tally) (reader.declared tally) start.rest >>= λ is.
     reader.told (local tally.next name.0 start.tree is.tree) (reader.is_unused scope name.0 && (start.sound && is.sound)) is.tally is.rest) ≡ Some t
     → t.sound ≡ true → ItemsFront scope o tally.next tally.left (Word (codes "uint64_t") ∷ ts) t
 local_sound room o k more m scope tally ts t e h =
-    let a = bind_some (reader.new_name ts) (λ name. reader.initial (expression room (reader.with_local scope name.0 tally)) name.1 >>= λ start.
+    let a = bind_some (ahead.new_name ts) (λ name. reader.initial (expression room (reader.with_local scope name.0 tally)) name.1 >>= λ start.
     more (reader.with_local scope name.0 tally) (reader.declared tally) start.rest >>= λ is.
     reader.told (local tally.next name.0 start.tree is.tree) (reader.is_unused scope name.0 && (start.sound && is.sound)) is.tally is.rest) t e in
     let w : Name = a.0.0 in
@@ -450,7 +454,7 @@ word_item : (room o : ℕ) → room + o ≡ 64 → (read : StmtReader) (n : ℕ)
 word_item room o k read n s m scope tally w ts t e h = go (same_name w (codes "uint64_t")) refl e
   where
     go : (b : Bool) → same_name w (codes "uint64_t") ≡ b
-        → cond b (reader.new_name ts >>= λ name. reader.initial (expression room (reader.with_local scope name.0 tally)) name.1 >>= λ start.
+        → cond b (ahead.new_name ts >>= λ name. reader.initial (expression room (reader.with_local scope name.0 tally)) name.1 >>= λ start.
         items n room read (reader.with_local scope name.0 tally) (reader.declared tally) start.rest >>= λ more.
         reader.told (local tally.next name.0 start.tree more.tree) (reader.is_unused scope name.0 && (start.sound && more.sound)) more.tally more.rest)
         (read scope tally (Word w ∷ ts) >>= λ s. items n room read scope s.tally s.rest >>= λ more. reader.with_stmt s more) ≡ Some t
@@ -479,8 +483,8 @@ block_sound : (room o : ℕ) → room + o ≡ 64 → (once : StmtReader) → ((i
 unfolding reader.block
 block_sound zero o k once s scope tally ts t e h = no_some e
 block_sound (suc room) o k once s scope tally ts t e h =
-    let a = bind_some (items (length ts) room once scope tally ts) (λ is. reader.close_brace is.rest >>= λ behind. reader.told (Block is.tree) is.sound is.tally behind) t e in
-    let b = bind_some (reader.close_brace a.0.rest) (λ behind. reader.told (Block a.0.tree) a.0.sound a.0.tally behind) t a.2 in
+    let a = bind_some (items (length ts) room once scope tally ts) (λ is. ahead.close_brace is.rest >>= λ behind. reader.told (Block is.tree) is.sound is.tally behind) t e in
+    let b = bind_some (ahead.close_brace a.0.rest) (λ behind. reader.told (Block a.0.tree) a.0.sound a.0.tally behind) t a.2 in
     let q = items_sound room (suc o) (omega arith) once (s room refl) (length ts) scope tally ts a.0 a.1 (ap (λ x. x.sound) (out b.2) ∙ h) in
     let below : o < 64 = omega arith in
     subst (λ x. StmtFront scope o tally.next (suc tally.left) (Sign OpenBrace ∷ ts) x) (out b.2)
@@ -545,7 +549,7 @@ selection_sound (suc zero) o k once twice s s' scope tally ts t e h = no_some e
 selection_sound (suc (suc room)) o k once twice s s' scope tally ts t e h =
     let finish : Got Source → Told Stmt → Option (Told Stmt) = (λ c a. chosen (word (codes "else") a.rest) (reader.told (If (cond_in c.tree) a.tree) (c.sound && a.sound) a.tally a.rest)
     (λ other. twice scope a.tally other >>= λ b. reader.told (IfElse (cond_in c.tree) a.tree b.tree) (c.sound && (a.sound && b.sound)) b.tally b.rest)) in
-    let a = bind_some (reader.open_paren ts) (λ inner. expression room scope inner >>= λ c. close_paren c.rest >>= λ behind. once scope tally behind >>= λ a. finish c a) t e in
+    let a = bind_some (ahead.open_paren ts) (λ inner. expression room scope inner >>= λ c. close_paren c.rest >>= λ behind. once scope tally behind >>= λ a. finish c a) t e in
     let c = bind_some (expression room scope a.0) (λ c. close_paren c.rest >>= λ behind. once scope tally behind >>= λ a. finish c a) t a.2 in
     let d = bind_some (close_paren c.0.rest) (λ behind. once scope tally behind >>= λ a. finish c.0 a) t c.2 in
     let b = bind_some (once scope tally d.0) (λ a. finish c.0 a) t d.2 in
@@ -578,10 +582,10 @@ turned room scope tally w start test second =
     step (expression room (within scope tally w)) (within scope tally w) second >>= λ turn. close_paren turn.rest >>= λ body. whole_heading scope w start test turn body
 
 abbrev tested : ℕ → Scope → Tally → Name → Got Source → List Token → Option reader.Heading
-tested room scope tally w start first = expression room (within scope tally w) first >>= λ test. reader.semicolon test.rest >>= λ second. turned room scope tally w start test second
+tested room scope tally w start first = expression room (within scope tally w) first >>= λ test. ahead.semicolon test.rest >>= λ second. turned room scope tally w start test second
 
 abbrev started : ℕ → Scope → Tally → Name → List Token → Option reader.Heading
-started room scope tally w behind = expression room (within scope tally w) behind >>= λ start. reader.semicolon start.rest >>= λ first. tested room scope tally w start first
+started room scope tally w behind = expression room (within scope tally w) behind >>= λ start. ahead.semicolon start.rest >>= λ first. tested room scope tally w start first
 
 record Turned (room : ℕ) (scope : Scope) (tally : Tally) (w : Name) (start test : Got Source) (second : List Token) (g : reader.Heading) : Type 0 where
   turn : Got Increment
@@ -605,8 +609,8 @@ record Tested (room : ℕ) (scope : Scope) (tally : Tally) (w : Name) (start : G
 
 tested_is : (room : ℕ) (scope : Scope) (tally : Tally) (w : Name) (start : Got Source) (first : List Token) (g : reader.Heading) → tested room scope tally w start first ≡ Some g → Tested room scope tally w start first g
 tested_is room scope tally w start first g e =
-    let a = bind_some (expression room (within scope tally w) first) (λ test. reader.semicolon test.rest >>= λ second. turned room scope tally w start test second) g e in
-    let b = bind_some (reader.semicolon a.0.rest) (λ second. turned room scope tally w start a.0 second) g a.2 in
+    let a = bind_some (expression room (within scope tally w) first) (λ test. ahead.semicolon test.rest >>= λ second. turned room scope tally w start test second) g e in
+    let b = bind_some (ahead.semicolon a.0.rest) (λ second. turned room scope tally w start a.0 second) g a.2 in
     record { test = a.0; second = b.0; read = a.1; ends = semicolon_is a.0.rest b.0 b.1; more = turned_is room scope tally w start a.0 b.0 g b.2 }
 
 record Started (room : ℕ) (scope : Scope) (tally : Tally) (w : Name) (behind : List Token) (g : reader.Heading) : Type 0 where
@@ -618,8 +622,8 @@ record Started (room : ℕ) (scope : Scope) (tally : Tally) (w : Name) (behind :
 
 started_is : (room : ℕ) (scope : Scope) (tally : Tally) (w : Name) (behind : List Token) (g : reader.Heading) → started room scope tally w behind ≡ Some g → Started room scope tally w behind g
 started_is room scope tally w behind g e =
-    let a = bind_some (expression room (within scope tally w) behind) (λ start. reader.semicolon start.rest >>= λ first. tested room scope tally w start first) g e in
-    let b = bind_some (reader.semicolon a.0.rest) (λ first. tested room scope tally w a.0 first) g a.2 in
+    let a = bind_some (expression room (within scope tally w) behind) (λ start. ahead.semicolon start.rest >>= λ first. tested room scope tally w start first) g e in
+    let b = bind_some (ahead.semicolon a.0.rest) (λ first. tested room scope tally w a.0 first) g a.2 in
     record { start = a.0; first = b.0; read = a.1; ends = semicolon_is a.0.rest b.0 b.1; more = tested_is room scope tally w a.0 b.0 g b.2 }
 
 record Headed (room : ℕ) (scope : Scope) (tally : Tally) (ts : List Token) (g : reader.Heading) : Type 0 where
@@ -632,10 +636,10 @@ record Headed (room : ℕ) (scope : Scope) (tally : Tally) (ts : List Token) (g 
 headed_is : (room : ℕ) (scope : Scope) (tally : Tally) (ts : List Token) (g : reader.Heading) → reader.heading room scope tally ts ≡ Some g → Headed room scope tally ts g
 unfolding reader.heading
 headed_is room scope tally ts g e =
-    let a = bind_some (reader.open_paren ts) (λ inner. word (codes "uint64_t") inner >>= λ typed'. reader.new_name typed' >>= λ name. reader.becomes name.1 >>= λ behind. started room scope tally name.0 behind) g e in
-    let b = bind_some (word (codes "uint64_t") a.0) (λ typed'. reader.new_name typed' >>= λ name. reader.becomes name.1 >>= λ behind. started room scope tally name.0 behind) g a.2 in
-    let c = bind_some (reader.new_name b.0) (λ name. reader.becomes name.1 >>= λ behind. started room scope tally name.0 behind) g b.2 in
-    let d = bind_some (reader.becomes c.0.1) (λ behind. started room scope tally c.0.0 behind) g c.2 in
+    let a = bind_some (ahead.open_paren ts) (λ inner. word (codes "uint64_t") inner >>= λ typed'. ahead.new_name typed' >>= λ name. ahead.becomes name.1 >>= λ behind. started room scope tally name.0 behind) g e in
+    let b = bind_some (word (codes "uint64_t") a.0) (λ typed'. ahead.new_name typed' >>= λ name. ahead.becomes name.1 >>= λ behind. started room scope tally name.0 behind) g a.2 in
+    let c = bind_some (ahead.new_name b.0) (λ name. ahead.becomes name.1 >>= λ behind. started room scope tally name.0 behind) g b.2 in
+    let d = bind_some (ahead.becomes c.0.1) (λ behind. started room scope tally c.0.0 behind) g c.2 in
     record {
       name = c.0.0;
       behind = d.0;
@@ -713,20 +717,20 @@ head_sound : (room o : ℕ) → room + o ≡ 64 → (once twice : StmtReader) �
 head_sound room o k once twice s s' scope tally (Sign OpenBrace ∷ ts) t e h = block_sound room o k once s scope tally ts t e h
 head_sound room o k once twice s s' scope tally (Word w ∷ ts) t e h = go (same_name w (codes "if")) refl e
   where
-    fourth : (b : Bool) → same_name w (codes "printf") ≡ b → cond b (reader.printed room scope ts >>= λ s. reader.ended tally s) (assignment room scope w ts >>= λ s. reader.ended tally s) ≡ Some t → StmtFront scope o tally.next (suc tally.left) (Word w ∷ ts) t
+    fourth : (b : Bool) → same_name w (codes "printf") ≡ b → cond b (printing.printed room scope ts >>= λ s. reader.ended tally s) (assignment room scope w ts >>= λ s. reader.ended tally s) ≡ Some t → StmtFront scope o tally.next (suc tally.left) (Word w ∷ ts) t
     fourth true f d =
         subst (λ v. StmtFront scope o tally.next (suc tally.left) (Word v ∷ ts) t) (sym (same_is w (codes "printf") f))
-        (ended_sound scope o (codes "printf") tally ts (reader.printed room scope ts) (printed_sound scope room o k ts) t d h)
+        (ended_sound scope o (codes "printf") tally ts (printing.printed room scope ts) (printed_sound scope room o k ts) t d h)
     fourth false f d = ended_sound scope o w tally ts (assignment room scope w ts) (assignment_sound scope room o k w ts) t d h
 
     third : (b : Bool) → same_name w (codes "for") ≡ b
-        → cond b (reader.iteration room once scope tally ts) (cond (same_name w (codes "printf")) (reader.printed room scope ts >>= λ s. reader.ended tally s) (assignment room scope w ts >>= λ s. reader.ended tally s)) ≡ Some t
+        → cond b (reader.iteration room once scope tally ts) (cond (same_name w (codes "printf")) (printing.printed room scope ts >>= λ s. reader.ended tally s) (assignment room scope w ts >>= λ s. reader.ended tally s)) ≡ Some t
         → StmtFront scope o tally.next (suc tally.left) (Word w ∷ ts) t
     third true f d = subst (λ v. StmtFront scope o tally.next (suc tally.left) (Word v ∷ ts) t) (sym (same_is w (codes "for") f)) (iteration_sound room o k once s scope tally ts t d h)
     third false f d = fourth (same_name w (codes "printf")) refl d
 
     go : (b : Bool) → same_name w (codes "if") ≡ b
-        → cond b (reader.selection room once twice scope tally ts) (cond (same_name w (codes "for")) (reader.iteration room once scope tally ts) (cond (same_name w (codes "printf")) (reader.printed room scope ts >>= λ s. reader.ended tally s) (assignment room scope w ts >>= λ s. reader.ended tally s))) ≡ Some t
+        → cond b (reader.selection room once twice scope tally ts) (cond (same_name w (codes "for")) (reader.iteration room once scope tally ts) (cond (same_name w (codes "printf")) (printing.printed room scope ts >>= λ s. reader.ended tally s) (assignment room scope w ts >>= λ s. reader.ended tally s))) ≡ Some t
         → StmtFront scope o tally.next (suc tally.left) (Word w ∷ ts) t
     go true f d = subst (λ v. StmtFront scope o tally.next (suc tally.left) (Word v ∷ ts) t) (sym (same_is w (codes "if") f)) (selection_sound room o k once twice s s' scope tally ts t d h)
     go false f d = third (same_name w (codes "for")) refl d

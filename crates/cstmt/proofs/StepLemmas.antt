@@ -1,17 +1,11 @@
 -- The steps that the code takes are those of the definitions' reader.
-use Rattle.std.proofs.Common.{◌≡◌, true, false, List, [], ◌∷◌, Some, None, refl}
-use Rattle.std.specs.Prelude.{if◌then◌else◌}
+use Rattle.std.proofs.Common.{◌≡◌, true, false, List, [], ◌∷◌, refl}
 use Rattle.semantics.specs.Tree.{Name, Source}
 use Rattle.semantics.specs.Source.Token.{Token, Word, Sign, PlusPlus, MinusMinus}
-use Rattle.semantics.specs.Source.Scope.{Scope, is_reserved}
-use Rattle.cexpr.specs.Reading.{Reader, ◌>>=◌}
-use Rattle.cstmt.specs.StatementReader.{new_name, step}
-use Rattle.cstmt.specs.Steps.{next_word, step_before, step_of}
-
-pub new_name_by : (ts : List Token) → new_name ts ≡ next_word ts >>= λ w. if is_reserved w.0 then None else Some w
-new_name_by [] = refl
-new_name_by (Word w ∷ ts) = refl
-new_name_by (t ∷ ts) = refl
+use Rattle.semantics.specs.Source.Scope.{Scope}
+use Rattle.creader.specs.Reading.{Reader}
+use Rattle.cstmt.specs.StatementReader.{step}
+use Rattle.cstmt.specs.Steps.{step_before, step_of}
 
 pub step_up : (whole : Reader Source) (scope : Scope) (ts : List Token) → step whole scope (Sign PlusPlus ∷ ts) ≡ step_before scope true ts
 unfolding step

@@ -3,9 +3,11 @@ use Rattle.std.specs.Prelude.{ℕ, zero, suc, Bool, true, false, ◌&&◌, if◌
 use Rattle.semantics.specs.Tree.{Name, Stmt, Items, no_items, mark, local, stmt}
 use Rattle.semantics.specs.Source.Token.{Token, Word, Sign, Line, OpenBrace}
 use Rattle.semantics.specs.Source.Scope.{Scope, same_name}
-use Rattle.cexpr.specs.Reading.{◌>>=◌}
+use Rattle.creader.specs.Reading.{◌>>=◌}
 use Rattle.cexpr.specs.ExpressionReader.{expression}
-use Rattle.cstmt.specs.StatementReader.{Tally, Told, StmtReader, no_stmt, declared, with_local, printed, assignment, ended, initial, new_name, is_unused, statement, selection, iteration}
+use Rattle.cstmt.specs.StatementReader.{Tally, Told, StmtReader, no_stmt, declared, with_local, assignment, ended, initial, is_unused, statement, selection, iteration}
+use Rattle.cprintf.specs.PrintfReader.{printed}
+use Rattle.creader.specs.NextTokens.{new_name}
 
 -- behind a word that is neither `if` nor `for`
 abbrev pub simple : ℕ → Scope → Tally → Name → List Token → Option (Told Stmt)

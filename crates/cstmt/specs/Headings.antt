@@ -2,7 +2,7 @@
 use Rattle.std.specs.Prelude.{is_none}
 use Rattle.ktree.specs.View.{source_of, increment_of}
 use Rattle.cstmt.specs.declared.loop_head.LoopHead as code
-use Rattle.cexpr.specs.Lexemes.{tokens_of}
+use Rattle.creader.specs.Lexemes.{tokens_of}
 use Rattle.cstmt.specs.StatementReader.{Heading}
 
 abbrev pub heading_of : code.LoopHead → Heading

@@ -1,7 +1,5 @@
 pub mod StatementReader
 pub mod Steps
-pub mod Printing
-pub mod Spots
 pub mod Tallies
 pub mod Bodies
 pub mod Headings

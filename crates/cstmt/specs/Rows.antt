@@ -6,7 +6,7 @@ use Rattle.semantics.specs.Source.Scope.{Scope}
 use Rattle.ktree.specs.declared.statement.Item.{Item}
 use Rattle.ktree.specs.View as view
 use Rattle.cstmt.specs.declared.told.Told.{Told}
-use Rattle.cexpr.specs.Lexemes.{tokens_of}
+use Rattle.creader.specs.Lexemes.{tokens_of}
 use Rattle.cstmt.specs.Tallies.{tally_of}
 use Rattle.cstmt.specs.Bodies.{Row}
 

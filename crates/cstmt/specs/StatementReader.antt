@@ -1,47 +1,13 @@
 -- The reading of statements from the front of a list of tokens.
-use Rattle.std.specs.Prelude.{ℕ, zero, suc, Bool, true, false, ◌&&◌, ◌==◌, if◌then◌else◌, List, [], ◌∷◌, length, Option, Some, None, is_none, codes}
-use Rattle.semantics.specs.Tree.{Name, Variable, Expr, Exprs, Source, Increment, Up, Down, Set, Change, PrintPart, Characters, Decimal, Stmt, Assign, Update, If, IfElse, For, Block, Print, Items, no_items, mark, local, stmt}
-use Rattle.semantics.specs.Source.Token.{Token, Word, Quoted, Sign, Line, Symbol, Semicolon, Comma, OpenParen, OpenBrace, CloseBrace, PlusPlus, MinusMinus, Becomes}
-use Rattle.semantics.specs.Source.Typing.{typed, plain}
-use Rattle.semantics.specs.Source.Scope.{Scope, Entity, AVariable, find, count, is_reserved, same_name}
-use Rattle.cexpr.specs.Reading.{Got, Reader, ◌>>=◌, got, chosen}
-use Rattle.cexpr.specs.Operators.{update_of, stand_in, number_in, is_number, cond_in}
-use Rattle.cexpr.specs.ExpressionReader.{close_paren, subscripts, may_be_named, inside, expression}
-
--- symbols that come next
-abbrev pub semicolon : List Token → Option (List Token)
-semicolon (Sign Semicolon ∷ ts) = Some ts
-semicolon _ = None
-
-abbrev pub open_paren : List Token → Option (List Token)
-open_paren (Sign OpenParen ∷ ts) = Some ts
-open_paren _ = None
-
-abbrev pub becomes : List Token → Option (List Token)
-becomes (Sign Becomes ∷ ts) = Some ts
-becomes _ = None
-
-abbrev pub close_brace : List Token → Option (List Token)
-close_brace (Sign CloseBrace ∷ ts) = Some ts
-close_brace _ = None
-
-abbrev pub open_brace : List Token → Option (List Token)
-open_brace (Sign OpenBrace ∷ ts) = Some ts
-open_brace _ = None
-
-abbrev pub comma : List Token → Option (List Token)
-comma (Sign Comma ∷ ts) = Some ts
-comma _ = None
-
--- this word comes next
-abbrev pub word : Name → List Token → Option (List Token)
-word w (Word v ∷ ts) = if same_name v w then Some ts else None
-word w _ = None
-
--- a word that may be declared comes next
-abbrev pub new_name : List Token → Option (Name × List Token)
-new_name (Word w ∷ ts) = if is_reserved w then None else Some (w, ts)
-new_name _ = None
+use Rattle.std.specs.Prelude.{ℕ, zero, suc, Bool, true, false, ◌&&◌, ◌==◌, if◌then◌else◌, List, ◌∷◌, length, Option, Some, None, is_none, codes}
+use Rattle.semantics.specs.Tree.{Name, Variable, Exprs, Source, Increment, Up, Down, Set, Change, Stmt, Assign, Update, If, IfElse, For, Block, Items, no_items, mark, local, stmt}
+use Rattle.semantics.specs.Source.Token.{Token, Word, Sign, Line, Symbol, Semicolon, OpenBrace, PlusPlus, MinusMinus, Becomes}
+use Rattle.semantics.specs.Source.Scope.{Scope, Entity, AVariable, find, count, same_name}
+use Rattle.creader.specs.Reading.{Got, Reader, ◌>>=◌, got, chosen}
+use Rattle.creader.specs.NextTokens.{semicolon, open_paren, close_paren, becomes, close_brace, sign, word, new_name, may_be_named}
+use Rattle.cexpr.specs.Operators.{update_of, number_in, is_number, cond_in}
+use Rattle.cexpr.specs.ExpressionReader.{subscripts, inside, expression}
+use Rattle.cprintf.specs.PrintfReader.{printed}
 
 -- nothing visible has this name
 abbrev pub is_unused : Scope → Name → Bool
@@ -126,58 +92,11 @@ assigned whole entity is sound s ts =
     chosen (update_of s) None
     (λ op. whole ts >>= λ e. got (Update (target_of entity) is op (number_in e.tree)) (sound && (may_set entity is && (e.sound && is_number e.tree))) e.rest)
 
--- a symbol comes next
-abbrev pub sign : List Token → Option (Symbol × List Token)
-sign (Sign s ∷ ts) = Some (s, ts)
-sign _ = None
-
 -- C11 6.5.16
 unfoldable pub assignment : ℕ → Scope → Name → Reader Stmt
 assignment room scope name ts =
     if_named scope name
     (subscripts (length ts) (inside room scope) ts >>= λ is. sign is.rest >>= λ s. assigned (expression room scope) (find scope name) is.tree is.sound s.0 s.1)
-
--- a string comes next
-abbrev pub starts_quoted : List Token → Bool
-starts_quoted (Quoted bs open' ∷ ts) = true
-starts_quoted _ = false
-
--- a format, of so many strings at most (C11 7.21.6.1, 7.8.1)
-abbrev pub format : ℕ → Reader (List (Option (List ℕ)))
-format (suc n) (Quoted bs false ∷ ts) = got (Some bs ∷ []) true ts
-format (suc n) (Quoted bs true ∷ ts) =
-    word (codes "PRIu64") ts >>= λ behind.
-    (if starts_quoted behind then (format n behind >>= λ more. got (Some bs ∷ None ∷ more.tree) true more.rest) else got (Some bs ∷ None ∷ []) true behind)
-format n ts = None
-
--- the arguments behind it, so many at most
-abbrev pub arguments : ℕ → Reader Source → Reader (List Expr)
-arguments (suc n) whole (Sign Comma ∷ ts) =
-    whole ts >>= λ e. arguments n whole e.rest >>= λ es.
-    got (number_in e.tree ∷ es.tree) ((e.sound && is_number e.tree) && ((typed (number_in e.tree) && plain (number_in e.tree)) && es.sound)) es.rest
-arguments n whole ts = got [] true ts
-
--- the parts that are printed: each place has its argument
-abbrev pub filled : List (Option (List ℕ)) → List Expr → List PrintPart
-filled [] es = []
-filled (Some bs ∷ ps) es = Characters bs ∷ filled ps es
-filled (None ∷ ps) [] = Decimal stand_in ∷ filled ps []
-filled (None ∷ ps) (e ∷ es) = Decimal e ∷ filled ps es
-
--- as many arguments as places
-abbrev pub fills : List (Option (List ℕ)) → List Expr → Bool
-fills [] [] = true
-fills [] (e ∷ es) = false
-fills (Some bs ∷ ps) es = fills ps es
-fills (None ∷ ps) [] = false
-fills (None ∷ ps) (e ∷ es) = fills ps es
-
--- behind the word printf (C11 7.21.6.3)
-unfoldable pub printed : ℕ → Scope → Reader Stmt
-printed zero scope ts = None
-printed (suc room) scope ts =
-    open_paren ts >>= λ inner. format (length inner) inner >>= λ spots. arguments (length spots.rest) (expression room scope) spots.rest >>= λ es.
-    close_paren es.rest >>= λ behind. got (Print (filled spots.tree es.tree)) (es.sound && fills spots.tree es.tree) behind
 
 -- a statement that ends in a semicolon
 abbrev pub ended : Tally → Got Stmt → Option (Told Stmt)

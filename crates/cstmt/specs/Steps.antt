@@ -1,11 +1,11 @@
 -- The steps of reading, as the code takes them.
-use Rattle.std.specs.Prelude.{Bool, true, false, ◌&&◌, List, ◌∷◌, Option, Some, None}
+use Rattle.std.specs.Prelude.{Bool, true, false, ◌&&◌, Option}
 use Rattle.semantics.specs.Tree.{Name, Exprs, Source, BinaryOp, Increment, Up, Down, Change, Stmt, Update}
-use Rattle.semantics.specs.Source.Token.{Token, Word}
 use Rattle.semantics.specs.Source.Scope.{Scope, Entity, find}
-use Rattle.cexpr.specs.Reading.{Reader, ◌>>=◌, got}
+use Rattle.creader.specs.Reading.{Reader, ◌>>=◌, got}
 use Rattle.cexpr.specs.Operators.{number_in, is_number}
-use Rattle.cstmt.specs.StatementReader.{target_of, may_set, may_step, sign, if_named, step_behind}
+use Rattle.cstmt.specs.StatementReader.{target_of, may_set, may_step, if_named, step_behind}
+use Rattle.creader.specs.NextTokens.{sign, next_word}
 
 -- a step by one, up or down
 abbrev pub by_one : Option Entity → Bool → Reader Increment
@@ -15,11 +15,6 @@ by_one entity false ts = got (Down (target_of entity)) (may_step entity) ts
 -- a step behind its operator
 abbrev pub changed_by : Reader Source → Option Entity → BinaryOp → Reader Increment
 changed_by whole entity op ts = whole ts >>= λ e. got (Change (target_of entity) op (number_in e.tree)) (may_step entity && (e.sound && is_number e.tree)) e.rest
-
--- a word comes next
-abbrev pub next_word : List Token → Option (Name × List Token)
-next_word (Word w ∷ ts) = Some (w, ts)
-next_word _ = None
 
 -- a step in front of its variable
 abbrev pub step_before : Scope → Bool → Reader Increment

@@ -2,7 +2,7 @@
 use Rattle.std.specs.Prelude.{is_none}
 use Rattle.cstmt.specs.declared.tally.Tally as code
 use Rattle.cstmt.specs.declared.told.Told as whole
-use Rattle.cexpr.specs.Lexemes.{tokens_of}
+use Rattle.creader.specs.Lexemes.{tokens_of}
 use Rattle.cstmt.specs.StatementReader.{Tally, Told}
 
 abbrev pub tally_of : code.Tally → Tally

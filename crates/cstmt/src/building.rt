@@ -10,16 +10,17 @@ ghost use Rattle.cstmt.specs.Bodies.{with_item};
 ghost use Rattle.cstmt.specs.Headings.{heading_of};
 ghost use Rattle.cstmt.specs.Rows.{row_of, item_of};
 ghost use Rattle.cstmt.specs.Tallies.{tally_of, told_of};
-ghost use Rattle.cexpr.specs.Lexemes.{tokens_of};
-ghost use Rattle.cexpr.specs.Outcome.{Gives, operand_of};
+ghost use Rattle.creader.specs.Lexemes.{tokens_of};
+ghost use Rattle.creader.specs.Outcome.{Gives};
+ghost use Rattle.cexpr.specs.OperandViews.{operand_of};
 
 use crate::loop_head::LoopHead;
 use crate::tally::Tally;
 use crate::told::Told;
 use cexpr::operand::Operand;
-use cexpr::parsed::Parsed;
-use cexpr::stop::{Stop, earlier};
 use cexpr::wanted::cond_in;
+use creader::parsed::Parsed;
+use creader::stop::{Stop, earlier};
 use ktree::{Head, Item, Place, Stmt, VarId};
 use std::alloc::Global;
 

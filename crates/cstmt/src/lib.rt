@@ -3,12 +3,8 @@
 
 mod assignment;
 mod building;
-mod characters;
-mod format;
 mod local;
 mod loop_head;
-mod printing;
-pub mod punctuation;
 mod simple;
 pub mod statement;
 mod step;
@@ -17,4 +13,3 @@ mod target;
 #[cfg(test)]
 mod tests;
 pub mod told;
-pub mod words;

@@ -4,20 +4,19 @@ ghost use Rattle.std.specs.Prelude.{◌≡◌, length, take, IfOk, OnOk};
 ghost use Rattle.cstmt.specs.StatementReader.{heading, with_local};
 ghost use Rattle.cstmt.specs.Headings.{heading_of};
 ghost use Rattle.cstmt.specs.Tallies.{tally_of};
-ghost use Rattle.cexpr.specs.Names.{names_of};
-ghost use Rattle.cexpr.specs.Lexemes.{tokens_of};
-ghost use Rattle.cexpr.specs.Outcome.{Gives};
+ghost use Rattle.creader.specs.Names.{names_of};
+ghost use Rattle.creader.specs.Lexemes.{tokens_of};
+ghost use Rattle.creader.specs.Outcome.{Gives};
 
-use crate::punctuation::{becomes, open_paren, semicolon};
 use crate::step::step;
 use crate::tally::Tally;
-use crate::words::{new_name, word};
-use cexpr::context::{Context, Setting};
 use cexpr::expression::whole;
-use cexpr::lexeme::Lexeme;
-use cexpr::punctuation::{close_paren, first_place};
-use cexpr::scope::{Entity, Scope, add, find};
-use cexpr::stop::{Fault, Flaw, Stop, earlier, unless};
+use creader::context::{Context, Setting};
+use creader::lexeme::Lexeme;
+use creader::punctuation::{becomes, close_paren, first_place, open_paren, semicolon};
+use creader::scope::{Entity, Scope, add, find};
+use creader::stop::{Fault, Flaw, Stop, earlier, unless};
+use creader::words::{new_name, word};
 use ktree::{Increment, Place, Source, VarId};
 
 /// A loop's variable, start, test and step, and the tokens behind them.

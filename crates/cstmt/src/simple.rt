@@ -5,19 +5,19 @@ ghost use Rattle.ktree.specs.View.{stmt_of};
 ghost use Rattle.cstmt.specs.StatementReader.{ended};
 ghost use Rattle.cstmt.specs.Bodies.{simple};
 ghost use Rattle.cstmt.specs.Tallies.{tally_of, told_of};
-ghost use Rattle.cexpr.specs.Names.{names_of};
-ghost use Rattle.cexpr.specs.Lexemes.{tokens_of};
-ghost use Rattle.cexpr.specs.Outcome.{Gives, got_of};
+ghost use Rattle.creader.specs.Names.{names_of};
+ghost use Rattle.creader.specs.Lexemes.{tokens_of};
+ghost use Rattle.creader.specs.Outcome.{Gives, got_of};
 
 use crate::assignment::assignment;
-use crate::printing::printed;
-use crate::punctuation::semicolon;
 use crate::tally::Tally;
 use crate::told::Told;
-use cexpr::context::Context;
-use cexpr::lexeme::Lexeme;
-use cexpr::parsed::Parsed;
-use cexpr::stop::Stop;
+use cprintf::printing::printed;
+use creader::context::Context;
+use creader::lexeme::Lexeme;
+use creader::parsed::Parsed;
+use creader::punctuation::semicolon;
+use creader::stop::Stop;
 use ktree::{Place, Stmt};
 
 /// A statement that ends in a semicolon.

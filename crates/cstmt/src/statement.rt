@@ -6,24 +6,23 @@ ghost use Rattle.cstmt.specs.StatementReader.{statement, counted, block, items, 
 ghost use Rattle.cstmt.specs.Bodies.{once, twice, headed, item, stated};
 ghost use Rattle.cstmt.specs.Rows.{item_of, items_in};
 ghost use Rattle.cstmt.specs.Tallies.{tally_of, told_of};
-ghost use Rattle.cexpr.specs.Names.{names_of};
-ghost use Rattle.cexpr.specs.Lexemes.{tokens_of};
-ghost use Rattle.cexpr.specs.Outcome.{Gives};
+ghost use Rattle.creader.specs.Names.{names_of};
+ghost use Rattle.creader.specs.Lexemes.{tokens_of};
+ghost use Rattle.creader.specs.Outcome.{Gives};
 
 use crate::building::{if_else, if_only, looped, with_item};
 use crate::local::{begins_item, located};
 use crate::loop_head::heading;
-use crate::punctuation::{close_brace, open_paren};
 use crate::simple::simple;
 use crate::tally::{Tally, declared, spend};
 use crate::told::Told;
-use crate::words::if_word;
-use cexpr::context::{Context, Setting, opened};
 use cexpr::expression::whole;
-use cexpr::lexeme::{Kind, Lexeme};
-use cexpr::punctuation::close_paren;
-use cexpr::scope::{Scope, close, count};
-use cexpr::stop::Stop;
+use creader::context::{Context, Setting, opened};
+use creader::lexeme::{Kind, Lexeme};
+use creader::punctuation::{close_brace, close_paren, open_paren};
+use creader::scope::{Scope, close, count};
+use creader::stop::Stop;
+use creader::words::if_word;
 use ctoken::Symbol;
 use ktree::{Item, Place, Stmt};
 

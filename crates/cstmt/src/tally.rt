@@ -3,9 +3,9 @@
 ghost use Rattle.std.specs.Prelude.{◌≡◌, Some, None};
 ghost use Rattle.cstmt.specs.StatementReader.{Tally, spend, declared};
 ghost use Rattle.cstmt.specs.Tallies.{tally_of};
-ghost use Rattle.cexpr.specs.Outcome.{Gives};
+ghost use Rattle.creader.specs.Outcome.{Gives};
 
-use cexpr::stop::Stop;
+use creader::stop::Stop;
 use ktree::{Place, VarId};
 
 /// The number of the next variable, and how many statements may still follow.

@@ -3,10 +3,10 @@
 ghost use Rattle.std.specs.Prelude.{◌≡◌, option_map, is_none};
 ghost use Rattle.ktree.specs.View.{exprs_of};
 ghost use Rattle.cstmt.specs.StatementReader.{target_of, may_set, may_step};
-ghost use Rattle.cexpr.specs.Names.{entity_of};
+ghost use Rattle.creader.specs.Names.{entity_of};
 
-use cexpr::scope::Entity;
-use cexpr::stop::{Fault, Flaw, unless};
+use creader::scope::Entity;
+use creader::stop::{Fault, Flaw, unless};
 use ktree::{Expr, Place, VarId};
 
 /// The variable that is set, or the first one where there is none.

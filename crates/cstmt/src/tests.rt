@@ -3,12 +3,12 @@
 use crate::statement::items;
 use crate::tally::Tally;
 use crate::told::Told;
-use cexpr::context::Setting;
-use cexpr::lexeme::{Kind, Lexeme};
-use cexpr::scope::{Entity, add, empty};
-use cexpr::stop::{Flaw, Stop};
+use creader::context::Setting;
+use creader::lexeme::{Kind, Lexeme};
+use creader::scope::{Entity, add, empty};
+use creader::stop::{Flaw, Stop};
 use ctoken::Symbol;
-use ktree::{BinaryOp, Item, Place, PrintPart, Stmt, Suffix, VarId};
+use ktree::{BinaryOp, Item, Place, Stmt, Suffix, VarId};
 use std::alloc::{AllocError, Global};
 use std::test::*;
 
@@ -32,14 +32,6 @@ fn long<'t>(column: u32, value: u64) -> Lexeme<'t> {
     let place = Place { line: 1, column };
     Lexeme {
         kind: Kind::Digits(Some(value), Suffix::Ull),
-        place,
-    }
-}
-
-fn quoted<'t>(column: u32, bytes: &'t [u8], is_open: bool) -> Lexeme<'t> {
-    let place = Place { line: 1, column };
-    Lexeme {
-        kind: Kind::Quoted(bytes, is_open),
         place,
     }
 }
@@ -121,37 +113,5 @@ fn statement_past_the_last_is_a_limit(rt: HostRuntime) -> Result<(), Fail> {
     };
     assert_eq!(rt; column, 2);
     assert!(rt; read(rt.alloc(), 2, &tokens)?.is_ok());
-    Ok(())
-}
-
-#[test]
-fn printf_has_an_argument_for_each_place(rt: HostRuntime) -> Result<(), Fail> {
-    let tokens = [
-        word(1, "printf"),
-        sign(7, Symbol::OpenParen),
-        quoted(8, b"s=%", true),
-        word(14, "PRIu64"),
-        quoted(21, b"\\n", false),
-        sign(25, Symbol::Comma),
-        word(27, "s"),
-        sign(28, Symbol::CloseParen),
-        sign(29, Symbol::Semicolon),
-    ];
-    let told = read(rt.alloc(), 7, &tokens)?
-        .ok()
-        .ok_or("the tokens are items")?;
-    assert!(rt; told.fault.is_none());
-    let is_print = match told.tree.first() {
-        Some(Item::Statement(stmt)) => match &**stmt {
-            Stmt::Print(parts, _) => {
-                parts
-                    .iter()
-                    .any(|part| matches!(part, PrintPart::Decimal(_)))
-            }
-            _ => false,
-        },
-        _ => false,
-    };
-    assert!(rt; is_print);
     Ok(())
 }

@@ -1,8 +1,8 @@
 //! What was read of a body.
 
 use crate::tally::Tally;
-use cexpr::lexeme::Lexeme;
-use cexpr::stop::Fault;
+use creader::lexeme::Lexeme;
+use creader::stop::Fault;
 
 /// A part of the tree, the first fault in it, and the tally and the tokens behind it.
 #[derive(Drop)]

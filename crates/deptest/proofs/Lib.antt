@@ -1,2 +1,1 @@
-pub mod Showing
-pub mod Walks
+pub mod Named

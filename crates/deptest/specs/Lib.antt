@@ -1,2 +1,2 @@
-pub mod Pairs
-pub mod Shown
+pub mod Accepted
+pub mod Refused

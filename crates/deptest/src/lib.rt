@@ -1,10 +1,8 @@
-//! The dependence test: whether the iterations of parallel loops are shown to be independent, before any run.
+//! The dependence test's verdict: kernels whose parallel loops are independent, and accepted kernels.
 #![tactic(auto)]
 
-mod kernels;
-mod nests;
-mod pairs;
-mod telling;
+mod accepted;
+mod independent;
 
-pub use kernels::check;
-pub use pairs::{Pair, TooLarge, first_pair};
+pub use accepted::{Checked, accept};
+pub use independent::{Independent, check};

@@ -2,3 +2,4 @@ pub mod KnownLemmas
 pub mod ReadLemmas
 pub mod JudgeLemmas
 pub mod PrivateLemmas
+pub mod ParallelLemmas

@@ -151,7 +151,7 @@ no_first n (Tree.stmt t rest) e h = absurd (cc e)
 
 -- a directive that has a statement behind it
 module _ (text : List ℕ) (line : ℕ) (rest : Tree.Items) (k c : Option ℕ) (reads : ReadsLoop (line_at text line) k c) (s : Tree.Stmt) (first : Some s ≡ first_stmt_of rest) where
-  asked : LineHas text IsPrivate [] line rest → IsPrivate [] (associated c) s
+  pub asked : LineHas text IsPrivate [] line rest → IsPrivate [] (associated c) s
   asked h =
       let once : (h.0 ≡ k) × (h.1 ≡ c) = read_once (line_at text line) h.0 h.1 k c h.2 reads in
       subst (λ d. IsPrivate [] (associated d) s) once.1 ((first_is (associated h.1) rest s first).0 h.3)
@@ -174,7 +174,7 @@ module _ (text : List ℕ) (line : ℕ) (rest : Tree.Items) (k c : Option ℕ) (
 
 abbrev mutual
   -- whatever stands round a statement, the same is asked of the loops in it
-  same_round : (text : List ℕ) (a b : List Loop) (s : Tree.Stmt) → LoopsHave text IsPrivate a s → LoopsHave text IsPrivate b s
+  pub same_round : (text : List ℕ) (a b : List Loop) (s : Tree.Stmt) → LoopsHave text IsPrivate a s → LoopsHave text IsPrivate b s
   same_round text a b (Tree.Assign x is e) h = h
   same_round text a b (Tree.Update x is op e) h = h
   same_round text a b (Tree.If c s) h = same_round text a b s h
@@ -196,7 +196,7 @@ abbrev mutual
   same_line text a b line (Tree.stmt s rest) h = h
 
 -- a loop's statement, by its head and body
-abbrev loop_of : Head → Tree.Stmt → Tree.Stmt
+abbrev pub loop_of : Head → Tree.Stmt → Tree.Stmt
 loop_of head body = Tree.For head.variable.0 (string_bytes head.name) (source_of head.start) (cond_of head.test) (increment_of head.step) body
 
 -- a loop is judged by its body
@@ -207,7 +207,7 @@ loop_judged o text s head body inner e f h =
     subst (λ t. Judges o (LoopsHave text IsPrivate [] t)) is (judges_same o (same_round text [] _ (stmt_of inner)) (same_round text _ [] (stmt_of inner)) h)
 
 -- an item, and the others
-item_cut : (text : List ℕ) (i : Item) (rest : Tree.Items)
+pub item_cut : (text : List ℕ) (i : Item) (rest : Tree.Items)
     → ItemsHave text IsPrivate [] (with_item i rest) ↔ FirstLineIsPrivate text (with_item i Tree.no_items) rest × FirstLoopsArePrivate text (with_item i Tree.no_items) × ItemsHave text IsPrivate [] rest
 item_cut text (Directive place) rest = (λ h. (h.0, tt, h.1), λ h. (h.0, h.2))
 item_cut text (Local l) rest = (λ h. (tt, tt, h), λ h. h.2)

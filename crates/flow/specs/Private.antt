@@ -7,7 +7,7 @@ use Rattle.ktree.specs.declared.refusal.Refusal.{Refusal}
 use Rattle.ktree.specs.declared.refusal.Refusal.TheVariants as refusals
 use Rattle.pragma.specs.Parallel.{AskedOfLoop, LineHas, LoopsHave}
 use Rattle.flow.specs.declared.fault.DataFault.{DataFault}
-use Rattle.flow.specs.declared.fault.DataFault.TheVariants.{Written, Printed, Directive}
+use Rattle.flow.specs.declared.fault.DataFault.TheVariants.{Written, Printed, Directive, OutOfMemory}
 
 -- what is assigned is an element, or one of one's own scalars (OpenMP 5.2, 5.1.1)
 abbrev pub is_own : (Variable → Bool) → Variable → Exprs → Bool
@@ -72,3 +72,4 @@ abbrev pub data_refusal_of : DataFault → Refusal
 data_refusal_of (Written place) = refusals.SharedScalarWritten place
 data_refusal_of (Printed place) = refusals.Ordered place
 data_refusal_of (Directive place) = refusals.Directive place
+data_refusal_of OutOfMemory = refusals.OutOfMemory

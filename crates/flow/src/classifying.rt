@@ -1,17 +1,22 @@
 //! The data of the parallel loops of a kernel.
 
-ghost use Rattle.std.specs.Prelude.{◌≡◌, ℕ, [], Option, option_map, OnOk, IfErr};
+ghost use Rattle.std.specs.Prelude.{◌≡◌, ◌⊎◌, ℕ, [], Option, option_map, OnOk, IfOk, IfErr};
 ghost use Rattle.semantics.specs.Tree.{no_items};
 ghost use Rattle.ktree.specs.View.{stmt_of, with_item, items_of, kernel_of};
 ghost use Rattle.pragma.specs.Parallel.{associated, LineHas, LoopsHave, ItemsHave};
 ghost use Rattle.pragma.specs.Plain.{Judges};
 ghost use Rattle.flow.specs.Private.{IsPrivate, FirstLineIsPrivate, FirstLoopsArePrivate};
+ghost use Rattle.flow.specs.Parallel.{AreParallelLoops};
+ghost use Rattle.flow.specs.declared.fault.DataFault.TheVariants.{OutOfMemory};
 
 use crate::bodies::{first_statement, nest_body};
+use crate::environment::ParallelLoop;
 use crate::fault::DataFault;
+use crate::listing::add_items;
 use crate::sharing::body_fault;
 use ktree::{Item, Kernel, Place, Stmt};
 use pragma::{Collapse, Directives};
+use std::alloc::Global;
 
 /// How many loops a directive associates (OpenMP 5.2, 4.4.3).
 fn depth(collapse: Option<Collapse>) -> u64
@@ -101,19 +106,26 @@ fn item_fault(directives: &Directives, item: &Item) -> Option<DataFault>
     }
 }
 
-/// Whether the iterations of each parallel loop keep to data of their own: the variables of its associated loops and
-/// those that it declares are private, all others are shared; its body writes no shared scalar, and prints nothing
-/// (OpenMP 5.2, 5.1.1, 5.4 and 15.10).
+/// The parallel loops of a kernel, in the order of the text, each with its data environment: the variables of its
+/// associated loops and those that it declares are private, all others are shared. The iterations of each keep to data
+/// of their own: its body writes no shared scalar, and prints nothing (OpenMP 5.2, 5.1.1, 5.4, 11.5 and 15.10).
 ///
 /// # Errors
 ///
-/// The first place in the text where it is not so.
-pub fn classify(kernel: &Kernel, directives: &Directives) -> Result<(), DataFault>
-    ensures ok { OnOk result (ItemsHave directives.now IsPrivate [] (kernel_of kernel.now).body) }
-    ensures err { IfErr result (λ _. ItemsHave directives.now IsPrivate [] (kernel_of kernel.now).body → ⊥) }
+/// The first place in the text where it is not so, and `OutOfMemory` where a growth is refused.
+pub fn classify(
+    alloc: Global,
+    kernel: &Kernel,
+    directives: &Directives,
+) -> Result<Vec<ParallelLoop>, DataFault>
+    ensures ok { IfOk result (λ loops. AreParallelLoops directives.now (kernel_of kernel.now) loops.items) }
+    ensures private { OnOk result (ItemsHave directives.now IsPrivate [] (kernel_of kernel.now).body) }
+    ensures err { IfErr result (λ f. (f ≡ OutOfMemory) ⊎ (ItemsHave directives.now IsPrivate [] (kernel_of kernel.now).body → ⊥)) }
 {
-    match items_fault(directives, kernel.body.as_slice()) {
-        None => Ok(()),
-        Some(fault) => Err(fault),
+    if let Some(fault) = items_fault(directives, kernel.body.as_slice()) {
+        return Err(fault);
     }
+    let mut loops = Vec::new(alloc);
+    add_items(alloc, directives, kernel.body.as_slice(), &mut loops)?;
+    Ok(loops)
 }

@@ -4,6 +4,7 @@ ghost use Rattle.std.specs.Prelude.{◌≡◌};
 ghost use Rattle.flow.specs.Private.{data_refusal_of};
 
 use ktree::{Place, Refusal};
+use std::alloc::AllocError;
 
 /// Why the iterations of a parallel loop do not keep to data of their own (OpenMP 5.2, 5.1.1).
 #[derive(Clone, Copy, Debug, PartialEq, Eq)]
@@ -14,6 +15,8 @@ pub enum DataFault {
     Printed(Place),
     /// A directive line that is no `parallel for`, or has no nest of its depth behind it: the place of its `#`.
     Directive(Place),
+    /// A growth was refused.
+    OutOfMemory,
 }
 
 impl DataFault {
@@ -25,6 +28,17 @@ impl DataFault {
             DataFault::Written(place) => Refusal::SharedScalarWritten(place),
             DataFault::Printed(place) => Refusal::Ordered(place),
             DataFault::Directive(place) => Refusal::Directive(place),
+            DataFault::OutOfMemory => Refusal::OutOfMemory,
         }
+    }
+}
+
+impl From<AllocError> for DataFault {
+    ghost use Rattle.flow.specs.declared.fault.DataFault.TheVariants.{OutOfMemory};
+
+    ghost from_gives = { λ _ fault. fault ≡ OutOfMemory };
+
+    fn from(_error: AllocError) -> DataFault {
+        DataFault::OutOfMemory
     }
 }

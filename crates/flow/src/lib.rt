@@ -1,15 +1,18 @@
-//! Whether the locals of a kernel are assigned before they are read, and whether the data of its parallel loops are private.
+//! Whether the locals of a kernel are assigned before they are read, and the data environments of its parallel loops.
 #![tactic(auto)]
 
 mod bodies;
 mod classifying;
+mod environment;
 mod fault;
 mod judging;
 mod known;
+mod listing;
 mod reading;
 mod sharing;
 
 pub use classifying::classify;
+pub use environment::ParallelLoop;
 pub use fault::DataFault;
 pub use judging::definite;
 

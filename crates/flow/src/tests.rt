@@ -1,12 +1,12 @@
 //! Texts with a scalar `s` and an array `A` at file scope, which are the variables 0 and 1; `x` is the local 2, and the
-//! variable of a loop 3.
+//! variable of a loop 3; those of loops in it are 4 and 5.
 
 use super::*;
 use ktree::{
-    BinaryOp, CompareOp, Cond, Declaration, Expr, Head, Increment, Item, Kernel, Local, Mention,
-    Place, PrintPart, Refusal, Source, Stmt, Suffix, Target, VarId,
+    BinaryOp, ChunkSize, CompareOp, Cond, Declaration, Expr, Head, Increment, Item, Kernel, Local,
+    Mention, Place, PrintPart, Refusal, Source, Stmt, Suffix, Target, VarId,
 };
-use pragma::Directives;
+use pragma::{Collapse, Directives};
 use std::alloc::{AllocError, Global};
 use std::test::Fail;
 
@@ -17,6 +17,10 @@ const A: VarId = VarId(1);
 const X: VarId = VarId(2);
 
 const I: VarId = VarId(3);
+
+const J: VarId = VarId(4);
+
+const K: VarId = VarId(5);
 
 fn at(column: u32) -> Place {
     Place { line: 1, column }
@@ -81,18 +85,29 @@ fn choice(alloc: Global, has_else: bool) -> Result<Stmt, AllocError> {
     Ok(Stmt::If(compare(alloc, S, 1, 3)?, then, other))
 }
 
-/// `for (i = start; i < 8; step) body`, with the place of `for` at column 70.
-fn turns(alloc: Global, start: Expr, step: Increment, body: Stmt) -> Result<Stmt, AllocError> {
+/// `for (variable = start; variable < 8; step) body`, with the place of `for` at column 70.
+fn turns_of(
+    alloc: Global,
+    variable: VarId,
+    start: Expr,
+    step: Increment,
+    body: Stmt,
+) -> Result<Stmt, AllocError> {
     let head = Head {
-        variable: I,
+        variable,
         name: String::from_str(alloc, "i")?,
         start: Source::Number(start),
-        test: compare(alloc, I, 71, 8)?,
+        test: compare(alloc, variable, 71, 8)?,
         step,
         place: at(70),
         start_place: at(70),
     };
     Ok(Stmt::For(head, Box::new(alloc, body)?))
+}
+
+/// `for (i = start; i < 8; step) body`, with the place of `for` at column 70.
+fn turns(alloc: Global, start: Expr, step: Increment, body: Stmt) -> Result<Stmt, AllocError> {
+    turns_of(alloc, I, start, step, body)
 }
 
 fn item(alloc: Global, stmt: Stmt) -> Result<Item, AllocError> {
@@ -307,19 +322,26 @@ fn blocks_hand_on_what_is_known(rt: HostRuntime) -> Result<(), Fail> {
     Ok(())
 }
 
-/// A `parallel for` on the line 2, and one with `collapse(2)` on the line 3.
-const LINES: &[u8] = b"\n#pragma omp parallel for\n#pragma omp parallel for collapse(2)\n";
+/// A `parallel for` on the line 2, one with `collapse(2)` on the line 3, and one with a schedule too on the line 4.
+const LINES: &[u8] =
+    b"\n#pragma omp parallel for\n#pragma omp parallel for collapse(2)\n#pragma omp parallel for schedule(dynamic, 4) collapse(2)\n";
 
-/// What is wrong with the data of the parallel loops of a text with these items.
-fn data_fault(alloc: Global, body: Vec<Item>) -> Result<Option<DataFault>, AllocError> {
+/// The parallel loops of a text with these items, or what is wrong with their data.
+fn parallel_loops(alloc: Global, body: Vec<Item>) -> Result<Vec<ParallelLoop>, DataFault> {
     let kernel = Kernel {
         constants: Vec::new(alloc),
         variables: Vec::new(alloc),
         body,
     };
     let directives = Directives::read(alloc, LINES)?;
-    match classify(&kernel, &directives) {
-        Ok(()) => Ok(None),
+    classify(alloc, &kernel, &directives)
+}
+
+/// What is wrong with the data of the parallel loops of a text with these items.
+fn data_fault(alloc: Global, body: Vec<Item>) -> Result<Option<DataFault>, AllocError> {
+    match parallel_loops(alloc, body) {
+        Ok(_loops) => Ok(None),
+        Err(DataFault::OutOfMemory) => Err(AllocError),
         Err(fault) => Ok(Some(fault)),
     }
 }
@@ -417,6 +439,59 @@ fn collapsed_loops_run_the_innermost_body(rt: HostRuntime) -> Result<(), Fail> {
     Ok(())
 }
 
+/// `for (v = 0; v < 8; v++) body`
+fn over(alloc: Global, variable: VarId, body: Stmt) -> Result<Stmt, AllocError> {
+    turns_of(alloc, variable, number(0), Increment::Up(variable), body)
+}
+
+/// `for (i ..) for (j ..) { uint64_t x; for (k ..) A[i] = 1; }`
+fn collapsed(alloc: Global) -> Result<Stmt, AllocError> {
+    let mut items = Vec::new(alloc);
+    items.push(local(alloc, None)?)?;
+    let inner = over(alloc, K, fill(alloc)?)?;
+    items.push(item(alloc, inner)?)?;
+    let nest = over(alloc, J, Stmt::Block(items))?;
+    over(alloc, I, nest)
+}
+
+#[test]
+fn loops_and_locals_are_private(rt: HostRuntime) -> Result<(), Fail> {
+    let alloc = rt.alloc();
+    let mut items = Vec::new(alloc);
+    items.push(directive(4))?;
+    items.push(item(alloc, collapsed(alloc)?)?)?;
+    let Ok(loops) = parallel_loops(alloc, items) else {
+        return Err(Fail::from("refused"));
+    };
+    assert_eq!(rt; loops.len(), 1);
+    for found in &loops {
+        assert_eq!(rt; found.line, Place { line: 4, column: 1 });
+        assert_eq!(rt; found.directive.schedule, ChunkSize::new(4));
+        assert_eq!(rt; found.directive.collapse, Collapse::new(2));
+        assert_eq!(rt; found.private.as_slice(), [I, J, X, K].as_slice());
+    }
+    Ok(())
+}
+
+#[test]
+fn parallel_loops_come_in_the_order_of_the_text(rt: HostRuntime) -> Result<(), Fail> {
+    let alloc = rt.alloc();
+    let mut items = Vec::new(alloc);
+    items.push(directive(2))?;
+    items.push(item(alloc, plain(alloc, fill(alloc)?)?)?)?;
+    items.push(directive(4))?;
+    items.push(item(alloc, collapsed(alloc)?)?)?;
+    let Ok(loops) = parallel_loops(alloc, items) else {
+        return Err(Fail::from("refused"));
+    };
+    let mut lines = Vec::new(alloc);
+    for found in &loops {
+        lines.push(found.line.line)?;
+    }
+    assert_eq!(rt; lines.as_slice(), [2u32, 4].as_slice());
+    Ok(())
+}
+
 #[test]
 fn serial_loops_are_looked_into(rt: HostRuntime) -> Result<(), Fail> {
     let alloc = rt.alloc();
@@ -434,4 +509,5 @@ fn serial_loops_are_looked_into(rt: HostRuntime) -> Result<(), Fail> {
 fn faults_have_their_refusals(rt: HostRuntime) {
     assert_eq!(rt; DataFault::Written(at(9)).refusal().number(), 14);
     assert_eq!(rt; DataFault::Printed(at(1)).refusal().number(), 18);
+    assert_eq!(rt; DataFault::OutOfMemory.refusal().number(), 23);
 }

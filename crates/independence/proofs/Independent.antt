@@ -21,8 +21,8 @@ use Rattle.pairtest.specs.Meetings as meetings
 use Rattle.pairtest.proofs.Solutions.{refuted_pairs_do_not_meet_lem}
 use Rattle.accesses.specs.Sites.{Site}
 use Rattle.accesses.specs.Found.{AreFound, IsFound, inner_loops}
-use Rattle.deptest.specs.Pairs.{IsShown, AreShown}
-use Rattle.deptest.specs.Shown.{IsShownBody}
+use Rattle.verdict.specs.Pairs.{IsShown, AreShown}
+use Rattle.verdict.specs.Shown.{IsShownBody}
 use Rattle.turns.specs.Turns.{AreEntered, IsIteration}
 use Rattle.turns.proofs.Laws.{iterations_are_turns, entered_are_levels, turns_are_inside, turns_join, steps_tell_iterations}
 use Rattle.turns.proofs.Joining.{contains_none, contains_first, contains_later, contains_cases}

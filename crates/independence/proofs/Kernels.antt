@@ -6,7 +6,7 @@ use Rattle.semantics.specs.Loops.Nest.{Loop}
 use Rattle.counters.specs.Levels.{Nesting}
 use Rattle.nest.specs.Nests.{Has, Have, StaysInside}
 use Rattle.pragma.specs.Parallel.{associated, FirstHas, LineHas, LoopsHave, ItemsHave}
-use Rattle.deptest.specs.Shown.{ShownFirst, LineShown, LoopsShown, ItemsShown, no_loops}
+use Rattle.verdict.specs.Shown.{ShownFirst, LineShown, LoopsShown, ItemsShown, no_loops}
 use Rattle.turns.specs.Turns.{AreEntered}
 use Rattle.turns.proofs.Laws.{entered_join}
 use Rattle.independence.specs.Inside.{LoopsAreRead, ItemsAreRead, HaveShort}

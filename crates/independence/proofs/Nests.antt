@@ -16,7 +16,7 @@ use Rattle.counters.specs.Levels.{Nesting, values_at}
 use Rattle.nest.specs.Nests.{Has, Have, StaysInside}
 use Rattle.accesses.specs.Sites.{IsInside}
 use Rattle.accesses.specs.Found.{inner_loops}
-use Rattle.deptest.specs.Shown.{IsShownBody, IsShownNest, no_loops}
+use Rattle.verdict.specs.Shown.{IsShownBody, IsShownNest, no_loops}
 use Rattle.turns.specs.Turns.{AreEntered}
 use Rattle.turns.proofs.Laws.{entered_join, entered_are_levels, outside_is_a_turn, iterations_are_turns}
 use Rattle.independence.specs.Inside.{IsRead, LoopsAreRead, ItemsAreRead}
@@ -33,7 +33,8 @@ pub record IsLoopThere (ds : List Declaration) (box : List Side) (h : Loop) (bod
   pub is : IsLoop box h.variable h.start h.test h.step body loop numbers
   pub stays : Has (StaysInside ds) (inside box h.variable numbers) body
 
-some_alone : {A : Type 0} (b : Bool) (o : Option A) (x : A) → cond b o None ≡ Some x → o ≡ Some x
+-- an option that is kept where a test holds
+pub some_alone : {A : Type 0} (b : Bool) (o : Option A) (x : A) → cond b o None ≡ Some x → o ≡ Some x
 some_alone true o x e = e
 some_alone false o x e = absurd (none-some x e)
 
@@ -80,6 +81,12 @@ pub record IsNestThere (ds : List Declaration) (now : Nesting) (outer : ℕ) (se
   pub shown : IsShownBody inner outer serial body
   pub there : IsBodyThere ds inner body
 
+-- a nest inside one loop more
+pub longer : (n : ℕ) (s : Stmt) (h : Loop) (b : Stmt) (ls : List Loop) (c : Stmt) → as_loop s ≡ Some (h, b) → nest_of n b ≡ Some (ls, c) → nest_of (suc n) s ≡ Some (h ∷ ls, c)
+longer n s h b ls c e f =
+    ap (λ o. option_and_then (λ found. map_option (λ inner. (found.0 ∷ inner.0, inner.1)) (nest_of n found.1)) o) e
+    ∙ ap (λ o. map_option (λ inner. (h ∷ inner.0, inner.1)) o) f
+
 pub nest_there : (n : ℕ) (ds : List Declaration) (now : Nesting) (outer : ℕ) (serial : List ℕ) (s : Stmt) → IsShownNest now outer serial n s → IsBodyThere ds now s → IsNestThere ds now outer serial n s
 nest_there zero ds now outer serial s shown there = record { loops = []; body = s; inner = now; is = refl; entered = refl; shown = shown; there = there }
 nest_there (suc n) ds now outer serial s (h, body, is, inner, into, shown) there =
@@ -94,11 +101,6 @@ nest_there (suc n) ds now outer serial s (h, body, is, inner, into, shown) there
       shown = rest.shown;
       there = rest.there;
     }
-  where
-    longer : (n : ℕ) (s : Stmt) (h : Loop) (b : Stmt) (ls : List Loop) (c : Stmt) → as_loop s ≡ Some (h, b) → nest_of n b ≡ Some (ls, c) → nest_of (suc n) s ≡ Some (h ∷ ls, c)
-    longer n s h b ls c e f =
-        ap (λ o. option_and_then (λ found. map_option (λ inner. (found.0 ∷ inner.0, inner.1)) (nest_of n found.1)) o) e
-        ∙ ap (λ o. map_option (λ inner. (h ∷ inner.0, inner.1)) o) f
 
 -- the nest at a turn of the serial loops
 pub shown_loops_are_independent : ShownLoopsAreIndependent

@@ -12,7 +12,7 @@ use Rattle.counters.specs.Levels.{Nesting, AreLevels, IsTurn, values_at}
 use Rattle.pragma.specs.Parallel.{ItemsHave}
 use Rattle.nest.specs.Nests.{Has, StaysInside, IsInRange}
 use Rattle.accesses.specs.Found.{inner_loops}
-use Rattle.deptest.specs.Shown.{IsShownBody, IsShownLoop, no_loops, AreShownLoops}
+use Rattle.verdict.specs.Shown.{IsShownBody, IsShownLoop, no_loops, AreShownLoops}
 use Rattle.turns.specs.Turns.{AreEntered}
 use Rattle.independence.specs.Inside.{LoopsAreRead, HaveShort}
 

@@ -12,36 +12,37 @@ use Rattle.ktree.specs.View.{kernel_of}
 use Rattle.seqrun.specs.Reading.{AreVariables}
 use Rattle.total.proofs.Nested.{nested_kernels_run}
 use Rattle.total.proofs.StripRun.{strip_keeps_runs}
-use Rattle.ompk.specs.Accepted.{Accepted, tree_of, IsAccepted, RunsOfAccepted}
+use Rattle.deptest.specs.Accepted.{Program, tree_of, IsAccepted}
+use Rattle.ompk.specs.Outcome.{RunsOfAccepted}
 use Rattle.ompk.proofs.Declared.{variables_of}
 use Rattle.ompk.proofs.Starting.{start_is_state}
 use Rattle.ompk.proofs.Unique.{one_given}
 
 -- the body with its directive lines
-abbrev pub body_run : Accepted → State → Option Effect
+abbrev pub body_run : Program → State → Option Effect
 body_run a s = run_items (kernel_of a.kernel).body s
 
-abbrev pub first_state : Accepted → Given → State
+abbrev pub first_state : Program → Given → State
 first_state a given = start (tree_of a).variables given
 
 -- its variables can be named in an input
-pub named : (a : Accepted) → IsAccepted a → AreVariables (tree_of a).variables
-named a is = variables_of a.text (kernel_of a.kernel) is.reads
+pub named : (a : Program) → IsAccepted a → AreVariables (tree_of a).variables
+named a is = variables_of a.text (kernel_of a.kernel) is.passed.reads
 
 -- it has a run
-pub body_runs : (a : Accepted) (given : Given) → IsAccepted a → AreGiven (tree_of a).variables given → IsSome (body_run a (first_state a given))
+pub body_runs : (a : Program) (given : Given) → IsAccepted a → AreGiven (tree_of a).variables given → IsSome (body_run a (first_state a given))
 body_runs a given is g =
-    nested_kernels_run a.text (kernel_of a.kernel) (first_state a given) is.reads is.in_range is.definite (start_is_state (tree_of a).variables given g) (λ x. refl)
+    nested_kernels_run a.text (kernel_of a.kernel) (first_state a given) is.passed.reads is.passed.in_range is.passed.definite (start_is_state (tree_of a).variables given g) (λ x. refl)
 
-abbrev shown_of : Accepted → Given → Effect → List ℕ
+abbrev shown_of : Program → Given → Effect → List ℕ
 shown_of a given e = e.text ++ dump (tree_of a).variables (overwritten (first_state a given) e.writes)
 
 -- what is written is the text of that run, and the variables as it leaves them
-pub output_is : (a : Accepted) (given : Given) (o : Option Effect) → body_run a (first_state a given) ≡ o → output (tree_of a) given ≡ map_option (shown_of a given) o
+pub output_is : (a : Program) (given : Given) (o : Option Effect) → body_run a (first_state a given) ≡ o → output (tree_of a) given ≡ map_option (shown_of a given) o
 output_is a given o is = ap (map_option (shown_of a given)) (strip_keeps_runs (kernel_of a.kernel) (first_state a given) ∙ is)
 
 -- an accepted text writes something
-pub output_there : (a : Accepted) (given : Given) → IsAccepted a → AreGiven (tree_of a).variables given → (out : List ℕ) × (output (tree_of a) given ≡ Some out)
+pub output_there : (a : Program) (given : Given) → IsAccepted a → AreGiven (tree_of a).variables given → (out : List ℕ) × (output (tree_of a) given ≡ Some out)
 output_there a given is g = go (body_run a (first_state a given)) refl (body_runs a given is g)
   where
     go : (o : Option Effect) → body_run a (first_state a given) ≡ o → IsSome o → (out : List ℕ) × (output (tree_of a) given ≡ Some out)
@@ -49,7 +50,7 @@ output_there a given is g = go (body_run a (first_state a given)) refl (body_run
     go (Some f) e h = (shown_of a given f, output_is a given (Some f) e)
 
 -- and nothing else
-pub one_output : (a : Accepted) (input : List ℕ) (given : Given) (out other : List ℕ) → IsAccepted a → IsInput (tree_of a).variables input given → output (tree_of a) given ≡ Some out → Outputs (tree_of a) input other → other ≡ out
+pub one_output : (a : Program) (input : List ℕ) (given : Given) (out other : List ℕ) → IsAccepted a → IsInput (tree_of a).variables input given → output (tree_of a) given ≡ Some out → Outputs (tree_of a) input other → other ≡ out
 one_output a input given out other is read gives outputs =
     let same = one_given (tree_of a).variables input outputs.given given (named a is) outputs.read read in
     same_Some other out (sym outputs.is ∙ ap (output (tree_of a)) same ∙ gives)

@@ -13,12 +13,12 @@ use Rattle.execute.specs.Ran.{Ran, text_of}
 use Rattle.seqrun.specs.Told.{AddsBeginning}
 use Rattle.seqrun.specs.Reading.{IsStart}
 use Rattle.seqrun.proofs.Beginnings.{of_front, of_rest}
-use Rattle.ompk.specs.Accepted.{Accepted, tree_of, IsAccepted}
+use Rattle.deptest.specs.Accepted.{Program, tree_of, IsAccepted}
 use Rattle.ompk.proofs.Output.{body_run, first_state, named, body_runs, output_is, output_there, same_dump}
 use Rattle.ompk.proofs.Unique.{one_given}
 
 -- a run that ends before it begins
-pub nothing_written : (a : Accepted) (input before : List ℕ) → IsAccepted a → WritesABeginning (tree_of a) input before before
+pub nothing_written : (a : Program) (input before : List ℕ) → IsAccepted a → WritesABeginning (tree_of a) input before before
 nothing_written a input before is = record {
   written = [];
   added = sym (append-nil before);
@@ -27,7 +27,7 @@ nothing_written a input before is = record {
 }
 
 -- a run from the variables that an input gives, with no locals yet
-module _ (a : Accepted) (input : List ℕ) (ks : List Kept) (is : IsAccepted a) (first : IsStart (tree_of a).variables input ks) where
+module _ (a : Program) (input : List ℕ) (ks : List Kept) (is : IsAccepted a) (first : IsStart (tree_of a).variables input ks) where
   abbrev outset : State
   outset = standing [] ks
 

@@ -1,3 +1,3 @@
-pub mod Accepted
+pub mod Refused
 pub mod Outcome
 pub mod Message

@@ -4,66 +4,24 @@ ghost use Rattle.std.specs.Prelude.{◌≡◌, ◌⊎◌, [], map, IfOk, IfErr};
 ghost use Rattle.ktree.specs.declared.refusal.Refusal.TheVariants.{OutOfMemory};
 ghost use Rattle.pragma.specs.Parallel.{ItemsHave};
 ghost use Rattle.flow.specs.Private.{IsPrivate};
-ghost use Rattle.deptest.specs.Shown.{AreShownLoops};
-ghost use Rattle.ktree.specs.View.{declaration_of, kernel_of};
+ghost use Rattle.flow.specs.Parallel.{AreParallelLoops};
+ghost use Rattle.ktree.specs.View.{kernel_of};
+ghost use Rattle.semantics.specs.Source.Grammar.{ReadsText};
 ghost use Rattle.semantics.specs.Theorems.{StandsFor};
 ghost use Rattle.semantics.specs.Meaning.Definite.{IsDefinite, no_privates};
 ghost use Rattle.pragma.specs.Plain.{IsDirected};
 ghost use Rattle.nest.specs.Nests.{IsInRange};
 ghost use Rattle.nest.specs.Perfect.{AreRightNests};
-ghost use Rattle.ompk.specs.Accepted.{tree_of, IsAccepted, RefusesLines, RefusesNests, RefusesRanges, RefusesData, RefusesKernel, RefusesText};
+ghost use Rattle.deptest.specs.Accepted.{tree_of, HasPassed, IsAccepted};
+ghost use Rattle.ompk.specs.Refused.{RefusesLines, RefusesNests, RefusesRanges, RefusesData, RefusesPasses, RefusesKernel, RefusesText};
 
 use cparse::parse;
-use deptest::check as test_dependences;
-use flow::{DataFault, classify, definite};
-use ktree::{Declaration, Item, Kernel, Place, Refusal};
+use deptest::{Checked, accept};
+use flow::{DataFault, ParallelLoop, classify, definite};
+use ktree::{Kernel, Place, Refusal};
 use nest::{in_range, nests};
 use pragma::{Directives, first_fault};
 use std::alloc::Global;
-use std::marker::Model;
-
-/// An accepted kernel, which `run` and `seq` take.
-#[derive(Drop)]
-pub struct Checked {
-    text: Vec<u8>,
-    kernel: Kernel,
-}
-
-impl Model for Checked {
-    ghost use Rattle.std.specs.Coded.{codes};
-    ghost use Rattle.ktree.specs.contracts.statement.Item as item;
-    ghost use Rattle.ompk.specs.Accepted.{Accepted, IsAccepted};
-
-    ghost Value = { Accepted };
-
-    ghost coded = { Prim.hlevel (codes, item.the_row.coded) };
-
-    ghost view = { λ c. record { text = c.text.items; kernel = c.kernel } };
-
-    ghost invariant = { λ c. IsAccepted (record { text = c.text.items; kernel = c.kernel }) };
-}
-
-impl Checked {
-    // The file-scope variables.
-    pub(crate) fn declarations(&self) -> &[Declaration]
-        ensures variables { map declaration_of result.now ≡ (tree_of self.now).variables }
-        ensures sound { IsAccepted self.now }
-    {
-        self.kernel.variables.as_slice()
-    }
-
-    // The items of the kernel's body.
-    pub(crate) fn body(&self) -> &[Item]
-        ensures { result.now ≡ self.now.kernel.body.items }
-    {
-        self.kernel.body.as_slice()
-    }
-
-    // The text, for what its directive lines say.
-    pub(crate) fn text(&self) -> &[u8] {
-        self.text.as_slice()
-    }
-}
 
 // Refuses a kernel with a directive line that is no `parallel for` before a loop, or stands inside a parallel loop.
 fn judge_lines(kernel: &Kernel, directives: &Directives) -> Result<(), Refusal>
@@ -114,15 +72,20 @@ fn stands_before(fault: DataFault, refusal: &Refusal) -> bool {
 }
 
 // Refuses a kernel in which a parallel loop writes a shared scalar or prints, or a local may be read before it is assigned.
-fn judge_data(alloc: Global, kernel: &Kernel, directives: &Directives) -> Result<(), Refusal>
+fn judge_data(
+    alloc: Global,
+    kernel: &Kernel,
+    directives: &Directives,
+) -> Result<Vec<ParallelLoop>, Refusal>
+    ensures listed { IfOk result (λ loops. AreParallelLoops directives.now (kernel_of kernel.now) loops.items) }
     ensures definite { IfOk result (λ _. IsDefinite no_privates (kernel_of kernel.now)) }
     ensures private { IfOk result (λ _. ItemsHave directives.now IsPrivate [] (kernel_of kernel.now).body) }
     ensures refusal { IfErr result (λ r. (r ≡ OutOfMemory) ⊎ RefusesData directives.now (kernel_of kernel.now) r) }
 {
-    match (definite(alloc, kernel), classify(kernel, directives)) {
-        (Ok(()), Ok(())) => Ok(()),
+    match (definite(alloc, kernel), classify(alloc, kernel, directives)) {
+        (Ok(()), Ok(loops)) => Ok(loops),
         (Ok(()), Err(fault)) => Err(fault.refusal()),
-        (Err(refusal), Ok(())) => Err(refusal),
+        (Err(refusal), Ok(_loops)) => Err(refusal),
         (Err(refusal), Err(fault)) => {
             if stands_before(fault, &refusal) {
                 Err(fault.refusal())
@@ -133,23 +96,31 @@ fn judge_data(alloc: Global, kernel: &Kernel, directives: &Directives) -> Result
     }
 }
 
-// Refuses a tree that is none of those that are run, in the order of the passes: directive lines, loops and nests, data, ranges,
-// and pairs of accesses.
-fn judge(alloc: Global, kernel: &Kernel, text: &[u8]) -> Result<(), Refusal>
-    ensures in_range { IfOk result (λ _. IsInRange (kernel_of kernel.now)) }
-    ensures directed { IfOk result (λ _. IsDirected text.now (kernel_of kernel.now)) }
-    ensures nested { IfOk result (λ _. AreRightNests text.now (kernel_of kernel.now)) }
-    ensures definite { IfOk result (λ _. IsDefinite no_privates (kernel_of kernel.now)) }
-    ensures private { IfOk result (λ _. ItemsHave text.now IsPrivate [] (kernel_of kernel.now).body) }
-    ensures shown { IfOk result (λ _. AreShownLoops text.now (kernel_of kernel.now)) }
-    ensures refusal { IfErr result (RefusesKernel text.now (kernel_of kernel.now)) }
+// Refuses a tree that does not pass what stands before the dependence test, in the order of the passes: directive lines, loops and
+// nests, data, and ranges.
+fn judge(alloc: Global, kernel: &Kernel, text: &[u8]) -> Result<Vec<ParallelLoop>, Refusal>
+    requires { ReadsText text.now (kernel_of kernel.now) }
+    ensures passed { IfOk result (λ _. HasPassed text.now (kernel_of kernel.now)) }
+    ensures listed { IfOk result (λ loops. AreParallelLoops text.now (kernel_of kernel.now) loops.items) }
+    ensures refusal { IfErr result (RefusesPasses text.now (kernel_of kernel.now)) }
 {
     let directives = Directives::read(alloc, text)?;
     judge_lines(kernel, &directives)?;
     judge_nests(alloc, kernel, &directives)?;
-    judge_data(alloc, kernel, &directives)?;
+    let loops = judge_data(alloc, kernel, &directives)?;
     judge_ranges(alloc, kernel)?;
-    test_dependences(alloc, kernel, &directives)
+    Ok(loops)
+}
+
+// Accepts the kernel of a text, or refuses it.
+fn accepted(alloc: Global, kernel: Kernel, text: &[u8]) -> Result<Checked, Refusal>
+    requires { ReadsText text.now (kernel_of kernel) }
+    ensures is { IfOk result (λ checked. checked ≡ record { text = text.now; kernel = kernel }) }
+    ensures refusal { IfErr result (RefusesKernel text.now (kernel_of kernel)) }
+{
+    let loops = judge(alloc, &kernel, text)?;
+    let text = Vec::from_slice(alloc, text)?;
+    accept(alloc, text, kernel, loops)
 }
 
 /// Reads a text, and finds out whether it is one of those that are run: its tree is there, its directive lines are read, each
@@ -167,7 +138,5 @@ pub fn check(alloc: Global, text: &[u8]) -> Result<Checked, Refusal>
     ensures refusal { IfErr result (RefusesText text.now) }
 {
     let kernel = parse(alloc, text)?;
-    judge(alloc, &kernel, text)?;
-    let text = Vec::from_slice(alloc, text)?;
-    Ok(Checked { text, kernel })
+    accepted(alloc, kernel, text)
 }

@@ -6,7 +6,8 @@ mod running;
 mod teaming;
 mod telling;
 
-pub use accepting::{Checked, check};
+pub use accepting::check;
+pub use deptest::Checked;
 pub use running::{run, runs_of_accepted, seq};
 pub use telling::{status, tell};
 

@@ -3,15 +3,14 @@
 ghost use Rattle.std.specs.Prelude.{◌+◌, ◌<◌, ◌^◌, IfErr, OnOk};
 ghost use Rattle.semantics.specs.Theorems.{WritesABeginning, WritesAll, RefusesRightly};
 ghost use Rattle.ktree.specs.Numbers.{number_of};
-ghost use Rattle.ompk.specs.Accepted.{tree_of, RunsOfAccepted};
-ghost use Rattle.ompk.specs.Outcome.{NamesTheFault};
+ghost use Rattle.deptest.specs.Accepted.{tree_of};
+ghost use Rattle.ompk.specs.Outcome.{NamesTheFault, RunsOfAccepted};
 
-use crate::accepting::Checked;
 use crate::teaming::{Teaming, team_block};
+use deptest::Checked;
 use evaluate::Frame;
 use execute::block;
 use ktree::{Refusal, Workers};
-use pragma::Directives;
 use seqrun::{Sink, dump, input as read_input};
 use std::alloc::Global;
 use std::sync::Wait;
@@ -43,11 +42,10 @@ pub fn run<R: Threads + Wait + Sync, G: Gate, S: Sink>(
 {
     let declarations = checked.declarations();
     let mut store = read_input(alloc, declarations, input)?;
-    let directives = Directives::read(alloc, checked.text())?;
     let team = Teaming {
         rt,
         alloc,
-        directives: &directives,
+        loops: checked.loops(),
         workers,
         gate,
     };

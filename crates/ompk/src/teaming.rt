@@ -13,10 +13,10 @@ ghost use Rattle.execute.specs.Ran.{Ran, Ended, text_of, lengths_of};
 
 use evaluate::{Frame, Slot, holds, source_value};
 use execute::{increment, run_item, statement};
+use flow::ParallelLoop;
 use ktree::{ChunkSize, Item, Place, Refusal, Stmt, VarId, Workers};
 use lower::{fits, lowered_loop};
 use overlay::{Formula, LoweredLoop, Operand, Store};
-use pragma::Directives;
 use seqrun::Sink;
 use std::alloc::Global;
 use std::sync::Wait;
@@ -28,7 +28,7 @@ use team::{Gate, run_loop};
 pub(crate) struct Teaming<'r, R: Threads + Wait + Sync, G: Gate> {
     pub(crate) rt: &'r R,
     pub(crate) alloc: Global,
-    pub(crate) directives: &'r Directives<'r>,
+    pub(crate) loops: &'r [ParallelLoop],
     pub(crate) workers: Workers,
     pub(crate) gate: &'r G,
 }
@@ -69,11 +69,13 @@ fn is_open(lowered: &LoweredLoop, frame: &Frame) -> bool
 }
 
 // The size of the chunks of the loop behind the directive line at this place, if it has a dynamic schedule.
-fn chunk_size(directives: &Directives, directive: Place) -> Option<ChunkSize> {
-    match directives.at(directive) {
-        Ok(line) => line.schedule,
-        Err(_refusal) => None,
+fn chunk_size(loops: &[ParallelLoop], directive: Place) -> Option<ChunkSize> {
+    for parallel in loops.iter() {
+        if parallel.line == directive {
+            return parallel.directive.schedule;
+        }
     }
+    None
 }
 
 // Runs the loop behind the directive line at this place by the team, and answers true; leaves any other statement alone, and
@@ -91,7 +93,7 @@ fn run_construct<R: Threads + Wait + Sync, G: Gate>(
     ensures refusal { IfErr result (λ refusal. refusal ≡ OutOfMemory) }
     ensures shape { lengths_of store.new ≡ lengths_of store.old }
 {
-    let Some(size) = chunk_size(team.directives, directive) else {
+    let Some(size) = chunk_size(team.loops, directive) else {
         return Ok(false);
     };
     let Some(lowered) = lowered_loop(stmt, size) else {

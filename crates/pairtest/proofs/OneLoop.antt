@@ -1,5 +1,5 @@
 -- One loop, and one subscript with the same coefficient on both sides.
-use Rattle.std.proofs.Common.{◌≡◌, ℕ, ℤ, pos, negsuc, zero, suc, ◌+◌, ◌-◌, ◌*◌, ◌/◌, ◌<◌, ◌≤◌, ◌%◌, ◌+ℤ◌, ◌-ℤ◌, ◌*ℤ◌, ◌<ℤ◌, ◌≤ℤ◌, ◌⊎◌, inl, inr, Bool, true, false, nat_lt, unsigned_abs, List, [], ◌∷◌, length, get_or, All, Any, mul-le-mul_left, refl, sym, ap, ◌∙◌, subst, arith}
+use Rattle.std.proofs.Common.{◌≡◌, ℕ, ℤ, pos, negsuc, zero, suc, ◌+◌, ◌-◌, ◌*◌, ◌/◌, ◌<◌, ◌≤◌, ◌%◌, ◌+ℤ◌, ◌-ℤ◌, ◌*ℤ◌, ◌<ℤ◌, ◌≤ℤ◌, ◌⊎◌, inl, inr, Bool, true, false, nat_lt, unsigned_abs, List, [], ◌∷◌, ◌++◌, length, get_or, All, Any, mul-le-mul_left, refl, sym, ap, ◌∙◌, subst, arith}
 use Rattle.std.specs.Int.{◌∣◌, int_min, int_max}
 use Rattle.std.specs.Prelude.{nat_eq, slice_index}
 use Rattle.std.specs.List.{zip}
@@ -7,13 +7,13 @@ use Rattle.std.proofs.lemmas.Int.{ints, clamps, by_lt_z}
 use Rattle.std.proofs.lemmas.Nat.Gcd.{dvd-zero, dvd_refl, dvd_of_mod-eq-zero}
 use Rattle.std.proofs.Math.Nat.{mul-div_cancel', mul-suc, mod-eq-zero_of_dvd}
 use Rattle.std.proofs.lemmas.Bool.Decides.{Decides-eqb, Decides-ltb, nat_tests}
-use Rattle.std.proofs.lemmas.List.Elements.{All-nil, All-cons}
+use Rattle.std.proofs.lemmas.List.Elements.{All-nil, All-cons, All-head, All-tail}
 use Rattle.pairtest.specs.declared.access.Subscript.{Subscript}
 use Rattle.pairtest.specs.declared.access.Access.{Access}
 use Rattle.pairtest.specs.declared.access.Nest.{Nest}
-use Rattle.pairtest.specs.Equations.{Unknown, unknown, Equation, equation, IsGreatestDivisor, IsRefuted}
-use Rattle.pairtest.specs.Cases.{case_equation, dimensions, IsCaseRefuted}
-use Rattle.pairtest.specs.Meetings.{value_at, counter_sum, AreBelow, IsTurn, Meet, IsOneLoop, IsLine, LinesMeet, OneLoopIsExact}
+use Rattle.pairtest.specs.Equations.{Unknown, unknown, Equation, equation, least_sum, greatest_sum, IsGreatestDivisor, IsRefuted}
+use Rattle.pairtest.specs.Cases.{coefficient, counters, unknowns, case_equation, dimensions, IsCaseRefuted}
+use Rattle.pairtest.specs.Meetings.{Turn, value_at, counter_sum, AreBelow, IsTurn, Meet, IsOneLoop, lone, IsLine, LinesMeet, OneLoopIsExact}
 use Rattle.pairtest.proofs.Solutions.{times-sum, times-one, zero-times, difference-times, refuted_pairs_do_not_meet_lem}
 
 -- the equation of one loop
@@ -133,25 +133,117 @@ line_refuted n a b c none = few (nat_lt n 2) refl
     few true e = inl ((Decides-ltb n 2).0 e)
     few false e = inr (multiple (grind (arith, nat_tests)) (nat_eq (unsigned_abs ((c -ℤ b) +ℤ a) % unsigned_abs a) 0) refl)
 
--- the case of the only loop
-line_case : (nest : Nest) (x y : Access) (n : ℕ) (a b c : ℤ) → IsOneLoop nest n → IsLine x a b → IsLine y a c → ¬ (LinesMeet n a b c) → IsCaseRefuted nest 0 x y
+-- ---- serial loops that do not count
+
+-- an unknown without a coefficient changes nothing
+idle_more : (us : List Unknown) (m : ℕ) (r : ℤ) → IsRefuted (equation us r) → IsRefuted (equation (unknown (pos 0) m ∷ us) r)
+idle_more us m r (inl d) =
+    let P : ℕ → Unknown → Type 0 = λ g u. g ∣ unsigned_abs u.coefficient in
+    inl (
+    record {
+      divisor = d.divisor;
+      greatest =
+          record {
+            divides = All-cons (P d.divisor) (unknown (pos 0) m) us (dvd-zero d.divisor) d.greatest.divides;
+            greatest = λ g all. d.greatest.greatest g (All-tail (P g) (unknown (pos 0) m) us all);
+          };
+      remains = d.remains;
+    }
+    )
+idle_more us m r (inr (inl less)) = inr (inl (bound (pos 0 *ℤ pos (m - 1)) (least_sum us) (zero-times (pos (m - 1))) less))
+  where
+    bound : (u v : ℤ) → u ≡ pos 0 → r <ℤ v → r <ℤ (int_min u (pos 0) +ℤ v)
+    bound u v e f = omega (arith, ints, clamps, e, f)
+idle_more us m r (inr (inr more)) = inr (inr (bound (pos 0 *ℤ pos (m - 1)) (greatest_sum us) (zero-times (pos (m - 1))) more))
+  where
+    bound : (u v : ℤ) → u ≡ pos 0 → v <ℤ r → (int_max u (pos 0) +ℤ v) <ℤ r
+    bound u v e f = omega (arith, ints, clamps, e, f)
+
+-- the unknowns of serial loops, and those of the loop behind them
+idle : List ℕ → List Unknown → List Unknown
+idle [] us = us
+idle (m ∷ ms) us = unknown (pos 0) m ∷ idle ms us
+
+idle_all : (ms : List ℕ) (us : List Unknown) (r : ℤ) → IsRefuted (equation us r) → IsRefuted (equation (idle ms us) r)
+unfolding idle
+idle_all [] us r h = h
+idle_all (m ∷ ms) us r h = idle_more (idle ms us) m r (idle_all ms us r h)
+
+lone_counters : (ms : List ℕ) (a : ℤ) (us : List Unknown) → counters (lone ms a) (lone ms a) (ms ++ []) ++ us ≡ idle ms us
+unfolding idle
+lone_counters [] a us = refl
+lone_counters (m ∷ ms) a us = ap (λ (vs : List Unknown). unknown (pos 0) m ∷ vs) (lone_counters ms a us)
+
+lone_at : (ms : List ℕ) (a : ℤ) → coefficient (lone ms a) (length ms) ≡ a
+lone_at [] a = refl
+lone_at (m ∷ ms) a = lone_at ms a
+
+lone_coefficient : (ms : List ℕ) (a : ℤ) → coefficient (lone ms a) (length ms + 0) ≡ a
+lone_coefficient ms a =
+    let here : length ms + 0 ≡ length ms = omega arith in
+    ap (coefficient (lone ms a)) here ∙ lone_at ms a
+
+-- the unknowns of the case of the only loop
+lone_unknowns : (nest : Nest) (x y : Access) (n : ℕ) (a : ℤ) → nest.loops.items ≡ n ∷ [] → x.inner.items ≡ [] → y.inner.items ≡ []
+    → unknowns nest 0 x y (lone nest.serial.items a) (lone nest.serial.items a) ≡ idle nest.serial.items (line_unknowns a n)
 unfolding line_unknowns
+lone_unknowns nest x y n a loops ix iy =
+    let ms = nest.serial.items in
+    let at : coefficient (lone ms a) (length ms + 0) ≡ a = lone_coefficient ms a in
+    rw (loops, ix, iy, at) (lone_counters ms a (unknown (a -ℤ a) (n - 1) ∷ unknown (pos 0 -ℤ a) (n - 1) ∷ []))
+
+-- the case of the only loop
+line_case : (nest : Nest) (x y : Access) (n : ℕ) (a b c : ℤ) → IsOneLoop nest n → IsLine nest x a b → IsLine nest y a c → ¬ (LinesMeet n a b c) → IsCaseRefuted nest 0 x y
 line_case nest x y n a b c one first second none = by (line_refuted n a b c none)
   where
+    ms : List ℕ
+    ms = nest.serial.items
+
     by : (n < 2) ⊎ IsRefuted (equation (line_unknowns a n) ((c -ℤ b) +ℤ a)) → IsCaseRefuted nest 0 x y
     by (inl few) = inl (inl (subst (λ (ns : List ℕ). slice_index ns 0 < 2) (sym one.loops) few))
     by (inr refuted) =
         let pairs : dimensions x y ≡ (first.subscript, second.subscript) ∷ [] = ap (λ (ss : List Subscript). zip ss y.subscripts.items) first.one ∙ ap (λ (ts : List Subscript). zip (first.subscript ∷ []) ts) second.one in
-        let whole : case_equation nest 0 x y first.subscript second.subscript ≡ equation (line_unknowns a n) ((c -ℤ b) +ℤ a) =
-        let serial = one.serial in let loops = one.loops in let es = first.coefficients in let ls = second.coefficients in
-        let cb = first.constant in let cc' = second.constant in let ix = first.inner in let iy = second.inner in
-        rw (serial, loops, es, ls, cb, cc', ix, iy) refl in
+        let whole : case_equation nest 0 x y first.subscript second.subscript ≡ equation (idle ms (line_unknowns a n)) ((c -ℤ b) +ℤ a) =
+        let es = first.coefficients in let ls = second.coefficients in
+        let cb = first.constant in let cc' = second.constant in
+        let us = lone_unknowns nest x y n a one.loops first.inner second.inner in
+        let at = lone_coefficient ms a in
+        rw (es, ls, cb, cc', us, at) refl in
         inr (subst (λ (ds : List (Subscript × Subscript)). Any (λ d. IsRefuted (case_equation nest 0 x y d.0 d.1)) ds) (sym pairs)
-        (0, (first.subscript, second.subscript), omega arith, refl, subst (λ (e : Equation). IsRefuted e) (sym whole) refuted))
+        (0, (first.subscript, second.subscript), omega arith, refl, subst (λ (e : Equation). IsRefuted e) (sym whole) (idle_all ms (line_unknowns a n) ((c -ℤ b) +ℤ a) refuted)))
+
+-- ---- accesses that meet
+
+-- the first turns of serial loops
+firsts : List ℕ → List ℕ
+firsts [] = []
+firsts (m ∷ ms) = 0 ∷ firsts ms
+
+firsts_below : (ms : List ℕ) → All (λ m. 0 < m) ms → AreBelow (firsts ms) ms
+unfolding firsts
+firsts_below [] h = tt
+firsts_below (m ∷ ms) h = (All-head (λ k. 0 < k) m ms h, firsts_below ms (All-tail (λ k. 0 < k) m ms h))
+
+-- the sum there
+lone_sum : (ms : List ℕ) (a : ℤ) (k : ℕ) → counter_sum (lone ms a) (firsts ms ++ (k ∷ [])) ≡ a *ℤ pos k
+unfolding firsts
+lone_sum [] a k = plain (a *ℤ pos k)
+  where
+    plain : (u : ℤ) → u +ℤ pos 0 ≡ u
+    plain u = omega (arith, ints)
+lone_sum (m ∷ ms) a k = plain (counter_sum (lone ms a) (firsts ms ++ (k ∷ []))) ∙ lone_sum ms a k
+  where
+    plain : (u : ℤ) → pos 0 *ℤ pos 0 +ℤ u ≡ u
+    plain u = omega (arith, ints)
+
+-- the turn of a counter
+turn_at : Nest → ℕ → Turn
+turn_at nest k = record { serial = firsts nest.serial.items; nest = k ∷ []; inner = [] }
 
 -- lines that meet are accesses that meet
-lines_meet : (nest : Nest) (x y : Access) (n : ℕ) (a b c : ℤ) → IsOneLoop nest n → IsLine x a b → IsLine y a c → (m : LinesMeet n a b c)
-    → Meet nest x y (record { serial = []; nest = m.k ∷ []; inner = [] }) (record { serial = []; nest = m.l ∷ []; inner = [] })
+lines_meet : (nest : Nest) (x y : Access) (n : ℕ) (a b c : ℤ) → IsOneLoop nest n → IsLine nest x a b → IsLine nest y a c → (m : LinesMeet n a b c)
+    → Meet nest x y (turn_at nest m.k) (turn_at nest m.l)
+unfolding turn_at
 lines_meet nest x y n a b c one first second m =
     record {
       first = turn x m.k m.k_below first.inner;
@@ -160,26 +252,28 @@ lines_meet nest x y n a b c one first second m =
       apart = λ e. m.apart (ap (λ (ks : List ℕ). get_or ks 0 0) e);
       same_element =
           let pairs : dimensions x y ≡ (first.subscript, second.subscript) ∷ [] = ap (λ (ss : List Subscript). zip ss y.subscripts.items) first.one ∙ ap (λ (ts : List Subscript). zip (first.subscript ∷ []) ts) second.one in
-          let P : Subscript × Subscript → Type 0 = λ d. value_at d.0 (record { serial = []; nest = m.k ∷ []; inner = [] }) ≡ value_at d.1 (record { serial = []; nest = m.l ∷ []; inner = [] }) in
+          let P : Subscript × Subscript → Type 0 = λ d. value_at d.0 (turn_at nest m.k) ≡ value_at d.1 (turn_at nest m.l) in
           subst (λ (ds : List (Subscript × Subscript)). All P ds) (sym pairs)
           (All-cons P (first.subscript, second.subscript) [] (value first m.k ∙ m.equal ∙ sym (value second m.l)) (All-nil P));
     }
   where
-    turn : (z : Access) (k : ℕ) → k < n → z.inner.items ≡ [] → IsTurn nest z (record { serial = []; nest = k ∷ []; inner = [] })
+    turn : (z : Access) (k : ℕ) → k < n → z.inner.items ≡ [] → IsTurn nest z (turn_at nest k)
     turn z k l inner =
         record {
-          serial = subst (λ (ns : List ℕ). AreBelow [] ns) (sym one.serial) tt;
+          serial = firsts_below nest.serial.items one.serial;
           nest_loops = subst (λ (ns : List ℕ). AreBelow (k ∷ []) ns) (sym one.loops) (l, tt);
           inner = subst (λ (ns : List ℕ). AreBelow [] ns) (sym inner) tt;
         }
 
-    swapped : (u v : ℤ) → u +ℤ (v +ℤ pos 0) ≡ v +ℤ u
+    swapped : (u v : ℤ) → u +ℤ v ≡ v +ℤ u
     swapped u v = omega (arith, ints)
 
-    value : {z : Access} {d : ℤ} (line : IsLine z a d) (k : ℕ) → value_at line.subscript (record { serial = []; nest = k ∷ []; inner = [] }) ≡ a *ℤ pos k +ℤ d
+    value : {z : Access} {d : ℤ} (line : IsLine nest z a d) (k : ℕ) → value_at line.subscript (turn_at nest k) ≡ a *ℤ pos k +ℤ d
     value {z} {d} line k =
-        ap (λ (n : ℤ). n +ℤ counter_sum line.subscript.coefficients.items (k ∷ [])) line.constant
-        ∙ ap (λ (cs : List ℤ). d +ℤ counter_sum cs (k ∷ [])) line.coefficients ∙ swapped d (a *ℤ pos k)
+        let all = firsts nest.serial.items ++ (k ∷ []) in
+        ap (λ (n : ℤ). n +ℤ counter_sum line.subscript.coefficients.items all) line.constant
+        ∙ ap (λ (cs : List ℤ). d +ℤ counter_sum cs all) line.coefficients
+        ∙ ap (λ (s : ℤ). d +ℤ s) (lone_sum nest.serial.items a k) ∙ swapped d (a *ℤ pos k)
 
 pub one_loop_is_exact_lem : OneLoopIsExact
 one_loop_is_exact_lem nest x y n a b c one first second = (

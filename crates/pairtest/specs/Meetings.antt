@@ -45,16 +45,21 @@ pub record Meet (nest : Nest) (x y : Access) (s t : Turn) : Type 0 where
 abbrev pub RefutedPairsDoNotMeet : Type 0
 RefutedPairsDoNotMeet = (nest : Nest) (x y : Access) (s t : Turn) → AllRefuted nest x y → ¬ (Meet nest x y s t)
 
--- a nest of one loop of at most n turns, with no serial loop round it
+-- a nest of one loop of at most n turns, inside serial loops that each have a turn
 pub record IsOneLoop (nest : Nest) (n : ℕ) : Type 0 where
-  pub serial : nest.serial.items ≡ []
+  pub serial : All (λ m. 0 < m) nest.serial.items
   pub loops : nest.loops.items ≡ n ∷ []
 
--- an access whose only subscript is a * counter + b, inside no loop of the body
-pub record IsLine (access : Access) (a b : ℤ) : Type 0 where
+-- the coefficients of a form in which the counter of a nest's loop alone counts, inside these serial loops
+abbrev pub lone : List ℕ → ℤ → List ℤ
+lone [] a = a ∷ []
+lone (m ∷ ms) a = pos 0 ∷ lone ms a
+
+-- an access whose only subscript is a * counter + b in the counter of the nest's loop, inside no loop of the body
+pub record IsLine (nest : Nest) (access : Access) (a b : ℤ) : Type 0 where
   pub subscript : Subscript
   pub one : access.subscripts.items ≡ subscript ∷ []
-  pub coefficients : subscript.coefficients.items ≡ a ∷ []
+  pub coefficients : subscript.coefficients.items ≡ lone nest.serial.items a
   pub constant : subscript.constant ≡ b
   pub inner : access.inner.items ≡ []
 
@@ -70,4 +75,4 @@ pub record LinesMeet (n : ℕ) (a b c : ℤ) : Type 0 where
 -- for one loop and one subscript with the same coefficient on both sides, all cases are refuted exactly where the accesses meet nowhere
 abbrev pub OneLoopIsExact : Type 0
 OneLoopIsExact =
-    (nest : Nest) (x y : Access) (n : ℕ) (a b c : ℤ) → IsOneLoop nest n → IsLine x a b → IsLine y a c → AllRefuted nest x y ↔ ¬ (LinesMeet n a b c)
+    (nest : Nest) (x y : Access) (n : ℕ) (a b c : ℤ) → IsOneLoop nest n → IsLine nest x a b → IsLine nest y a c → AllRefuted nest x y ↔ ¬ (LinesMeet n a b c)

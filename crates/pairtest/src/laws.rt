@@ -15,8 +15,9 @@ pub fn refuted_pairs_do_not_meet()
     ensures { RefutedPairsDoNotMeet }
 {}
 
-/// For one loop, with none round it and none inside, and one subscript that grows by the same number a turn in both
-/// accesses, the cases are refuted exactly where no two different iterations touch one element.
+/// For one loop, inside serial loops that each have a turn and with none inside, and one subscript that grows by the same
+/// number a turn of this loop in both accesses, the cases are refuted exactly where no two different iterations touch one
+/// element.
 pub fn one_loop_is_exact()
     ensures { OneLoopIsExact }
 {}

@@ -38,11 +38,12 @@ decls_short s no_decls h = tt
 decls_short s (enum c r) h = decls_short s r (constants_small s c h)
 decls_short s (object free few ls r) h = (lengths_short s ls h, decls_short s r (tt, h))
 
+-- the names of declarations stand for variables below the next number
 constants_below : (m : ℕ) (cs : List (Name × ℕ)) (scope : Scope) → Each (IsBelow m) scope → Each (IsBelow m) (with_constants cs scope)
 constants_below m [] scope h = h
 constants_below m (c ∷ cs) scope h = constants_below m cs ((c.0, AConstant c.1) ∷ scope) (tt, h)
 
-decls_below : {scope scope' : Scope} {next : ℕ} {ts : List Token} {cs : List (Name × ℕ)} {ds : List Declaration} (m : ℕ) → ReadsDecls scope next ts cs ds scope' → next + length ds ≤ m → Each (IsBelow next) scope → Each (IsBelow m) scope'
+pub decls_below : {scope scope' : Scope} {next : ℕ} {ts : List Token} {cs : List (Name × ℕ)} {ds : List Declaration} (m : ℕ) → ReadsDecls scope next ts cs ds scope' → next + length ds ≤ m → Each (IsBelow next) scope → Each (IsBelow m) scope'
 decls_below {scope = scope} {next = next} m no_decls le h = each_weaker (IsBelow next) (IsBelow m) (below_more next m (omega arith)) scope h
 decls_below {scope = scope} {next = next} m (enum {cs = cs} c r) le h = decls_below m r le (constants_below next cs scope h)
 decls_below {scope = scope} {next = next} m (object free few ls r) le h =
@@ -53,7 +54,7 @@ settable : (ds : List Declaration) (s : State) (e : Entity) → IsBelow (length 
 settable ds s (AVariable x n) h = inl h
 settable ds s (AConstant n) h = tt
 
-some_there : (o : Option Known) → is_some o ≡ true → There o
+pub some_there : (o : Option Known) → is_some o ≡ true → There o
 some_there None e = absurd cc
 some_there (Some k) e = (k, refl)
 

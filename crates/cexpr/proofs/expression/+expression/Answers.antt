@@ -1,13 +1,14 @@
 use Rattle.std.proofs.Common.{◌+◌, ◌-◌, ◌<◌, ◌≤◌, length, option_map, sym, ap, ◌∙◌, add-one, arith}
 use Rattle.std.proofs.lemmas.Result.{err_from_is_err_and}
-use Rattle.cexpr.specs.Names.{names_of}
+use Rattle.creader.specs.Names.{names_of}
 use Rattle.std.proofs.lemmas.List.{length-map}
-use Rattle.cexpr.specs.Lexemes.{token_of, tokens_of}
+use Rattle.creader.specs.Lexemes.{token_of, tokens_of}
 use Rattle.cexpr.specs.Infixes.{infix_in}
 use Rattle.cexpr.specs.ExpressionReader.{further, subscripts, inside}
-use Rattle.cexpr.specs.Reading.{Got}
+use Rattle.creader.specs.Reading.{Got}
 use Rattle.semantics.specs.Tree.{Exprs}
-use Rattle.cexpr.specs.Outcome.{got_of, operand_of, subscripts_of}
+use Rattle.creader.specs.Outcome.{got_of, subscripts_of}
+use Rattle.cexpr.specs.OperandViews.{operand_of}
 use Rattle.cexpr.proofs.LoopLemmas.{in_front, same_some, further_ends, further_fails, further_goes, row_ends, row_is_done, row_fails, row_stays_open, row_goes}
 use Rattle.cexpr.proofs.expression.+expression.Goals as goal
 

@@ -1,8 +1,9 @@
 use Rattle.std.proofs.Common.{◌≡◌, ◌+◌, ◌-◌, ◌*◌, suc, length}
-use Rattle.cexpr.specs.Names.{names_of}
-use Rattle.cexpr.specs.Lexemes.{tokens_of}
+use Rattle.creader.specs.Names.{names_of}
+use Rattle.creader.specs.Lexemes.{tokens_of}
 use Rattle.cexpr.specs.ExpressionReader.{binary, further, subscripts, inside}
-use Rattle.cexpr.specs.Outcome.{got_of, operand_of, subscripts_of}
+use Rattle.creader.specs.Outcome.{got_of, subscripts_of}
+use Rattle.cexpr.specs.OperandViews.{operand_of}
 use Rattle.cexpr.proofs.LoopLemmas.{in_front}
 use Rattle.cexpr.proofs.expression.+expression.Given as goal
 

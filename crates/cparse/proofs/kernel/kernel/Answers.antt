@@ -5,8 +5,8 @@ use Rattle.std.proofs.lemmas.Result.{err_from_is_err_and}
 use Rattle.std.proofs.lemmas.List.{length-map}
 use Rattle.ktree.specs.View.{declaration_of}
 use Rattle.cparse.specs.DeclarationViews.{decls_of}
-use Rattle.cexpr.specs.Names.{names_of, seen}
-use Rattle.cexpr.specs.Lexemes.{tokens_of}
+use Rattle.creader.specs.Names.{names_of, seen}
+use Rattle.creader.specs.Lexemes.{tokens_of}
 use Rattle.cstmt.specs.Rows.{items_in}
 use Rattle.cstmt.specs.Tallies.{told_of}
 use Rattle.cparse.proofs.KernelLemmas.{whole, kernel_items, body_fails, brace_fails, end_fails, kernel_done}

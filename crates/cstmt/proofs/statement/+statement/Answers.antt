@@ -1,13 +1,13 @@
 use Rattle.std.proofs.Common.{◌<◌, ◌≤◌, length, sym, ap, ◌∙◌, arith}
 use Rattle.std.proofs.lemmas.List.{length-map}
 use Rattle.std.proofs.lemmas.Result.{err_from_is_err_and}
-use Rattle.cexpr.specs.Names.{names_of}
-use Rattle.cexpr.specs.Lexemes.{token_of, tokens_of}
+use Rattle.creader.specs.Names.{names_of}
+use Rattle.creader.specs.Lexemes.{token_of, tokens_of}
 use Rattle.cstmt.specs.StatementReader.{statement}
 use Rattle.cstmt.specs.Bodies.{with_item}
 use Rattle.cstmt.specs.Rows.{row_of, item_of}
 use Rattle.cexpr.proofs.LoopLemmas.{same_some, not_there}
-use Rattle.cexpr.proofs.Turns.{goes, fails, ends, is_over}
+use Rattle.creader.proofs.Turns.{goes, fails, ends, is_over}
 use Rattle.cstmt.proofs.ItemLemmas.{front_then}
 use Rattle.cstmt.proofs.ItemRun.{items_run, run_ends, run_out, run_fails, run_goes}
 use Rattle.cstmt.proofs.statement.+statement.Goals as goal

@@ -1,6 +1,6 @@
 use Rattle.std.proofs.Common.{◌≡◌, ◌+◌, ◌-◌, ◌*◌, length, take}
-use Rattle.cexpr.specs.Names.{names_of}
-use Rattle.cexpr.specs.Lexemes.{tokens_of}
+use Rattle.creader.specs.Names.{names_of}
+use Rattle.creader.specs.Lexemes.{tokens_of}
 use Rattle.cstmt.specs.StatementReader.{statement, items}
 use Rattle.cstmt.specs.Tallies.{tally_of}
 use Rattle.cstmt.specs.Rows.{row_of}

@@ -20,9 +20,6 @@ input-requires-clause-named g c = subst AreVariables (sym c.declarations-declara
 pub returns-in_err-store-clause-beginning : goal.returns-in_err-store-clause-beginning
 returns-in_err-store-clause-beginning g c = nothing_written c.args.checked.now c.args.input.now _ c.declarations-declarations.ensures.sound
 
-pub returns-in_err-directives-clause-beginning : goal.returns-in_err-directives-clause-beginning
-returns-in_err-directives-clause-beginning g c = nothing_written c.args.checked.now c.args.input.now _ c.declarations-declarations.ensures.sound
-
 pub team_block-requires-clause-runs : goal.team_block-requires-clause-runs
 team_block-requires-clause-runs g c κs within =
     let first = subst (λ ds. IsStart ds c.args.input.now c.in_ok-store.store) c.declarations-declarations.ensures.variables c.in_ok-store.ensures.start in

@@ -1,0 +1,3 @@
+pub mod PrintfReader
+pub mod Printing
+pub mod Spots

@@ -1,0 +1,4 @@
+pub mod Binds
+pub mod NameLemmas
+pub mod Turns
+pub mod WordLemmas

@@ -1,0 +1,49 @@
+-- Kernels whose parallel loops are shown to be independent, and what is kept of an accepted text. (OpenMP 5.2, 1.4.1 and 11.5; C11 5.1.2.4)
+use Rattle.std.specs.Prelude.{ℕ, List, []}
+use Rattle.semantics.specs.Tree.{Kernel, strip}
+use Rattle.semantics.specs.Source.Grammar.{ReadsText}
+use Rattle.semantics.specs.Meaning.Definite.{IsDefinite, no_privates}
+use Rattle.ktree.specs.View.{kernel_of}
+use Rattle.ktree.specs.declared.statement.Kernel as code
+use Rattle.pragma.specs.Plain.{IsDirected}
+use Rattle.pragma.specs.Parallel.{ItemsHave}
+use Rattle.nest.specs.Nests.{IsInRange}
+use Rattle.nest.specs.Perfect.{AreRightNests}
+use Rattle.flow.specs.Private.{IsPrivate}
+use Rattle.flow.specs.Parallel.{AreParallelLoops}
+use Rattle.flow.specs.declared.environment.ParallelLoop.{ParallelLoop}
+use Rattle.independence.specs.Laws.{IsIndependentNest}
+use Rattle.reorder.specs.Laws.{CommutesAsNest}
+
+-- a text, and its tree with the directive lines
+pub record Program : Type 0 where
+  pub text : List ℕ
+  pub kernel : code.Kernel
+
+-- the tree without its directive lines
+abbrev pub tree_of : Program → Kernel
+tree_of p = strip (kernel_of p.kernel)
+
+-- what is known before the dependence test: the text reads as the tree, whose loops are canonical and never wrap, no subscript leaves its array, each directive line is a `parallel for` before a loop that holds no other, with a right nest, that writes no shared scalar and prints nothing, and no local is read before it is assigned
+pub record HasPassed (text : List ℕ) (k : Kernel) : Type 0 where
+  pub reads : ReadsText text k
+  pub in_range : IsInRange k
+  pub directed : IsDirected text k
+  pub nested : AreRightNests text k
+  pub definite : IsDefinite no_privates k
+  pub private : ItemsHave text IsPrivate [] k.body
+
+-- at each turn of the serial loops round a parallel loop no two of its iterations conflict, and in any order they leave the same elements
+pub record AreIndependent (text : List ℕ) (k : Kernel) : Type 0 where
+  pub apart : ItemsHave text IsIndependentNest [] k.body
+  pub commute : ItemsHave text CommutesAsNest [] k.body
+
+-- what holds of each accepted text
+pub record IsAccepted (p : Program) : Type 0 where
+  pub passed : HasPassed p.text (kernel_of p.kernel)
+  pub independent : AreIndependent p.text (kernel_of p.kernel)
+
+-- and what is kept of it: its parallel loops, in the order of the text
+pub record IsKept (p : Program) (loops : List ParallelLoop) : Type 0 where
+  pub accepted : IsAccepted p
+  pub listed : AreParallelLoops p.text (kernel_of p.kernel) loops

@@ -1,0 +1,103 @@
+//! Accepted kernels.
+
+ghost use Rattle.std.specs.Prelude.{◌≡◌, map, IfOk, IfErr};
+ghost use Rattle.ktree.specs.View.{declaration_of, kernel_of};
+ghost use Rattle.flow.specs.Parallel.{AreParallelLoops};
+ghost use Rattle.deptest.specs.Accepted.{tree_of, HasPassed, AreIndependent, IsAccepted};
+ghost use Rattle.deptest.specs.Refused.{RefusesLoops};
+
+use crate::independent::check;
+use flow::ParallelLoop;
+use ktree::{Declaration, Item, Kernel, Refusal};
+use pragma::Directives;
+use std::alloc::Global;
+use std::marker::Model;
+
+/// An accepted kernel: what every pass before a run found out of it, that its parallel loops are independent, and these loops.
+#[derive(Drop)]
+pub struct Checked {
+    text: Vec<u8>,
+    kernel: Kernel,
+    loops: Vec<ParallelLoop>,
+}
+
+impl Model for Checked {
+    ghost use Rattle.std.specs.Coded.{codes};
+    ghost use Rattle.ktree.specs.contracts.statement.Item as item;
+    ghost use Rattle.deptest.specs.Accepted.{Program, IsKept};
+
+    ghost Value = { Program };
+
+    ghost coded = { Prim.hlevel (codes, item.the_row.coded) };
+
+    ghost view = { λ c. record { text = c.text.items; kernel = c.kernel } };
+
+    ghost invariant = { λ c. IsKept (record { text = c.text.items; kernel = c.kernel }) c.loops.items };
+}
+
+impl Checked {
+    /// The file-scope variables.
+    pub fn declarations(&self) -> &[Declaration]
+        ensures variables { map declaration_of result.now ≡ (tree_of self.now).variables }
+        ensures sound { IsAccepted self.now }
+    {
+        self.kernel.variables.as_slice()
+    }
+
+    /// The items of the kernel's body.
+    pub fn body(&self) -> &[Item]
+        ensures { result.now ≡ self.now.kernel.body.items }
+    {
+        self.kernel.body.as_slice()
+    }
+
+    /// Its parallel loops, in the order of the text, each with what its directive line says.
+    pub fn loops(&self) -> &[ParallelLoop]
+        ensures { AreParallelLoops self.now.text (kernel_of self.now.kernel) result.now }
+    {
+        self.loops.as_slice()
+    }
+
+    /// The text that it was read from.
+    pub fn text(&self) -> &[u8]
+        ensures { result.now ≡ self.now.text }
+    {
+        self.text.as_slice()
+    }
+}
+
+/// Tests the parallel loops of a kernel behind the directive lines of a text.
+fn tested(alloc: Global, text: &[u8], kernel: &Kernel) -> Result<(), Refusal>
+    requires { HasPassed text.now (kernel_of kernel.now) }
+    ensures ok { IfOk result (λ _. AreIndependent text.now (kernel_of kernel.now)) }
+    ensures err { IfErr result (RefusesLoops text.now (kernel_of kernel.now)) }
+{
+    let directives = Directives::read(alloc, text)?;
+    let independent = check(alloc, kernel, &directives)?;
+    let _tested = independent.kernel();
+    Ok(())
+}
+
+/// Accepts a kernel that has passed all else, with these parallel loops, where they are independent (OpenMP 5.2, 11.5).
+///
+/// # Errors
+///
+/// As [`check`]'s.
+pub fn accept(
+    alloc: Global,
+    text: Vec<u8>,
+    kernel: Kernel,
+    loops: Vec<ParallelLoop>,
+) -> Result<Checked, Refusal>
+    requires passed { HasPassed text.items (kernel_of kernel) }
+    requires listed { AreParallelLoops text.items (kernel_of kernel) loops.items }
+    ensures is { IfOk result (λ checked. checked ≡ record { text = text.items; kernel = kernel }) }
+    ensures err { IfErr result (RefusesLoops text.items (kernel_of kernel)) }
+{
+    tested(alloc, text.as_slice(), &kernel)?;
+    Ok(Checked {
+        text,
+        kernel,
+        loops,
+    })
+}

@@ -1,0 +1,165 @@
+-- The parallel loops of a text and what they declare, item by item.
+use Rattle.std.specs.Prelude.{ℕ, zero, suc, ◌+◌, ◌-◌, ◌≡◌, ◌<◌, ◌≤◌, List, [], ◌∷◌, ◌++◌, length, get_or, take, drop, map, Option, Some, None, option_and_then}
+use Rattle.std.proofs.Common.{Box, Vec, Global, refl, sym, ap, ◌∙◌, subst}
+use Rattle.std.proofs.lemmas.List.{append_assoc, append-nil, drop_all}
+use Rattle.semantics.specs.Tree
+use Rattle.semantics.specs.Tree.{Variable}
+use Rattle.semantics.specs.Source.Text.{line_at}
+use Rattle.semantics.specs.Meaning.Agrees.{declared_in, declared_among}
+use Rattle.semantics.specs.Meaning.Value.{map_option}
+use Rattle.semantics.specs.Loops.Nest.{Loop, as_loop, only_loop, nest_of}
+use Rattle.ktree.specs.View.{stmt_of, items_of, with_item}
+use Rattle.ktree.specs.declared.place.Place.{Place}
+use Rattle.ktree.specs.declared.place.VarId.{VarId}
+use Rattle.ktree.specs.declared.statement.Stmt.{Stmt, For}
+use Rattle.ktree.specs.declared.statement.Head.{Head}
+use Rattle.ktree.specs.declared.statement.Item.{Item, Directive, Local, Statement'}
+use Rattle.pragma.specs.Clauses.{ReadsLoop}
+use Rattle.pragma.specs.Parallel.{associated, LineHas, LoopsHave, ItemsHave}
+use Rattle.pragma.specs.declared.combined.ParallelFor.{ParallelFor}
+use Rattle.pragma.proofs.PlainLaw.{next_item, all_behind}
+use Rattle.flow.specs.Private.{IsPrivate, first_stmt_of, FirstLineIsPrivate, FirstLoopsArePrivate}
+use Rattle.flow.specs.Parallel.{numbers, IsParallelLoop, LoopsAre, ItemsAre, FirstLineIs, FirstLoopsAre, Adds}
+use Rattle.flow.specs.declared.environment.ParallelLoop.{ParallelLoop}
+use Rattle.flow.proofs.PrivateLemmas.{asked, same_round, loop_of, item_cut}
+
+-- what an item declares, and what the others do
+among_cut : (i : Item) (rest : Tree.Items) → declared_among (with_item i rest) ≡ declared_among (with_item i Tree.no_items) ++ declared_among rest
+among_cut (Directive place) rest = refl
+among_cut (Local l) rest = refl
+among_cut (Statement' p s) rest = ap (λ xs. xs ++ declared_among rest) (sym (append-nil (declared_in (stmt_of s))))
+
+-- one item more is declared
+pub declared_step : (is : List Item) (i : ℕ) (e : Item) → i < length is → e ≡ get_or is i e → (old vs ws : List Variable)
+    → vs ++ declared_among (items_of (drop i is)) ≡ old ++ declared_among (items_of is) → ws ≡ vs ++ declared_among (with_item e Tree.no_items)
+    → ws ++ declared_among (items_of (drop (i + 1) is)) ≡ old ++ declared_among (items_of is)
+declared_step is i e lt at old vs ws left adds =
+    let rest = declared_among (items_of (drop (i + 1) is)) in
+    let here = declared_among (with_item e Tree.no_items) in
+    let next : declared_among (items_of (drop i is)) ≡ here ++ rest = ap declared_among (next_item is i e lt at) ∙ among_cut e (items_of (drop (i + 1) is)) in
+    ap (λ xs. xs ++ rest) adds ∙ append_assoc vs here rest ∙ ap (λ xs. vs ++ xs) (sym next) ∙ left
+
+-- a loop's variable, and what its body declares
+abbrev of_loop : Option (Loop × Tree.Stmt) → List Variable
+of_loop None = []
+of_loop (Some found) = found.0.variable ∷ declared_in found.1
+
+mutual
+  -- a loop declares its variable, and what its body does
+  loop_declares : (s : Tree.Stmt) (l : Loop) (b : Tree.Stmt) → as_loop s ≡ Some (l, b) → declared_in s ≡ l.variable ∷ declared_in b
+  loop_declares (Tree.Assign x is e) l b f = absurd (cc f)
+  loop_declares (Tree.Update x is op e) l b f = absurd (cc f)
+  loop_declares (Tree.If c s) l b f = absurd (cc f)
+  loop_declares (Tree.IfElse c s t) l b f = absurd (cc f)
+  loop_declares (Tree.For x name start test step body) l b f = ap of_loop f
+  loop_declares (Tree.Block items) l b f = only_declares items l b f
+  loop_declares (Tree.Print parts) l b f = absurd (cc f)
+
+  only_declares : (items : Tree.Items) (l : Loop) (b : Tree.Stmt) → only_loop items ≡ Some (l, b) → declared_among items ≡ l.variable ∷ declared_in b
+  only_declares Tree.no_items l b f = absurd (cc f)
+  only_declares (Tree.mark line rest) l b f = absurd (cc f)
+  only_declares (Tree.local x name start rest) l b f = absurd (cc f)
+  only_declares (Tree.stmt s Tree.no_items) l b f = append-nil (declared_in s) ∙ loop_declares s l b f
+  only_declares (Tree.stmt s (Tree.mark line rest)) l b f = absurd (cc f)
+  only_declares (Tree.stmt s (Tree.local x name start rest)) l b f = absurd (cc f)
+  only_declares (Tree.stmt s (Tree.stmt t rest)) l b f = absurd (cc f)
+
+-- the variables of a nest's loops, and what its body declares
+abbrev of_nest : Option (List Loop × Tree.Stmt) → List Variable
+of_nest None = []
+of_nest (Some nest) = map (λ h. h.variable) nest.0 ++ declared_in nest.1
+
+-- a nest declares these
+pub nest_declares : (n : ℕ) (s : Tree.Stmt) (loops : List Loop) (body : Tree.Stmt) → nest_of n s ≡ Some (loops, body) → declared_in s ≡ map (λ h. h.variable) loops ++ declared_in body
+nest_declares zero s loops body f = ap of_nest f
+nest_declares (suc n) s loops body f = go (as_loop s) refl f (nest_declares n)
+  where
+    inner : (l : Loop) (b : Tree.Stmt) (o : Option (List Loop × Tree.Stmt)) → nest_of n b ≡ o → map_option {B = List Loop × Tree.Stmt} (λ inner. (l ∷ inner.0, inner.1)) o ≡ Some (loops, body)
+        → ((s : Tree.Stmt) (loops : List Loop) (body : Tree.Stmt) → nest_of n s ≡ Some (loops, body) → declared_in s ≡ map (λ h. h.variable) loops ++ declared_in body)
+        → l.variable ∷ declared_in b ≡ map (λ h. h.variable) loops ++ declared_in body
+    inner l b None is f rec = absurd (cc f)
+    inner l b (Some nest) is f rec = ap (λ xs. l.variable ∷ xs) (rec b nest.0 nest.1 is) ∙ ap of_nest f
+
+    go : (o : Option (Loop × Tree.Stmt)) → as_loop s ≡ o
+        → option_and_then (λ (found : Loop × Tree.Stmt). map_option {B = List Loop × Tree.Stmt} (λ inner. (found.0 ∷ inner.0, inner.1)) (nest_of n found.1)) o ≡ Some (loops, body)
+        → ((s : Tree.Stmt) (loops : List Loop) (body : Tree.Stmt) → nest_of n s ≡ Some (loops, body) → declared_in s ≡ map (λ h. h.variable) loops ++ declared_in body)
+        → declared_in s ≡ map (λ h. h.variable) loops ++ declared_in body
+    go None is f rec = absurd (cc f)
+    go (Some found) is f rec = loop_declares s found.0 found.1 is ∙ inner found.0 found.1 (nest_of n found.1) refl f rec
+
+-- the parallel loop of a line
+pub loop_listed : (text : List ℕ) (place : Place) (rest : Tree.Items) (said : ParallelFor) → ReadsLoop (line_at text place.line) said.schedule said.collapse
+    → (s : Tree.Stmt) → Some s ≡ first_stmt_of rest → (private : Vec VarId Global) → numbers private.items ≡ declared_in s → LineHas text IsPrivate [] place.line rest
+    → IsParallelLoop text place.line rest (record { line = place; directive = said; private = private })
+loop_listed text place rest said reads s first private declares h =
+    let found = asked text place.line rest said.schedule said.collapse reads s first h in
+    record {
+      at_line = refl;
+      reads = reads;
+      statement = s;
+      loops = found.0;
+      body = found.1;
+      stands = sym first;
+      nest = found.2;
+      privates = declares ∙ nest_declares (associated said.collapse) s found.0 found.1 found.2;
+    }
+
+-- a loop's are those of its body
+pub body_listed : (text : List ℕ) (before after : List ParallelLoop) (s : Stmt) (head : Head) (body : Box Stmt Global) (inner : Stmt) → s ≡ For head body → inner ≡ body.value
+    → (LoopsHave text IsPrivate [] (stmt_of inner) → Adds (LoopsAre text (stmt_of inner)) before after)
+    → LoopsHave text IsPrivate [] (stmt_of s) → Adds (LoopsAre text (stmt_of s)) before after
+body_listed text before after s head body inner e f listed =
+    let is : loop_of head (stmt_of inner) ≡ stmt_of s = ap (λ b. loop_of head (stmt_of b)) f ∙ sym (ap stmt_of e) in
+    let here : LoopsHave text IsPrivate [] (loop_of head (stmt_of inner)) → Adds (LoopsAre text (loop_of head (stmt_of inner))) before after = λ h. listed (same_round text _ [] (stmt_of inner) h) in
+    subst (λ t. LoopsHave text IsPrivate [] t → Adds (LoopsAre text t) before after) is here
+
+-- an item's, and those of the others
+joined_item : (text : List ℕ) (i : Item) (rest : Tree.Items) (a b c : List ParallelLoop) → FirstLineIs text (with_item i Tree.no_items) rest a → FirstLoopsAre text (with_item i Tree.no_items) b
+    → ItemsAre text rest c → ItemsAre text (with_item i rest) (a ++ (b ++ c))
+joined_item text (Directive place) rest a b c p q r = (p.0, c, ap (λ xs. xs ++ (b ++ c)) p.1 ∙ ap (λ xs. p.0 ∷ (xs ++ c)) q, p.2, r)
+joined_item text (Local l) rest a b c p q r = subst (ItemsAre text rest) (sym (ap (λ xs. xs ++ (b ++ c)) p ∙ ap (λ xs. xs ++ c) q)) r
+joined_item text (Statement' at s) rest a b c p q r = (b, c, ap (λ xs. xs ++ (b ++ c)) p, q, r)
+
+-- those of the first items are listed; with those that are left they are all
+abbrev pub Listed : List ℕ → List Item → ℕ → List ParallelLoop → List ParallelLoop → Type 0
+Listed text is i before now =
+    ItemsHave text IsPrivate [] (items_of is)
+    → ItemsHave text IsPrivate [] (items_of (drop i is)) × Adds (λ added. (rest : List ParallelLoop) → ItemsAre text (items_of (drop i is)) rest → ItemsAre text (items_of is) (added ++ rest)) before now
+
+-- all in the end
+pub all_listed : (text : List ℕ) (is : List Item) (i : ℕ) (before now : List ParallelLoop) → length is ≤ i → Listed text is i before now
+    → ItemsHave text IsPrivate [] (items_of is) → Adds (ItemsAre text (items_of is)) before now
+all_listed text is i before now far left h =
+    let found = (left h).1 in
+    let none : ItemsAre text (items_of (drop i is)) [] = subst (λ xs. ItemsAre text (items_of xs) []) (sym (drop_all i is far)) refl in
+    (found.0, found.1, subst (ItemsAre text (items_of is)) (append-nil found.0) (found.2 [] none))
+
+-- one item more
+pub item_listed : (text : List ℕ) (is : List Item) (i : ℕ) (e : Item) → i < length is → e ≡ get_or is i e → (before now mid after : List ParallelLoop) → Listed text is i before now
+    → (FirstLineIsPrivate text (with_item e Tree.no_items) (items_of (take (length is - (i + 1)) (drop (i + 1) is)))
+    → Adds (FirstLineIs text (with_item e Tree.no_items) (items_of (take (length is - (i + 1)) (drop (i + 1) is)))) now mid)
+    → (FirstLoopsArePrivate text (with_item e Tree.no_items) → Adds (FirstLoopsAre text (with_item e Tree.no_items)) mid after)
+    → Listed text is (i + 1) before after
+item_listed text is i e lt at before now mid after left line loops h =
+    let first = with_item e Tree.no_items in
+    let behind = items_of (drop (i + 1) is) in
+    let next = next_item is i e lt at in
+    let so_far = left h in
+    let parts = (item_cut text e behind).0 (subst (ItemsHave text IsPrivate []) next so_far.0) in
+    let of_line : Adds (FirstLineIs text first behind) now mid =
+    subst (λ xs. FirstLineIsPrivate text first (items_of xs) → Adds (FirstLineIs text first (items_of xs)) now mid) (all_behind is (i + 1)) line parts.0 in
+    let of_loops : Adds (FirstLoopsAre text first) mid after = loops parts.1 in
+    let a = so_far.1.0 in
+    let b = of_line.0 in
+    let c = of_loops.0 in
+    let all : after ≡ before ++ (a ++ (b ++ c)) =
+    of_loops.1 ∙ ap (λ xs. xs ++ c) (of_line.1 ∙ ap (λ xs. xs ++ b) so_far.1.1) ∙ append_assoc (before ++ a) b c ∙ append_assoc before a (b ++ c) in (
+      parts.2,
+      (
+        a ++ (b ++ c),
+        all,
+        λ rest r.
+            subst (ItemsAre text (items_of is)) (sym (append_assoc a (b ++ c) rest ∙ ap (λ xs. a ++ xs) (append_assoc b c rest)))
+            (so_far.1.2 (b ++ (c ++ rest)) (subst (λ items. ItemsAre text items (b ++ (c ++ rest))) (sym next) (joined_item text e behind b c rest of_line.2 of_loops.2 r))),
+      ),
+    )

@@ -1,0 +1,75 @@
+-- The parallel loops of a text with their data environments. (OpenMP 5.2, 5.1.1 and 11.5)
+use Rattle.std.specs.Prelude.{ℕ, ◌≡◌, List, [], ◌∷◌, ◌++◌, map, Some}
+use Rattle.semantics.specs.Tree.{Variable, Stmt, Assign, Update, If, IfElse, For, Block, Print, Items, no_items, mark, local, stmt, Kernel}
+use Rattle.semantics.specs.Source.Text.{line_at}
+use Rattle.semantics.specs.Meaning.Agrees.{declared_in}
+use Rattle.semantics.specs.Loops.Nest.{Loop, nest_of}
+use Rattle.ktree.specs.declared.place.VarId.{VarId}
+use Rattle.pragma.specs.Clauses.{ReadsLoop}
+use Rattle.pragma.specs.Parallel.{associated}
+use Rattle.flow.specs.Private.{first_stmt_of}
+use Rattle.flow.specs.declared.environment.ParallelLoop.{ParallelLoop}
+
+-- the numbers of variables
+abbrev pub numbers : List VarId → List Variable
+numbers vs = map (λ v. v.0) vs
+
+-- a `parallel for` on a line, before these items: private are the variables of its loops, and what their body declares (OpenMP 5.2, 5.1.1)
+pub record IsParallelLoop (text : List ℕ) (line : ℕ) (rest : Items) (l : ParallelLoop) : Type 0 where
+  pub at_line : l.line.line ≡ line
+  pub reads : ReadsLoop (line_at text line) l.directive.schedule l.directive.collapse
+  pub statement : Stmt
+  pub loops : List Loop
+  pub body : Stmt
+  pub stands : first_stmt_of rest ≡ Some statement
+  pub nest : nest_of (associated l.directive.collapse) statement ≡ Some (loops, body)
+  pub privates : numbers l.private.items ≡ map (λ h. h.variable) loops ++ declared_in body
+
+-- what is said of a list of parallel loops
+abbrev pub OfLoops : Type 1
+OfLoops = List ParallelLoop → Type 0
+
+-- these first, and those behind them
+abbrev pub Joined : OfLoops → OfLoops → OfLoops
+Joined P Q ls = (first : List ParallelLoop) × (others : List ParallelLoop) × (ls ≡ first ++ others) × P first × Q others
+
+abbrev mutual
+  -- these are the parallel loops in a statement, in the order of the text
+  pub LoopsAre : List ℕ → Stmt → OfLoops
+  LoopsAre text (Assign x is e) ls = ls ≡ []
+  LoopsAre text (Update x is op e) ls = ls ≡ []
+  LoopsAre text (If c a) ls = LoopsAre text a ls
+  LoopsAre text (IfElse c a b) ls = Joined (LoopsAre text a) (LoopsAre text b) ls
+  LoopsAre text (For x name start test step body) ls = LoopsAre text body ls
+  LoopsAre text (Block items) ls = ItemsAre text items ls
+  LoopsAre text (Print parts) ls = ls ≡ []
+
+  -- among a block's items: one for each directive line
+  pub ItemsAre : List ℕ → Items → OfLoops
+  ItemsAre text no_items ls = ls ≡ []
+  ItemsAre text (mark line rest) ls =
+      (l : ParallelLoop) × (others : List ParallelLoop) × (ls ≡ l ∷ others) × IsParallelLoop text line rest l × ItemsAre text rest others
+  ItemsAre text (local x name start rest) ls = ItemsAre text rest ls
+  ItemsAre text (stmt s rest) ls = Joined (LoopsAre text s) (ItemsAre text rest) ls
+
+-- they are those of a whole text
+abbrev pub AreParallelLoops : List ℕ → Kernel → OfLoops
+AreParallelLoops text k ls = ItemsAre text k.body ls
+
+-- the one of a line
+abbrev pub IsOfLine : List ℕ → ℕ → Items → OfLoops
+IsOfLine text line rest ls = (l : ParallelLoop) × (ls ≡ l ∷ []) × IsParallelLoop text line rest l
+
+-- what the first of these items has, as a directive line before others
+abbrev pub FirstLineIs : List ℕ → Items → Items → OfLoops
+FirstLineIs text (mark line items) rest ls = IsOfLine text line rest ls
+FirstLineIs text _ rest ls = ls ≡ []
+
+-- and as a statement
+abbrev pub FirstLoopsAre : List ℕ → Items → OfLoops
+FirstLoopsAre text (stmt s items) ls = LoopsAre text s ls
+FirstLoopsAre text _ ls = ls ≡ []
+
+-- such loops stand behind those that were there
+abbrev pub Adds : OfLoops → List ParallelLoop → List ParallelLoop → Type 0
+Adds P before after = (added : List ParallelLoop) × (after ≡ before ++ added) × P added

@@ -1,0 +1,54 @@
+-- Why a text is not accepted.
+use Rattle.std.specs.Prelude.{ℕ, ◌≡◌, ◌⊎◌, List, []}
+use Rattle.semantics.specs.Tree.{Kernel}
+use Rattle.semantics.specs.Source.Grammar.{ReadsText}
+use Rattle.semantics.specs.Meaning.Definite.{IsDefinite, no_privates}
+use Rattle.ktree.specs.Numbers.{number_of}
+use Rattle.ktree.specs.declared.refusal.Refusal.{Refusal}
+use Rattle.ktree.specs.declared.refusal.Refusal.TheVariants.{OutOfMemory}
+use Rattle.cparse.specs.Parsed.{RefusesTree}
+use Rattle.pragma.specs.Plain.{IsDirected}
+use Rattle.pragma.specs.Faults as lines
+use Rattle.pragma.specs.declared.faults.Fault as line_faults
+use Rattle.forms.specs.Faults as loops
+use Rattle.forms.specs.declared.faults.Fault as loop_faults
+use Rattle.nest.specs.Nests.{IsNested, IsInRange}
+use Rattle.nest.specs.Perfect.{AreRightNests}
+use Rattle.pragma.specs.Parallel.{ItemsHave}
+use Rattle.flow.specs.Private.{IsPrivate, data_refusal_of}
+use Rattle.flow.specs.declared.fault.DataFault.{DataFault}
+use Rattle.deptest.specs.Accepted.{HasPassed}
+use Rattle.deptest.specs.Refused.{RefusesLoops}
+
+-- memory was refused, or a loop is not canonical or may wrap, or a subscript is not affine, or a parallel loop has no right nest
+abbrev pub RefusesNests : List ℕ → Kernel → Refusal → Type 0
+RefusesNests text tree r = (r ≡ OutOfMemory) ⊎ ((f : loop_faults.Fault) × (r ≡ loops.refusal_of f) × (IsNested tree × AreRightNests text tree → ⊥))
+
+-- memory was refused, or a subscript leaves its array
+abbrev pub RefusesRanges : Kernel → Refusal → Type 0
+RefusesRanges tree r = (r ≡ OutOfMemory) ⊎ ((f : loop_faults.Fault) × (r ≡ loops.refusal_of f) × (IsInRange tree → ⊥))
+
+-- a directive line is no `parallel for` before a loop, or stands inside a parallel loop
+abbrev pub RefusesLines : List ℕ → Kernel → Refusal → Type 0
+RefusesLines text tree r = (f : line_faults.Fault) × (r ≡ lines.refusal_of f) × (IsDirected text tree → ⊥)
+
+-- a parallel loop writes a shared scalar or prints, or a local may be read before it is assigned
+abbrev pub RefusesData : List ℕ → Kernel → Refusal → Type 0
+RefusesData text tree r =
+    ((number_of r ≡ 10) × (IsDefinite no_privates tree → ⊥)) ⊎ ((f : DataFault) × (r ≡ data_refusal_of f) × (ItemsHave text IsPrivate [] tree.body → ⊥))
+
+-- memory was refused, or the tree does not pass what stands before the dependence test
+abbrev pub RefusesPasses : List ℕ → Kernel → Refusal → Type 0
+RefusesPasses text tree r = (RefusesNests text tree r ⊎ RefusesRanges tree r) ⊎ (RefusesLines text tree r ⊎ RefusesData text tree r)
+
+-- all of that is well, and the dependence test refuses the tree, or memory was refused
+abbrev pub RefusesPairs : List ℕ → Kernel → Refusal → Type 0
+RefusesPairs text tree r = HasPassed text tree × RefusesLoops text tree r
+
+-- the tree is none that is run
+abbrev pub RefusesKernel : List ℕ → Kernel → Refusal → Type 0
+RefusesKernel text tree r = RefusesPasses text tree r ⊎ RefusesPairs text tree r
+
+-- no tree is read from the text, or one that is refused
+abbrev pub RefusesText : List ℕ → Refusal → Type 0
+RefusesText text r = RefusesTree text r ⊎ ((tree : Kernel) × ReadsText text tree × RefusesKernel text tree r)

@@ -1,0 +1,4 @@
+pub mod Pairs
+pub mod Shown
+pub mod Refused
+pub mod Telling

@@ -1,0 +1,10 @@
+pub mod Entered
+pub mod Values
+pub mod Rectangular
+pub mod Links
+pub mod Outer
+pub mod Pairs
+pub mod Bodies
+pub mod Conflicts
+pub mod Nests
+pub mod Kernels
