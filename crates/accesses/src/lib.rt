@@ -12,6 +12,3 @@ pub use body::{accesses, touched};
 pub use statements::entered;
 pub use subscripts::{inner_canonicals, inner_counts};
 pub use told::Touched;
-
-#[cfg(test)]
-mod tests;

@@ -1,3 +1,4 @@
+pub mod Products
 pub mod Whole
 pub mod Divisors
 pub mod Terms

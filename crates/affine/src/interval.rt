@@ -26,6 +26,16 @@ impl Interval {
         greatest: 0,
     };
 
+    /// The product of a factor and an end of an interval.
+    fn product(factor: i64, end: i64) -> i128
+        requires factor_within { IsWithin (2 ^ 62) factor }
+        requires end_within { IsWithin (2 ^ 33) end }
+        ensures value { result ≡ factor *ℤ end }
+        ensures within { IsWithin (2 ^ 95) result }
+    {
+        i128::from(factor) * i128::from(end)
+    }
+
     /// The least and the greatest product of the factor and a number of the interval, which has one.
     pub(crate) fn products(self, factor: i64) -> (i128, i128)
         requires factor_within { IsWithin (2 ^ 62) factor }
@@ -35,8 +45,8 @@ impl Interval {
         ensures least_within { IsWithin (2 ^ 95) result.0 }
         ensures greatest_within { IsWithin (2 ^ 95) result.1 }
     {
-        let at_least = i128::from(factor) * i128::from(self.least);
-        let at_greatest = i128::from(factor) * i128::from(self.greatest);
+        let at_least = Interval::product(factor, self.least);
+        let at_greatest = Interval::product(factor, self.greatest);
         if factor < 0 {
             (at_greatest, at_least)
         } else {

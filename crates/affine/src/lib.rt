@@ -11,6 +11,3 @@ pub use divisor::gcd;
 pub use form::Form;
 pub use interval::{Interval, VarBox};
 pub use term::Term;
-
-#[cfg(test)]
-mod tests;

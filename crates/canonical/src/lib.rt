@@ -19,6 +19,3 @@ pub use most::{distance, most_turns, turns_within};
 pub use stride::{Bound, Direction, Stride, stride_of};
 pub use walked::side;
 pub use wrapping::wraps;
-
-#[cfg(test)]
-mod tests;

@@ -5,12 +5,12 @@ use Rattle.semantics.specs.Tree.{Exprs, no_exprs, more_exprs, Source}
 use Rattle.semantics.specs.Source.Token.{Token, Sign, OpenBracket}
 use Rattle.creader.specs.Reading.{Got, Reader, ◌>>=◌, got, chosen}
 use Rattle.cexpr.specs.Operators.{Infix, number_in, is_number}
-use Rattle.cexpr.specs.ExpressionReader.{Inner, subscripts, next_infix, join, further}
-use Rattle.creader.specs.NextTokens.{close_bracket, open_bracket}
+use Rattle.cexpr.specs.ExpressionReader.{Inner, subscripts, next_infix, join, further, choice}
+use Rattle.creader.specs.NextTokens.{close_bracket, open_bracket, colon}
 use Rattle.creader.specs.declared.stop.Stop.{Stop}
 use Rattle.creader.specs.declared.stop.Stop.TheVariants.{Memory, Syntax, Limit}
 use Rattle.creader.specs.Outcome.{Fails}
-use Rattle.cexpr.specs.Steps.{and_one, with_subscript}
+use Rattle.cexpr.specs.Steps.{and_one, with_subscript, second_arm, arms_behind}
 
 -- one list of subscripts behind another
 abbrev pub append_exprs : Exprs → Exprs → Exprs
@@ -142,3 +142,25 @@ pub not_there : {A B : Type 0} (e : Stop) (x : A) (read : Option B) → Fails e 
 not_there Memory x read f = tt
 not_there (Syntax place) x read f = absurd cc
 not_there (Limit place) x read f = absurd cc
+
+-- one step behind two others
+then_none : {A B C : Type 0} (o : Option A) (f : A → Option B) (g : B → Option C) → (o >>= f) ≡ None → (o >>= λ x. f x >>= g) ≡ None
+then_none None f g e = refl
+then_none (Some x) f g e = ap (λ r. r >>= g) e
+
+then_some : {A B C : Type 0} (o : Option A) (f : A → Option B) (g : B → Option C) (y : B) → (o >>= f) ≡ Some y → (o >>= λ x. f x >>= g) ≡ g y
+then_some None f g y e = absurd cc
+then_some (Some x) f g y e = ap (λ r. r >>= g) e
+
+-- the arms behind a condition
+module _ (inner : Inner) (c : Got Source) (ts : List Token) (a : Got Source) (is : inner.whole ts ≡ Some a) where
+  by_first : arms_behind inner c ts ≡ colon a.rest >>= λ other. inner.whole other >>= λ b. choice c a b
+  by_first = ap (λ o. o >>= λ a. colon a.rest >>= λ other. inner.whole other >>= λ b. choice c a b) is
+
+  pub arms_fail : (e : Stop) → Fails e (second_arm inner a.rest) → Fails e (arms_behind inner c ts)
+  arms_fail Memory f = tt
+  arms_fail (Syntax place) f = by_first ∙ then_none (colon a.rest) inner.whole (choice c a) f
+  arms_fail (Limit place) f = by_first ∙ then_none (colon a.rest) inner.whole (choice c a) f
+
+  pub arms_go : (b : Got Source) → second_arm inner a.rest ≡ Some b → arms_behind inner c ts ≡ choice c a b
+  arms_go b f = by_first ∙ then_some (colon a.rest) inner.whole (choice c a) b f

@@ -5,8 +5,8 @@ use Rattle.semantics.specs.Source.Token.{Token}
 use Rattle.semantics.specs.Source.Scope.{Scope, find}
 use Rattle.creader.specs.Reading.{Got, Reader, ◌>>=◌}
 use Rattle.cexpr.specs.Operators.{number_in, is_number}
-use Rattle.cexpr.specs.ExpressionReader.{Inner, subscripts, named}
-use Rattle.creader.specs.NextTokens.{may_be_named}
+use Rattle.cexpr.specs.ExpressionReader.{Inner, subscripts, named, choice}
+use Rattle.creader.specs.NextTokens.{colon, may_be_named}
 
 -- subscripts and one more
 abbrev pub and_one : Exprs → Expr → Exprs
@@ -23,3 +23,11 @@ at_name scope inner name ts =
     if may_be_named (find scope name) name
     then (subscripts (length ts) inner ts >>= λ is. named (find scope name) name is)
     else None
+
+-- the second arm of `?:`
+abbrev pub second_arm : Inner → Reader Source
+second_arm inner ts = colon ts >>= λ other. inner.whole other
+
+-- both arms behind a condition
+abbrev pub arms_behind : Inner → Got Source → Reader Source
+arms_behind inner c ts = inner.whole ts >>= λ a. colon a.rest >>= λ other. inner.whole other >>= λ b. choice c a b

@@ -2,7 +2,7 @@
 
 ghost use Rattle.std.specs.Prelude.{◌≡◌, ◌≤◌, length, suc};
 ghost use Rattle.cexpr.specs.ExpressionReader.{subscripts, primary, unary, further, binary, whole, inside};
-ghost use Rattle.cexpr.specs.Steps.{at_name};
+ghost use Rattle.cexpr.specs.Steps.{at_name, second_arm, arms_behind};
 ghost use Rattle.creader.specs.Names.{names_of};
 ghost use Rattle.creader.specs.Lexemes.{tokens_of};
 ghost use Rattle.creader.specs.Outcome.{Gives, got_of, subscripts_of};
@@ -219,6 +219,36 @@ fn further<'s, 't>(
     Ok(left)
 }
 
+/// The second arm of `?:`, with the colon in front of it (C11 6.5.15).
+#[cycle(expression)]
+fn second_arm<'s, 't>(
+    context: Context<'_, 't>,
+    room: u32,
+    place: Place,
+    tokens: &'s [Lexeme<'t>],
+) -> Outcome<'s, 't, Operand>
+    ensures { Gives (got_of operand_of) result (second_arm (inside room (names_of context.entry.scope.now)) (tokens_of tokens.now)) }
+{
+    let behind = colon(tokens, context.end)?;
+    whole_inside(context, room, place, behind)
+}
+
+/// Both arms of `?:` behind its condition (C11 6.5.15).
+#[cycle(expression)]
+fn arms<'s, 't>(
+    context: Context<'_, 't>,
+    room: u32,
+    place: Place,
+    condition: Parsed<'s, 't, Operand>,
+    tokens: &'s [Lexeme<'t>],
+) -> Outcome<'s, 't, Operand>
+    ensures { Gives (got_of operand_of) result (arms_behind (inside room (names_of context.entry.scope.now)) (got_of operand_of condition.entry) (tokens_of tokens.now)) }
+{
+    let first = whole_inside(context, room, place, tokens)?;
+    let second = second_arm(context, room, place, first.rest)?;
+    choice(context.alloc, place, condition, first, second)
+}
+
 /// A whole expression, of which `?:` reaches furthest (C11 6.5.15).
 #[cycle(expression)]
 #[tactic(auto, unfolding(crate::specs::ExpressionReader::whole))]
@@ -230,11 +260,8 @@ pub fn whole<'s, 't>(
     ensures { Gives (got_of operand_of) result (whole (names_of context.entry.scope.now) (inside room (names_of context.entry.scope.now)) (tokens_of tokens.now)) }
 {
     let condition = binary(context, room, 10, tokens)?;
-    let Some((place, behind)) = question_mark(condition.rest) else {
-        return Ok(condition);
-    };
-    let first = whole_inside(context, room, place, behind)?;
-    let other = colon(first.rest, context.end)?;
-    let second = whole_inside(context, room, place, other)?;
-    choice(context.alloc, place, condition, first, second)
+    match question_mark(condition.rest) {
+        None => Ok(condition),
+        Some((place, behind)) => arms(context, room, place, condition, behind),
+    }
 }

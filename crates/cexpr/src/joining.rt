@@ -1,10 +1,10 @@
 //! What an operator makes of its operands (C11 6.5.5 to 6.5.14).
 
-ghost use Rattle.std.specs.Prelude.{◌≡◌, Some, is_none};
+ghost use Rattle.std.specs.Prelude.{◌≡◌, true, if◌then◌else◌, Some};
 ghost use Rattle.semantics.specs.Tree.{Truth};
 ghost use Rattle.semantics.specs.Source.Typing.{plain_cond};
 ghost use Rattle.ktree.specs.View.{cond_of, binary_of, compare_of};
-ghost use Rattle.cexpr.specs.Operators.{Arithmetic, Comparing, joined, joins};
+ghost use Rattle.cexpr.specs.Operators.{Arithmetic, Comparing, AndAlso, OrElse, joined, joins};
 ghost use Rattle.cexpr.specs.Infixes.{infix_in};
 ghost use Rattle.creader.specs.Outcome.{Gives};
 ghost use Rattle.cexpr.specs.OperandViews.{operand_of, union_of};
@@ -40,6 +40,18 @@ pub fn truth(cond: Cond, plain: bool, written: Written) -> Operand
         constant: None,
         plain,
         written,
+    }
+}
+
+/// A condition made of any operands.
+fn fitting_truth(cond: Cond, plain: bool, written: Written) -> Union
+    requires { plain ≡ plain_cond (cond_of cond) }
+    ensures { union_of result ≡ (Truth (cond_of cond), true) }
+{
+    Union {
+        operand: truth(cond, plain, written),
+        fits: true,
+        misfit: None,
     }
 }
 
@@ -132,6 +144,27 @@ fn comparison(
     }
 }
 
+/// `&&` or else `||` of any operands (C11 6.5.13, 6.5.14).
+fn logical(
+    alloc: Global,
+    is_and: bool,
+    place: Place,
+    left: Operand,
+    right: Operand,
+) -> Result<Union, Stop>
+    ensures { Gives union_of result (Some (joined (if is_and then AndAlso else OrElse) (operand_of left) (operand_of right), true)) }
+{
+    let plain = left.plain && right.plain;
+    let written = condition(place, left.written, right.written);
+    let c = Box::new(alloc, cond_in(alloc, left.source)?)?;
+    let d = Box::new(alloc, cond_in(alloc, right.source)?)?;
+    if is_and {
+        Ok(fitting_truth(Cond::Both(c, d), plain, written))
+    } else {
+        Ok(fitting_truth(Cond::Either(c, d), plain, written))
+    }
+}
+
 /// What an operator at a place makes of its operands, of which the right one begins somewhere.
 pub fn joined(
     alloc: Global,
@@ -146,27 +179,7 @@ pub fn joined(
     match operator {
         Infix::Arithmetic(op) => arithmetic(alloc, op, place, left, right),
         Infix::Comparing(op) => comparison(alloc, op, place, begin, left, right),
-        Infix::AndAlso => {
-            let plain = left.plain && right.plain;
-            let written = condition(place, left.written, right.written);
-            let c = Box::new(alloc, cond_in(alloc, left.source)?)?;
-            let d = Box::new(alloc, cond_in(alloc, right.source)?)?;
-            Ok(Union {
-                operand: truth(Cond::Both(c, d), plain, written),
-                fits: true,
-                misfit: None,
-            })
-        }
-        Infix::OrElse => {
-            let plain = left.plain && right.plain;
-            let written = condition(place, left.written, right.written);
-            let c = Box::new(alloc, cond_in(alloc, left.source)?)?;
-            let d = Box::new(alloc, cond_in(alloc, right.source)?)?;
-            Ok(Union {
-                operand: truth(Cond::Either(c, d), plain, written),
-                fits: true,
-                misfit: None,
-            })
-        }
+        Infix::AndAlso => logical(alloc, true, place, left, right),
+        Infix::OrElse => logical(alloc, false, place, left, right),
     }
 }

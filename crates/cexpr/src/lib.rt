@@ -9,7 +9,5 @@ mod leaf;
 pub mod numeric;
 pub mod operand;
 pub mod operator;
-#[cfg(test)]
-mod tests;
 mod typing;
 pub mod wanted;

@@ -47,12 +47,12 @@ pub fn constant(operator: BinaryOp, a: Option<u32>, b: Option<u32>) -> Option<u3
 pub fn not_zero(value: Option<u32>) -> bool
     ensures { result ≡ not_zero value }
 {
-    value.is_some_and(|n| n != 0)
+    matches!(value, Some(n) if n != 0)
 }
 
 /// Whether a value is there and below 64 (C11 6.5.7).
 pub fn may_shift(count: Option<u32>) -> bool
     ensures { result ≡ may_shift count }
 {
-    count.is_some_and(|n| n < 64)
+    matches!(count, Some(n) if n < 64)
 }

@@ -7,6 +7,3 @@ mod meeting;
 
 pub use elements::Touch;
 pub use meeting::{Meeting, first_meeting};
-
-#[cfg(test)]
-mod tests;

@@ -1,19 +1,19 @@
 -- Forms in the counters, step by step.
-use Rattle.std.specs.Prelude.{ℕ, ◌≡◌, ◌⊎◌, ◌<◌, ◌^◌, ℤ, pos, List, [], ◌∷◌, length, Bool, true, false, Option, Some, None, if◌then◌else◌, ◌==◌, option_map}
+use Rattle.std.specs.Prelude.{ℕ, ◌≡◌, pos, List, [], ◌∷◌, length, Bool, true, false, ◌==◌, option_map, IfOk, IfErr}
 use Rattle.std.proofs.Common.{refl, sym, ap, ◌∙◌, subst, inl, inr, cond, arith}
-use Rattle.std.proofs.lemmas.Option.{none-some, same_Some}
+use Rattle.std.proofs.lemmas.Option.{same_Some}
 use Rattle.ktree.specs.declared.place.Place.{Place}
 use Rattle.ktree.specs.declared.refusal.Refusal.{Refusal}
-use Rattle.ktree.specs.declared.refusal.Refusal.TheVariants.{Limit, OutOfMemory}
-use Rattle.semantics.specs.Tree.{Variable}
+use Rattle.ktree.specs.declared.refusal.Refusal.TheVariants.{OutOfMemory}
 use Rattle.affine.specs.declared.term.Term.{Term}
 use Rattle.affine.specs.Affine.{Affine}
 use Rattle.affine.specs.Arithmetic.{constant_form, variable_form, sum_form, multiple_form}
 use Rattle.affine.specs.Limits.{Fits, Refuses}
+use Rattle.canonical.specs.declared.stride.Stride.{Stride}
 use Rattle.canonical.specs.declared.head.Canonical.{Canonical}
 use Rattle.counters.specs.declared.level.Level.{Level}
 use Rattle.counters.specs.declared.level.Forms.{Forms}
-use Rattle.counters.specs.Counters.{place_in, Adds, none_left, one_more, InCounters, AreForms, IsProduct, IsWay, Stops, Makes, step_by, stepped, form_way, reached}
+use Rattle.counters.specs.Counters.{place_in, Adds, none_left, one_more, InCounters, AreForms, IsProduct, IsWay, IsStepped, IsReached, AreFormsBetween, Stops, Makes, step_by, stepped, form_way, reached}
 use Rattle.canonical.specs.Most.{way}
 use Rattle.canonical.specs.Sides.{end_shift}
 use Rattle.std.specs.declared.result.Result.{Result}
@@ -99,56 +99,76 @@ same_sum levels (t ∷ ts) sum f g a b =
 
 -- ---- the forms of a loop
 
-pub way_stops : (outer : List Level) (l : Canonical) (start limit : Affine) (place : Place) (r : Refusal) → InCounters outer l.start start → InCounters outer l.limit limit
-    → Stops place (IsWay l.stride.direction start limit) r → Stops place (AreForms outer l) r
-way_stops outer l start limit place r s e h =
-    stops_too place (IsWay l.stride.direction start limit) (AreForms outer l) r
-    (λ f a.
-    let p = same_sum outer l.start.terms (constant_form l.start.constant) a.start start a.starts s in
-    let q = same_sum outer l.limit.terms (constant_form l.limit.constant) a.limit limit a.limits e in
-    (form_way l.stride.direction start limit, record { is = refl; fits = subst (λ (g : Affine). Fits (form_way l.stride.direction start g)) q (subst (λ (g : Affine). Fits (form_way l.stride.direction g a.limit)) p a.way_fits) }))
-    h
+-- a sum is so, or it stops
+pub made_by_sum : (place : Place) (P : Affine → Type 0) (a b : Affine) (r : Result Affine Refusal) → ((f : Affine) → f ≡ sum_form a b → Fits f → P f) → ((f : Affine) → P f → Fits (sum_form a b))
+    → IfOk r (λ f. f ≡ sum_form a b) → IfOk r Fits → IfErr r (Refuses place (sum_form a b)) → Makes r place P
+made_by_sum place P a b (Ok f) made fits is h s = made f is h
+made_by_sum place P a b (Err e) made fits is h (inl m) = inl m
+made_by_sum place P a b (Err e) made fits is h (inr k) = inr (k.0, λ f p. k.1 (fits f p))
 
-pub place_stops : (outer : List Level) (l : Canonical) (start steps : Affine) (counter : ℕ) (place : Place) (r : Refusal) → counter ≡ length outer → InCounters outer l.start start
-    → steps ≡ multiple_form (variable_form counter) (step_by l.stride.direction l.stride.by) → Refuses place (sum_form start steps) r → Stops place (AreForms outer l) r
-place_stops outer l start steps counter place r n s e (inl m) = inl m
-place_stops outer l start steps counter place r n s e (inr k) =
-    inr (
-      k.0,
-      λ f a.
-          let p = same_sum outer l.start.terms (constant_form l.start.constant) a.start start a.starts s in
-          let whole : f.place ≡ sum_form start steps =
-          a.place ∙ ap (λ (g : Affine). stepped (length outer) l g) p ∙ ap (λ (m : ℕ). stepped m l start) (sym n) ∙ ap (λ (g : Affine). sum_form start g) (sym e) in
-          k.1 (subst Fits whole a.place_fits),
-    )
+pub stepped_made : (n : ℕ) (s : Stride) (start steps : Affine) (place : Place) (r : Result Affine Refusal) → steps ≡ multiple_form (variable_form n) (step_by s.direction s.by)
+    → IfOk r (λ f. f ≡ sum_form start steps) → IfOk r Fits → IfErr r (Refuses place (sum_form start steps)) → Makes r place (IsStepped n s start)
+stepped_made n s start steps place r e =
+    let whole = ap (λ (g : Affine). sum_form start g) e in
+    made_by_sum place (IsStepped n s start) start steps r
+    (λ f is h. record { is = is ∙ whole; fits = h })
+    (λ f p. subst Fits (p.is ∙ sym whole) p.fits)
 
-pub reach_stops : (outer : List Level) (l : Canonical) (start limit apart short : Affine) (place : Place) (r : Refusal) → InCounters outer l.start start → InCounters outer l.limit limit
-    → IsWay l.stride.direction start limit apart → short ≡ constant_form (way l.stride.direction (pos 0) (end_shift l.stride.direction l.bound)) → Refuses place (sum_form apart short) r → Stops place (AreForms outer l) r
-reach_stops outer l start limit apart short place r s e w h (inl m) = inl m
-reach_stops outer l start limit apart short place r s e w h (inr k) =
-    inr (
-      k.0,
-      λ f a.
-          let p = same_sum outer l.start.terms (constant_form l.start.constant) a.start start a.starts s in
-          let q = same_sum outer l.limit.terms (constant_form l.limit.constant) a.limit limit a.limits e in
-          let whole : f.reach ≡ sum_form apart short =
-          a.reach ∙ ap (λ (g : Affine). reached l g a.limit) p ∙ ap (λ (g : Affine). reached l start g) q
-          ∙ ap (λ (g : Affine). sum_form (form_way l.stride.direction start limit) g) (sym h) ∙ ap (λ (g : Affine). sum_form g short) (sym w.is) in
-          k.1 (subst Fits whole a.reach_fits),
-    )
+pub way_stops : (l : Canonical) (start limit : Affine) (place : Place) (r : Refusal) → Stops place (IsWay l.stride.direction start limit) r → Stops place (IsReached l start limit) r
+way_stops l start limit place r =
+    stops_too place (IsWay l.stride.direction start limit) (IsReached l start limit) r (λ f a. (form_way l.stride.direction start limit, record { is = refl; fits = a.way_fits }))
 
-pub forms_made : (outer : List Level) (l : Canonical) (start limit steps apart short : Affine) (counter : ℕ) (f : Forms) → counter ≡ length outer → InCounters outer l.start start → InCounters outer l.limit limit
-    → steps ≡ multiple_form (variable_form counter) (step_by l.stride.direction l.stride.by) → IsWay l.stride.direction start limit apart
-    → short ≡ constant_form (way l.stride.direction (pos 0) (end_shift l.stride.direction l.bound)) → f.place ≡ sum_form start steps → Fits f.place → f.reach ≡ sum_form apart short → Fits f.reach → AreForms outer l f
-forms_made outer l start limit steps apart short counter f n s e t w h p pf q qf =
+pub reached_made : (l : Canonical) (start limit apart short : Affine) (place : Place) (r : Result Affine Refusal) → IsWay l.stride.direction start limit apart
+    → short ≡ constant_form (way l.stride.direction (pos 0) (end_shift l.stride.direction l.bound)) → IfOk r (λ f. f ≡ sum_form apart short) → IfOk r Fits → IfErr r (Refuses place (sum_form apart short))
+    → Makes r place (IsReached l start limit)
+reached_made l start limit apart short place r w h =
+    let whole : sum_form apart short ≡ reached l start limit =
+    ap (λ (g : Affine). sum_form g short) w.is ∙ ap (λ (g : Affine). sum_form (form_way l.stride.direction start limit) g) h in
+    made_by_sum place (IsReached l start limit) apart short r
+    (λ f is fits. record { way_fits = subst Fits w.is w.fits; is = is ∙ whole; fits = fits })
+    (λ f p. subst Fits (p.is ∙ sym whole) p.fits)
+
+pub place_stops : (n : ℕ) (l : Canonical) (start limit : Affine) (place : Place) (r : Refusal) → Stops place (IsStepped n l.stride start) r → Stops place (AreFormsBetween n l start limit) r
+place_stops n l start limit place r = stops_too place (IsStepped n l.stride start) (AreFormsBetween n l start limit) r (λ f a. (f.place, a.place))
+
+pub reach_stops : (n : ℕ) (l : Canonical) (start limit : Affine) (place : Place) (r : Refusal) → Stops place (IsReached l start limit) r → Stops place (AreFormsBetween n l start limit) r
+reach_stops n l start limit place r = stops_too place (IsReached l start limit) (AreFormsBetween n l start limit) r (λ f a. (f.reach, a.reach))
+
+of_ends : (outer : List Level) (l : Canonical) (start limit : Affine) (n : ℕ) (f : Forms) → n ≡ length outer → InCounters outer l.start start → InCounters outer l.limit limit → AreFormsBetween n l start limit f
+    → AreForms outer l f
+of_ends outer l start limit n f e s t b =
     record {
       start = start;
       limit = limit;
       starts = s;
-      limits = e;
-      place = p ∙ ap (λ (g : Affine). sum_form start g) t ∙ ap (λ (m : ℕ). stepped m l start) n;
-      place_fits = pf;
-      way_fits = subst Fits w.is w.fits;
-      reach = q ∙ ap (λ (g : Affine). sum_form g short) w.is ∙ ap (λ (g : Affine). sum_form (form_way l.stride.direction start limit) g) h;
-      reach_fits = qf;
+      limits = t;
+      place = b.place.is ∙ ap (λ (m : ℕ). stepped m l start) e;
+      place_fits = b.place.fits;
+      way_fits = b.reach.way_fits;
+      reach = b.reach.is;
+      reach_fits = b.reach.fits;
     }
+
+to_ends : (outer : List Level) (l : Canonical) (start limit : Affine) (n : ℕ) (f : Forms) → n ≡ length outer → InCounters outer l.start start → InCounters outer l.limit limit → AreForms outer l f
+    → AreFormsBetween n l start limit f
+to_ends outer l start limit n f e s t a =
+    let p = same_sum outer l.start.terms (constant_form l.start.constant) a.start start a.starts s in
+    let q = same_sum outer l.limit.terms (constant_form l.limit.constant) a.limit limit a.limits t in
+    record {
+      place = record { is = a.place ∙ ap (λ (g : Affine). stepped (length outer) l g) p ∙ ap (λ (m : ℕ). stepped m l start) (sym e); fits = a.place_fits };
+      reach = record {
+        way_fits = subst (λ (g : Affine). Fits (form_way l.stride.direction start g)) q (subst (λ (g : Affine). Fits (form_way l.stride.direction g a.limit)) p a.way_fits);
+        is = a.reach ∙ ap (λ (g : Affine). reached l g a.limit) p ∙ ap (λ (g : Affine). reached l start g) q;
+        fits = a.reach_fits;
+      };
+    }
+
+pub forms_made : (outer : List Level) (l : Canonical) (start limit : Affine) (n : ℕ) (place : Place) (r : Result Forms Refusal) → n ≡ length outer → InCounters outer l.start start → InCounters outer l.limit limit
+    → Makes r place (AreFormsBetween n l start limit) → Makes r place (AreForms outer l)
+forms_made outer l start limit n place r e s t =
+    makes_too place (AreFormsBetween n l start limit) (AreForms outer l) r (λ f. of_ends outer l start limit n f e s t) (λ f. to_ends outer l start limit n f e s t)
+
+-- there are none where the limit is told
+pub none_within : {A : Type 0} (place : Place) (P : A → Type 0) (r : Refusal) (b : Bool) → (r ≡ OutOfMemory → b ≡ false) → b ≡ true → Stops place P r → (a : A) → P a → ⊥
+none_within place P r b f e (inl m) = let g = f m in absurd cc
+none_within place P r b f e (inr k) = k.1

@@ -10,6 +10,7 @@ use Rattle.affine.specs.Affine.{Affine}
 use Rattle.affine.specs.Arithmetic.{constant_form, variable_form, sum_form, multiple_form, plus_multiple}
 use Rattle.affine.specs.Limits.{Fits}
 use Rattle.canonical.specs.declared.stride.Direction.{Direction}
+use Rattle.canonical.specs.declared.stride.Stride.{Stride}
 use Rattle.canonical.specs.declared.stride.Direction.TheVariants.{Rising, Falling}
 use Rattle.canonical.specs.declared.head.Canonical.{Canonical}
 use Rattle.canonical.specs.Sides.{end_shift}
@@ -86,3 +87,19 @@ pub record IsProduct (levels : List Level) (t : Term) (f : Affine) : Type 0 wher
 pub record IsWay (d : Direction) (first end f : Affine) : Type 0 where
   pub is : f ≡ form_way d first end
   pub fits : Fits f
+
+-- a start and as many steps as this counter says
+pub record IsStepped (n : ℕ) (s : Stride) (start f : Affine) : Type 0 where
+  pub is : f ≡ sum_form start (multiple_form (variable_form n) (step_by s.direction s.by))
+  pub fits : Fits f
+
+-- how far the end of a loop lies behind its start
+pub record IsReached (l : Canonical) (start limit f : Affine) : Type 0 where
+  pub way_fits : Fits (form_way l.stride.direction start limit)
+  pub is : f ≡ reached l start limit
+  pub fits : Fits f
+
+-- the forms of a loop whose start and what its variable is compared with have these forms
+pub record AreFormsBetween (n : ℕ) (l : Canonical) (start limit : Affine) (f : Forms) : Type 0 where
+  pub place : IsStepped n l.stride start f.place
+  pub reach : IsReached l start limit f.reach

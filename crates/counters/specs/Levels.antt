@@ -1,17 +1,17 @@
 -- Loops inside each other: what holds of each, and the values of their variables after some steps. (OpenMP 5.2, 4.4.1 and 4.4.2)
 use Rattle.std.specs.Prelude.{ℕ, ◌≡◌, ◌≤◌, ℤ, pos, ◌+ℤ◌, ◌*ℤ◌, ◌≤ℤ◌, List, [], ◌∷◌, length}
-use Rattle.semantics.specs.Tree.{Variable, Cond, Source, Increment, Stmt}
+use Rattle.semantics.specs.Tree.{Variable, Stmt}
 use Rattle.ktree.specs.View.{source_of, cond_of, increment_of}
 use Rattle.ktree.specs.declared.statement.Head.{Head}
 use Rattle.affine.specs.declared.interval.Interval.{Interval}
 use Rattle.affine.specs.declared.interval.Side.{Side}
 use Rattle.affine.specs.Affine.{value, with_value}
 use Rattle.affine.specs.Box.{side}
-use Rattle.canonical.specs.declared.head.Canonical.{Canonical}
 use Rattle.canonical.specs.Sides.{CannotWrap, IsSide}
 use Rattle.canonical.specs.Loops.{IsLoop, inside}
 use Rattle.canonical.specs.Most.{distance, IsMost}
 use Rattle.counters.specs.declared.level.Level.{Level}
+use Rattle.counters.specs.declared.level.Inner.{Inner}
 use Rattle.counters.specs.Counters.{step_by, Given, AreForms}
 
 -- some loops inside each other, the innermost first: the numbers that their variables may have, and the loops
@@ -35,6 +35,16 @@ AreLevels [] [] = Unit {0}
 AreLevels [] (v ∷ vs) = ⊥
 AreLevels (s ∷ ss) [] = ⊥
 AreLevels (s ∷ ss) (v ∷ vs) = IsLevel ss vs s v × AreLevels ss vs
+
+-- the loop of a head inside others: how often it turns at most, and its forms in the counters
+pub record IsInner (n : Nesting) (head : Head) (body : Stmt) (v : Inner) : Type 0 where
+  pub is : IsLoop n.box head.variable.0 (source_of head.start) (cond_of head.test) (increment_of head.step) body v.level.canonical v.numbers
+  pub most : IsMost n.box v.level.canonical v.level.most
+  pub forms : Given (AreForms n.levels v.level.canonical) v.level.forms
+
+-- loops inside each other and one more inside these
+abbrev pub with_inner : Nesting → Inner → Nesting
+with_inner n v = record { box = inside n.box v.level.canonical.variable.0 v.numbers; levels = v.level ∷ n.levels }
 
 -- a loop of the text was entered, inside those before
 abbrev pub Enters : Nesting → Nesting → Head → Stmt → Type 0

@@ -1,21 +1,22 @@
 //! Loops inside each other.
 
-ghost use Rattle.std.specs.Prelude.{◌≡◌, ◌⊎◌, ◌<◌, ◌≤◌, [], drop, length, false, IfOk, IfErr, OnOk, OnErr};
+ghost use Rattle.std.specs.Prelude.{◌≡◌, ◌⊎◌, ◌<◌, ◌≤◌, [], ◌∷◌, drop, length, true, false, IfOk, IfErr, OnOk, OnErr};
 ghost use Rattle.ktree.specs.View.{source_of, cond_of, increment_of, stmt_of};
 ghost use Rattle.ktree.specs.declared.refusal.Refusal.TheVariants as refusals;
 ghost use Rattle.affine.specs.Affine.{Affine};
+ghost use Rattle.affine.specs.Box.{side};
 ghost use Rattle.affine.specs.declared.interval.Interval as intervals;
 ghost use Rattle.forms.specs.declared.faults.Fault.TheVariants.{OutOfMemory, Limit};
 ghost use Rattle.canonical.specs.declared.head.Canonical as canonicals;
-ghost use Rattle.canonical.specs.Loops.{IsLoop};
+ghost use Rattle.canonical.specs.Loops.{IsLoop, inside};
 ghost use Rattle.canonical.specs.Sides.{CannotWrap};
 ghost use Rattle.canonical.specs.Most.{IsMost};
 ghost use Rattle.counters.specs.Counters.{InCounters, AreForms, Given};
-ghost use Rattle.counters.specs.Levels.{Enters, AreLevels};
+ghost use Rattle.counters.specs.Levels.{IsLevel, IsInner, with_inner, Enters, AreLevels};
 
 use crate::convert::{forms_of, in_counters};
-use crate::level::Level;
-use affine::{Form, VarBox};
+use crate::level::{Forms, Inner, Level};
+use affine::{Form, Interval, VarBox};
 use canonical::{Canonical, loop_of, most_turns};
 use forms::Fault;
 use ktree::{Head, Place, Refusal, Stmt, VarId};
@@ -46,6 +47,30 @@ fn is_limit(refusal: &Refusal) -> bool
     matches!(refusal, Refusal::Limit(_))
 }
 
+/// The forms of a loop inside others, none where a number of these passes the limits.
+fn forms_within(
+    alloc: Global,
+    canonical: &Canonical,
+    outer: &[Level],
+    place: Place,
+) -> Result<Option<Forms>, Fault>
+    requires { length outer.now ≤ 8 }
+    ensures ok { IfOk result (Given (AreForms outer.now canonical.now)) }
+    ensures err { IfErr result (λ fault. fault ≡ OutOfMemory) }
+{
+    let counter = VarId(outer.len() as u32);
+    match forms_of(alloc, outer, canonical, counter, place) {
+        Ok(forms) => Ok(Some(forms)),
+        Err(refusal) => {
+            if is_limit(&refusal) {
+                Ok(None)
+            } else {
+                Err(Fault::OutOfMemory)
+            }
+        }
+    }
+}
+
 /// A loop inside others.
 fn level_of(
     alloc: Global,
@@ -63,21 +88,46 @@ fn level_of(
     ensures err { IfErr result (λ fault. fault ≡ OutOfMemory) }
 {
     let most = most_turns(alloc, &canonical, bounds, place)?;
-    let counter = VarId(outer.len() as u32);
-    let forms = match forms_of(alloc, outer, &canonical, counter, place) {
-        Ok(forms) => Some(forms),
-        Err(refusal) => {
-            if !is_limit(&refusal) {
-                return Err(Fault::OutOfMemory);
-            }
-            None
-        }
-    };
+    let forms = forms_within(alloc, &canonical, outer, place)?;
     Ok(Level {
         canonical,
         most,
         forms,
     })
+}
+
+/// Gives the variable of a loop its numbers, and says whether the box took them.
+fn bound(bounds: &mut VarBox, variable: VarId, numbers: Interval, place: Place) -> bool
+    ensures ok { result ≡ true → bounds.new ≡ inside bounds.old variable.0 numbers }
+    ensures err { result ≡ false → bounds.new ≡ bounds.old }
+{
+    let least = i128::from(numbers.least);
+    let greatest = i128::from(numbers.greatest);
+    bounds.bound(variable, least, greatest, place).is_ok()
+}
+
+/// Puts a loop and the numbers of its variable before those of others, which stay as they are where memory runs out.
+fn put_inside(
+    bounds: &mut VarBox,
+    levels: &mut Vec<Level>,
+    inner: Inner,
+    place: Place,
+) -> Result<(), Fault>
+    ensures numbers { OnOk result (bounds.new ≡ inside bounds.old inner.level.canonical.variable.0 inner.numbers) }
+    ensures levels { OnOk result (levels.new.items ≡ inner.level ∷ levels.old.items) }
+    ensures same_numbers { OnErr result (bounds.new ≡ bounds.old) }
+    ensures same_levels { OnErr result (levels.new.items ≡ levels.old.items) }
+    ensures fault { IfErr result (λ fault. fault ≡ OutOfMemory) }
+{
+    let variable = inner.level.canonical.variable;
+    if !bound(bounds, variable, inner.numbers, place) {
+        return Err(Fault::OutOfMemory);
+    }
+    if levels.insert(0, inner.level).is_err() {
+        bounds.unbound();
+        return Err(Fault::OutOfMemory);
+    }
+    Ok(())
 }
 
 impl Chain {
@@ -107,6 +157,29 @@ impl Chain {
         self.levels.as_slice()
     }
 
+    /// The loop of a head inside those of the chain.
+    fn inner(&self, alloc: Global, head: &Head, body: &Stmt) -> Result<Inner, Fault>
+        ensures ok { IfOk result (IsInner self.now head.now (stmt_of body.now)) }
+        ensures fault { IfErr result (λ fault. (fault ≡ OutOfMemory) ⊎ ((l : canonicals.Canonical) (i : intervals.Interval)
+            → IsLoop self.now.box head.now.variable.0 (source_of head.now.start) (cond_of head.now.test) (increment_of head.now.step) (stmt_of body.now) l i → ⊥)) }
+    {
+        let made = loop_of(alloc, head, body, &self.bounds)?;
+        let numbers = made.numbers;
+        let outer = self.levels.as_slice();
+        let level = level_of(alloc, made.canonical, &self.bounds, outer, head.place)?;
+        Ok(Inner { level, numbers })
+    }
+
+    /// Puts a loop inside those of the chain, which stay as they are where memory runs out.
+    fn put(&mut self, inner: Inner, place: Place) -> Result<(), Fault>
+        requires { IsLevel self.old.box self.old.levels (side inner.level.canonical.variable.0 inner.numbers.least inner.numbers.greatest) inner.level }
+        ensures ok { OnOk result (self.new ≡ with_inner self.old inner) }
+        ensures err { OnErr result (self.new ≡ self.old) }
+        ensures fault { IfErr result (λ fault. fault ≡ OutOfMemory) }
+    {
+        put_inside(&mut self.bounds, &mut self.levels, inner, place)
+    }
+
     /// Goes into a loop (OpenMP 5.2, 4.4.1 and 4.4.2).
     ///
     /// # Errors
@@ -119,22 +192,8 @@ impl Chain {
         ensures fault { IfErr result (λ fault. (fault ≡ OutOfMemory) ⊎ ((l : canonicals.Canonical) (i : intervals.Interval)
             → IsLoop self.old.box head.now.variable.0 (source_of head.now.start) (cond_of head.now.test) (increment_of head.now.step) (stmt_of body.now) l i → ⊥)) }
     {
-        let made = loop_of(alloc, head, body, &self.bounds)?;
-        let least = i128::from(made.numbers.least);
-        let greatest = i128::from(made.numbers.greatest);
-        let outer = self.levels.as_slice();
-        let level = level_of(alloc, made.canonical, &self.bounds, outer, head.place)?;
-        let bound = self
-            .bounds
-            .bound(head.variable, least, greatest, head.place);
-        if bound.is_err() {
-            return Err(Fault::OutOfMemory);
-        }
-        if self.levels.insert(0, level).is_err() {
-            self.bounds.unbound();
-            return Err(Fault::OutOfMemory);
-        }
-        Ok(())
+        let inner = self.inner(alloc, head, body)?;
+        self.put(inner, head.place)
     }
 
     /// Leaves the innermost loop.

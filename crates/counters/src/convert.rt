@@ -7,7 +7,7 @@ ghost use Rattle.affine.specs.Arithmetic.{sum_form, multiple_form, constant_form
 ghost use Rattle.affine.specs.Limits.{Fits};
 ghost use Rattle.canonical.specs.Most.{way};
 ghost use Rattle.canonical.specs.Sides.{end_shift};
-ghost use Rattle.counters.specs.Counters.{step_by, Adds, InCounters, AreForms, IsProduct, IsWay, Makes};
+ghost use Rattle.counters.specs.Counters.{step_by, Adds, InCounters, AreForms, IsProduct, IsWay, IsStepped, IsReached, AreFormsBetween, Makes};
 
 use crate::level::{Forms, Level};
 use affine::{Form, Term};
@@ -115,6 +115,54 @@ fn way(direction: Direction, first: &Form, end: &Form, place: Place) -> Result<F
     }
 }
 
+/// The variable of a loop from its start, as a form in the counters.
+fn place_of(
+    alloc: Global,
+    counter: VarId,
+    stride: Stride,
+    start: &Form,
+    place: Place,
+) -> Result<Form, Refusal>
+    ensures { Makes result place (IsStepped counter.0 stride start.now) }
+{
+    let steps = steps(alloc, counter, stride, place)?;
+    start.add(&steps, place)
+}
+
+/// How far the end of a loop lies behind its start, as a form in the counters.
+fn reach_of(
+    alloc: Global,
+    canonical: &Canonical,
+    start: &Form,
+    limit: &Form,
+    place: Place,
+) -> Result<Form, Refusal>
+    ensures { Makes result place (IsReached canonical.now start.now limit.now) }
+{
+    let direction = canonical.stride.direction;
+    let apart = way(direction, start, limit, place)?;
+    let short = constant(alloc, short(direction, canonical.bound), place)?;
+    apart.add(&short, place)
+}
+
+/// The forms of a loop from its start and what its variable is compared with.
+fn forms_between(
+    alloc: Global,
+    canonical: &Canonical,
+    counter: VarId,
+    start: &Form,
+    limit: &Form,
+    place: Place,
+) -> Result<Forms, Refusal>
+    ensures { Makes result place (AreFormsBetween counter.0 canonical.now start.now limit.now) }
+{
+    let stepped = place_of(alloc, counter, canonical.stride, start, place)?;
+    Ok(Forms {
+        place: stepped,
+        reach: reach_of(alloc, canonical, start, limit, place)?,
+    })
+}
+
 /// The forms of a loop inside others, in the counters of these and its own.
 pub fn forms_of(
     alloc: Global,
@@ -128,12 +176,5 @@ pub fn forms_of(
 {
     let start = in_counters(alloc, outer, &canonical.start, place)?;
     let limit = in_counters(alloc, outer, &canonical.limit, place)?;
-    let steps = steps(alloc, counter, canonical.stride, place)?;
-    let apart = way(canonical.stride.direction, &start, &limit, place)?;
-    let short = short(canonical.stride.direction, canonical.bound);
-    let short = constant(alloc, short, place)?;
-    Ok(Forms {
-        place: start.add(&steps, place)?,
-        reach: apart.add(&short, place)?,
-    })
+    forms_between(alloc, canonical, counter, &start, &limit, place)
 }

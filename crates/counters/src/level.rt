@@ -1,6 +1,6 @@
 //! A loop inside others.
 
-use affine::Form;
+use affine::{Form, Interval};
 use canonical::Canonical;
 
 /// A loop's variable, and how far its end lies behind its start (below 0 where it makes no turn), as forms in the counters of
@@ -18,4 +18,11 @@ pub struct Level {
     pub canonical: Canonical,
     pub most: u64,
     pub forms: Option<Forms>,
+}
+
+/// A loop inside others, and the numbers that its variable may have.
+#[derive(Drop)]
+pub(crate) struct Inner {
+    pub level: Level,
+    pub numbers: Interval,
 }

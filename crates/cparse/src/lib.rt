@@ -13,6 +13,3 @@ mod parsing;
 
 pub use law::trees_are_unique;
 pub use parsing::parse;
-
-#[cfg(test)]
-mod tests;

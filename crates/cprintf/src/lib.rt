@@ -4,5 +4,3 @@
 mod characters;
 mod format;
 pub mod printing;
-#[cfg(test)]
-mod tests;

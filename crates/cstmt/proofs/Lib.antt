@@ -3,3 +3,4 @@ pub mod StatementSound
 pub mod StepLemmas
 pub mod ItemLemmas
 pub mod ItemRun
+pub mod HeadingLemmas

@@ -1,13 +1,14 @@
 -- Statements, as the code takes them apart.
 use Rattle.std.specs.Prelude.{ℕ, zero, suc, Bool, true, false, ◌&&◌, if◌then◌else◌, List, ◌∷◌, Option, Some, codes}
-use Rattle.semantics.specs.Tree.{Name, Stmt, Items, no_items, mark, local, stmt}
+use Rattle.semantics.specs.Tree.{Name, Source, Increment, Stmt, If, IfElse, Items, no_items, mark, local, stmt}
 use Rattle.semantics.specs.Source.Token.{Token, Word, Sign, Line, OpenBrace}
 use Rattle.semantics.specs.Source.Scope.{Scope, same_name}
-use Rattle.creader.specs.Reading.{◌>>=◌}
+use Rattle.creader.specs.Reading.{Got, Reader, ◌>>=◌, got, chosen}
+use Rattle.cexpr.specs.Operators.{cond_in}
 use Rattle.cexpr.specs.ExpressionReader.{expression}
-use Rattle.cstmt.specs.StatementReader.{Tally, Told, StmtReader, no_stmt, declared, with_local, assignment, ended, initial, is_unused, statement, selection, iteration}
+use Rattle.cstmt.specs.StatementReader.{Tally, Told, StmtReader, Heading, told, no_stmt, declared, with_local, step, assignment, ended, initial, is_unused, statement, selection, iteration}
 use Rattle.cprintf.specs.PrintfReader.{printed}
-use Rattle.creader.specs.NextTokens.{new_name}
+use Rattle.creader.specs.NextTokens.{new_name, open_paren, close_paren, word, becomes, semicolon}
 
 -- behind a word that is neither `if` nor `for`
 abbrev pub simple : ℕ → Scope → Tally → Name → List Token → Option (Told Stmt)
@@ -76,3 +77,45 @@ append_items (stmt s rest) more = stmt s (append_items rest more)
 
 abbrev pub with_item : Row → Row → Row
 with_item row one = record { tree = append_items row.tree one.tree; sound = row.sound && one.sound; scope = one.scope; tally = one.tally; rest = one.rest }
+
+-- a loop's variable, up to the `=` behind it
+abbrev pub counter : List Token → Option (Name × List Token)
+counter ts = open_paren ts >>= λ inner. word (codes "uint64_t") inner >>= λ typed. new_name typed >>= λ name. becomes name.1 >>= λ behind. Some (name.0, behind)
+
+-- an expression and the semicolon behind it
+abbrev pub ended_source : Reader Source → Reader Source
+ended_source whole ts = whole ts >>= λ e. semicolon e.rest >>= λ behind. got e.tree e.sound behind
+
+-- a loop's step and the parenthesis that closes behind it
+abbrev pub closed_step : Reader Source → Scope → Reader Increment
+closed_step whole scope ts = step whole scope ts >>= λ turn. close_paren turn.rest >>= λ behind. got turn.tree turn.sound behind
+
+-- a loop's head in these parts
+abbrev pub heading_in_parts : ℕ → Scope → Tally → List Token → Option Heading
+heading_in_parts room scope tally ts =
+    counter ts >>= λ name. ended_source (expression room (with_local scope name.0 tally)) name.1 >>= λ start.
+    ended_source (expression room (with_local scope name.0 tally)) start.rest >>= λ test.
+    closed_step (expression room (with_local scope name.0 tally)) (with_local scope name.0 tally) test.rest >>= λ turn.
+    Some (record {
+      name = name.0;
+      start = start.tree;
+      test = test.tree;
+      step = turn.tree;
+      sound = is_unused scope name.0 && (start.sound && (test.sound && turn.sound));
+      rest = turn.rest;
+    })
+
+-- an expression in parentheses
+abbrev pub in_parens : Reader Source → Reader Source
+in_parens whole ts = open_paren ts >>= λ inner. whole inner >>= λ e. close_paren e.rest >>= λ behind. got e.tree e.sound behind
+
+-- behind the first statement of an `if`
+abbrev pub otherwise : StmtReader → Scope → Got Source → Told Stmt → Option (Told Stmt)
+otherwise read scope c a =
+    chosen (word (codes "else") a.rest) (told (If (cond_in c.tree) a.tree) (c.sound && a.sound) a.tally a.rest)
+    (λ other. read scope a.tally other >>= λ b. told (IfElse (cond_in c.tree) a.tree b.tree) (c.sound && (a.sound && b.sound)) b.tally b.rest)
+
+-- an `if` in these parts, where two more may be opened
+abbrev pub selection_in_parts : ℕ → Scope → Tally → List Token → Option (Told Stmt)
+selection_in_parts room scope tally ts =
+    in_parens (expression room scope) ts >>= λ c. statement (suc room) scope tally c.rest >>= λ a. otherwise (statement room) scope c a

@@ -18,6 +18,10 @@ items_in v = view.items_of v.items
 abbrev pub row_of : Scope → Told (Vec Item) → Row
 row_of scope t = record { tree = items_in t.tree; sound = is_none t.fault; scope = scope; tally = tally_of t.tally; rest = tokens_of t.rest.now }
 
+-- one item alone
+abbrev pub item_in : Item → Items
+item_in i = view.with_item i no_items
+
 -- one item
 abbrev pub item_of : Scope → Told Item → Row
-item_of scope t = record { tree = view.with_item t.tree no_items; sound = is_none t.fault; scope = scope; tally = tally_of t.tally; rest = tokens_of t.rest.now }
+item_of scope t = record { tree = item_in t.tree; sound = is_none t.fault; scope = scope; tally = tally_of t.tally; rest = tokens_of t.rest.now }

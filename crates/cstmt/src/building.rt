@@ -1,84 +1,124 @@
 //! Statements made of their parts.
 
-ghost use Rattle.std.specs.Prelude.{◌≡◌, ◌&&◌, Some, is_none};
+ghost use Rattle.std.specs.Prelude.{◌≡◌, ◌&&◌, Some, IfOk, IfErr, is_none, string_bytes};
 ghost use Rattle.semantics.specs.Tree.{If, IfElse, For};
 ghost use Rattle.semantics.specs.Source.Scope.{Scope};
-ghost use Rattle.ktree.specs.View.{stmt_of};
+ghost use Rattle.ktree.specs.View.{stmt_of, source_of, cond_of, increment_of};
 ghost use Rattle.cexpr.specs.Operators.{cond_in};
 ghost use Rattle.cstmt.specs.StatementReader.{told};
-ghost use Rattle.cstmt.specs.Bodies.{with_item};
+ghost use Rattle.cstmt.specs.Bodies.{append_items, with_item};
 ghost use Rattle.cstmt.specs.Headings.{heading_of};
-ghost use Rattle.cstmt.specs.Rows.{row_of, item_of};
+ghost use Rattle.cstmt.specs.Rows.{row_of, item_of, item_in, items_in};
 ghost use Rattle.cstmt.specs.Tallies.{tally_of, told_of};
 ghost use Rattle.creader.specs.Lexemes.{tokens_of};
 ghost use Rattle.creader.specs.Outcome.{Gives};
-ghost use Rattle.cexpr.specs.OperandViews.{operand_of};
+ghost use Rattle.creader.specs.declared.stop.Stop.TheVariants.{Memory};
 
 use crate::loop_head::LoopHead;
 use crate::tally::Tally;
 use crate::told::Told;
-use cexpr::operand::Operand;
 use cexpr::wanted::cond_in;
 use creader::parsed::Parsed;
 use creader::stop::{Stop, earlier};
-use ktree::{Head, Item, Place, Stmt, VarId};
+use ktree::{Cond, Head, Item, Place, Source, Stmt, VarId};
 use std::alloc::Global;
+
+/// The tree of an `if` without `else`.
+fn if_tree(alloc: Global, test: Cond, then: Stmt) -> Result<Stmt, Stop>
+    ensures { Gives stmt_of result (Some (If (cond_of test) (stmt_of then))) }
+{
+    Ok(Stmt::If(test, Box::new(alloc, then)?, None))
+}
 
 /// An `if` without `else` (C11 6.8.4.1).
 pub fn if_only<'s, 't>(
     alloc: Global,
-    condition: Parsed<'s, 't, Operand>,
+    condition: Parsed<'s, 't, Source>,
     then: Told<'s, 't, Stmt>,
 ) -> Result<Told<'s, 't, Stmt>, Stop>
     ensures { let a = told_of stmt_of then.entry in Gives (told_of stmt_of) result
-        (told (If (cond_in (operand_of condition.entry.tree)) a.tree) (is_none condition.entry.fault && a.sound) a.tally a.rest) }
+        (told (If (cond_in (source_of condition.entry.tree)) a.tree) (is_none condition.entry.fault && a.sound) a.tally a.rest) }
 {
-    let Told {
-        tree: then,
-        fault,
-        tally,
-        rest,
-    } = then;
-    let test = cond_in(alloc, condition.tree.source)?;
-    let tree = Stmt::If(test, Box::new(alloc, then)?, None);
+    let test = cond_in(alloc, condition.tree)?;
+    let tree = if_tree(alloc, test, then.tree)?;
     Ok(Told {
         tree,
-        fault: earlier(condition.fault, fault),
-        tally,
-        rest,
+        fault: earlier(condition.fault, then.fault),
+        tally: then.tally,
+        rest: then.rest,
     })
+}
+
+/// The tree of an `if` with `else`.
+fn if_else_tree(alloc: Global, test: Cond, then: Stmt, other: Stmt) -> Result<Stmt, Stop>
+    ensures { Gives stmt_of result (Some (IfElse (cond_of test) (stmt_of then) (stmt_of other))) }
+{
+    let then = Box::new(alloc, then)?;
+    let other = Box::new(alloc, other)?;
+    Ok(Stmt::If(test, then, Some(other)))
 }
 
 /// An `if` with `else`.
 pub fn if_else<'s, 't>(
     alloc: Global,
-    condition: Parsed<'s, 't, Operand>,
+    condition: Parsed<'s, 't, Source>,
     then: Told<'s, 't, Stmt>,
     other: Told<'s, 't, Stmt>,
 ) -> Result<Told<'s, 't, Stmt>, Stop>
     ensures { let a = told_of stmt_of then.entry in let b = told_of stmt_of other.entry in Gives (told_of stmt_of) result
-        (told (IfElse (cond_in (operand_of condition.entry.tree)) a.tree b.tree) (is_none condition.entry.fault && (a.sound && b.sound)) b.tally b.rest) }
+        (told (IfElse (cond_in (source_of condition.entry.tree)) a.tree b.tree) (is_none condition.entry.fault && (a.sound && b.sound)) b.tally b.rest) }
 {
-    let Told {
-        tree: then,
-        fault: then_fault,
-        ..
-    } = then;
-    let Told {
-        tree: other,
-        fault: other_fault,
-        tally,
-        rest,
-    } = other;
-    let test = cond_in(alloc, condition.tree.source)?;
-    let tree = Stmt::If(test, Box::new(alloc, then)?, Some(Box::new(alloc, other)?));
-    let fault = earlier(condition.fault, earlier(then_fault, other_fault));
+    let fault = earlier(condition.fault, earlier(then.fault, other.fault));
+    let test = cond_in(alloc, condition.tree)?;
+    let tree = if_else_tree(alloc, test, then.tree, other.tree)?;
     Ok(Told {
         tree,
         fault,
-        tally,
-        rest,
+        tally: other.tally,
+        rest: other.rest,
     })
+}
+
+/// The head of a loop whose word stands at a place, over the variable of this number.
+fn head_of(
+    alloc: Global,
+    place: Place,
+    variable: VarId,
+    head: LoopHead<'_, '_>,
+) -> Result<Head, Stop>
+    ensures variable { IfOk result (λ h. h.variable ≡ variable) }
+    ensures name { IfOk result (λ h. string_bytes h.name ≡ head.entry.name.now) }
+    ensures start { IfOk result (λ h. h.start ≡ head.entry.start) }
+    ensures test { IfOk result (λ h. cond_of h.test ≡ cond_in (source_of head.entry.test)) }
+    ensures step { IfOk result (λ h. h.step ≡ head.entry.step) }
+    ensures err { IfErr result (λ stop. stop ≡ Memory) }
+{
+    let name = String::from_str(alloc, head.name)?;
+    let LoopHead {
+        start,
+        start_place,
+        test,
+        step,
+        ..
+    } = head;
+    let test = cond_in(alloc, test)?;
+    Ok(Head {
+        variable,
+        name,
+        start,
+        test,
+        step,
+        place,
+        start_place,
+    })
+}
+
+/// The tree of a loop.
+fn loop_tree(alloc: Global, head: Head, body: Stmt) -> Result<Stmt, Stop>
+    ensures { Gives stmt_of result
+        (Some (For head.variable.0 (string_bytes head.name) (source_of head.start) (cond_of head.test) (increment_of head.step) (stmt_of body))) }
+{
+    Ok(Stmt::For(head, Box::new(alloc, body)?))
 }
 
 /// A loop whose word stands at a place, with the tally at its variable (C11 6.8.5.3).
@@ -92,63 +132,39 @@ pub fn looped<'s, 't>(
     ensures { let h = heading_of head.entry in let s = told_of stmt_of body.entry in Gives (told_of stmt_of) result
         (told (For tally.next h.name h.start (cond_in h.test) h.step s.tree) (h.sound && s.sound) s.tally s.rest) }
 {
-    let Told {
-        tree: body,
-        fault: body_fault,
-        tally: behind,
-        rest,
-    } = body;
-    let LoopHead {
-        name,
-        start,
-        start_place,
-        test,
-        step,
-        fault,
-        rest: _,
-    } = head;
-    let head = Head {
-        variable: VarId(tally.next),
-        name: String::from_str(alloc, name)?,
-        start,
-        test: cond_in(alloc, test)?,
-        step,
-        place,
-        start_place,
-    };
-    let tree = Stmt::For(head, Box::new(alloc, body)?);
+    let fault = earlier(head.fault, body.fault);
+    let head = head_of(alloc, place, VarId(tally.next), head)?;
+    let tree = loop_tree(alloc, head, body.tree)?;
     Ok(Told {
         tree,
-        fault: earlier(fault, body_fault),
-        tally: behind,
-        rest,
+        fault,
+        tally: body.tally,
+        rest: body.rest,
     })
 }
 
 /// Items and one more.
 #[tactic(auto, using(crate::proofs::ItemLemmas::items_more))]
+fn more_items(mut items: Vec<Item>, tree: Item) -> Result<Vec<Item>, Stop>
+    ensures { Gives items_in result (Some (append_items (items_in items) (item_in tree))) }
+{
+    items.push(tree)?;
+    Ok(items)
+}
+
+/// What was read of items, and of one more.
 pub fn with_item<'s, 't>(
     row: Told<'s, 't, Vec<Item>>,
     item: Told<'s, 't, Item>,
 ) -> Result<Told<'s, 't, Vec<Item>>, Stop>
     ensures { (outer inner : Scope) → Gives (row_of inner) result (Some (with_item (row_of outer row.entry) (item_of inner item.entry))) }
 {
-    let Told {
-        tree: mut items,
-        fault: row_fault,
-        ..
-    } = row;
-    let Told {
+    let fault = earlier(row.fault, item.fault);
+    let tree = more_items(row.tree, item.tree)?;
+    Ok(Told {
         tree,
         fault,
-        tally,
-        rest,
-    } = item;
-    items.push(tree)?;
-    Ok(Told {
-        tree: items,
-        fault: earlier(row_fault, fault),
-        tally,
-        rest,
+        tally: item.tally,
+        rest: item.rest,
     })
 }

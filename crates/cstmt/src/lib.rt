@@ -3,6 +3,7 @@
 
 mod assignment;
 mod building;
+mod delimited;
 mod local;
 mod loop_head;
 mod simple;
@@ -10,6 +11,4 @@ pub mod statement;
 mod step;
 pub mod tally;
 mod target;
-#[cfg(test)]
-mod tests;
 pub mod told;

@@ -11,13 +11,12 @@ ghost use Rattle.creader.specs.Names.{names_of};
 ghost use Rattle.creader.specs.Lexemes.{tokens_of};
 ghost use Rattle.creader.specs.Outcome.{Gives, got_of};
 
+use crate::delimited::ended_source;
 use crate::tally::{Tally, declared};
 use crate::told::Told;
-use cexpr::expression::whole;
 use creader::context::{Context, Outcome, Setting};
 use creader::lexeme::{Kind, Lexeme};
 use creader::parsed::Parsed;
-use creader::punctuation::semicolon;
 use creader::scope::{Entity, Scope, add, find};
 use creader::stop::{Flaw, Stop, earlier, unless};
 use creader::words::new_name;
@@ -55,11 +54,10 @@ fn initial<'s, 't>(
             rest,
         }),
         Kind::Sign(Symbol::Becomes) => {
-            let start = whole(context, room, rest)?;
-            let rest = semicolon(start.rest, context.end)?;
+            let Parsed { tree, fault, rest } = ended_source(context, room, rest)?;
             Ok(Parsed {
-                tree: Some(start.tree.source),
-                fault: start.fault,
+                tree: Some(tree),
+                fault,
                 rest,
             })
         }

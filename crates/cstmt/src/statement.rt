@@ -1,30 +1,31 @@
 //! Statements and the items of blocks (C11 6.8).
 
 ghost use Rattle.std.specs.Prelude.{◌≡◌, length, take, OnOk};
-ghost use Rattle.ktree.specs.View.{stmt_of};
+ghost use Rattle.ktree.specs.View.{stmt_of, source_of};
 ghost use Rattle.cstmt.specs.StatementReader.{statement, counted, block, items, selection, iteration};
-ghost use Rattle.cstmt.specs.Bodies.{once, twice, headed, item, stated};
+ghost use Rattle.cstmt.specs.Bodies.{once, twice, headed, item, stated, otherwise};
 ghost use Rattle.cstmt.specs.Rows.{item_of, items_in};
 ghost use Rattle.cstmt.specs.Tallies.{tally_of, told_of};
 ghost use Rattle.creader.specs.Names.{names_of};
 ghost use Rattle.creader.specs.Lexemes.{tokens_of};
-ghost use Rattle.creader.specs.Outcome.{Gives};
+ghost use Rattle.creader.specs.Outcome.{Gives, got_of};
 
 use crate::building::{if_else, if_only, looped, with_item};
+use crate::delimited::in_parens;
 use crate::local::{begins_item, located};
 use crate::loop_head::heading;
 use crate::simple::simple;
 use crate::tally::{Tally, declared, spend};
 use crate::told::Told;
-use cexpr::expression::whole;
 use creader::context::{Context, Setting, opened};
 use creader::lexeme::{Kind, Lexeme};
-use creader::punctuation::{close_brace, close_paren, open_paren};
+use creader::parsed::Parsed;
+use creader::punctuation::close_brace;
 use creader::scope::{Scope, close, count};
 use creader::stop::Stop;
 use creader::words::if_word;
 use ctoken::Symbol;
-use ktree::{Item, Place, Stmt};
+use ktree::{Item, Place, Source, Stmt};
 
 /// A statement.
 #[cycle(statement)]
@@ -226,15 +227,28 @@ fn selection<'s, 't>(
     let Setting { alloc, end } = setting;
     let outer = opened(room, place)?;
     let room = opened(outer, place)?;
-    let inner = open_paren(tokens, end)?;
-    let condition = whole(Context { alloc, scope, end }, room, inner)?;
-    let behind = close_paren(condition.rest, end)?;
-    let then = statement(setting, scope, outer, tally, behind)?;
+    let condition = in_parens(Context { alloc, scope, end }, room, tokens)?;
+    let then = statement(setting, scope, outer, tally, condition.rest)?;
+    otherwise(setting, scope, room, condition, then)
+}
+
+/// What stands behind the first statement of an `if`, with its condition: the end, or `else` and a second one.
+#[cycle(statement)]
+fn otherwise<'s, 't>(
+    setting: Setting,
+    scope: &mut Scope<'t>,
+    room: u32,
+    condition: Parsed<'s, 't, Source>,
+    then: Told<'s, 't, Stmt>,
+) -> Result<Told<'s, 't, Stmt>, Stop>
+    ensures statement { Gives (told_of stmt_of) result (otherwise (statement room) (names_of scope.old) (got_of source_of condition.entry) (told_of stmt_of then.entry)) }
+    ensures names { OnOk result (scope.new ≡ scope.old) }
+{
     match if_word("else", then.rest) {
-        None => if_only(alloc, condition, then),
+        None => if_only(setting.alloc, condition, then),
         Some((_place, other)) => {
             let other = statement(setting, scope, room, then.tally, other)?;
-            if_else(alloc, condition, then, other)
+            if_else(setting.alloc, condition, then, other)
         }
     }
 }

@@ -23,6 +23,3 @@ pub use list::Tokens;
 pub use scanning::{Scanned, scan, tokens};
 pub use string::characters;
 pub use token::{Header, Symbol, Token, TokenKind};
-
-#[cfg(test)]
-mod tests;

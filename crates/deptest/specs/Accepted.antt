@@ -12,8 +12,8 @@ use Rattle.nest.specs.Perfect.{AreRightNests}
 use Rattle.flow.specs.Private.{IsPrivate}
 use Rattle.flow.specs.Parallel.{AreParallelLoops}
 use Rattle.flow.specs.declared.environment.ParallelLoop.{ParallelLoop}
-use Rattle.independence.specs.Laws.{IsIndependentNest}
-use Rattle.reorder.specs.Laws.{CommutesAsNest}
+use Rattle.law_independence.specs.IndependenceLaws.{IsIndependentNest}
+use Rattle.law_independence.specs.OrderLaws.{CommutesAsNest}
 
 -- a text, and its tree with the directive lines
 pub record Program : Type 0 where

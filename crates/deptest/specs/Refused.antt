@@ -4,8 +4,8 @@ use Rattle.semantics.specs.Tree.{Kernel}
 use Rattle.ktree.specs.declared.refusal.Refusal.{Refusal}
 use Rattle.ktree.specs.declared.refusal.Refusal.TheVariants.{Conflict}
 use Rattle.verdict.specs.Refused.{IsRefused}
-use Rattle.witness.specs.Parallel.{SomeItemHas}
-use Rattle.witness.specs.Laws.{IsConflict}
+use Rattle.law_independence.specs.Parallel.{SomeItemHas}
+use Rattle.law_independence.specs.ConflictLaws.{IsConflict}
 
 -- a conflict that is named is one of some parallel loop
 abbrev pub NamesAConflict : List ℕ → Kernel → Refusal → Type 0

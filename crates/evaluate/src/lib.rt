@@ -8,6 +8,3 @@ mod operators;
 pub use expression::{element, holds, place, source_value, value};
 pub use frame::{Frame, Slot};
 pub use operators::operated;
-
-#[cfg(test)]
-mod tests;

@@ -7,6 +7,3 @@ mod writing;
 
 pub use running::{block, run_item, statement};
 pub use writing::increment;
-
-#[cfg(test)]
-mod tests;

@@ -15,6 +15,3 @@ pub use classifying::classify;
 pub use environment::ParallelLoop;
 pub use fault::DataFault;
 pub use judging::definite;
-
-#[cfg(test)]
-mod tests;

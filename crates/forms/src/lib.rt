@@ -12,6 +12,3 @@ pub use constants::constant;
 pub use faults::Fault;
 pub use linear::form_of;
 pub use subscripts::{are_affine, subscript_place};
-
-#[cfg(test)]
-mod tests;

@@ -19,6 +19,3 @@ pub use statement::{
     Declaration, Enumerator, Head, Increment, Item, Kernel, Local, PrintPart, Source, Stmt, Target,
 };
 pub use workers::{ChunkNo, Workers};
-
-#[cfg(test)]
-mod tests;

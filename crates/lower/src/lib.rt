@@ -7,6 +7,3 @@ mod part;
 
 pub use fit::fits;
 pub use form::lowered_loop;
-
-#[cfg(test)]
-mod tests;

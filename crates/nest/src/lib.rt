@@ -17,6 +17,3 @@ pub use heads::{Level, as_loop};
 pub use kernels::{in_range, nests};
 pub use law::{constant_loops_make_boxes, ranges_are_exact, refusals_have_turns};
 pub use perfect::Nest;
-
-#[cfg(test)]
-mod tests;

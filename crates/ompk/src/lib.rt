@@ -10,8 +10,3 @@ pub use accepting::check;
 pub use deptest::Checked;
 pub use running::{run, runs_of_accepted, seq};
 pub use telling::{status, tell};
-
-#[cfg(test)]
-mod rows;
-#[cfg(test)]
-mod tests;

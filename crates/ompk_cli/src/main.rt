@@ -7,7 +7,7 @@ mod fault;
 mod task;
 
 use fault::Fault;
-use ktree::Refusal;
+use ktree::{Refusal, Workers};
 use ompk::{Checked, check, run, seq, status, tell};
 use seqrun::{Sink, Writer, put_all};
 use std::io::ErrorKind;
@@ -55,6 +55,53 @@ fn given<'a, R: Files + AllocGlobal>(rt: &R, input: Option<&'a str>) -> Result<V
     }
 }
 
+// Runs the kernel of a file on a team.
+fn run_file<'a, R, S>(
+    rt: &R,
+    file: &'a str,
+    input: Option<&'a str>,
+    workers: Workers,
+    sink: &mut S,
+) -> Result<(), Fault<'a>>
+where
+    R: Files + AllocGlobal + Threads + Wait + Sync,
+    S: Sink,
+    requires { S.failed sink.old + 1 < 2 ^ 64 }
+{
+    let kernel = checked(rt, file)?;
+    let bytes = given(rt, input)?;
+    let given = bytes.as_slice();
+    Ok(run(rt, rt.alloc(), &kernel, given, workers, &OpenGate, sink)?)
+}
+
+// Runs the kernel of a file by one thread.
+fn seq_file<'a, R, S>(
+    rt: &R,
+    file: &'a str,
+    input: Option<&'a str>,
+    sink: &mut S,
+) -> Result<(), Fault<'a>>
+where
+    R: Files + AllocGlobal,
+    S: Sink,
+    requires { S.failed sink.old + 1 < 2 ^ 64 }
+{
+    let kernel = checked(rt, file)?;
+    let bytes = given(rt, input)?;
+    Ok(seq(rt.alloc(), &kernel, bytes.as_slice(), sink)?)
+}
+
+// Checks the kernel of a file.
+fn check_file<'a, R, S>(rt: &R, file: &'a str, sink: &mut S) -> Result<(), Fault<'a>>
+where
+    R: Files + AllocGlobal,
+    S: Sink,
+    requires { S.failed sink.old + 1 < 2 ^ 64 }
+{
+    checked(rt, file)?;
+    Ok(put_all(sink, b"accepted\n")?)
+}
+
 // Does what is asked for, and writes to this sink.
 fn perform<'a, R, S>(rt: &R, task: &Task<'a>, sink: &mut S) -> Result<(), Fault<'a>>
 where
@@ -62,36 +109,15 @@ where
     S: Sink,
     requires { S.failed sink.old + 1 < 2 ^ 64 }
 {
-    let alloc = rt.alloc();
     match task {
-        Task::Check { file } => {
-            checked(rt, file)?;
-            put_all(sink, b"accepted\n")?;
-        }
+        Task::Check { file } => check_file(rt, file, sink),
         Task::Run {
             file,
             input,
             workers,
-        } => {
-            let kernel = checked(rt, file)?;
-            let bytes = given(rt, *input)?;
-            run(
-                rt,
-                alloc,
-                &kernel,
-                bytes.as_slice(),
-                *workers,
-                &OpenGate,
-                sink,
-            )?;
-        }
-        Task::Seq { file, input } => {
-            let kernel = checked(rt, file)?;
-            let bytes = given(rt, *input)?;
-            seq(alloc, &kernel, bytes.as_slice(), sink)?;
-        }
+        } => run_file(rt, file, *input, *workers, sink),
+        Task::Seq { file, input } => seq_file(rt, file, *input, sink),
     }
-    Ok(())
 }
 
 // Says what is wrong, and answers the exit status for it.

@@ -5,7 +5,7 @@ ghost use Rattle.semantics.specs.Source.Cuts.{is_decimal, decimal_from};
 
 use crate::fault::Fault;
 use clap::error::ErrorKind;
-use clap::{Arg, Command};
+use clap::{Arg, ArgMatches, Command};
 use ktree::Workers;
 use std::alloc::{AllocError, Global};
 
@@ -41,34 +41,50 @@ fn input<'a>(alloc: Global) -> Arg<'a> {
     )
 }
 
-// All that the command line may say.
-fn command<'a>(alloc: Global) -> Result<Command<'a>, AllocError> {
-    let check = Command::new(alloc, "check")
+// `ompk check F`.
+fn check_command<'a>(alloc: Global) -> Result<Command<'a>, AllocError> {
+    Command::new(alloc, "check")
         .about("Checks a kernel")
-        .arg(file(alloc))?;
-    let workers = Arg::new(alloc, "workers")
+        .arg(file(alloc))
+}
+
+// The number of workers.
+fn workers<'a>(alloc: Global) -> Arg<'a> {
+    Arg::new(alloc, "workers")
         .long("workers")
         .value_name("N")
         .default_value("4")
-        .help("The number of workers, 1 to 64");
-    let run = Command::new(alloc, "run")
+        .help("The number of workers, 1 to 64")
+}
+
+// `ompk run F [--input I] [--workers N]`.
+fn run_command<'a>(alloc: Global) -> Result<Command<'a>, AllocError> {
+    Command::new(alloc, "run")
         .about("Runs a kernel on a team of workers and writes its output")
         .arg(file(alloc))?
         .arg(input(alloc))?
-        .arg(workers)?;
-    let seq = Command::new(alloc, "seq")
+        .arg(workers(alloc))
+}
+
+// `ompk seq F [--input I]`.
+fn seq_command<'a>(alloc: Global) -> Result<Command<'a>, AllocError> {
+    Command::new(alloc, "seq")
         .about("Runs a kernel by one thread and writes its output")
         .arg(file(alloc))?
-        .arg(input(alloc))?;
+        .arg(input(alloc))
+}
+
+// All that the command line may say.
+fn command<'a>(alloc: Global) -> Result<Command<'a>, AllocError> {
     Command::new(alloc, "ompk")
         .bin_name("ompk")?
         .about(
             "Runs C11 kernels with OpenMP loops, with exactly the output of the sequential program",
         )
         .subcommand_required(true)
-        .subcommand(check)?
-        .subcommand(run)?
-        .subcommand(seq)
+        .subcommand(check_command(alloc)?)?
+        .subcommand(run_command(alloc)?)?
+        .subcommand(seq_command(alloc)?)
 }
 
 // 1 to 64, without leading zeros.
@@ -84,27 +100,51 @@ fn workers_of(text: &str) -> Option<Workers>
     }
 }
 
-/// Reads the words of a command line, the program's own name first.
-pub fn read_task<'a>(alloc: Global, words: &'a [String]) -> Result<Task<'a>, Fault<'a>> {
-    let mut command = command(alloc)?;
-    let matches = command.try_get_matches_from_mut(words)?;
+// What is wrong with words that have the form of a command line.
+#[derive(Clone, Copy, Drop)]
+enum Flaw {
+    Workers,
+    Subcommand,
+}
+
+impl Flaw {
+    fn kind(self) -> ErrorKind {
+        match self {
+            Flaw::Workers => ErrorKind::InvalidValue,
+            Flaw::Subcommand => ErrorKind::MissingSubcommand,
+        }
+    }
+
+    fn message(self) -> &'static str {
+        match self {
+            Flaw::Workers => "the number of workers is 1 to 64, without leading zeros",
+            Flaw::Subcommand => "a subcommand is missing",
+        }
+    }
+}
+
+// The task of `run`, by its file and its number of workers.
+fn run_task<'a>(file: &'a str, input: Option<&'a str>, workers: &str) -> Result<Task<'a>, Flaw> {
+    match workers_of(workers) {
+        Some(workers) => Ok(Task::Run {
+            file,
+            input,
+            workers,
+        }),
+        None => Err(Flaw::Workers),
+    }
+}
+
+// What these words ask for.
+fn task_of<'a>(matches: &ArgMatches<'a>) -> Result<Task<'a>, Flaw> {
     if let Some(found) = matches.subcommand_matches("check") {
         if let Some(file) = found.get_str("file") {
             return Ok(Task::Check { file });
         }
     }
     if let Some(found) = matches.subcommand_matches("run") {
-        if let (Some(file), Some(text)) = (found.get_str("file"), found.get_str("workers")) {
-            let Some(workers) = workers_of(text) else {
-                let message = "the number of workers is 1 to 64, without leading zeros";
-                return Err(Fault::from(command.error(ErrorKind::InvalidValue, message)?));
-            };
-            let input = found.get_str("input");
-            return Ok(Task::Run {
-                file,
-                input,
-                workers,
-            });
+        if let (Some(file), Some(workers)) = (found.get_str("file"), found.get_str("workers")) {
+            return run_task(file, found.get_str("input"), workers);
         }
     }
     if let Some(found) = matches.subcommand_matches("seq") {
@@ -113,6 +153,15 @@ pub fn read_task<'a>(alloc: Global, words: &'a [String]) -> Result<Task<'a>, Fau
             return Ok(Task::Seq { file, input });
         }
     }
-    let message = "a subcommand is missing";
-    Err(Fault::from(command.error(ErrorKind::MissingSubcommand, message)?))
+    Err(Flaw::Subcommand)
+}
+
+/// Reads the words of a command line, the program's own name first.
+pub fn read_task<'a>(alloc: Global, words: &'a [String]) -> Result<Task<'a>, Fault<'a>> {
+    let mut command = command(alloc)?;
+    let matches = command.try_get_matches_from_mut(words)?;
+    match task_of(&matches) {
+        Ok(task) => Ok(task),
+        Err(flaw) => Err(Fault::from(command.error(flaw.kind(), flaw.message())?)),
+    }
 }

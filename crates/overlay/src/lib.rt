@@ -8,6 +8,3 @@ mod store;
 pub use lowered::{Formula, LoweredLoop, Operand, Operation, Work};
 pub use piece::{Changes, Piece, run_chunk};
 pub use store::{Array, Store};
-
-#[cfg(test)]
-mod tests;

@@ -9,6 +9,3 @@ mod reach;
 pub use access::{Access, Mode, Nest, PastLimit, Subscript};
 pub use case::independent;
 pub use laws::{one_loop_is_exact, refuted_equations_have_no_solution, refuted_pairs_do_not_meet};
-
-#[cfg(test)]
-mod tests;

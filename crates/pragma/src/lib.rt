@@ -17,6 +17,3 @@ pub use faults::Fault;
 pub use lines::Directives;
 pub use placed::first_fault;
 pub use word::{Sign, Word, next_word};
-
-#[cfg(test)]
-mod tests;

@@ -9,6 +9,3 @@ pub use operator::{
     identity_by,
 };
 pub use partial::{Partial, combine, combine_by};
-
-#[cfg(test)]
-mod tests;

@@ -1,5 +1,9 @@
-//! Kernels of everyday patterns, and what is said of their parallel loops before any run: each verdict was found by hand.
+//! Tests of the whole road: kernels and what they write, calls and what they answer, and the verdicts on parallel loops, found by hand.
 #![tactic(auto)]
 
+#[cfg(test)]
+mod calls;
+#[cfg(test)]
+mod kernels;
 #[cfg(test)]
 mod verdicts;

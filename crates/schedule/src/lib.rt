@@ -17,6 +17,3 @@ pub use sched::Sched;
 pub fn workers_share_chunks()
     ensures { WorkersShareChunks }
 {}
-
-#[cfg(test)]
-mod tests;

@@ -9,6 +9,3 @@ mod sink;
 pub use lines::dump;
 pub use reading::input;
 pub use sink::{Memory, Sink, SinkFault, Writer, put_all};
-
-#[cfg(test)]
-mod tests;

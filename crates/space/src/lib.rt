@@ -9,6 +9,3 @@ mod turns;
 pub use bounds::{Value, turns_at, value_at};
 pub use iterations::Space;
 pub use turns::LoopTurns;
-
-#[cfg(test)]
-mod tests;

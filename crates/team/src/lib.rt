@@ -7,6 +7,3 @@ mod worker;
 
 pub use gate::{Gate, OpenGate};
 pub use team::run_loop;
-
-#[cfg(test)]
-mod tests;

@@ -9,7 +9,7 @@ use Rattle.creader.specs.Reading.{Got}
 use Rattle.semantics.specs.Tree.{Exprs}
 use Rattle.creader.specs.Outcome.{got_of, subscripts_of}
 use Rattle.cexpr.specs.OperandViews.{operand_of}
-use Rattle.cexpr.proofs.LoopLemmas.{in_front, same_some, further_ends, further_fails, further_goes, row_ends, row_is_done, row_fails, row_stays_open, row_goes}
+use Rattle.cexpr.proofs.LoopLemmas.{in_front, same_some, further_ends, further_fails, further_goes, row_ends, row_is_done, row_fails, row_stays_open, row_goes, arms_fail, arms_go}
 use Rattle.cexpr.proofs.expression.+expression.Goals as goal
 
 pub further-returns-in_default : goal.further-returns-in_default
@@ -60,3 +60,12 @@ pub subscripts-returns : goal.subscripts-returns
 subscripts-returns t c =
     let le : length (tokens_of c.args.tokens.now) ≤ c.loop-turn._turn = omega (arith, length-map c.args.tokens.now token_of) in
     row_is_done _ _ _ (got_of subscripts_of c.loop-turn.row) _ le c.loop-turn.invariant
+
+pub arms-returns-in_err-second : goal.arms-returns-in_err-second
+arms-returns-in_err-second t c =
+    let p = err_from_is_err_and c.from_residual-in_err-second.result c.from_residual-in_err-second.ensures.1 in
+    rw (p.1, p.2) (arms_fail (inside c.args.room (names_of c.args.context.scope.now)) (got_of operand_of c.args.condition) (tokens_of c.args.tokens.now) (got_of operand_of c.in_ok-first.first) c.in_ok-first.ensures _ c.in_err-second.ensures)
+
+pub arms-returns : goal.arms-returns
+arms-returns t c =
+    rw (arms_go (inside c.args.room (names_of c.args.context.scope.now)) (got_of operand_of c.args.condition) (tokens_of c.args.tokens.now) (got_of operand_of c.in_ok-first.first) c.in_ok-first.ensures (got_of operand_of c.in_ok-second.second) c.in_ok-second.ensures) c.choice.ensures

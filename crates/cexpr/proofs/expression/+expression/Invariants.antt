@@ -9,6 +9,9 @@ use Rattle.cexpr.proofs.expression.+expression.Given as goal
 
 -- each call has less room, or is of a function further down
 
+abbrev pub decreases-arms : goal.decreases-arms
+decreases-arms l = 32 * l.room + 29
+
 abbrev pub decreases-binary : goal.decreases-binary
 decreases-binary l = 32 * l.room + (6 + 2 * l.reach)
 
@@ -23,6 +26,9 @@ decreases-operand_inside l = 32 * l.room
 
 abbrev pub decreases-primary : goal.decreases-primary
 decreases-primary l = 32 * l.room + 4
+
+abbrev pub decreases-second_arm : goal.decreases-second_arm
+decreases-second_arm l = 32 * l.room + 1
 
 abbrev pub decreases-subscripts : goal.decreases-subscripts
 decreases-subscripts l = 32 * l.room + 2

@@ -1,14 +1,20 @@
-use Rattle.std.proofs.Common.{◌<◌, ◌≤◌, length, sym, ap, ◌∙◌, arith}
+use Rattle.std.proofs.Common.{◌<◌, ◌≤◌, ◌≡◌, length, sym, ap, subst, ◌∙◌, arith}
 use Rattle.std.proofs.lemmas.List.{length-map}
 use Rattle.std.proofs.lemmas.Result.{err_from_is_err_and}
+use Rattle.semantics.specs.Tree.{Source, Stmt}
+use Rattle.ktree.specs.View.{stmt_of, source_of}
+use Rattle.creader.specs.Reading.{Got}
+use Rattle.creader.specs.Outcome.{Gives, got_of}
 use Rattle.creader.specs.Names.{names_of}
 use Rattle.creader.specs.Lexemes.{token_of, tokens_of}
-use Rattle.cstmt.specs.StatementReader.{statement}
-use Rattle.cstmt.specs.Bodies.{with_item}
+use Rattle.cstmt.specs.StatementReader.{Told, statement, selection}
+use Rattle.cstmt.specs.Bodies.{once, twice, with_item, otherwise}
 use Rattle.cstmt.specs.Rows.{row_of, item_of}
+use Rattle.cstmt.specs.Tallies.{tally_of, told_of}
 use Rattle.cexpr.proofs.LoopLemmas.{same_some, not_there}
 use Rattle.creader.proofs.Turns.{goes, fails, ends, is_over}
 use Rattle.cstmt.proofs.ItemLemmas.{front_then}
+use Rattle.cstmt.proofs.HeadingLemmas.{selected}
 use Rattle.cstmt.proofs.ItemRun.{items_run, run_ends, run_out, run_fails, run_goes}
 use Rattle.cstmt.proofs.statement.+statement.Goals as goal
 
@@ -50,3 +56,13 @@ items-returns-clause-items t c =
     let row = row_of (names_of c.loop-turn.scope) c.loop-turn.row in
     let le : length (tokens_of c.args.tokens.now) ≤ c.loop-turn._turn = omega (arith, length-map c.args.tokens.now token_of) in
     is_over (items_run c.args.room (statement c.args.room)) _ _ row _ c.loop-turn.invariant.same _ le (run_out c.args.room (statement c.args.room) row)
+
+pub selection-returns-clause-statement : goal.selection-returns-clause-statement
+selection-returns-clause-statement t c =
+    let condition : Got Source = got_of source_of c.in_ok-condition.condition in
+    let then : Told Stmt = told_of stmt_of c.in_ok-then.then in
+    let e : selection c.args.room (once c.args.room) (twice c.args.room) (names_of c.args.scope.now) (tally_of c.args.tally) (tokens_of c.args.tokens.now) ≡ otherwise (statement c.in_ok-room.room) (names_of c.args.scope.now) condition then =
+    selected _ _ _ _ _ _ condition then c.in_ok-outer.ensures c.in_ok-room.ensures c.in_ok-condition.ensures c.in_ok-then.ensures.statement in
+    let same : otherwise (statement c.in_ok-room.room) (names_of c.statement.new.scope) condition then ≡ otherwise (statement c.in_ok-room.room) (names_of c.args.scope.now) condition then =
+    ap (λ scope. otherwise (statement c.in_ok-room.room) (names_of scope) condition then) c.in_ok-then.ensures.names in
+    subst (λ read. Gives (told_of stmt_of) c.otherwise.result read) (same ∙ sym e) c.otherwise.ensures.statement

@@ -33,6 +33,10 @@ decreases-block l = 8 * l.room + 1
 abbrev pub decreases-selection : goal.decreases-selection
 decreases-selection l = 8 * l.room + 1
 
+-- there is less room behind the first statement of an `if`
+abbrev pub decreases-otherwise : goal.decreases-otherwise
+decreases-otherwise l = 8 * l.room + 5
+
 abbrev pub decreases-iteration : goal.decreases-iteration
 decreases-iteration l = 8 * l.room + 1
 

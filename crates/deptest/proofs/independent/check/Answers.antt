@@ -1,5 +1,5 @@
-use Rattle.independence.proofs.Kernels.{shown_kernels_are_independent}
-use Rattle.reorder.proofs.Kernels.{accepted_loops_commute}
+use Rattle.law_independence.proofs.IndependentKernels.{shown_kernels_are_independent}
+use Rattle.law_independence.proofs.ReorderedKernels.{accepted_loops_commute}
 use Rattle.deptest.proofs.Named.{refuses}
 use Rattle.deptest.proofs.independent.check.Goals as goal
 

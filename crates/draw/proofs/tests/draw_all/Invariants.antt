@@ -1,5 +1,0 @@
-use Rattle.std.proofs.Common.{◌≡◌}
-use Rattle.draw.proofs.tests.draw_all.Given as goal
-
-abbrev pub invariant-draws : goal.invariant-draws
-invariant-draws l = l.seat.of ≡ l.drawing

@@ -1,5 +1,0 @@
-use Rattle.independence.proofs.Independent.{shown_bodies_are_independent as the_law}
-use Rattle.independence.proofs.shown_bodies_are_independent.Goals as goal
-
-pub returns : goal.returns
-returns c = the_law

@@ -1,5 +1,0 @@
-use Rattle.independence.proofs.Nests.{shown_loops_are_independent as the_law}
-use Rattle.independence.proofs.shown_loops_are_independent.Goals as goal
-
-pub returns : goal.returns
-returns c = the_law

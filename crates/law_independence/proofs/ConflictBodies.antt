@@ -1,0 +1,130 @@
+-- What a body's accesses touch, in the words of the definitions.
+use Rattle.std.specs.Prelude.{ℕ, ◌≡◌, ◌≢◌, ◌<◌, ◌^◌, ℤ, pos, ◌≤ℤ◌, ◌<ℤ◌, List, [], ◌∷◌, ◌++◌, length, Contains, Option, Some, slice_get}
+use Rattle.std.proofs.Common.{refl, sym, ap, ◌∙◌, subst, arith}
+use Rattle.std.proofs.lemmas.Int.{ints}
+use Rattle.std.proofs.lemmas.Option.{slice_get_within, get_or_from_slice_get}
+use Rattle.semantics.specs.Tree.{Variable, Exprs, no_exprs, more_exprs, Stmt}
+use Rattle.semantics.specs.Meaning.State.{State}
+use Rattle.semantics.specs.Meaning.Value.{both, values}
+use Rattle.semantics.specs.Loops.Nest.{Loop, Vector, iterations, at_vector}
+use Rattle.semantics.specs.Loops.Access.{Touches, accesses}
+use Rattle.semantics.specs.Loops.Access as meant
+use Rattle.affine.specs.declared.interval.Side.{Side}
+use Rattle.affine.specs.Affine.{Affine, value}
+use Rattle.forms.specs.Forms.{form_of}
+use Rattle.canonical.specs.declared.head.Canonical.{Canonical}
+use Rattle.canonical.proofs.FormValues.{form_number}
+use Rattle.counters.specs.Levels.{Nesting}
+use Rattle.nest.specs.Perfect.{AreRectangular}
+use Rattle.space.specs.declared.bounds.Value.{Value}
+use Rattle.space.specs.Space.{vectors}
+use Rattle.space.specs.Nests.{given, AreRunsOf}
+use Rattle.space.proofs.Nesting.{nest_law}
+use Rattle.conflict.specs.Touching.{FirstTurns, held, AreIndexes, NestAt, IsEntered, TouchesAt}
+use Rattle.accesses.specs.Sites.{Site}
+use Rattle.accesses.specs.Found.{AreEach, IsTouched}
+use Rattle.accesses.specs.declared.told.Touched.{Touched}
+use Rattle.verdict.specs.Shown.{no_loops}
+use Rattle.verdict.specs.Refused.{touch_of, serial_loops, nest_loops}
+use Rattle.turns.specs.Turns.{AreEntered}
+use Rattle.turns.proofs.Laws.{iterations_are_there, iterations_are_turns, iterations_differ}
+use Rattle.law_independence.proofs.Entered.{entered_loops, inner_are, serial_are, nest_are, first_are}
+use Rattle.law_independence.proofs.Values.{IsAt, vector_at, first_there}
+use Rattle.law_independence.proofs.Rectangular.{heads_of}
+use Rattle.law_independence.proofs.ConflictLinks.{Link}
+use Rattle.law_independence.proofs.Outer.{there_is, pos_same, contains_at, Begins, begins_there}
+
+-- ---- subscripts
+
+not_below : (z : ℤ) (i : ℕ) → z ≡ pos i → pos 0 ≤ℤ z
+not_below z i e = omega (arith, ints)
+
+not_above : (z : ℤ) (i : ℕ) → z ≡ pos i → i < 2 ^ 64 → z <ℤ pos (2 ^ 64)
+not_above z i e lt = omega (arith, ints)
+
+-- the values of subscripts are those of their forms
+pub indexes_there : (box : List Side) (there : List Value) (s : State) → IsAt box there s → (es : Exprs) (fs : List Affine) (is : List ℕ) → AreEach (λ e f. form_of box e ≡ Some f) es fs
+    → AreIndexes fs (given there) is → values s es ≡ Some is
+indexes_there box there s at no_exprs [] [] each are = refl
+indexes_there box there s at no_exprs [] (i ∷ is) each are = absurd are
+indexes_there box there s at no_exprs (f ∷ fs) is each are = absurd each
+indexes_there box there s at (more_exprs e es) [] is each are = absurd each
+indexes_there box there s at (more_exprs e es) (f ∷ fs) [] each are = absurd are
+indexes_there box there s at (more_exprs e es) (f ∷ fs) (i ∷ is) each are =
+    let z = value f (given there) in
+    let n = form_number box (given there) s at.counters e f each.0 (not_below z i are.0) (not_above z i are.0 are.1) in
+    let same : n.0 ≡ i = pos_same n.0 i (sym n.2 ∙ are.0) in
+    ap (λ (o : Option ℕ). both (λ k ks. k ∷ ks) o (values s es)) (n.1 ∙ ap Some same)
+    ∙ ap (λ (o : Option (List ℕ)). both (λ k ks. k ∷ ks) (Some i) o) (indexes_there box there s at es fs is each.1 are.2)
+
+-- ---- a nest at the first turns of the serial loops
+
+module _ (serial loops : List Loop) (round now : Nesting) (body : Stmt) (outside : AreEntered no_loops serial round) (entered : AreEntered round loops now)
+    (ls : List Canonical) (rectangular : AreRectangular round.box loops ls) (region : NestAt)
+    (known : IsEntered (serial_loops (length round.levels) now) (nest_loops (length round.levels) now) region) where
+  serial_known : serial_loops (length round.levels) now ≡ entered_loops serial no_loops round outside
+  serial_known = serial_are loops round now entered ∙ first_are serial no_loops round outside refl
+
+  nest_known : nest_loops (length round.levels) now ≡ entered_loops loops round now entered
+  nest_known = nest_are loops round now entered
+
+  pub begun : Begins serial round region.outer
+  begun = begins_there serial round region.outer outside (subst (λ (cs : List Canonical). FirstTurns cs [] region.outer) serial_known known.first)
+
+  runs : AreRunsOf (entered_loops loops round now entered) (given region.outer) region.turns
+  runs = subst (λ (cs : List Canonical). AreRunsOf cs (given region.outer) region.turns) nest_known known.runs
+
+  abbrev us : List Vector
+  us = vectors region.turns
+
+  -- its iterations are those that are numbered
+  pub iterations_known : iterations loops begun.outer ≡ Some us
+  iterations_known =
+      nest_law (entered_loops loops round now entered) (given region.outer) region.turns runs round.box loops begun.outer begun.at.counters (heads_of loops round now entered ls rectangular)
+
+  -- two numbers have two iterations
+  pub numbers_differ : (i j : ℕ) (u v : Vector) → i < j → slice_get us i ≡ Some u → slice_get us j ≡ Some v → u ≢ v
+  numbers_differ i j u v lt p q e =
+      iterations_differ round now loops begun.steps begun.outer us entered begun.turn iterations_known i j u lt (slice_get_within us j v q)
+      (get_or_from_slice_get us i u u p ∙ e ∙ sym (get_or_from_slice_get us j v u q))
+
+  -- an access of the text, by the forms of its subscripts
+  module _ (site : Site) (access : meant.Access) (link : Link now site access) (touched : Touched) (is : IsTouched (length now.levels) site.round site.subscripts touched) where
+    inner_known : touched.inner.items ≡ entered_loops access.inner now site.round link.entered
+    inner_known = is.inner ∙ inner_are access.inner now site.round link.entered
+
+    module _ (number : ℕ) (indexes : List ℕ) (t : TouchesAt region (touch_of touched) number indexes) where
+      abbrev held_there : List Value
+      held_there = region.outer ++ held region.loops t.vector
+
+      abbrev state : State
+      state = at_vector loops t.vector begun.outer
+
+      at_iteration : IsAt now.box held_there state
+      at_iteration =
+          subst (λ (cs : List Canonical). IsAt now.box (region.outer ++ held cs t.vector) state) (sym (known.loops ∙ nest_known))
+          (vector_at loops round now entered (given region.outer) region.turns number region.outer begun.outer t.vector runs t.is begun.at)
+
+      -- it touches the element in the words of the definitions
+      pub touches_there : Contains (accesses [] body) access → (array : Variable) → array ≡ access.array
+          → Touches loops body begun.outer t.vector (record { array = array; indexes = indexes }) access.mode
+      touches_there among array same =
+          let it = iterations_are_turns round now loops begun.steps begun.outer us t.vector entered begun.turn iterations_known (contains_at us number t.vector t.is) in
+          let all = there_is (iterations access.inner state) (iterations_are_there now site.round access.inner it.0 state link.entered it.1.at) in
+          let first = first_there access.inner now site.round link.entered held_there t.touches.there state all.0
+          (subst (λ (cs : List Canonical). FirstTurns cs held_there t.touches.there) inner_known t.touches.turns) at_iteration all.1 in
+          record {
+            access = access;
+            there = among;
+            reaches = record {
+              turns = all.0;
+              are = all.1;
+              turn = first.turn;
+              among = contains_at all.0 0 first.turn first.first;
+              array = same;
+              indexes =
+                  subst (λ (es : Exprs). values (at_vector access.inner first.turn state) es ≡ Some indexes) link.subscripts
+                  (indexes_there site.round.box t.touches.there (at_vector access.inner first.turn state) first.at site.subscripts touched.subscripts.items indexes is.subscripts t.touches.are);
+            };
+            mode_is = refl;
+          }

@@ -1,0 +1,189 @@
+-- Subscripts and inner loops of a body are fixed by the variables of the loops round them, and what it assigns is its own. (OpenMP 5.2, 4.4.1 and 5.1.1)
+use Rattle.std.specs.Prelude.{ℕ, suc, Bool, true, false, ◌≡◌, ◌<◌, ◌≤◌, ◌==◌, ◌||◌, List, [], ◌∷◌, ◌++◌, length, Option, Some, None, slice_get}
+use Rattle.std.proofs.Common.{refl, sym, ap, ◌∙◌, subst, arith}
+use Rattle.std.proofs.lemmas.Bool.{eqb-true, eq-eqb, or_left, or_right, or_from, true≢false}
+use Rattle.std.proofs.lemmas.Option.{slice_get_within}
+use Rattle.semantics.specs.Tree.{Variable, Expr, Literal, Constant, Object, Unary, Binary, Choose, Exprs, no_exprs, more_exprs, Cond, NotZero, Compare, Not, Both, Either, Source, Number, Truth, Stmt, Items, Declaration}
+use Rattle.semantics.specs.Source.Token.{Token}
+use Rattle.semantics.specs.Source.Scope.{Scope}
+use Rattle.semantics.specs.Source.Statements.{ReadsStmt, assign, update, if_only, if_else, for_loop, block, print, ReadsItems, no_more, line, empty_local, first_local, statement}
+use Rattle.semantics.specs.Meaning.Agrees.{also, is_among, declared_in, declared_among}
+use Rattle.semantics.proofs.EraseTokenLaw.{first_of, second_of}
+use Rattle.affine.specs.declared.interval.Interval.{Interval}
+use Rattle.affine.specs.declared.interval.Side.{Side}
+use Rattle.affine.specs.Affine.{Affine}
+use Rattle.forms.specs.Forms.{form_of}
+use Rattle.canonical.specs.Canonical.{assigns, assigns_among}
+use Rattle.canonical.specs.Loops.{inside}
+use Rattle.canonical.proofs.Heads.{head_of}
+use Rattle.nest.specs.Nests.{ExprHas, CondHas, SourceHas, StartHas, Has, Have, StaysBelow, AllStay, lengths_of, StaysInside}
+use Rattle.flow.specs.Private.{is_own, keeps, keeps_all}
+use Rattle.flow.proofs.PrivateLemmas.{among_both}
+use Rattle.commute.specs.Steady.{IsFixedExpr, IsFixedCond, IsFixedSource, AreFixed, IsSteadyExpr, IsSteadyCond, IsSteadySource, IsSteadyStart, IsSteadyTarget, IsSteady, AreSteady}
+use Rattle.law_independence.proofs.Numbering.{declared_from}
+use Rattle.law_independence.proofs.Fixed.{form_fixed, own_fixed, step_fixed}
+use Rattle.law_independence.proofs.Naming.{NamesCounters, counters_inside}
+
+-- an array of the file
+array_below : (ds : List Declaration) (box : List Side) (x : ℕ) (i : Expr) (is : Exprs) → StaysInside ds box x (more_exprs i is) → x < length ds
+array_below ds box x i is h = go (slice_get ds x) refl h
+  where
+    go : (o : Option Declaration) → slice_get ds x ≡ o → AllStay box (lengths_of o) (more_exprs i is) → x < length ds
+    go None e q = absurd q
+    go (Some d) e q = slice_get_within ds x d e
+
+-- ---- expressions
+
+module _ (ds : List Declaration) (box : List Side) (fixed : Variable → Bool) (counters : NamesCounters fixed box) where
+  subscript_fixed : (e : Expr) (n : ℕ) → StaysBelow box n (form_of box e) → IsFixedExpr fixed e
+  subscript_fixed e n h = go (form_of box e) refl h
+    where
+      go : (o : Option Affine) → form_of box e ≡ o → StaysBelow box n o → IsFixedExpr fixed e
+      go None is q = absurd q
+      go (Some f) is q = form_fixed box fixed counters e f is
+
+  subscripts_fixed : (ns : List ℕ) (is : Exprs) → AllStay box ns is → AreFixed fixed is
+  subscripts_fixed [] no_exprs h = tt
+  subscripts_fixed [] (more_exprs e es) h = absurd h
+  subscripts_fixed (n ∷ ns) no_exprs h = absurd h
+  subscripts_fixed (n ∷ ns) (more_exprs e es) h = (subscript_fixed e n h.0, subscripts_fixed ns es h.1)
+
+  object_fixed : (x : Variable) (is : Exprs) → StaysInside ds box x is → AreFixed fixed is
+  object_fixed x is h = subscripts_fixed (lengths_of (slice_get ds x)) is h
+
+  mutual
+    expr_steady : (e : Expr) → ExprHas (StaysInside ds) box e → IsSteadyExpr fixed e
+    expr_steady (Literal n suffix) h = tt
+    expr_steady (Constant name n) h = tt
+    expr_steady (Object x is) h = object_fixed x is h
+    expr_steady (Unary op a) h = expr_steady a h
+    expr_steady (Binary op a b) h = (expr_steady a h.0, expr_steady b h.1)
+    expr_steady (Choose c a b) h = (cond_steady c h.0, expr_steady a h.1, expr_steady b h.2)
+
+    cond_steady : (c : Cond) → CondHas (StaysInside ds) box c → IsSteadyCond fixed c
+    cond_steady (NotZero a) h = expr_steady a h
+    cond_steady (Compare op a b) h = (expr_steady a h.0, expr_steady b h.1)
+    cond_steady (Not c) h = cond_steady c h
+    cond_steady (Both c d) h = (cond_steady c h.0, cond_steady d h.1)
+    cond_steady (Either c d) h = (cond_steady c h.0, cond_steady d h.1)
+
+  source_steady : (e : Source) → SourceHas (StaysInside ds) box e → IsSteadySource fixed e
+  source_steady (Number a) h = expr_steady a h
+  source_steady (Truth c) h = cond_steady c h
+
+  start_steady : (o : Option Source) → StartHas (StaysInside ds) box o → IsSteadyStart fixed o
+  start_steady None h = tt
+  start_steady (Some e) h = source_steady e h
+
+-- ---- statements
+
+-- what is fixed in a statement: the variables of the loops round it and of the file, and none that it declares or may assign
+pub record IsFixing (ds : List Declaration) (own : Variable → Bool) (box : List Side) (fixed : Variable → Bool) (declared : List Variable) (assigned : Variable → Bool) : Type 0 where
+  pub counters : NamesCounters fixed box
+  pub file : (y : Variable) → y < length ds → fixed y ≡ true
+  pub fresh : (y : Variable) → is_among declared y ≡ true → fixed y ≡ false
+  pub scalars : (y : Variable) → own y ≡ true → assigned y ≡ true → fixed y ≡ false
+
+module _ (ds : List Declaration) (own : Variable → Bool) where
+  abbrev Fixing : List Side → (Variable → Bool) → Stmt → Type 0
+  Fixing box fixed a = IsFixing ds own box fixed (declared_in a) (λ y. assigns y a)
+
+  abbrev AllFixing : List Side → (Variable → Bool) → Items → Type 0
+  AllFixing box fixed items = IsFixing ds own box fixed (declared_among items) (λ y. assigns_among y items)
+
+  -- the first of two lists, and the second
+  left_fixing : (box : List Side) (fixed : Variable → Bool) (xs ys : List Variable) (f g : Variable → Bool) → IsFixing ds own box fixed (xs ++ ys) (λ y. f y || g y) → IsFixing ds own box fixed xs f
+  left_fixing box fixed xs ys f g is =
+      record {
+        counters = is.counters;
+        file = is.file;
+        fresh = λ y h. is.fresh y (among_both xs ys y ∙ or_left (is_among xs y) (is_among ys y) h);
+        scalars = λ y o h. is.scalars y o (or_left (f y) (g y) h);
+      }
+
+  right_fixing : (box : List Side) (fixed : Variable → Bool) (xs ys : List Variable) (f g : Variable → Bool) → IsFixing ds own box fixed (xs ++ ys) (λ y. f y || g y) → IsFixing ds own box fixed ys g
+  right_fixing box fixed xs ys f g is =
+      record {
+        counters = is.counters;
+        file = is.file;
+        fresh = λ y h. is.fresh y (among_both xs ys y ∙ or_right (is_among xs y) (is_among ys y) h);
+        scalars = λ y o h. is.scalars y o (or_right (f y) (g y) h);
+      }
+
+  -- the others behind a local
+  later_fixing : (box : List Side) (fixed : Variable → Bool) (x : Variable) (xs : List Variable) (f : Variable → Bool) → IsFixing ds own box fixed (x ∷ xs) f → IsFixing ds own box fixed xs f
+  later_fixing box fixed x xs f is =
+      record { counters = is.counters; file = is.file; fresh = λ y h. is.fresh y (or_right (x == y) (is_among xs y) h); scalars = is.scalars }
+
+  first_fresh : (box : List Side) (fixed : Variable → Bool) (x : Variable) (xs : List Variable) (f : Variable → Bool) → IsFixing ds own box fixed (x ∷ xs) f → fixed x ≡ false
+  first_fresh box fixed x xs f is = is.fresh x (or_left (x == x) (is_among xs x) (eq-eqb x x refl))
+
+  -- a loop's body, where the loop's variable is fixed too
+  inner_fixing : (box : List Side) (fixed : Variable → Bool) (x : Variable) (xs : List Variable) (f : Variable → Bool) (i : Interval) → IsFixing ds own box fixed (x ∷ xs) f
+      → ((y : Variable) → is_among xs y ≡ true → suc x ≤ y) → f x ≡ false → IsFixing ds own (inside box x i) (also fixed x) xs f
+  inner_fixing box fixed x xs f i is above kept =
+      record {
+        counters = counters_inside fixed box x i is.counters;
+        file = λ y less. or_right (y == x) (fixed y) (is.file y less);
+        fresh = λ y h. or_from (y == x) (fixed y) (apart y (λ e. let le = above y h in omega arith)) (is.fresh y (or_right (x == y) (is_among xs y) h));
+        scalars = λ y o h. or_from (y == x) (fixed y) (apart y (λ e. true≢false (sym h ∙ ap f e ∙ kept))) (is.scalars y o h);
+      }
+    where
+      apart : (y : Variable) → (y ≡ x → ⊥) → (y == x) ≡ false
+      apart y other = go (y == x) refl
+        where
+          go : (b : Bool) → (y == x) ≡ b → b ≡ false
+          go true e = absurd (other (eqb-true y x e))
+          go false e = refl
+
+  target_steady : (box : List Side) (fixed : Variable → Bool) (x : Variable) (is : Exprs) (xs : List Variable) (f : Variable → Bool) → IsFixing ds own box fixed xs f → f x ≡ true → is_own own x is ≡ true
+      → StaysInside ds box x is → IsSteadyTarget fixed x is
+  target_steady box fixed x no_exprs xs f fixing written o h = fixing.scalars x o written
+  target_steady box fixed x (more_exprs i is) xs f fixing written o h =
+      (fixing.file x (array_below ds box x i is h), object_fixed ds box fixed fixing.counters x (more_exprs i is) h)
+
+  mutual
+    pub stmt_steady : {scope : Scope} {o next next' : ℕ} {ts : List Token} {a : Stmt} → ReadsStmt scope o next ts a next' → (box : List Side) (fixed : Variable → Bool) → Fixing box fixed a
+        → Has (StaysInside ds) box a → keeps own a ≡ true → IsSteady fixed a
+    stmt_steady (assign {x = x} {is = is} {e = e} t r) box fixed fixing h kept =
+        (target_steady box fixed x is [] (λ y. x == y) fixing (eq-eqb x x refl) kept h.0, source_steady ds box fixed fixing.counters e h.1)
+    stmt_steady (update {x = x} {is = is} {e = e} t sign r) box fixed fixing h kept =
+        (target_steady box fixed x is [] (λ y. x == y) fixing (eq-eqb x x refl) kept h.0, expr_steady ds box fixed fixing.counters e h.1)
+    stmt_steady (if_only {c = c} {a = a} less rc ra) box fixed fixing h kept =
+        (cond_steady ds box fixed fixing.counters c h.0, stmt_steady ra box fixed fixing h.1 kept)
+    stmt_steady (if_else {c = c} {a = a} {b = b} less rc closed ra rb) box fixed fixing h kept = (
+      cond_steady ds box fixed fixing.counters c h.0,
+      stmt_steady ra box fixed (left_fixing box fixed (declared_in a) (declared_in b) (λ y. assigns y a) (λ y. assigns y b) fixing) h.1 (first_of (keeps own a) (keeps own b) kept),
+      stmt_steady rb box fixed (right_fixing box fixed (declared_in a) (declared_in b) (λ y. assigns y a) (λ y. assigns y b) fixing) h.2 (second_of (keeps own a) (keeps own b) kept),
+    )
+    stmt_steady (for_loop {next = next} {start = start} {test = test} {step = step} {body = body} less free rs rt ru r) box fixed fixing h kept =
+        let head = head_of box next start test step h.0 h.2.form in
+        let within = inner_fixing box fixed next (declared_in body) (λ y. assigns y body) h.1 fixing (declared_from r) h.2.kept in
+        let wider : NamesCounters (also fixed next) box = λ y c. or_right (y == next) (fixed y) (fixing.counters y c) in (
+          first_fresh box fixed next (declared_in body) (λ y. assigns y body) fixing,
+          subst (IsFixedSource fixed) (sym head.start_is) (form_fixed box fixed fixing.counters head.from h.0.start head.first),
+          subst (IsFixedCond (also fixed next)) (sym head.test_is) (own_fixed fixed next, form_fixed box (also fixed next) wider head.to h.0.limit head.last),
+          step_fixed fixed next step h.0.stride head.stride,
+          stmt_steady r (inside box next h.1) (also fixed next) within h.3 kept,
+        )
+    stmt_steady (block less items) box fixed fixing h kept = items_steady items box fixed fixing h kept
+    stmt_steady (print less f r fill) box fixed fixing h kept = absurd (true≢false (sym kept))
+
+    items_steady : {scope : Scope} {o next next' : ℕ} {ts : List Token} {items : Items} → ReadsItems scope o next ts items next' → (box : List Side) (fixed : Variable → Bool) → AllFixing box fixed items
+        → Have (StaysInside ds) box items → keeps_all own items ≡ true → AreSteady fixed items
+    items_steady no_more box fixed fixing h kept = tt
+    items_steady (line r) box fixed fixing h kept = items_steady r box fixed fixing h kept
+    items_steady (empty_local {next = next} {items = items} free r) box fixed fixing h kept = (
+      first_fresh box fixed next (declared_among items) (λ y. assigns_among y items) fixing,
+      tt,
+      items_steady r box fixed (later_fixing box fixed next (declared_among items) (λ y. assigns_among y items) fixing) h.1 kept,
+    )
+    items_steady (first_local {next = next} {e = e} {items = items} free re r) box fixed fixing h kept = (
+      first_fresh box fixed next (declared_among items) (λ y. assigns_among y items) fixing,
+      source_steady ds box fixed fixing.counters e h.0,
+      items_steady r box fixed (later_fixing box fixed next (declared_among items) (λ y. assigns_among y items) fixing) h.1 kept,
+    )
+    items_steady (statement {s = a} {items = items} ra r) box fixed fixing h kept = (
+      stmt_steady ra box fixed (left_fixing box fixed (declared_in a) (declared_among items) (λ y. assigns y a) (λ y. assigns_among y items) fixing) h.0 (first_of (keeps own a) (keeps_all own items) kept),
+      items_steady r box fixed (right_fixing box fixed (declared_in a) (declared_among items) (λ y. assigns y a) (λ y. assigns_among y items) fixing) h.1 (second_of (keeps own a) (keeps_all own items) kept),
+    )

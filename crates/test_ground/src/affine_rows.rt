@@ -1,0 +1,241 @@
+use affine::*;
+use ktree::{Place, Refusal, VarId};
+use std::alloc::Global;
+use std::test::Fail;
+
+const HERE: Place = Place { line: 2, column: 3 };
+
+const I: VarId = VarId(4);
+
+const J: VarId = VarId(7);
+
+const K: VarId = VarId(9);
+
+#[test]
+fn gcds(rt: HostRuntime) {
+    assert_eq!(rt; gcd(0, 0), 0);
+    assert_eq!(rt; gcd(12, 18), 6);
+    assert_eq!(rt; gcd(18, 12), 6);
+    assert_eq!(rt; gcd(0, 5), 5);
+    assert_eq!(rt; gcd(5, 0), 5);
+    assert_eq!(rt; gcd(7, 13), 1);
+    assert_eq!(rt; gcd(u64::MAX, 3), 3);
+}
+
+/// A constant, which is within the limit.
+fn number(alloc: Global, n: i128) -> Result<Form, Refusal> {
+    Form::constant(alloc, n, HERE)
+}
+
+/// The variable times a number, and another number.
+fn line(alloc: Global, factor: i64, variable: VarId, n: i128) -> Result<Form, Refusal> {
+    Form::variable(alloc, variable)
+        .scale(factor, HERE)?
+        .add(&number(alloc, n)?, HERE)
+}
+
+/// Variables with the values that each has, the first as the outermost.
+type Sides<'a> = &'a [(VarId, i128, i128)];
+
+/// The box of these variables.
+fn box_of(alloc: Global, sides: Sides<'_>) -> Result<VarBox, Refusal> {
+    let mut bounds = VarBox::new(alloc);
+    for (variable, least, greatest) in sides {
+        bounds.bound(*variable, *least, *greatest, HERE)?;
+    }
+    Ok(bounds)
+}
+
+/// The range of a form over the box of these variables, where there are both.
+fn range_of(alloc: Global, form: &Form, sides: Sides<'_>) -> Option<(i128, i128)> {
+    match box_of(alloc, sides) {
+        Ok(bounds) => form.range(&bounds),
+        Err(_) => None,
+    }
+}
+
+/// A variable and another with a number.
+fn two_variables(alloc: Global) -> Result<Form, Refusal> {
+    line(alloc, 1, I, -1)?.add(&Form::variable(alloc, J), HERE)
+}
+
+/// The range of a form that there may be.
+fn range_if(alloc: Global, form: Result<Form, Refusal>, sides: Sides<'_>) -> Option<(i128, i128)> {
+    match form {
+        Ok(form) => range_of(alloc, &form, sides),
+        Err(_) => None,
+    }
+}
+
+/// The range of 5 - 3 * i where i has these values, whatever another i round it has.
+fn falling(alloc: Global, least: i128, greatest: i128) -> Option<(i128, i128)> {
+    range_if(
+        alloc,
+        line(alloc, -3, I, 5),
+        &[(I, 9, 8), (I, least, greatest)],
+    )
+}
+
+#[test]
+fn ranges(rt: HostRuntime) {
+    let alloc = rt.alloc();
+    let both = range_if(alloc, two_variables(alloc), &[(I, 0, 7), (J, 2, 3)]);
+    assert_eq!(rt; both, Some((1, 9)));
+    assert_eq!(rt; falling(alloc, 0, 4), Some((-7, 5)));
+    assert_eq!(rt; falling(alloc, 2, 2), Some((-1, -1)));
+    assert_eq!(rt; falling(alloc, 1, 0), None);
+    assert!(rt; box_of(alloc, &[(I, 1, 0)]).is_ok());
+}
+
+/// 3 * v + 4 at v = 2 * k + 1.
+fn substituted(alloc: Global) -> Result<Form, Refusal> {
+    line(alloc, 3, J, 4)?.substitute(J, &line(alloc, 2, K, 1)?, HERE)
+}
+
+/// A form's constant, and its coefficients of `i`, `j` and `k`.
+fn numbers_of(form: Result<Form, Refusal>) -> Option<(i64, i64, i64, i64)> {
+    match form {
+        Ok(form) => Some((
+            form.constant_term(),
+            form.coefficient(I),
+            form.coefficient(J),
+            form.coefficient(K),
+        )),
+        Err(_) => None,
+    }
+}
+
+/// How many terms a form has, or whether its refusal is the limit here.
+fn length_of(form: Result<Form, Refusal>) -> Result<usize, bool> {
+    match form {
+        Ok(form) => Ok(form.terms().len()),
+        Err(Refusal::Limit(HERE)) => Err(true),
+        Err(_) => Err(false),
+    }
+}
+
+#[test]
+fn substitutions(rt: HostRuntime) {
+    assert_eq!(rt; numbers_of(substituted(rt.alloc())), Some((7, 0, 0, 6)));
+    assert_eq!(rt; length_of(substituted(rt.alloc())), Ok(1));
+}
+
+const GREATEST: i128 = 1 << 62;
+
+/// The sum of two multiples of a variable.
+fn sum(alloc: Global, first: i64, second: i64) -> Result<Form, Refusal> {
+    line(alloc, first, I, 0)?.add(&line(alloc, second, I, 0)?, HERE)
+}
+
+/// Whether a form there may be is within a limit.
+fn is_within(form: Result<Form, Refusal>, limit: u64) -> Option<bool> {
+    match form {
+        Ok(form) => Some(form.is_within(limit)),
+        Err(_) => None,
+    }
+}
+
+#[test]
+fn limits(rt: HostRuntime) {
+    let alloc = rt.alloc();
+    assert_eq!(rt; length_of(number(alloc, GREATEST)), Ok(0));
+    assert_eq!(rt; length_of(number(alloc, -GREATEST)), Ok(0));
+    assert_eq!(rt; length_of(number(alloc, GREATEST + 1)), Err(true));
+    assert_eq!(rt; length_of(number(alloc, -GREATEST - 1)), Err(true));
+    assert_eq!(rt; length_of(sum(alloc, 1 << 61, 1 << 61)), Ok(1));
+    assert_eq!(rt; length_of(sum(alloc, 1 << 62, 1)), Err(true));
+    assert_eq!(rt; is_within(sum(alloc, 1 << 62, -1), 1 << 61), Some(false));
+}
+
+/// 5 * i + 1 without 2 * i - 3.
+fn difference(alloc: Global) -> Result<Form, Refusal> {
+    line(alloc, 5, I, 1)?.subtract(&line(alloc, 2, I, -3)?, HERE)
+}
+
+#[test]
+fn differences(rt: HostRuntime) {
+    assert_eq!(rt; numbers_of(difference(rt.alloc())), Some((4, 3, 0, 0)));
+}
+
+/// The sum of so many variables.
+fn variables(alloc: Global, count: u32) -> Result<Form, Refusal> {
+    let mut form = number(alloc, 0)?;
+    for at in 0..count {
+        form = form.add(&Form::variable(alloc, VarId(at)), HERE)?;
+    }
+    Ok(form)
+}
+
+#[test]
+fn numbers_of_variables(rt: HostRuntime) {
+    assert_eq!(rt; length_of(variables(rt.alloc(), 64)), Ok(64));
+    assert_eq!(rt; length_of(variables(rt.alloc(), 65)), Err(true));
+}
+
+/// What a box says of itself: `i`'s values and `j`'s, whether it is empty, how many variables it has, and whether `i` and `j` are among
+/// them.
+fn shape_of(bounds: &VarBox) -> (Interval, Interval, bool, usize, bool, bool) {
+    (
+        bounds.interval(I),
+        bounds.interval(J),
+        bounds.is_empty(),
+        bounds.len(),
+        bounds.has(I),
+        bounds.has(J),
+    )
+}
+
+/// A box with the values of `j` taken back.
+fn without_last(alloc: Global) -> Result<VarBox, Refusal> {
+    let mut bounds = box_of(alloc, &[(I, 1, 2), (J, 5, 6)])?;
+    bounds.unbound();
+    Ok(bounds)
+}
+
+/// A copy of a box, with values for `i` once more, of which there are none.
+fn emptied(bounds: &VarBox) -> Result<VarBox, Refusal> {
+    let mut copy = bounds.clone()?;
+    copy.bound(I, 4, 3, HERE)?;
+    Ok(copy)
+}
+
+/// Whether that copy is empty, and how many variables it has.
+fn emptied_shape(bounds: &VarBox) -> Option<(bool, usize)> {
+    match emptied(bounds) {
+        Ok(copy) => Some((copy.is_empty(), copy.len())),
+        Err(_) => None,
+    }
+}
+
+/// Whether these values of `k` are refused by the limit, and are taken.
+fn bounded(alloc: Global, least: i128, greatest: i128) -> (bool, bool) {
+    match box_of(alloc, &[(I, 1, 2), (K, least, greatest)]) {
+        Ok(_) => (false, true),
+        Err(Refusal::Limit(HERE)) => (true, false),
+        Err(_) => (false, false),
+    }
+}
+
+const ONE_TO_TWO: Interval = Interval {
+    least: 1,
+    greatest: 2,
+};
+
+const NOTHING: Interval = Interval {
+    least: 0,
+    greatest: 0,
+};
+
+#[test]
+fn sides(rt: HostRuntime) -> Result<(), Fail> {
+    let alloc = rt.alloc();
+    let bounds = without_last(alloc).map_err(|_| "refused")?;
+    assert_eq!(rt;
+        shape_of(&bounds),
+        (ONE_TO_TWO, NOTHING, false, 1, true, false)
+    );
+    assert_eq!(rt; emptied_shape(&bounds), Some((true, 2)));
+    assert_eq!(rt; bounded(alloc, 0, (1 << 33) + 1), (true, false));
+    assert_eq!(rt; bounded(alloc, -(1 << 33), 1 << 33), (false, true));
+    Ok(())
+}

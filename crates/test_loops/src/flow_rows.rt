@@ -1,0 +1,387 @@
+//! Whether locals are assigned before they are read, and the data of parallel loops.
+
+use crate::texts::{I, J, OUT_OF_MEMORY, at, kernel, parsed, text};
+use flow::*;
+use ktree::{ChunkSize, Expr, Item, Kernel, Place, Refusal, Source, Stmt, VarId};
+use pragma::{Collapse, Directives, ParallelFor};
+use std::alloc::Global;
+
+/// What is told of a kernel's locals: the place of the first that may be read unassigned, or the number of another refusal.
+fn unassigned_in(alloc: Global, kernel: &Kernel) -> Result<Option<Place>, u8> {
+    match definite(alloc, kernel) {
+        Ok(()) => Ok(None),
+        Err(Refusal::MayBeUnassigned(place)) => Ok(Some(place)),
+        Err(refusal) => Err(refusal.number()),
+    }
+}
+
+/// The same of the text with these lines.
+fn unassigned(alloc: Global, lines: &str) -> Result<Option<Place>, u8> {
+    match kernel(alloc, lines) {
+        Ok(kernel) => unassigned_in(alloc, &kernel),
+        Err(number) => Err(number),
+    }
+}
+
+/// The first of some rows of lines of which something else is told.
+fn first_other<'r>(alloc: Global, rows: &[(&'r str, Option<Place>)]) -> Option<&'r str> {
+    for (text, expected) in rows {
+        if unassigned(alloc, text) != Ok(*expected) {
+            return Some(*text);
+        }
+    }
+    None
+}
+
+#[test]
+fn branches_both_assign(rt: HostRuntime) {
+    let rows = [
+        ("if (s < 3) x = 1; s = x;", Some(at(2, 23))),
+        ("if (s < 3) x = 1; else x = 2; s = x;", None),
+    ];
+    assert_eq!(rt; first_other(rt.alloc(), &rows), None);
+}
+
+#[test]
+fn initialisers_assign(rt: HostRuntime) {
+    let rows = [
+        ("uint64_t y = s; s = y;", None),
+        ("uint64_t y = y; s = y;", Some(at(2, 14))),
+    ];
+    assert_eq!(rt; first_other(rt.alloc(), &rows), None);
+}
+
+#[test]
+fn updates_read_their_variable_first(rt: HostRuntime) {
+    let rows = [("x += x;", Some(at(2, 1)))];
+    assert_eq!(rt; first_other(rt.alloc(), &rows), None);
+}
+
+#[test]
+fn subscripts_are_read_before_the_right_side(rt: HostRuntime) {
+    let rows = [("A[x] = x;", Some(at(2, 3)))];
+    assert_eq!(rt; first_other(rt.alloc(), &rows), None);
+}
+
+#[test]
+fn bodies_know_the_variable_of_their_loop(rt: HostRuntime) {
+    let lines = "for (uint64_t i = 0; i < 8; i++) s = i;";
+    let rows = [(lines, None)];
+    assert_eq!(rt; first_other(rt.alloc(), &rows), None);
+}
+
+/// Puts the variable `i` in place of the name that the last of some items assigns.
+fn assign_i_last(items: &mut [Item]) {
+    if let [.., Item::Statement(statement)] = items {
+        if let Stmt::Assign(_, Source::Number(Expr::Object(variable, _, _))) = &mut **statement {
+            *variable = I;
+        }
+    }
+}
+
+/// What is told of the locals of the text with these lines, where the last statement assigns the variable `i` of a loop before it.
+fn unassigned_behind(alloc: Global, lines: &str) -> Result<Option<Place>, u8> {
+    match kernel(alloc, lines) {
+        Ok(mut kernel) => {
+            assign_i_last(kernel.body.as_mut_slice());
+            unassigned_in(alloc, &kernel)
+        }
+        Err(number) => Err(number),
+    }
+}
+
+/// The first of some rows of lines of which something else is told, where the last statement assigns `i`.
+fn first_other_behind<'r>(alloc: Global, rows: &[(&'r str, Option<Place>)]) -> Option<&'r str> {
+    for (text, expected) in rows {
+        if unassigned_behind(alloc, text) != Ok(*expected) {
+            return Some(*text);
+        }
+    }
+    None
+}
+
+#[test]
+fn loops_leave_what_was_known(rt: HostRuntime) {
+    let lines = "for (uint64_t i = 0; i < 8; i++) x = 1;\ns = x;";
+    let rows = [(lines, Some(at(3, 5)))];
+    assert_eq!(rt; first_other(rt.alloc(), &rows), None);
+    let lines = "for (uint64_t i = 0; i < 8; i++) x = 1;\ns = s;";
+    let rows = [(lines, Some(at(3, 5)))];
+    assert_eq!(rt; first_other_behind(rt.alloc(), &rows), None);
+}
+
+#[test]
+fn a_start_stands_before_its_variable(rt: HostRuntime) {
+    let lines = "for (uint64_t i = i; i < 8; i++) s = 1;";
+    let rows = [(lines, Some(at(2, 19)))];
+    assert_eq!(rt; first_other(rt.alloc(), &rows), None);
+}
+
+#[test]
+fn a_step_stands_behind_the_body(rt: HostRuntime) {
+    let rows = [
+        ("for (uint64_t i = 0; i < 8; i += x) x = 1;", None),
+        ("\nfor (uint64_t i = 0; i < 8; x++) s = 1;", Some(at(3, 1))),
+    ];
+    assert_eq!(rt; first_other(rt.alloc(), &rows), None);
+}
+
+#[test]
+fn arguments_are_read(rt: HostRuntime) {
+    let lines = "printf(\"%\" PRIu64 \" %\" PRIu64 \"\\n\", s, x);";
+    let rows = [(lines, Some(at(2, 40)))];
+    assert_eq!(rt; first_other(rt.alloc(), &rows), None);
+}
+
+#[test]
+fn names_are_read_whatever_guards_them(rt: HostRuntime) {
+    let rows = [
+        ("s = s < 3 ? 1 : x;", Some(at(2, 17))),
+        ("if (s < 3 && x < 3) x = 1;", Some(at(2, 14))),
+    ];
+    assert_eq!(rt; first_other(rt.alloc(), &rows), None);
+}
+
+#[test]
+fn blocks_hand_on_what_is_known(rt: HostRuntime) {
+    let lines = "{\n#pragma omp parallel for\nx = 1; }\ns = x;";
+    let rows = [(lines, None)];
+    assert_eq!(rt; first_other(rt.alloc(), &rows), None);
+}
+
+/// What is told of a parallel loop with four private variables.
+#[derive(Clone, Copy, Debug, PartialEq, Eq)]
+struct Seen {
+    line: Place,
+    is_in_fours_and_twos: bool,
+    private: [VarId; 4],
+}
+
+/// What is told of the parallel loops of a text: what is wrong with their data, or else the only one, or the lines of two.
+#[derive(Clone, Copy, Debug, PartialEq, Eq)]
+struct Loops {
+    fault: Option<DataFault>,
+    only: Option<Seen>,
+    lines: Option<[u32; 2]>,
+}
+
+/// Whether a directive has chunks of 4 iterations and 2 collapsed loops.
+fn is_in_fours_and_twos(directive: ParallelFor) -> bool {
+    directive.schedule == ChunkSize::new(4) && directive.collapse == Collapse::new(2)
+}
+
+/// The only one of some parallel loops, where it has four private variables.
+fn only(loops: &[ParallelLoop]) -> Option<Seen> {
+    let [found] = loops else {
+        return None;
+    };
+    let [first, second, third, fourth] = found.private.as_slice() else {
+        return None;
+    };
+    Some(Seen {
+        line: found.line,
+        is_in_fours_and_twos: is_in_fours_and_twos(found.directive),
+        private: [*first, *second, *third, *fourth],
+    })
+}
+
+/// The lines of two parallel loops.
+fn two_lines(loops: &[ParallelLoop]) -> Option<[u32; 2]> {
+    match loops {
+        [first, second] => Some([first.line.line, second.line.line]),
+        _ => None,
+    }
+}
+
+/// What is told of the parallel loops of a kernel.
+fn data_of(alloc: Global, kernel: &Kernel, directives: &Directives) -> Loops {
+    match classify(alloc, kernel, directives) {
+        Ok(loops) => Loops {
+            fault: None,
+            only: only(loops.as_slice()),
+            lines: two_lines(loops.as_slice()),
+        },
+        Err(fault) => Loops {
+            fault: Some(fault),
+            only: None,
+            lines: None,
+        },
+    }
+}
+
+/// The same with the directive lines of its text.
+fn data_under(alloc: Global, kernel: &Kernel, text: &str) -> Result<Loops, u8> {
+    match Directives::read(alloc, text.as_bytes()) {
+        Ok(directives) => Ok(data_of(alloc, kernel, &directives)),
+        Err(_error) => Err(OUT_OF_MEMORY),
+    }
+}
+
+/// The same of a text, or the number of its refusal.
+fn data_in(alloc: Global, text: &str) -> Result<Loops, u8> {
+    match parsed(alloc, text) {
+        Ok(kernel) => data_under(alloc, &kernel, text),
+        Err(number) => Err(number),
+    }
+}
+
+/// The same of the text with these lines.
+fn data(alloc: Global, lines: &str) -> Result<Loops, u8> {
+    match text(alloc, lines) {
+        Ok(text) => data_in(alloc, text.as_str()),
+        Err(_error) => Err(OUT_OF_MEMORY),
+    }
+}
+
+/// What is wrong with the data of the parallel loops of the text with these lines.
+fn data_fault(alloc: Global, lines: &str) -> Result<Option<DataFault>, u8> {
+    match data(alloc, lines) {
+        Ok(data) => Ok(data.fault),
+        Err(number) => Err(number),
+    }
+}
+
+/// The first of some rows of lines of which something else is told.
+fn first_other_data<'r>(alloc: Global, rows: &[(&'r str, Option<DataFault>)]) -> Option<&'r str> {
+    for (text, expected) in rows {
+        if data_fault(alloc, text) != Ok(*expected) {
+            return Some(*text);
+        }
+    }
+    None
+}
+
+#[test]
+fn scalars_from_outside_are_shared(rt: HostRuntime) {
+    let rows = [
+        (
+            "#pragma omp parallel for\nfor (uint64_t i = 0; i < 8; i++) s = i;",
+            Some(DataFault::Written(at(3, 34))),
+        ),
+        (
+            "#pragma omp parallel for\nfor (uint64_t i = 0; i < 8; i++) x = i;",
+            Some(DataFault::Written(at(3, 34))),
+        ),
+    ];
+    assert_eq!(rt; first_other_data(rt.alloc(), &rows), None);
+}
+
+#[test]
+fn locals_and_elements_may_be_written(rt: HostRuntime) {
+    let rows = [
+        (
+            "#pragma omp parallel for\nfor (uint64_t i = 0; i < 8; i++) { uint64_t y; y = i; }",
+            None,
+        ),
+        (
+            "#pragma omp parallel for\nfor (uint64_t i = 0; i < 8; i++) A[i] = 1;",
+            None,
+        ),
+    ];
+    assert_eq!(rt; first_other_data(rt.alloc(), &rows), None);
+}
+
+/// A parallel loop that prints two numbers.
+const PRINTS: &str =
+    "#pragma omp parallel for\nfor (uint64_t i = 0; i < 8; i++)\nprintf(\"%\" PRIu64 \" %\" PRIu64 \"\\n\", s, x);";
+
+#[test]
+fn parallel_loops_print_nothing(rt: HostRuntime) {
+    let fault = DataFault::Printed(at(4, 1));
+    let rows = [(PRINTS, Some(fault))];
+    assert_eq!(rt; first_other_data(rt.alloc(), &rows), None);
+}
+
+#[test]
+fn other_loops_may_share(rt: HostRuntime) {
+    let lines =
+        "for (uint64_t i = 0; i < 8; i++) s = i;\nprintf(\"%\" PRIu64 \" %\" PRIu64 \"\\n\", s, x);";
+    let rows = [(lines, None)];
+    assert_eq!(rt; first_other_data(rt.alloc(), &rows), None);
+}
+
+#[test]
+fn steps_are_no_assignments(rt: HostRuntime) {
+    let lines =
+        "#pragma omp parallel for\nfor (uint64_t i = 0; i < 8; i++)\nfor (uint64_t j = 0; j < 8; j++) A[j] = 1;";
+    let rows = [(lines, None)];
+    assert_eq!(rt; first_other_data(rt.alloc(), &rows), None);
+}
+
+#[test]
+fn collapsed_loops_run_the_innermost_body(rt: HostRuntime) {
+    let nest =
+        "#pragma omp parallel for collapse(2)\nfor (uint64_t i = 0; i < 8; i++)\nfor (uint64_t j = 0; j < 8; j++) { uint64_t y; y = j; }";
+    let alone =
+        "\n#pragma omp parallel for collapse(2)\nfor (uint64_t i = 0; i < 8; i++) A[i] = 1;";
+    let fault = DataFault::Directive(at(3, 1));
+    let rows = [(nest, None), (alone, Some(fault))];
+    assert_eq!(rt; first_other_data(rt.alloc(), &rows), None);
+}
+
+/// The only parallel loop of the text with these lines.
+fn only_loop(alloc: Global, lines: &str) -> Result<Option<Seen>, u8> {
+    match data(alloc, lines) {
+        Ok(data) => Ok(data.only),
+        Err(number) => Err(number),
+    }
+}
+
+/// Collapsed loops on the line 4 with a chunk size, and a local and a loop in them.
+const COLLAPSED: &str = "
+
+#pragma omp parallel for schedule(dynamic, 4) collapse(2)
+for (uint64_t i = 0; i < 8; i++)
+for (uint64_t j = 0; j < 8; j++) {
+uint64_t y;
+for (uint64_t k = 0; k < 8; k++) A[i] = 1;
+}";
+
+#[test]
+fn loops_and_locals_are_private(rt: HostRuntime) {
+    let expected = Seen {
+        line: at(4, 1),
+        is_in_fours_and_twos: true,
+        private: [I, J, VarId(6), VarId(7)],
+    };
+    assert_eq!(rt; only_loop(rt.alloc(), COLLAPSED), Ok(Some(expected)));
+}
+
+/// The lines of the two parallel loops of the text with these lines.
+fn lines_of_two(alloc: Global, lines: &str) -> Result<Option<[u32; 2]>, u8> {
+    match data(alloc, lines) {
+        Ok(data) => Ok(data.lines),
+        Err(number) => Err(number),
+    }
+}
+
+/// Two parallel loops, on the lines 2 and 4.
+const TWO_LOOPS: &str = "#pragma omp parallel for
+for (uint64_t i = 0; i < 8; i++) A[i] = 1;
+#pragma omp parallel for schedule(dynamic, 4) collapse(2)
+for (uint64_t i = 0; i < 8; i++)
+for (uint64_t j = 0; j < 8; j++) {
+uint64_t y;
+for (uint64_t k = 0; k < 8; k++) A[i] = 1;
+}";
+
+#[test]
+fn parallel_loops_come_in_the_order_of_the_text(rt: HostRuntime) {
+    assert_eq!(rt; lines_of_two(rt.alloc(), TWO_LOOPS), Ok(Some([2, 4])));
+}
+
+#[test]
+fn serial_loops_are_looked_into(rt: HostRuntime) {
+    let lines =
+        "for (uint64_t i = 0; i < 8; i++) {\n#pragma omp parallel for\nfor (uint64_t j = 0; j < 8; j++) s = i; }";
+    let fault = DataFault::Written(at(4, 34));
+    let rows = [(lines, Some(fault))];
+    assert_eq!(rt; first_other_data(rt.alloc(), &rows), None);
+}
+
+#[test]
+fn faults_have_their_refusals(rt: HostRuntime) {
+    assert_eq!(rt; DataFault::Written(at(1, 9)).refusal().number(), 14);
+    assert_eq!(rt; DataFault::Printed(at(1, 1)).refusal().number(), 18);
+    assert_eq!(rt; DataFault::OutOfMemory.refusal().number(), 23);
+}

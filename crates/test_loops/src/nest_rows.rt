@@ -1,0 +1,406 @@
+//! Kernels whose loops, nests and subscripts are looked at, and the first faults of others.
+
+use crate::texts::{I, OUT_OF_MEMORY, X, at, kernel, last_statement, nest_of, parsed, text};
+use affine::VarBox;
+use forms::Fault;
+use ktree::{Expr, Item, Kernel, Stmt};
+use nest::*;
+use pragma::Directives;
+use space::{Space, Value};
+use std::alloc::Global;
+
+/// The first faults of a kernel, in the sense of [`nests`] and of [`in_range`].
+#[derive(Clone, Copy, Debug, PartialEq, Eq)]
+struct Faults {
+    nested: Option<Fault>,
+    ranged: Option<Fault>,
+}
+
+/// No fault at all.
+const FINE: Faults = Faults {
+    nested: None,
+    ranged: None,
+};
+
+/// This fault in both senses.
+fn both(fault: Fault) -> Faults {
+    Faults {
+        nested: Some(fault),
+        ranged: Some(fault),
+    }
+}
+
+/// A subscript at this place that leaves its array.
+fn leaves(line: u32, column: u32) -> Faults {
+    Faults {
+        nested: None,
+        ranged: Some(Fault::OutOfRange(at(line, column))),
+    }
+}
+
+/// The first faults of a kernel with the directive lines of its text.
+fn faults_in(alloc: Global, kernel: &Kernel, text: &str) -> Result<Faults, u8> {
+    match Directives::read(alloc, text.as_bytes()) {
+        Ok(directives) => Ok(Faults {
+            nested: nests(alloc, kernel, &directives).err(),
+            ranged: in_range(alloc, kernel).err(),
+        }),
+        Err(_error) => Err(OUT_OF_MEMORY),
+    }
+}
+
+/// Those of a text, or the number of its refusal.
+fn faults_of(alloc: Global, text: &str) -> Result<Faults, u8> {
+    match parsed(alloc, text) {
+        Ok(kernel) => faults_in(alloc, &kernel, text),
+        Err(number) => Err(number),
+    }
+}
+
+/// Those of the text with these lines.
+fn first_faults(alloc: Global, lines: &str) -> Result<Faults, u8> {
+    match text(alloc, lines) {
+        Ok(text) => faults_of(alloc, text.as_str()),
+        Err(_error) => Err(OUT_OF_MEMORY),
+    }
+}
+
+/// The first of some rows of lines of which something else is told.
+fn first_other<'r>(alloc: Global, rows: &[(&'r str, Faults)]) -> Option<&'r str> {
+    for (text, expected) in rows {
+        if first_faults(alloc, text) != Ok(*expected) {
+            return Some(*text);
+        }
+    }
+    None
+}
+
+#[test]
+fn subscripts_of_one_loop(rt: HostRuntime) {
+    let rows = [
+        ("for (uint64_t i = 0; i < 8; i += 1)\nA[i + 0] = 1;", FINE),
+        (
+            "for (uint64_t i = 0; i < 8; i += 1)\nA[i + 1] = 1;",
+            leaves(3, 3),
+        ),
+        ("for (uint64_t i = 0; i < 0; i += 1)\nA[i + 1] = 1;", FINE),
+        ("for (uint64_t i = 0; i < 8; i += 4)\nA[i + 3] = 1;", FINE),
+        (
+            "for (uint64_t i = 0; i < 8; i += 4)\nA[i + 4] = 1;",
+            leaves(3, 3),
+        ),
+    ];
+    assert_eq!(rt; first_other(rt.alloc(), &rows), None);
+}
+
+#[test]
+fn falling_loops(rt: HostRuntime) {
+    let rows = [
+        (
+            "for (uint64_t i = 8; i > 0; i--)\nA[i - 0] = 1;",
+            leaves(3, 3),
+        ),
+        ("for (uint64_t i = 8; i > 0; i--)\nA[i - 1] = 1;", FINE),
+        (
+            "for (uint64_t i = 8; i > 0; i--)\nA[i - 2] = 1;",
+            leaves(3, 3),
+        ),
+    ];
+    assert_eq!(rt; first_other(rt.alloc(), &rows), None);
+}
+
+#[test]
+fn subscripts_by_other_names(rt: HostRuntime) {
+    let other = both(Fault::NotAffine(at(3, 3)));
+    let rows = [
+        ("for (uint64_t i = 0; i < 8; i++)\nA[x] = 1;", other),
+        ("for (uint64_t i = 0; i < 8; i++)\nA[s] = 1;", other),
+        ("for (uint64_t i = 0; i < 8; i++)\nA[i] = 1;", FINE),
+    ];
+    assert_eq!(rt; first_other(rt.alloc(), &rows), None);
+}
+
+#[test]
+fn two_dimensions(rt: HostRuntime) {
+    let rows = [
+        (
+            "for (uint64_t i = 0; i < 2; i++)\nfor (uint64_t j = 0; j < 3; j++)\nB[i][j] = 1;",
+            FINE,
+        ),
+        (
+            "for (uint64_t i = 0; i < 2; i++)\nfor (uint64_t j = 0; j < 4; j++)\nB[i][j] = 1;",
+            leaves(4, 6),
+        ),
+        (
+            "for (uint64_t i = 0; i < 3; i++)\nfor (uint64_t j = 0; j < 3; j++)\nB[i][j] = 1;",
+            leaves(4, 3),
+        ),
+        (
+            "for (uint64_t i = 0; i < 2; i++)\nfor (uint64_t j = 0; j < 3; j++)\nB[j][i] = 1;",
+            leaves(4, 3),
+        ),
+    ];
+    assert_eq!(rt; first_other(rt.alloc(), &rows), None);
+}
+
+#[test]
+fn bounds_with_the_outer_variable(rt: HostRuntime) {
+    let wraps = both(Fault::MayWrap(at(3, 1)));
+    let rows = [
+        (
+            "for (uint64_t i = 0; i < 8; i++)\nfor (uint64_t j = 0; j <= i; j++)\nA[j + 0] = 1;",
+            FINE,
+        ),
+        (
+            "for (uint64_t i = 0; i < 8; i++)\nfor (uint64_t j = 0; j <= i; j++)\nA[j + 1] = 1;",
+            leaves(4, 3),
+        ),
+        (
+            "for (uint64_t i = 0; i < 8; i++)\nfor (uint64_t j = 0; j < i - 1; j++)\nA[j] = 1;",
+            wraps,
+        ),
+    ];
+    assert_eq!(rt; first_other(rt.alloc(), &rows), None);
+}
+
+#[test]
+fn bodies_that_assign(rt: HostRuntime) {
+    let assigns = both(Fault::NotCanonical(at(2, 1)));
+    let rows = [
+        ("for (uint64_t i = 0; i < 8; i++) i = 1;", assigns),
+        ("for (uint64_t i = 0; i < 8; i++) s = 1;", FINE),
+    ];
+    assert_eq!(rt; first_other(rt.alloc(), &rows), None);
+}
+
+/// The first faults of so many loops, one in the other.
+fn faults_of_nest(alloc: Global, count: u32) -> Result<Faults, u8> {
+    match nest_of(alloc, count) {
+        Ok(lines) => first_faults(alloc, lines.as_str()),
+        Err(_error) => Err(OUT_OF_MEMORY),
+    }
+}
+
+#[test]
+fn loops_inside_each_other(rt: HostRuntime) {
+    let ninth = both(Fault::Limit(at(10, 1)));
+    assert_eq!(rt; faults_of_nest(rt.alloc(), 8), Ok(FINE));
+    assert_eq!(rt; faults_of_nest(rt.alloc(), 9), Ok(ninth));
+}
+
+/// Puts the variable `i` in place of the name that is the last of some items' subscript.
+fn name_i_last(items: &mut [Item]) {
+    if let [.., Item::Statement(statement)] = items {
+        if let Stmt::Assign(target, _) = &mut **statement {
+            if let [Expr::Object(variable, _, _)] = target.subscripts.as_mut_slice() {
+                *variable = I;
+            }
+        }
+    }
+}
+
+/// The first faults of a text, the last statement of which names the variable `i` of a loop before it.
+fn faults_behind(alloc: Global, text: &str) -> Result<Faults, u8> {
+    match parsed(alloc, text) {
+        Ok(mut kernel) => {
+            name_i_last(kernel.body.as_mut_slice());
+            faults_in(alloc, &kernel, text)
+        }
+        Err(number) => Err(number),
+    }
+}
+
+/// Those of the text with these lines.
+fn faults_by_loop_variable(alloc: Global, lines: &str) -> Result<Faults, u8> {
+    match text(alloc, lines) {
+        Ok(text) => faults_behind(alloc, text.as_str()),
+        Err(_error) => Err(OUT_OF_MEMORY),
+    }
+}
+
+#[test]
+fn other_statements(rt: HostRuntime) {
+    let rows = [
+        (
+            "for (uint64_t i = 0; i < 8; i++)\nif (i < 8) A[i + 0] = 1; else A[i + 0] = 1;",
+            FINE,
+        ),
+        (
+            "for (uint64_t i = 0; i < 8; i++)\nif (i < 8) A[i + 1] = 1; else A[i + 0] = 1;",
+            leaves(3, 14),
+        ),
+        (
+            "for (uint64_t i = 0; i < 8; i++)\nif (i < 8) A[i + 0] = 1; else A[i + 1] = 1;",
+            leaves(3, 33),
+        ),
+        ("for (uint64_t i = 0; i < 8; i++) { }\nA[7] = 1;", FINE),
+        (
+            "for (uint64_t i = 0; i < 8; i++) { }\nA[8] = 1;",
+            leaves(3, 3),
+        ),
+    ];
+    assert_eq!(rt; first_other(rt.alloc(), &rows), None);
+    let lines = "for (uint64_t i = 0; i < 8; i++) { }\nA[x] = 1;";
+    let other = both(Fault::NotAffine(at(3, 3)));
+    assert_eq!(rt; faults_by_loop_variable(rt.alloc(), lines), Ok(other));
+}
+
+/// What is told of the nests of the text with these lines.
+fn nested(alloc: Global, lines: &str) -> Result<Option<Fault>, u8> {
+    match first_faults(alloc, lines) {
+        Ok(faults) => Ok(faults.nested),
+        Err(number) => Err(number),
+    }
+}
+
+/// The first of some rows of lines of which something else is told.
+fn first_other_nest<'r>(alloc: Global, rows: &[(&'r str, Option<Fault>)]) -> Option<&'r str> {
+    for (text, expected) in rows {
+        if nested(alloc, text) != Ok(*expected) {
+            return Some(*text);
+        }
+    }
+    None
+}
+
+#[test]
+fn iterations_have_a_limit(rt: HostRuntime) {
+    let limit = Some(Fault::Limit(at(3, 1)));
+    let rows = [
+        (
+            "#pragma omp parallel for collapse(2)\nfor (uint64_t i = 0; i < 3; i++)\nfor (uint64_t j = 0; j < 4; j++) { }",
+            None,
+        ),
+        (
+            "#pragma omp parallel for\nfor (uint64_t i = 0; i < 16777216; i++)\nfor (uint64_t j = 0; j < 4; j++) { }",
+            None,
+        ),
+        (
+            "#pragma omp parallel for\nfor (uint64_t i = 0; i < 16777217; i++)\nfor (uint64_t j = 0; j < 4; j++) { }",
+            limit,
+        ),
+        (
+            "#pragma omp parallel for collapse(2)\nfor (uint64_t i = 0; i < 4096; i++)\nfor (uint64_t j = 0; j < 4096; j++) { }",
+            None,
+        ),
+        (
+            "#pragma omp parallel for collapse(2)\nfor (uint64_t i = 0; i < 4097; i++)\nfor (uint64_t j = 0; j < 4096; j++) { }",
+            limit,
+        ),
+        (
+            "#pragma omp parallel for collapse(2)\nfor (uint64_t i = 0; i < 4294967296ull; i++)\nfor (uint64_t j = 0; j < 0; j++) { }",
+            None,
+        ),
+    ];
+    assert_eq!(rt; first_other_nest(rt.alloc(), &rows), None);
+}
+
+#[test]
+fn nests_are_rectangular(rt: HostRuntime) {
+    let inner = Some(Fault::NotPerfect(at(4, 1)));
+    let rows = [
+        (
+            "#pragma omp parallel for\nfor (uint64_t i = 0; i < 3; i++)\nfor (uint64_t j = 0; j <= i; j++) { }",
+            None,
+        ),
+        (
+            "#pragma omp parallel for collapse(2)\nfor (uint64_t i = 0; i < 3; i++)\nfor (uint64_t j = 0; j <= i; j++) { }",
+            inner,
+        ),
+    ];
+    assert_eq!(rt; first_other_nest(rt.alloc(), &rows), None);
+}
+
+#[test]
+fn nests_are_perfect(rt: HostRuntime) {
+    let imperfect = Some(Fault::NotPerfect(at(3, 1)));
+    let rows = [
+        (
+            "#pragma omp parallel for\nfor (uint64_t i = 0; i < 3; i++) { uint64_t y; for (uint64_t j = 0; j < 4; j++) { } }",
+            None,
+        ),
+        (
+            "#pragma omp parallel for collapse(2)\nfor (uint64_t i = 0; i < 3; i++) { uint64_t y; for (uint64_t j = 0; j < 4; j++) { } }",
+            imperfect,
+        ),
+        (
+            "#pragma omp parallel for\nfor (uint64_t i = 0; i < 3; i++) { }",
+            None,
+        ),
+        (
+            "#pragma omp parallel for collapse(2)\nfor (uint64_t i = 0; i < 3; i++) { }",
+            imperfect,
+        ),
+    ];
+    assert_eq!(rt; first_other_nest(rt.alloc(), &rows), None);
+}
+
+#[test]
+fn nests_in_loops_that_never_turn(rt: HostRuntime) {
+    let limit = Some(Fault::Limit(at(4, 1)));
+    let rows = [
+        (
+            "for (uint64_t i = 0; i < 0; i++) {\n#pragma omp parallel for\nfor (uint64_t j = 0; j < 16777217; j++) { } }",
+            None,
+        ),
+        (
+            "for (uint64_t i = 0; i < 1; i++) {\n#pragma omp parallel for\nfor (uint64_t j = 0; j < 16777217; j++) { } }",
+            limit,
+        ),
+    ];
+    assert_eq!(rt; first_other_nest(rt.alloc(), &rows), None);
+}
+
+/// How many iterations a nest has where the variable `x` round it has this value.
+fn count(alloc: Global, nest: &Nest, value: u64) -> Option<u64> {
+    let around = Value { variable: X, value };
+    nest.at(alloc, &[around]).map(|space: Space| space.count())
+}
+
+/// How many iterations the two loops of a statement have where `x` is 5, inside a box.
+fn iterations(alloc: Global, statement: &Stmt, bounds: &VarBox) -> Option<u64> {
+    match Nest::new(alloc, 2, statement, bounds, at(2, 1)) {
+        Ok(nest) => count(alloc, &nest, 5),
+        Err(_fault) => None,
+    }
+}
+
+/// The same where the numbers of `x` are 0 to 9.
+fn iterations_by_x(alloc: Global, statement: &Stmt) -> Option<u64> {
+    let mut bounds = VarBox::new(alloc);
+    if bounds.bound(X, 0, 9, at(1, 1)).is_err() {
+        return None;
+    }
+    iterations(alloc, statement, &bounds)
+}
+
+/// The same of a kernel whose last statement the loops are.
+fn iterations_last(alloc: Global, kernel: &Kernel) -> Option<u64> {
+    match last_statement(kernel) {
+        Some(statement) => iterations_by_x(alloc, statement),
+        None => None,
+    }
+}
+
+/// The same of the text with these lines.
+fn iterations_of(alloc: Global, lines: &str) -> Option<u64> {
+    match kernel(alloc, lines) {
+        Ok(kernel) => iterations_last(alloc, &kernel),
+        Err(_number) => None,
+    }
+}
+
+#[test]
+fn nests_have_spaces(rt: HostRuntime) {
+    let lines = "for (uint64_t i = 0; i < 3; i++) for (uint64_t j = 0; j < x; j++) { }";
+    assert_eq!(rt; iterations_of(rt.alloc(), lines), Some(15));
+}
+
+#[test]
+fn the_first_fault_is_told(rt: HostRuntime) {
+    let lines =
+        "#pragma omp parallel for\nfor (uint64_t i = 0; i < 16777217; i++)\nfor (uint64_t j = 0; j <= s; j++) { }";
+    let limit = Some(Fault::Limit(at(3, 1)));
+    let rows = [(lines, limit)];
+    assert_eq!(rt; first_other_nest(rt.alloc(), &rows), None);
+}

@@ -1,0 +1,60 @@
+//! Texts with arrays `A` of 8 and `B` of 2 times 3 elements and a scalar `s` at file scope, which are the variables 0 to 2,
+//! and a local `x`, the variable 3. The variables that the given lines declare have the numbers from 4 on.
+
+use cparse::parse;
+use ktree::{Item, Kernel, Place, Stmt, VarId};
+use std::alloc::{AllocError, Global};
+
+pub(crate) const X: VarId = VarId(3);
+
+/// The first variable that the given lines declare.
+pub(crate) const I: VarId = VarId(4);
+
+/// The second.
+pub(crate) const J: VarId = VarId(5);
+
+/// The number of the refusal by want of memory.
+pub(crate) const OUT_OF_MEMORY: u8 = 23;
+
+/// A place in a text; the given lines begin at line 2.
+pub(crate) fn at(line: u32, column: u32) -> Place {
+    Place { line, column }
+}
+
+/// The text with these lines.
+pub(crate) fn text(alloc: Global, lines: &str) -> Result<String, AllocError> {
+    format!(in alloc;
+        "uint64_t A[8]; uint64_t B[2][3]; uint64_t s; void kernel(void) {{ uint64_t x;\n{lines}\n}}\n"
+    )
+}
+
+/// The kernel of a text, or the number of its refusal.
+pub(crate) fn parsed(alloc: Global, text: &str) -> Result<Kernel, u8> {
+    parse(alloc, text.as_bytes()).map_err(|refusal| refusal.number())
+}
+
+/// That of the text with these lines.
+pub(crate) fn kernel(alloc: Global, lines: &str) -> Result<Kernel, u8> {
+    match text(alloc, lines) {
+        Ok(text) => parsed(alloc, text.as_str()),
+        Err(_error) => Err(OUT_OF_MEMORY),
+    }
+}
+
+/// The last statement of a kernel.
+pub(crate) fn last_statement(kernel: &Kernel) -> Option<&Stmt> {
+    match kernel.body.as_slice() {
+        [.., Item::Statement(statement)] => Some(statement),
+        _ => None,
+    }
+}
+
+/// So many loops, one in the other, each on a line of its own.
+pub(crate) fn nest_of(alloc: Global, count: u32) -> Result<String, AllocError> {
+    let mut lines = String::new(alloc);
+    for at in 0..count {
+        writeln!(lines, "for (uint64_t i{at} = 0; i{at} < 2; i{at}++)")?;
+    }
+    lines.push_str("{ }")?;
+    Ok(lines)
+}

@@ -1,0 +1,247 @@
+//! Statements over a store with one array, the variable 0, and the local 1.
+
+ghost use Rattle.std.specs.Prelude.{◌≡◌, List, [], ◌∷◌, codes, Some, IsSome, IfOk};
+ghost use Rattle.semantics.specs.Tree;
+ghost use Rattle.ktree.specs.View.{expr_of, cond_of, binary_of, stmt_of, with_item, items_of};
+ghost use Rattle.semantics.specs.Meaning.Runs.{run};
+ghost use Rattle.overlay.specs.Kept.{Kept};
+ghost use Rattle.evaluate.specs.Standing.{standing};
+ghost use Rattle.evaluate.specs.declared.frame.Slot.{Slot};
+
+use evaluate::Frame;
+use execute::*;
+use ktree::{
+    BinaryOp, CompareOp, Cond, Expr, Head, Increment, Item, Local, Mention, Place, PrintPart,
+    Refusal, Source, Stmt, Suffix, Target, VarId,
+};
+use overlay::{Array, Store};
+use seqrun::{Memory, Sink, Writer};
+use std::alloc::{AllocError, Global};
+use std::io::{Error, ErrorKind, Write};
+use std::test::Fail;
+
+const HERE: Place = Place { line: 1, column: 1 };
+
+/// A literal.
+fn number(n: u64) -> Expr
+    ensures { expr_of result ≡ Tree.Literal n Tree.Ull }
+{
+    Expr::Literal(n, Suffix::Ull)
+}
+
+fn mention(alloc: Global) -> Mention {
+    Mention {
+        name: HERE,
+        subscripts: Vec::new(alloc),
+    }
+}
+
+/// The local.
+fn local(alloc: Global) -> Expr
+    ensures { expr_of result ≡ Tree.Object 1 Tree.no_exprs }
+{
+    Expr::Object(VarId(1), Vec::new(alloc), mention(alloc))
+}
+
+/// `local < n`
+fn below(alloc: Global, n: u64) -> Result<Cond, AllocError>
+    ensures { IfOk result (λ c. cond_of c ≡ Tree.Compare Tree.Less (Tree.Object 1 Tree.no_exprs) (Tree.Literal n Tree.Ull)) }
+{
+    let left = Box::new(alloc, local(alloc))?;
+    let right = Box::new(alloc, number(n))?;
+    Ok(Cond::Compare(CompareOp::Less, left, right, HERE))
+}
+
+/// `A[at]`
+fn element(alloc: Global, at: u64) -> Result<Target, AllocError>
+    ensures { IfOk result (λ t. (e : _) × (t.variable.0 ≡ 0) × (t.subscripts.items ≡ e ∷ []) × (expr_of e ≡ Tree.Literal at Tree.Ull)) }
+{
+    let mut subscripts = Vec::new(alloc);
+    subscripts.push(number(at))?;
+    Ok(Target {
+        variable: VarId(0),
+        subscripts,
+        mention: mention(alloc),
+    })
+}
+
+/// `A[at] = n;`
+fn assignment(alloc: Global, at: u64, n: u64) -> Result<Stmt, AllocError>
+    ensures { IfOk result (λ s. stmt_of s ≡ Tree.Assign 0 (Tree.more_exprs (Tree.Literal at Tree.Ull) Tree.no_exprs) (Tree.Number (Tree.Literal n Tree.Ull))) }
+{
+    Ok(Stmt::Assign(element(alloc, at)?, Source::Number(number(n))))
+}
+
+/// `A[at] op= n;`
+fn update(alloc: Global, at: u64, op: BinaryOp, n: u64) -> Result<Stmt, AllocError>
+    ensures { IfOk result (λ s. stmt_of s ≡ Tree.Update 0 (Tree.more_exprs (Tree.Literal at Tree.Ull) Tree.no_exprs) (binary_of op) (Tree.Literal n Tree.Ull)) }
+{
+    Ok(Stmt::Update(element(alloc, at)?, op, number(n)))
+}
+
+/// `if (local < n) then else other`
+fn choice(alloc: Global, n: u64, then: Stmt, other: Stmt) -> Result<Stmt, AllocError>
+    ensures { IfOk result (λ s. stmt_of s ≡ Tree.IfElse (Tree.Compare Tree.Less (Tree.Object 1 Tree.no_exprs) (Tree.Literal n Tree.Ull)) (stmt_of then) (stmt_of other)) }
+{
+    let cond = below(alloc, n)?;
+    let then = Box::new(alloc, then)?;
+    let other = Box::new(alloc, other)?;
+    Ok(Stmt::If(cond, then, Some(other)))
+}
+
+/// `printf("%llu\n", local);`
+fn line(alloc: Global) -> Result<Stmt, AllocError>
+    ensures { IfOk result (λ s. stmt_of s ≡ Tree.Print (Tree.Decimal (Tree.Object 1 Tree.no_exprs) ∷ Tree.Characters (codes "\n") ∷ [])) }
+{
+    let mut parts = Vec::new(alloc);
+    parts.push(PrintPart::Decimal(local(alloc)))?;
+    parts.push(PrintPart::Characters(Vec::from_slice(alloc, b"\n")?))?;
+    Ok(Stmt::Print(parts, HERE))
+}
+
+/// `for (local = 9; local < 12; local++) body`
+fn turns(alloc: Global, body: Stmt) -> Result<Stmt, AllocError>
+    ensures { IfOk result (λ s. stmt_of s ≡ Tree.For 1 (codes "i") (Tree.Number (Tree.Literal 9 Tree.Ull)) (Tree.Compare Tree.Less (Tree.Object 1 Tree.no_exprs) (Tree.Literal 12 Tree.Ull)) (Tree.Up 1) (stmt_of body)) }
+{
+    let head = Head {
+        variable: VarId(1),
+        name: String::from_str(alloc, "i")?,
+        start: Source::Number(number(9)),
+        test: below(alloc, 12)?,
+        step: Increment::Up(VarId(1)),
+        place: HERE,
+        start_place: HERE,
+    };
+    Ok(Stmt::For(head, Box::new(alloc, body)?))
+}
+
+/// The loop that prints, which has a run wherever it stands.
+fn counting(alloc: Global) -> Result<Stmt, AllocError>
+    ensures { IfOk result (λ s. (frame : List Slot) (ks : List Kept) → IsSome (run (stmt_of s) (standing frame ks))) }
+{
+    let body = line(alloc)?;
+    let stmt = turns(alloc, body)?;
+    Ok(stmt)
+}
+
+/// The statement as a block's item.
+fn item(alloc: Global, stmt: Stmt) -> Result<Item, AllocError>
+    ensures { IfOk result (λ i. (rest : Tree.Items) → with_item i rest ≡ Tree.stmt (stmt_of stmt) rest) }
+{
+    Ok(Item::Statement(Box::new(alloc, stmt)?))
+}
+
+/// `unsigned long long i = n;`
+fn declaration(alloc: Global, n: u64) -> Result<Item, AllocError>
+    ensures { IfOk result (λ i. (rest : Tree.Items) → with_item i rest ≡ Tree.local 1 (codes "i") (Some (Tree.Number (Tree.Literal n Tree.Ull))) rest) }
+{
+    Ok(Item::Local(Local {
+        variable: VarId(1),
+        name: String::from_str(alloc, "i")?,
+        start: Some(Source::Number(number(n))),
+        place: HERE,
+    }))
+}
+
+/// The store of an array of three elements, 7 each.
+fn store(alloc: Global) -> Result<Store, AllocError>
+    ensures { IfOk result (λ s. s ≡ record { lengths = 3 ∷ []; values = 7 ∷ 7 ∷ 7 ∷ [] } ∷ []) }
+{
+    let mut lengths = Vec::new(alloc);
+    lengths.push(3)?;
+    let mut arrays = Vec::new(alloc);
+    arrays.push(Array::new(lengths, vec![in alloc; 7u64; 3]?))?;
+    Ok(Store::new(arrays))
+}
+
+#[test]
+fn assignments_write_elements(rt: HostRuntime) -> Result<(), Fail> {
+    let alloc = rt.alloc();
+    let stmt = assignment(alloc, 2, 9)?;
+    let mut store = store(alloc)?;
+    let mut frame = Frame::new(Vec::new(alloc));
+    let mut sink = Memory::new(alloc);
+    assert!(rt; statement(&stmt, &mut frame, &mut store, &mut sink).is_ok());
+    assert_eq!(rt; store.arrays()[0].values(), [7u64, 7, 9].as_slice());
+    Ok(())
+}
+
+#[test]
+fn updates_take_the_old_value(rt: HostRuntime) -> Result<(), Fail> {
+    let alloc = rt.alloc();
+    let stmt = update(alloc, 1, BinaryOp::Minus, 8)?;
+    let mut store = store(alloc)?;
+    let mut frame = Frame::new(Vec::new(alloc));
+    let mut sink = Memory::new(alloc);
+    assert!(rt; statement(&stmt, &mut frame, &mut store, &mut sink).is_ok());
+    assert_eq!(rt; store.arrays()[0].values(), [7, u64::MAX, 7].as_slice());
+    Ok(())
+}
+
+/// A declaration of the local and a choice by it.
+fn body(alloc: Global) -> Result<Vec<Item>, AllocError>
+    ensures { IfOk result (λ is. items_of is.items ≡ Tree.local 1 (codes "i") (Some (Tree.Number (Tree.Literal 4 Tree.Ull))) (Tree.stmt (Tree.IfElse (Tree.Compare Tree.Less (Tree.Object 1 Tree.no_exprs) (Tree.Literal 4 Tree.Ull)) (Tree.Assign 0 (Tree.more_exprs (Tree.Literal 0 Tree.Ull) Tree.no_exprs) (Tree.Number (Tree.Literal 1 Tree.Ull))) (Tree.Assign 0 (Tree.more_exprs (Tree.Literal 0 Tree.Ull) Tree.no_exprs) (Tree.Number (Tree.Literal 2 Tree.Ull)))) Tree.no_items)) }
+{
+    let choice = choice(alloc, 4, assignment(alloc, 0, 1)?, assignment(alloc, 0, 2)?)?;
+    let mut items = Vec::new(alloc);
+    items.push(declaration(alloc, 4)?)?;
+    items.push(item(alloc, choice)?)?;
+    Ok(items)
+}
+
+#[test]
+fn blocks_run_their_items_in_order(rt: HostRuntime) -> Result<(), Fail> {
+    let alloc = rt.alloc();
+    let items = body(alloc)?;
+    let mut store = store(alloc)?;
+    let mut frame = Frame::new(Vec::new(alloc));
+    let mut sink = Memory::new(alloc);
+    assert!(rt; block(items.as_slice(), &mut frame, &mut store, &mut sink).is_ok());
+    assert_eq!(rt; store.arrays()[0].values(), [2u64, 7, 7].as_slice());
+    Ok(())
+}
+
+#[test]
+fn loops_print_in_each_turn(rt: HostRuntime) -> Result<(), Fail> {
+    let alloc = rt.alloc();
+    let stmt = counting(alloc)?;
+    let mut store = store(alloc)?;
+    let mut frame = Frame::new(Vec::new(alloc));
+    let mut sink = Memory::new(alloc);
+    assert!(rt; statement(&stmt, &mut frame, &mut store, &mut sink).is_ok());
+    assert_eq!(rt; sink.bytes(), b"9\n10\n11\n".as_slice());
+    Ok(())
+}
+
+// A writer that takes one byte a call, and fails at its fourth.
+#[derive(Drop)]
+struct OneByte {
+    calls: usize,
+}
+
+impl Write for OneByte {
+    fn write(&mut self, buf: &[u8]) -> std::io::Result<usize> {
+        self.calls = self.calls.wrapping_add(1);
+        if self.calls == 4 {
+            return Err(Error::from(ErrorKind::Other));
+        }
+        Ok(buf.len().min(1))
+    }
+
+    fn flush(&mut self) -> std::io::Result<()> {
+        Ok(())
+    }
+}
+
+#[test]
+fn a_failing_sink_ends_the_run(rt: HostRuntime) -> Result<(), Fail> {
+    let alloc = rt.alloc();
+    let stmt = counting(alloc)?;
+    let mut store = store(alloc)?;
+    let mut frame = Frame::new(Vec::new(alloc));
+    let mut sink = Writer::new(OneByte { calls: 0 });
+    let answer = statement(&stmt, &mut frame, &mut store, &mut sink);
+    assert!(rt; matches!(answer, Err(Refusal::OutputFailed)));
+    assert_eq!(rt; sink.failures(), 1);
+    Ok(())
+}

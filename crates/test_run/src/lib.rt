@@ -1,0 +1,17 @@
+//! Tests of what runs a kernel: expressions, statements, input and output, chunks and teams.
+#![tactic(auto)]
+
+#[cfg(test)]
+mod draw_rows;
+#[cfg(test)]
+mod evaluate_rows;
+#[cfg(test)]
+mod execute_rows;
+#[cfg(test)]
+mod lower_rows;
+#[cfg(test)]
+mod overlay_rows;
+#[cfg(test)]
+mod seqrun_rows;
+#[cfg(test)]
+mod team_rows;

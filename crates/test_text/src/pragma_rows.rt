@@ -1,0 +1,279 @@
+//! Lines that are read and lines that are refused, and where they stand in kernels.
+
+use cparse::parse;
+use ktree::{ChunkSize, Kernel, Place, Refusal};
+use pragma::*;
+use std::alloc::Global;
+
+const HERE: Place = Place { line: 3, column: 5 };
+
+/// Whether a text has these words and no more.
+fn has_words(text: &[u8], words: &[Word]) -> bool {
+    let mut rest = text;
+    for word in words {
+        match next_word(rest) {
+            Some((found, behind)) if found == *word => rest = behind,
+            _ => return false,
+        }
+    }
+    next_word(rest).is_none()
+}
+
+#[test]
+fn words_are_cut(rt: HostRuntime) {
+    let words = [
+        Word::Run(b"a+b"),
+        Word::Sign(Sign::OpenParen),
+        Word::Run(b"c"),
+    ];
+    assert!(rt; has_words(b" a+b(c", &words));
+}
+
+/// The size and the loops that a line gives, 0 where none stand.
+fn numbers(read: ParallelFor) -> (u64, u64) {
+    let size = match read.schedule {
+        Some(size) => size.get(),
+        None => 0,
+    };
+    let loops = match read.collapse {
+        Some(collapse) => collapse.get(),
+        None => 0,
+    };
+    (size, loops)
+}
+
+/// The size and the loops of a line, 0 where none stand, or the number of its refusal.
+fn loop_outcome(line: &[u8]) -> Result<(u64, u64), u8> {
+    match parallel_for(line, HERE) {
+        Ok(read) => Ok(numbers(read)),
+        Err(refusal) => Err(refusal.number()),
+    }
+}
+
+/// The first line of a table that has another outcome.
+fn other_outcome<'l>(rows: &[(&'l str, Result<(u64, u64), u8>)]) -> Option<&'l str> {
+    for (line, outcome) in rows {
+        if loop_outcome(line.as_bytes()) != *outcome {
+            return Some(*line);
+        }
+    }
+    None
+}
+
+#[test]
+fn clauses_stand_in_any_order(rt: HostRuntime) {
+    let rows = [
+        ("#pragma omp parallel for", Ok((0, 0))),
+        ("#pragma omp parallel for schedule(dynamic)", Ok((1, 0))),
+        ("#pragma omp parallel for collapse(4)", Ok((0, 4))),
+        (
+            "#pragma omp parallel for schedule(dynamic, 8) collapse(2)",
+            Ok((8, 2)),
+        ),
+        (
+            " # pragma omp\tparallel for collapse ( 3 ),schedule(dynamic ,16777216)",
+            Ok((16777216, 3)),
+        ),
+    ];
+    assert_eq!(rt; other_outcome(&rows), None);
+}
+
+#[test]
+fn each_clause_stands_once(rt: HostRuntime) {
+    let rows = [
+        ("#pragma omp parallel for collapse(2) collapse(2)", Err(11)),
+        (
+            "#pragma omp parallel for schedule(dynamic) collapse(2) schedule(dynamic)",
+            Err(11),
+        ),
+        ("#pragma omp parallel for, collapse(2)", Err(11)),
+        ("#pragma omp parallel for collapse(2),", Err(11)),
+        (
+            "#pragma omp parallel for schedule(dynamic),, collapse(2)",
+            Err(11),
+        ),
+        ("#pragma omp parallel for nowait", Err(11)),
+        ("#pragma omp for collapse(2)", Err(11)),
+    ];
+    assert_eq!(rt; other_outcome(&rows), None);
+}
+
+#[test]
+fn numbers_of_clauses_have_limits(rt: HostRuntime) {
+    let rows = [
+        ("#pragma omp parallel for collapse(5)", Err(21)),
+        ("#pragma omp parallel for collapse(0)", Err(11)),
+        (
+            "#pragma omp parallel for schedule(dynamic, 16777217), collapse(2)",
+            Err(21),
+        ),
+        (
+            "#pragma omp parallel for collapse(18446744073709551617) schedule(dynamic, 2)",
+            Err(21),
+        ),
+        (
+            "#pragma omp parallel for collapse(5) schedule(dynamic, 0)",
+            Err(11),
+        ),
+        (
+            "#pragma omp parallel for collapse(5) schedule(dynamic",
+            Err(11),
+        ),
+        ("#pragma omp parallel for collapse(02)", Err(11)),
+    ];
+    assert_eq!(rt; other_outcome(&rows), None);
+}
+
+#[test]
+fn sizes_are_literals_of_c(rt: HostRuntime) {
+    let rows = [
+        ("#pragma omp parallel for schedule(dynamic, 0)", Err(11)),
+        ("#pragma omp parallel for schedule(dynamic, 03)", Err(11)),
+        ("#pragma omp parallel for schedule(dynamic, 3ull)", Err(11)),
+        ("#pragma omp parallel for schedule(dynamic, 3) x", Err(11)),
+        ("#pragma omp", Err(11)),
+        ("x", Err(11)),
+    ];
+    assert_eq!(rt; other_outcome(&rows), None);
+}
+
+/// A place at the front of the line of this number.
+fn at(line: u32) -> Place {
+    Place { line, column: 1 }
+}
+
+/// What the line of a number says in a text, or the number of its refusal; none for want of memory.
+fn line_outcome(alloc: Global, text: &[u8], line: u32) -> Option<Result<ParallelFor, u8>> {
+    match Directives::read(alloc, text) {
+        Ok(directives) => Some(outcome_at(&directives, line)),
+        Err(_) => None,
+    }
+}
+
+/// What the line of a number says, or the number of its refusal.
+fn outcome_at(directives: &Directives, line: u32) -> Result<ParallelFor, u8> {
+    match directives.at(at(line)) {
+        Ok(read) => Ok(read),
+        Err(refusal) => Err(refusal.number()),
+    }
+}
+
+#[test]
+fn lines_have_numbers(rt: HostRuntime) {
+    let alloc = rt.alloc();
+    let text =
+        b"#pragma omp parallel for collapse(2)\n\n # pragma omp parallel for schedule ( dynamic , 16777216 )\n#pragma omp parallel for schedule(dynamic, 16777217)";
+    let joined = ParallelFor {
+        schedule: None,
+        collapse: Collapse::new(2),
+    };
+    let sized = ParallelFor {
+        schedule: ChunkSize::new(16777216),
+        collapse: None,
+    };
+    for (line, outcome) in [
+        (1, Ok(joined)),
+        (2, Err(11)),
+        (3, Ok(sized)),
+        (4, Err(21)),
+        (5, Err(11)),
+    ] {
+        assert_eq!(rt;
+            line_outcome(alloc, text, line),
+            Some(outcome),
+            "line {line}"
+        );
+    }
+}
+
+/// The first fault of a kernel whose directive lines stand in this text; none for want of memory.
+fn fault_among(alloc: Global, kernel: &Kernel, text: &[u8]) -> Option<Option<Fault>> {
+    match Directives::read(alloc, text) {
+        Ok(directives) => Some(first_fault(kernel, &directives)),
+        Err(_) => None,
+    }
+}
+
+/// The first fault of the directive lines of a kernel; none if the text is no kernel.
+fn fault_of(alloc: Global, text: &[u8]) -> Option<Option<Fault>> {
+    match parse(alloc, text) {
+        Ok(kernel) => fault_among(alloc, &kernel, text),
+        Err(_) => None,
+    }
+}
+
+/// The first text of a table that is no kernel or has another first fault.
+fn other_fault<'t>(alloc: Global, rows: &[(&'t str, Option<Fault>)]) -> Option<&'t str> {
+    for (text, fault) in rows {
+        if fault_of(alloc, text.as_bytes()) != Some(*fault) {
+            return Some(*text);
+        }
+    }
+    None
+}
+
+#[test]
+fn a_directive_stands_before_its_loop(rt: HostRuntime) {
+    let first = Some(Fault::Directive(at(2)));
+    let rows = [
+        (
+            "uint64_t v; void kernel(void) {\n#pragma omp parallel for\nfor (uint64_t i = 0; i < 8; i++) { } }\n",
+            None,
+        ),
+        (
+            "uint64_t v; void kernel(void) {\n#pragma omp parallel for\nv = 1; }\n",
+            first,
+        ),
+        (
+            "uint64_t v; void kernel(void) {\n#pragma omp parallel for\n{ } }\n",
+            first,
+        ),
+        (
+            "uint64_t v; void kernel(void) {\n#pragma omp parallel for\n}\n",
+            first,
+        ),
+        (
+            "uint64_t v; void kernel(void) {\n#pragma omp simd\nfor (uint64_t i = 0; i < 8; i++) { } }\n",
+            first,
+        ),
+    ];
+    assert_eq!(rt; other_fault(rt.alloc(), &rows), None);
+}
+
+#[test]
+fn a_directive_stands_in_no_parallel_loop(rt: HostRuntime) {
+    let rows = [
+        (
+            "uint64_t v; void kernel(void) {\nfor (uint64_t i = 0; i < 8; i++) {\n#pragma omp parallel for collapse(2)\nfor (uint64_t j = 0; j < 8; j++) { } } }\n",
+            None,
+        ),
+        (
+            "uint64_t v; void kernel(void) {\n#pragma omp parallel for\nfor (uint64_t i = 0; i < 8; i++) {\n#pragma omp parallel for collapse(2)\nfor (uint64_t j = 0; j < 8; j++) { } } }\n",
+            Some(Fault::Directive(at(4))),
+        ),
+    ];
+    assert_eq!(rt; other_fault(rt.alloc(), &rows), None);
+}
+
+/// The number of the refusal that tells a fault.
+fn number(fault: Fault) -> u8 {
+    fault.refusal().number()
+}
+
+#[test]
+fn the_lowest_number_is_told(rt: HostRuntime) {
+    let alloc = rt.alloc();
+    let before_a_loop =
+        b"uint64_t v; void kernel(void) {\n#pragma omp parallel for collapse(5)\nfor (uint64_t i = 0; i < 8; i++) { } }\n";
+    let fault = fault_of(alloc, before_a_loop)
+        .expect(&rt, "a kernel")
+        .expect(&rt, "a fault");
+    assert_eq!(rt; fault, Fault::Size(at(2)));
+    assert_eq!(rt; number(fault), 21);
+    let before_none =
+        b"uint64_t v; void kernel(void) {\n#pragma omp parallel for collapse(5)\nv = 1; }\n";
+    let fault = fault_of(alloc, before_none)
+        .expect(&rt, "a kernel")
+        .expect(&rt, "a fault");
+    assert_eq!(rt; number(fault), 11);
+}

@@ -1,2 +1,0 @@
-pub mod Parallel
-pub mod Laws

@@ -1,0 +1,294 @@
+#!/usr/bin/env python3
+"""Tries the edits that must fail, crates/NAME/edits/*.edit: wrong bodies of functions, in the form of `rt must-fail`.
+
+    python3 tests/edits.py [NAME..]        of all crates, or of these
+    python3 tests/edits.py --read          says in a second which edits, of edits/ and of must-fail/, cannot be applied, and tries none
+
+Edits of different functions of a crate are tried together, in one check. An edit is refused only where a goal of the very
+function that it changes is refused; where that is not shown, and where it changes no function (a limit, say), it is tried
+alone. The crate as it stands has to be proved over the same kept work. It prints a line for each crate, the edits that are
+not refused, and their number; the status is 0 where each edit is refused.
+"""
+import dataclasses
+import glob
+import importlib.machinery
+import importlib.util
+import os
+import re
+import shutil
+import sys
+import tempfile
+import time
+
+TOP = os.path.dirname(os.path.dirname(os.path.abspath(__file__)))
+JOBS = ["--jobs", "1"]
+HEAD = re.compile(r"(\s*)(?:pub(?:\([^)]*\))? )?(?:const )?(?:unsafe )?fn (\w+)")
+IMPL = re.compile(r"impl(?:<.*?>)? (?:(?P<trait>.*) for )?(?:\w+::)*(?P<type>\w+)")
+NAMES_ALONE = "only because a proof file names what the edit took away"
+NAMES = re.compile(r"has no field|is not in scope|has no `|was not admitted")
+
+
+@dataclasses.dataclass(frozen=True)
+class Function:
+    """A function of a source file: its lines are first to last, counted from 0, with the attributes above it."""
+
+    path: str
+    name: str
+    owner: str
+    cycle: str
+    first: int
+    last: int
+
+    @property
+    def key(self):
+        return self.path, self.cycle or self.first
+
+    @property
+    def module(self):
+        inside = self.path[len("src/") : -len(".rt")]
+        return "" if inside == "lib" else inside.replace("/", "::")
+
+    @property
+    def asked(self):
+        """The function by its path, or its module where it is a method of a trait, whose name the prover makes up."""
+        if "+" in self.owner:
+            return self.module
+        return "::".join(it for it in (self.module, self.owner, self.name) if it)
+
+
+@dataclasses.dataclass
+class Edit:
+    """An edit, the functions that it changes, and the lines that it puts in place of others."""
+
+    file: str
+    functions: list
+    rows: list
+
+    @property
+    def name(self):
+        return os.path.basename(self.file)
+
+
+def load_rt():
+    """The toolchain's command as a module."""
+    found = shutil.which("rt")
+    if not found:
+        sys.exit("edits: there is no command rt on the path")
+    path = os.path.realpath(found)
+    sys.dont_write_bytecode = True
+    loader = importlib.machinery.SourceFileLoader("rt", path)
+    module = importlib.util.module_from_spec(importlib.util.spec_from_loader("rt", loader))
+    loader.exec_module(module)
+    return module
+
+
+def read(path):
+    with open(path, encoding="utf-8") as it:
+        return it.read()
+
+
+def function_at(path, rows, at):
+    """The function round a line, or None."""
+    for top in range(at, -1, -1):
+        head = HEAD.match(rows[top])
+        if not head or (top != at and rows[top].rstrip().endswith(";")):
+            continue
+        last = next((i for i in range(top, len(rows)) if rows[i] == head[1] + "}"), top)
+        if last < at:
+            continue
+        first, cycle = top, ""
+        while first > 0 and rows[first - 1].strip().startswith(("#[", "//")):
+            first -= 1
+            named = re.search(r"#\[cycle\((\w+)\)\]", rows[first])
+            cycle = cycle or (named[1] if named else "")
+        return Function(path, head[2], owner_of(rows, top) if head[1] else "", cycle, first, last)
+    return None
+
+
+def owner_of(rows, top):
+    """The type whose method stands at a line, with `+` and the trait where it is a trait's."""
+    impl = IMPL.match(next((rows[i] for i in range(top, -1, -1) if rows[i].startswith("impl")), ""))
+    if not impl:
+        return ""
+    if not impl["trait"]:
+        return impl["type"]
+    return impl["type"] + "+" + re.sub(r"<.*", "", impl["trait"]).rpartition("::")[2]
+
+
+def placed(rt, crate, file):
+    """The edit of a file with the functions that it changes, none where it changes other text; or why it cannot be read."""
+    texts, why = rt.read_edit(file, crate.folder)
+    if why:
+        return None, why
+    functions, changed = [], []
+    for path, text in texts.items():
+        old, new = read(f"{crate.folder}/{path}").split("\n"), text.split("\n")
+        if len(old) != len(new) or not path.endswith(".rt"):
+            return Edit(file, [], []), None
+        for at, (before, after) in enumerate(zip(old, new)):
+            if before != after:
+                function = function_at(path, old, at)
+                if not function:
+                    return Edit(file, [], []), None
+                functions.append(function)
+                changed.append((path, at, after))
+    return Edit(file, functions, changed), None
+
+
+def in_batches(edits):
+    """The edits in as few lists as may be: those of one list change different functions."""
+    batches = []
+    for edit in edits:
+        keys = {it.key for it in edit.functions}
+        for taken, batch in batches:
+            if not taken & keys:
+                taken |= keys
+                batch.append(edit)
+                break
+        else:
+            batches.append((set(keys), [edit]))
+    return [batch for _, batch in batches]
+
+
+def own_goal(crate, function, lines):
+    """A line that refuses a goal of this function, if there is one."""
+    owner = re.escape(function.owner).replace(r"\+", "") + (r"\w*" if "+" in function.owner else "")
+    tail = f"{owner}::{re.escape(function.name)}" if function.owner else re.escape(function.name)
+    group = re.escape(function.cycle or function.name)
+    folder = function.module.replace("::", "/")
+    folder = re.escape(folder) + "/" if folder else ""
+    inner = f"(?:{folder})?(?:\\w+/)*"
+    own = re.compile(rf"(?:\./)?proofs/{inner}(?:\+{group}|\+?{tail.replace('::', '/')})/\S*:\d+:\d+: error")
+    note = re.compile(rf"(?:note: )?{re.escape(function.path)}:(\d+):\d+: (.*)")
+    for line in lines:
+        if own.match(line) and not NAMES.search(line):
+            return line
+        said = note.match(line)
+        if said and function.first < int(said[1]) <= function.last + 1 and "not proved that" in said[2]:
+            return line
+    return None
+
+
+def asked_of(edits):
+    """The words that have a check prove no more than the functions of these edits, and what they call."""
+    names = {it.asked for edit in edits for it in edit.functions}
+    return [] if "" in names else [word for name in sorted(names) for word in ("--only", name)]
+
+
+def try_batch(rt, crate, batch, kept):
+    """The edits of a batch that are refused, each at its own functions."""
+    texts = {}
+    for edit in batch:
+        for path, at, row in edit.rows:
+            rows = texts.setdefault(path, read(f"{crate.folder}/{path}").split("\n"))
+            rows[at] = row
+    texts = {path: "\n".join(rows) for path, rows in texts.items()}
+    ran = rt.checked(crate, texts, [*JOBS, *asked_of(batch)], kept)
+    if ran.returncode == 2:
+        ran = rt.checked(crate, texts, JOBS, kept)
+    lines = ran.stdout.rstrip("\n").split("\n")
+    judged = ran.returncode == 1 and lines[-1].startswith(("only=", "logic=not-proved"))
+    if not judged or any(rt.unread(it, texts) for it in lines):
+        return []
+    return [edit for edit in batch if all(own_goal(crate, it, lines) for it in edit.functions)]
+
+
+def is_proved(rt, crate, edits, kept):
+    """Whether the crate as it stands is proved over the kept work: the functions of these edits, or all where one has none."""
+    asked = asked_of(edits) if all(it.functions for it in edits) else []
+    ran = rt.checked(crate, {}, [*JOBS, *asked], kept)
+    if ran.returncode == 2 and asked:
+        ran = rt.checked(crate, {}, JOBS, kept)
+    return ran.returncode == 0
+
+
+def try_crate(rt, crate, files):
+    """The edits of a crate that are not refused, each with the reason; how many were shown together; and the checks it took."""
+    edits, failed, checks = [], [], 1
+    for file in files:
+        edit, why = placed(rt, crate, file)
+        if why:
+            failed.append(f"{crate.name}/{os.path.basename(file)}: it cannot be applied: {why}")
+        else:
+            edits.append(edit)
+    with tempfile.TemporaryDirectory(prefix="edits-") as kept:
+        before = f"{crate.folder}/out/incremental"
+        if os.path.isdir(before):
+            shutil.copytree(before, kept, dirs_exist_ok=True)
+        shown = []
+        for batch in in_batches([it for it in edits if it.functions]):
+            shown += try_batch(rt, crate, batch, kept)
+            checks += 1
+        alone = [it for it in edits if it not in shown]
+        tried = [(it, *rt.must_fail(crate, it.file, JOBS, kept)) for it in alone]
+        checks += len(alone)
+        if not is_proved(rt, crate, edits, kept):
+            shown, tried = [], [(it, *rt.must_fail(crate, it.file, JOBS)) for it in edits]
+            checks += len(edits)
+    failed += [text for _, refused, text in tried if not refused or NAMES_ALONE in text]
+    return failed, len(shown), checks
+
+
+def libraries_are_there(rt, crates):
+    """Builds the libraries below these crates where what is there is not of these sources. The gate's own carry no stamp."""
+    below = {it.name: it for crate in crates for it in crate.below()}
+    stamped = [os.path.isfile(f"{it.folder}/out/rlib/stamp") for it in below.values()]
+    made = all(os.path.isdir(it.rlib) for it in below.values())
+    if made and not any(stamped):
+        return True
+    rt.Crate.cuts_libraries = False
+    return not any(it.build_rlib(JOBS, anew=False) for it in below.values())
+
+
+def read_all(rt):
+    """Says which edits cannot be applied, and how many there are."""
+    files = sorted(glob.glob(f"{TOP}/crates/*/edits/*")) + sorted(glob.glob(f"{TOP}/crates/*/must-fail/*.edit"))
+    faults = [(file, rt.read_edit(file, os.path.dirname(os.path.dirname(file)))[1]) for file in files]
+    faults = [(file, why) for file, why in faults if why]
+    for file, why in faults:
+        print(f"{os.path.relpath(file, TOP)}: {why}")
+    print(f"edits: {len(files)} read, {len(faults)} cannot be applied")
+    return 1 if faults else 0
+
+
+def main(names):
+    started = time.time()
+    os.chdir(TOP)
+    rt = load_rt()
+    if names == ["--read"]:
+        return read_all(rt)
+    rt.rtlib.guarded()
+    rt.rtlib.Crate = rt.Crate
+    rt.Crate.cuts_libraries = True
+    every = sorted(glob.glob(f"{TOP}/crates/*/edits/*"))
+    files = {}
+    for file in every:
+        files.setdefault(file.split("/")[-3], []).append(file)
+    chosen = [it for it in rt.rtlib.crates_below(TOP) if it.name in files and (not names or it.name in names)]
+    if not libraries_are_there(rt, chosen):
+        sys.exit("edits: a library is not proved, so no edit was tried")
+
+    def task(crate):
+        begun = time.time()
+        failed, shown, checks = try_crate(rt, crate, files[crate.name])
+        count = len(files[crate.name])
+        took = time.time() - begun
+        print(f"edits of {crate.name}: {count - len(failed)} of {count} refused, {shown} together, {checks} checks, {took:.0f} s", flush=True)
+        return failed, count
+
+    work = {}
+    for crate in chosen:
+        lines = crate.count(rb"\n")
+        work[crate.name, "edits"] = ([], lines, rt.need(crate), lambda given, jobs, it=crate: task(it))
+    done = rt.in_lanes(work).values()
+    failed = [text for texts, _ in done for text in texts]
+    tried = sum(count for _, count in done)
+    wanted = len(every) if not names else sum(len(files.get(it, [])) for it in names)
+    for text in failed:
+        print(text)
+    print(f"edits: {tried} of {wanted} tried, {tried - len(failed)} refused, {time.time() - started:.0f} s")
+    return 0 if not failed and tried == wanted else 1
+
+
+if __name__ == "__main__":
+    sys.exit(main(sys.argv[1:]))
