@@ -11,6 +11,7 @@ import importlib.machinery
 import importlib.util
 import os
 import re
+import resource
 import shutil
 import signal
 import subprocess
@@ -119,17 +120,19 @@ def functions(names):
         crate = crates[name]
         with tempfile.TemporaryDirectory(prefix="gate-") as kept:
             words = crate.words(["--jobs", "1"], tests=crate.has_tests(), keeps=False)
-            how = {"cwd": crate.folder, "stdin": subprocess.DEVNULL, "capture_output": True, "text": True, "errors": "replace"}
-            begun = time.time()
-            ran = subprocess.run([rt.rtlib.RATTLE, "check", *words, "--incremental", kept], **how)
-            took = time.time() - begun
+            how = {"cwd": crate.folder, "stdin": subprocess.DEVNULL, "stdout": subprocess.PIPE, "stderr": subprocess.STDOUT}
+            begun, before = time.time(), resource.getrusage(resource.RUSAGE_CHILDREN)
+            ran = subprocess.run([rt.rtlib.RATTLE, "check", *words, "--incremental", kept], text=True, errors="replace", **how)
+            after = resource.getrusage(resource.RUSAGE_CHILDREN)
+            used = after.ru_utime + after.ru_stime - before.ru_utime - before.ru_stime
             files = [f"{at}/{it}" for at, _, found in os.walk(kept) for it in found if it.endswith(".oantt")]
             modules = sorted((os.stat(it).st_mtime, os.path.basename(it)[: -len(".oantt")]) for it in files)
-        spent, before = collections.Counter(), begun
+        spent, last = collections.Counter(), begun
         for at, module in modules:
-            spent[function_of(name, module)] += at - before
-            before = at
-        print(f"{name}: {took:.0f} s; {ran.stdout.rstrip().rpartition(chr(10))[2][:40]}")
+            spent[function_of(name, module)] += at - last
+            last = at
+        verdict = ran.stdout.rstrip().rpartition("\n")[2].split()[:1]
+        print(f"{name}: {used:.0f} processor seconds, {time.time() - begun:.0f} s; {verdict[0] if verdict else 'no verdict'}")
         for function, seconds in spent.most_common(15):
             print(f"{seconds:8.1f} {function}", flush=True)
 

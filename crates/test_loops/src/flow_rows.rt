@@ -1,8 +1,8 @@
 //! Whether locals are assigned before they are read, and the data of parallel loops.
 
-use crate::texts::{I, J, OUT_OF_MEMORY, at, kernel, parsed, text};
+use crate::texts::{I, J, OUT_OF_MEMORY, S, at, kernel, kernel_with, name, parsed, text};
 use flow::*;
-use ktree::{ChunkSize, Expr, Item, Kernel, Place, Refusal, Source, Stmt, VarId};
+use ktree::{ChunkSize, Expr, Kernel, Place, Refusal, Source, Stmt, Target, VarId};
 use pragma::{Collapse, Directives, ParallelFor};
 use std::alloc::Global;
 
@@ -70,34 +70,23 @@ fn bodies_know_the_variable_of_their_loop(rt: HostRuntime) {
     assert_eq!(rt; first_other(rt.alloc(), &rows), None);
 }
 
-/// Puts the variable `i` in place of the name that the last of some items assigns.
-fn assign_i_last(items: &mut [Item]) {
-    if let [.., Item::Statement(statement)] = items {
-        if let Stmt::Assign(_, Source::Number(Expr::Object(variable, _, _))) = &mut **statement {
-            *variable = I;
-        }
-    }
+/// `s = i;` on line 3, where `i` is the variable of a loop before it, which no text can name there.
+fn assignment_of_i(alloc: Global) -> Stmt {
+    let target = Target {
+        variable: S,
+        subscripts: Vec::new(alloc),
+        mention: name(alloc, at(3, 1)),
+    };
+    let value = Expr::Object(I, Vec::new(alloc), name(alloc, at(3, 5)));
+    Stmt::Assign(target, Source::Number(value))
 }
 
-/// What is told of the locals of the text with these lines, where the last statement assigns the variable `i` of a loop before it.
+/// What is told of the locals of the text with these lines and that statement behind them.
 fn unassigned_behind(alloc: Global, lines: &str) -> Result<Option<Place>, u8> {
-    match kernel(alloc, lines) {
-        Ok(mut kernel) => {
-            assign_i_last(kernel.body.as_mut_slice());
-            unassigned_in(alloc, &kernel)
-        }
+    match kernel_with(alloc, lines, assignment_of_i(alloc)) {
+        Ok(kernel) => unassigned_in(alloc, &kernel),
         Err(number) => Err(number),
     }
-}
-
-/// The first of some rows of lines of which something else is told, where the last statement assigns `i`.
-fn first_other_behind<'r>(alloc: Global, rows: &[(&'r str, Option<Place>)]) -> Option<&'r str> {
-    for (text, expected) in rows {
-        if unassigned_behind(alloc, text) != Ok(*expected) {
-            return Some(*text);
-        }
-    }
-    None
 }
 
 #[test]
@@ -105,9 +94,8 @@ fn loops_leave_what_was_known(rt: HostRuntime) {
     let lines = "for (uint64_t i = 0; i < 8; i++) x = 1;\ns = x;";
     let rows = [(lines, Some(at(3, 5)))];
     assert_eq!(rt; first_other(rt.alloc(), &rows), None);
-    let lines = "for (uint64_t i = 0; i < 8; i++) x = 1;\ns = s;";
-    let rows = [(lines, Some(at(3, 5)))];
-    assert_eq!(rt; first_other_behind(rt.alloc(), &rows), None);
+    let lines = "for (uint64_t i = 0; i < 8; i++) x = 1;";
+    assert_eq!(rt; unassigned_behind(rt.alloc(), lines), Ok(Some(at(3, 5))));
 }
 
 #[test]

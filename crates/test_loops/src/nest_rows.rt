@@ -1,13 +1,15 @@
 //! Kernels whose loops, nests and subscripts are looked at, and the first faults of others.
 
-use crate::texts::{I, OUT_OF_MEMORY, X, at, kernel, last_statement, nest_of, parsed, text};
+use crate::texts::{
+    A, I, OUT_OF_MEMORY, X, at, kernel, kernel_with, last_statement, name, nest_of, parsed, text,
+};
 use affine::VarBox;
 use forms::Fault;
-use ktree::{Expr, Item, Kernel, Stmt};
+use ktree::{Expr, Kernel, Mention, Source, Stmt, Suffix, Target};
 use nest::*;
 use pragma::Directives;
 use space::{Space, Value};
-use std::alloc::Global;
+use std::alloc::{AllocError, Global};
 
 /// The first faults of a kernel, in the sense of [`nests`] and of [`in_range`].
 #[derive(Clone, Copy, Debug, PartialEq, Eq)]
@@ -188,32 +190,35 @@ fn loops_inside_each_other(rt: HostRuntime) {
     assert_eq!(rt; faults_of_nest(rt.alloc(), 9), Ok(ninth));
 }
 
-/// Puts the variable `i` in place of the name that is the last of some items' subscript.
-fn name_i_last(items: &mut [Item]) {
-    if let [.., Item::Statement(statement)] = items {
-        if let Stmt::Assign(target, _) = &mut **statement {
-            if let [Expr::Object(variable, _, _)] = target.subscripts.as_mut_slice() {
-                *variable = I;
-            }
-        }
-    }
+/// `A[i] = 1;` on line 3, where `i` is the variable of a loop before it, which no text can name there.
+fn assignment_at_i(alloc: Global) -> Result<Stmt, AllocError> {
+    let mut subscripts = Vec::new(alloc);
+    subscripts.push(Expr::Object(I, Vec::new(alloc), name(alloc, at(3, 3))))?;
+    let mention = Mention {
+        name: at(3, 1),
+        subscripts: Vec::from_slice(alloc, &[at(3, 3)])?,
+    };
+    let target = Target {
+        variable: A,
+        subscripts,
+        mention,
+    };
+    let value = Expr::Literal(1, Suffix::Bare);
+    Ok(Stmt::Assign(target, Source::Number(value)))
 }
 
-/// The first faults of a text, the last statement of which names the variable `i` of a loop before it.
-fn faults_behind(alloc: Global, text: &str) -> Result<Faults, u8> {
-    match parsed(alloc, text) {
-        Ok(mut kernel) => {
-            name_i_last(kernel.body.as_mut_slice());
-            faults_in(alloc, &kernel, text)
-        }
+/// The first faults of the text with these lines and a statement behind them.
+fn faults_with(alloc: Global, lines: &str, last: Stmt) -> Result<Faults, u8> {
+    match kernel_with(alloc, lines, last) {
+        Ok(kernel) => faults_in(alloc, &kernel, lines),
         Err(number) => Err(number),
     }
 }
 
-/// Those of the text with these lines.
-fn faults_by_loop_variable(alloc: Global, lines: &str) -> Result<Faults, u8> {
-    match text(alloc, lines) {
-        Ok(text) => faults_behind(alloc, text.as_str()),
+/// The same with `A[i] = 1;` behind them.
+fn faults_behind(alloc: Global, lines: &str) -> Result<Faults, u8> {
+    match assignment_at_i(alloc) {
+        Ok(last) => faults_with(alloc, lines, last),
         Err(_error) => Err(OUT_OF_MEMORY),
     }
 }
@@ -240,9 +245,9 @@ fn other_statements(rt: HostRuntime) {
         ),
     ];
     assert_eq!(rt; first_other(rt.alloc(), &rows), None);
-    let lines = "for (uint64_t i = 0; i < 8; i++) { }\nA[x] = 1;";
+    let lines = "for (uint64_t i = 0; i < 8; i++) { }";
     let other = both(Fault::NotAffine(at(3, 3)));
-    assert_eq!(rt; faults_by_loop_variable(rt.alloc(), lines), Ok(other));
+    assert_eq!(rt; faults_behind(rt.alloc(), lines), Ok(other));
 }
 
 /// What is told of the nests of the text with these lines.

@@ -2,8 +2,14 @@
 //! and a local `x`, the variable 3. The variables that the given lines declare have the numbers from 4 on.
 
 use cparse::parse;
-use ktree::{Item, Kernel, Place, Stmt, VarId};
+use ktree::{Item, Kernel, Mention, Place, Stmt, VarId};
 use std::alloc::{AllocError, Global};
+
+/// The array `A`.
+pub(crate) const A: VarId = VarId(0);
+
+/// The scalar `s`.
+pub(crate) const S: VarId = VarId(2);
 
 pub(crate) const X: VarId = VarId(3);
 
@@ -38,6 +44,26 @@ pub(crate) fn kernel(alloc: Global, lines: &str) -> Result<Kernel, u8> {
     match text(alloc, lines) {
         Ok(text) => parsed(alloc, text.as_str()),
         Err(_error) => Err(OUT_OF_MEMORY),
+    }
+}
+
+/// The same with one more statement behind these lines.
+pub(crate) fn kernel_with(alloc: Global, lines: &str, last: Stmt) -> Result<Kernel, u8> {
+    let Ok(last) = Box::new(alloc, last) else {
+        return Err(OUT_OF_MEMORY);
+    };
+    let mut kernel = kernel(alloc, lines)?;
+    match kernel.body.push(Item::Statement(last)) {
+        Ok(()) => Ok(kernel),
+        Err(_error) => Err(OUT_OF_MEMORY),
+    }
+}
+
+/// A name at a place, without subscripts.
+pub(crate) fn name(alloc: Global, place: Place) -> Mention {
+    Mention {
+        name: place,
+        subscripts: Vec::new(alloc),
     }
 }
 
