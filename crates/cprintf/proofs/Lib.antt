@@ -1,2 +1,3 @@
 pub mod FormatLemmas
 pub mod FillLemmas
+pub mod PrintedLemmas

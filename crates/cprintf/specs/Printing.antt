@@ -1,12 +1,14 @@
 -- Formats and arguments, turn by turn.
-use Rattle.std.specs.Prelude.{ℕ, Bool, true, false, ◌&&◌, if◌then◌else◌, List, [], ◌∷◌, ◌++◌, Option, Some, None, codes}
-use Rattle.semantics.specs.Tree.{Expr, Source, PrintPart, Characters, Decimal}
+use Rattle.std.specs.Prelude.{ℕ, Bool, true, false, ◌&&◌, if◌then◌else◌, List, [], ◌∷◌, ◌++◌, length, Option, Some, None, codes}
+use Rattle.semantics.specs.Tree.{Expr, Source, PrintPart, Characters, Decimal, Stmt, Print}
 use Rattle.semantics.specs.Source.Token.{Token, Quoted}
+use Rattle.semantics.specs.Source.Scope.{Scope}
 use Rattle.semantics.specs.Source.Typing.{typed, plain}
-use Rattle.creader.specs.Reading.{Got, ◌>>=◌}
+use Rattle.creader.specs.Reading.{Got, Reader, ◌>>=◌, got}
 use Rattle.cexpr.specs.Operators.{stand_in, number_in, is_number}
-use Rattle.creader.specs.NextTokens.{word}
-use Rattle.cprintf.specs.PrintfReader.{starts_quoted}
+use Rattle.cexpr.specs.ExpressionReader.{expression}
+use Rattle.creader.specs.NextTokens.{open_paren, close_paren, word}
+use Rattle.cprintf.specs.PrintfReader.{starts_quoted, format, arguments, filled, fills}
 
 -- a string, whether a place for a number stands behind it, and whether a further string does
 pub record Turn : Type 0 where
@@ -46,3 +48,16 @@ abbrev pub arguments_behind : Option (List ℕ) → List Expr → List Expr
 arguments_behind (Some bs) es = es
 arguments_behind None [] = []
 arguments_behind None (e ∷ es) = es
+
+-- the arguments and the parenthesis that closes
+abbrev pub closed_arguments : Reader Source → Reader (List Expr)
+closed_arguments whole ts = arguments (length ts) whole ts >>= λ es. close_paren es.rest >>= λ behind. got es.tree es.sound behind
+
+-- a format and arguments as a statement
+abbrev pub print_of : List (Option (List ℕ)) → Got (List Expr) → Option (Got Stmt)
+print_of spots es = got (Print (filled spots es.tree)) (es.sound && fills spots es.tree) es.rest
+
+-- printf in these parts
+abbrev pub printed_in_parts : ℕ → Scope → Reader Stmt
+printed_in_parts room scope ts =
+    open_paren ts >>= λ inner. format (length inner) inner >>= λ spots. closed_arguments (expression room scope) spots.rest >>= λ es. print_of spots.tree es

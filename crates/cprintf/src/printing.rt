@@ -4,7 +4,7 @@ ghost use Rattle.std.specs.Prelude.{◌≡◌, length, count_by, map, Some};
 ghost use Rattle.ktree.specs.View.{expr_of, part_of, stmt_of};
 ghost use Rattle.cexpr.specs.ExpressionReader.{expression};
 ghost use Rattle.cprintf.specs.PrintfReader.{arguments, filled, fills, printed};
-ghost use Rattle.cprintf.specs.Printing.{with_argument, part_at, arguments_behind};
+ghost use Rattle.cprintf.specs.Printing.{with_argument, part_at, arguments_behind, closed_arguments, print_of};
 ghost use Rattle.creader.specs.Names.{names_of};
 ghost use Rattle.creader.specs.Lexemes.{tokens_of};
 ghost use Rattle.creader.specs.Outcome.{Gives, got_of};
@@ -126,8 +126,41 @@ fn filled(
     Ok(parts)
 }
 
+/// The arguments behind the format of the printf at a place, and the parenthesis that closes.
+fn closed_arguments<'s, 't>(
+    context: Context<'_, 't>,
+    room: u32,
+    place: Place,
+    tokens: &'s [Lexeme<'t>],
+) -> Outcome<'s, 't, Vec<Expr>>
+    ensures { Gives (got_of arguments_of) result (closed_arguments (expression room (names_of context.entry.scope.now)) (tokens_of tokens.now)) }
+{
+    let Parsed { tree, fault, rest } = arguments(context, room, place, tokens)?;
+    let rest = close_paren(rest, context.end)?;
+    Ok(Parsed { tree, fault, rest })
+}
+
+/// The printf at a place, of its format and arguments.
+fn print_of<'s, 't>(
+    alloc: Global,
+    place: Place,
+    spots: Vec<Spot>,
+    arguments: Parsed<'s, 't, Vec<Expr>>,
+) -> Outcome<'s, 't, Stmt>
+    ensures { Gives (got_of stmt_of) result (print_of (spots_of spots) (got_of arguments_of arguments.entry)) }
+{
+    let own = unless(fills(&spots, &arguments.tree), Flaw::Operands, place);
+    let fault = earlier(arguments.fault, own);
+    let parts = filled(alloc, spots, arguments.tree)?;
+    Ok(Parsed {
+        tree: Stmt::Print(parts, place),
+        fault,
+        rest: arguments.rest,
+    })
+}
+
 /// What stands behind the word printf, whose place this is.
-#[tactic(auto, unfolding(crate::specs::PrintfReader::printed))]
+#[tactic(auto, using(crate::proofs::PrintedLemmas::printed_by_parts), unfolding(crate::specs::PrintfReader::printed))]
 pub fn printed<'s, 't>(
     context: Context<'_, 't>,
     room: u32,
@@ -139,14 +172,6 @@ pub fn printed<'s, 't>(
     let room = opened(room, place)?;
     let inner = open_paren(tokens, context.end)?;
     let spots = format(context.alloc, inner, context.end)?;
-    let arguments = arguments(context, room, place, spots.rest)?;
-    let rest = close_paren(arguments.rest, context.end)?;
-    let own = unless(fills(&spots.tree, &arguments.tree), Flaw::Operands, place);
-    let fault = earlier(arguments.fault, own);
-    let parts = filled(context.alloc, spots.tree, arguments.tree)?;
-    Ok(Parsed {
-        tree: Stmt::Print(parts, place),
-        fault,
-        rest,
-    })
+    let arguments = closed_arguments(context, room, place, spots.rest)?;
+    print_of(context.alloc, place, spots.tree, arguments)
 }

@@ -1,9 +1,10 @@
 -- What the code's items stand for.
 use Rattle.std.specs.Prelude.{is_none}
-use Rattle.std.specs.Global.{Vec}
-use Rattle.semantics.specs.Tree.{Items, no_items}
+use Rattle.std.specs.Global.{Vec, Box}
+use Rattle.semantics.specs.Tree.{Stmt, Items, no_items}
 use Rattle.semantics.specs.Source.Scope.{Scope}
 use Rattle.ktree.specs.declared.statement.Item.{Item}
+use Rattle.ktree.specs.declared.statement.Stmt as code
 use Rattle.ktree.specs.View as view
 use Rattle.cstmt.specs.declared.told.Told.{Told}
 use Rattle.creader.specs.Lexemes.{tokens_of}
@@ -25,3 +26,7 @@ item_in i = view.with_item i no_items
 -- one item
 abbrev pub item_of : Scope → Told Item → Row
 item_of scope t = record { tree = item_in t.tree; sound = is_none t.fault; scope = scope; tally = tally_of t.tally; rest = tokens_of t.rest.now }
+
+-- a statement that stands in another one
+abbrev pub boxed_of : Box code.Stmt → Stmt
+boxed_of b = view.stmt_of b.value

@@ -3,12 +3,12 @@
 ghost use Rattle.std.specs.Prelude.{◌≡◌, ◌&&◌, Some, IfOk, IfErr, is_none, string_bytes};
 ghost use Rattle.semantics.specs.Tree.{If, IfElse, For};
 ghost use Rattle.semantics.specs.Source.Scope.{Scope};
-ghost use Rattle.ktree.specs.View.{stmt_of, source_of, cond_of, increment_of};
+ghost use Rattle.ktree.specs.View.{stmt_of, source_of, cond_of};
 ghost use Rattle.cexpr.specs.Operators.{cond_in};
 ghost use Rattle.cstmt.specs.StatementReader.{told};
 ghost use Rattle.cstmt.specs.Bodies.{append_items, with_item};
 ghost use Rattle.cstmt.specs.Headings.{heading_of};
-ghost use Rattle.cstmt.specs.Rows.{row_of, item_of, item_in, items_in};
+ghost use Rattle.cstmt.specs.Rows.{row_of, item_of, item_in, items_in, boxed_of};
 ghost use Rattle.cstmt.specs.Tallies.{tally_of, told_of};
 ghost use Rattle.creader.specs.Lexemes.{tokens_of};
 ghost use Rattle.creader.specs.Outcome.{Gives};
@@ -20,80 +20,61 @@ use crate::told::Told;
 use cexpr::wanted::cond_in;
 use creader::parsed::Parsed;
 use creader::stop::{Stop, earlier};
-use ktree::{Cond, Head, Item, Place, Source, Stmt, VarId};
+use ktree::{Head, Item, Place, Source, Stmt, VarId};
 use std::alloc::Global;
-
-/// The tree of an `if` without `else`.
-fn if_tree(alloc: Global, test: Cond, then: Stmt) -> Result<Stmt, Stop>
-    ensures { Gives stmt_of result (Some (If (cond_of test) (stmt_of then))) }
-{
-    Ok(Stmt::If(test, Box::new(alloc, then)?, None))
-}
 
 /// An `if` without `else` (C11 6.8.4.1).
 pub fn if_only<'s, 't>(
     alloc: Global,
     condition: Parsed<'s, 't, Source>,
-    then: Told<'s, 't, Stmt>,
+    then: Told<'s, 't, Box<Stmt>>,
 ) -> Result<Told<'s, 't, Stmt>, Stop>
-    ensures { let a = told_of stmt_of then.entry in Gives (told_of stmt_of) result
+    ensures { let a = told_of boxed_of then.entry in Gives (told_of stmt_of) result
         (told (If (cond_in (source_of condition.entry.tree)) a.tree) (is_none condition.entry.fault && a.sound) a.tally a.rest) }
 {
     let test = cond_in(alloc, condition.tree)?;
-    let tree = if_tree(alloc, test, then.tree)?;
     Ok(Told {
-        tree,
+        tree: Stmt::If(test, then.tree, None),
         fault: earlier(condition.fault, then.fault),
         tally: then.tally,
         rest: then.rest,
     })
 }
 
-/// The tree of an `if` with `else`.
-fn if_else_tree(alloc: Global, test: Cond, then: Stmt, other: Stmt) -> Result<Stmt, Stop>
-    ensures { Gives stmt_of result (Some (IfElse (cond_of test) (stmt_of then) (stmt_of other))) }
-{
-    let then = Box::new(alloc, then)?;
-    let other = Box::new(alloc, other)?;
-    Ok(Stmt::If(test, then, Some(other)))
-}
-
 /// An `if` with `else`.
 pub fn if_else<'s, 't>(
     alloc: Global,
     condition: Parsed<'s, 't, Source>,
-    then: Told<'s, 't, Stmt>,
-    other: Told<'s, 't, Stmt>,
+    then: Told<'s, 't, Box<Stmt>>,
+    other: Told<'s, 't, Box<Stmt>>,
 ) -> Result<Told<'s, 't, Stmt>, Stop>
-    ensures { let a = told_of stmt_of then.entry in let b = told_of stmt_of other.entry in Gives (told_of stmt_of) result
+    ensures { let a = told_of boxed_of then.entry in let b = told_of boxed_of other.entry in Gives (told_of stmt_of) result
         (told (IfElse (cond_in (source_of condition.entry.tree)) a.tree b.tree) (is_none condition.entry.fault && (a.sound && b.sound)) b.tally b.rest) }
 {
-    let fault = earlier(condition.fault, earlier(then.fault, other.fault));
     let test = cond_in(alloc, condition.tree)?;
-    let tree = if_else_tree(alloc, test, then.tree, other.tree)?;
     Ok(Told {
-        tree,
-        fault,
+        tree: Stmt::If(test, then.tree, Some(other.tree)),
+        fault: earlier(condition.fault, earlier(then.fault, other.fault)),
         tally: other.tally,
         rest: other.rest,
     })
 }
 
-/// The head of a loop whose word stands at a place, over the variable of this number.
-fn head_of(
+/// A loop's head with the spelling of its variable.
+fn spelled_head(
     alloc: Global,
     place: Place,
     variable: VarId,
+    name: String,
     head: LoopHead<'_, '_>,
 ) -> Result<Head, Stop>
     ensures variable { IfOk result (λ h. h.variable ≡ variable) }
-    ensures name { IfOk result (λ h. string_bytes h.name ≡ head.entry.name.now) }
+    ensures name { IfOk result (λ h. h.name ≡ name) }
     ensures start { IfOk result (λ h. h.start ≡ head.entry.start) }
     ensures test { IfOk result (λ h. cond_of h.test ≡ cond_in (source_of head.entry.test)) }
     ensures step { IfOk result (λ h. h.step ≡ head.entry.step) }
     ensures err { IfErr result (λ stop. stop ≡ Memory) }
 {
-    let name = String::from_str(alloc, head.name)?;
     let LoopHead {
         start,
         start_place,
@@ -113,12 +94,22 @@ fn head_of(
     })
 }
 
-/// The tree of a loop.
-fn loop_tree(alloc: Global, head: Head, body: Stmt) -> Result<Stmt, Stop>
-    ensures { Gives stmt_of result
-        (Some (For head.variable.0 (string_bytes head.name) (source_of head.start) (cond_of head.test) (increment_of head.step) (stmt_of body))) }
+/// The head of a loop whose word stands at a place, over the variable of this number.
+fn head_of(
+    alloc: Global,
+    place: Place,
+    variable: VarId,
+    head: LoopHead<'_, '_>,
+) -> Result<Head, Stop>
+    ensures variable { IfOk result (λ h. h.variable ≡ variable) }
+    ensures name { IfOk result (λ h. string_bytes h.name ≡ head.entry.name.now) }
+    ensures start { IfOk result (λ h. h.start ≡ head.entry.start) }
+    ensures test { IfOk result (λ h. cond_of h.test ≡ cond_in (source_of head.entry.test)) }
+    ensures step { IfOk result (λ h. h.step ≡ head.entry.step) }
+    ensures err { IfErr result (λ stop. stop ≡ Memory) }
 {
-    Ok(Stmt::For(head, Box::new(alloc, body)?))
+    let name = String::from_str(alloc, head.name)?;
+    spelled_head(alloc, place, variable, name, head)
 }
 
 /// A loop whose word stands at a place, with the tally at its variable (C11 6.8.5.3).
@@ -127,16 +118,15 @@ pub fn looped<'s, 't>(
     place: Place,
     tally: Tally,
     head: LoopHead<'s, 't>,
-    body: Told<'s, 't, Stmt>,
+    body: Told<'s, 't, Box<Stmt>>,
 ) -> Result<Told<'s, 't, Stmt>, Stop>
-    ensures { let h = heading_of head.entry in let s = told_of stmt_of body.entry in Gives (told_of stmt_of) result
+    ensures { let h = heading_of head.entry in let s = told_of boxed_of body.entry in Gives (told_of stmt_of) result
         (told (For tally.next h.name h.start (cond_in h.test) h.step s.tree) (h.sound && s.sound) s.tally s.rest) }
 {
     let fault = earlier(head.fault, body.fault);
     let head = head_of(alloc, place, VarId(tally.next), head)?;
-    let tree = loop_tree(alloc, head, body.tree)?;
     Ok(Told {
-        tree,
+        tree: Stmt::For(head, body.tree),
         fault,
         tally: body.tally,
         rest: body.rest,

@@ -85,9 +85,9 @@ pub fn located<'s, 't>(
     );
     let variable = VarId(tally.next);
     add(scope, name.name, Entity::Variable(variable, 0))?;
-    let start = initial(Context { alloc, scope, end }, room, name.rest)?;
     let tally = declared(tally)?;
     let spelled = String::from_str(alloc, name.name)?;
+    let start = initial(Context { alloc, scope, end }, room, name.rest)?;
     let local = Local {
         variable,
         name: spelled,

@@ -4,7 +4,7 @@ ghost use Rattle.std.specs.Prelude.{◌≡◌, length, take, OnOk};
 ghost use Rattle.ktree.specs.View.{stmt_of, source_of};
 ghost use Rattle.cstmt.specs.StatementReader.{statement, counted, block, items, selection, iteration};
 ghost use Rattle.cstmt.specs.Bodies.{once, twice, headed, item, stated, otherwise};
-ghost use Rattle.cstmt.specs.Rows.{item_of, items_in};
+ghost use Rattle.cstmt.specs.Rows.{item_of, items_in, boxed_of};
 ghost use Rattle.cstmt.specs.Tallies.{tally_of, told_of};
 ghost use Rattle.creader.specs.Names.{names_of};
 ghost use Rattle.creader.specs.Lexemes.{tokens_of};
@@ -183,6 +183,33 @@ fn item<'s, 't>(
     }
 }
 
+/// A statement inside of an item or of another statement.
+#[cycle(statement)]
+fn inner<'s, 't>(
+    setting: Setting,
+    scope: &mut Scope<'t>,
+    room: u32,
+    tally: Tally,
+    tokens: &'s [Lexeme<'t>],
+) -> Result<Told<'s, 't, Box<Stmt>>, Stop>
+    ensures statement { Gives (told_of boxed_of) result (statement room (names_of scope.old) (tally_of tally) (tokens_of tokens.now)) }
+    ensures names { OnOk result (scope.new ≡ scope.old) }
+{
+    let Told {
+        tree,
+        fault,
+        tally,
+        rest,
+    } = statement(setting, scope, room, tally, tokens)?;
+    let tree = Box::new(setting.alloc, tree)?;
+    Ok(Told {
+        tree,
+        fault,
+        tally,
+        rest,
+    })
+}
+
 /// A statement as an item.
 #[cycle(statement)]
 fn stated<'s, 't>(
@@ -195,18 +222,12 @@ fn stated<'s, 't>(
     ensures item { Gives (item_of (names_of scope.new)) result (stated (statement room) (names_of scope.old) (tally_of tally) (tokens_of tokens.now)) }
     ensures front { OnOk result (take (length scope.old) scope.new ≡ scope.old) }
 {
-    let Told {
-        tree,
-        fault,
-        tally,
-        rest,
-    } = statement(setting, scope, room, tally, tokens)?;
-    let tree = Item::Statement(Box::new(setting.alloc, tree)?);
+    let statement = inner(setting, scope, room, tally, tokens)?;
     Ok(Told {
-        tree,
-        fault,
-        tally,
-        rest,
+        tree: Item::Statement(statement.tree),
+        fault: statement.fault,
+        tally: statement.tally,
+        rest: statement.rest,
     })
 }
 
@@ -228,7 +249,7 @@ fn selection<'s, 't>(
     let outer = opened(room, place)?;
     let room = opened(outer, place)?;
     let condition = in_parens(Context { alloc, scope, end }, room, tokens)?;
-    let then = statement(setting, scope, outer, tally, condition.rest)?;
+    let then = inner(setting, scope, outer, tally, condition.rest)?;
     otherwise(setting, scope, room, condition, then)
 }
 
@@ -239,15 +260,15 @@ fn otherwise<'s, 't>(
     scope: &mut Scope<'t>,
     room: u32,
     condition: Parsed<'s, 't, Source>,
-    then: Told<'s, 't, Stmt>,
+    then: Told<'s, 't, Box<Stmt>>,
 ) -> Result<Told<'s, 't, Stmt>, Stop>
-    ensures statement { Gives (told_of stmt_of) result (otherwise (statement room) (names_of scope.old) (got_of source_of condition.entry) (told_of stmt_of then.entry)) }
+    ensures statement { Gives (told_of stmt_of) result (otherwise (statement room) (names_of scope.old) (got_of source_of condition.entry) (told_of boxed_of then.entry)) }
     ensures names { OnOk result (scope.new ≡ scope.old) }
 {
     match if_word("else", then.rest) {
         None => if_only(setting.alloc, condition, then),
         Some((_place, other)) => {
-            let other = statement(setting, scope, room, then.tally, other)?;
+            let other = inner(setting, scope, room, then.tally, other)?;
             if_else(setting.alloc, condition, then, other)
         }
     }
@@ -270,9 +291,9 @@ fn iteration<'s, 't>(
     let outer = opened(room, place)?;
     let room = opened(outer, place)?;
     let names = count(scope);
+    let behind = declared(tally)?;
     let head = heading(setting, scope, room, tally, tokens)?;
-    let inner = declared(tally)?;
-    let body = statement(setting, scope, outer, inner, head.rest)?;
+    let body = inner(setting, scope, outer, behind, head.rest)?;
     close(scope, names);
     looped(setting.alloc, place, tally, head, body)
 }

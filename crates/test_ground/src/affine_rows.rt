@@ -187,7 +187,8 @@ fn shape_of(bounds: &VarBox) -> (Interval, Interval, bool, usize, bool, bool) {
 
 /// A box with the values of `j` taken back.
 fn without_last(alloc: Global) -> Result<VarBox, Refusal> {
-    let mut bounds = box_of(alloc, &[(I, 1, 2), (J, 5, 6)])?;
+    let mut bounds = box_of(alloc, &[(I, 1, 2)])?;
+    bounds.bound(J, 5, 6, HERE)?;
     bounds.unbound();
     Ok(bounds)
 }

@@ -9,7 +9,7 @@ use Rattle.creader.specs.Names.{names_of}
 use Rattle.creader.specs.Lexemes.{token_of, tokens_of}
 use Rattle.cstmt.specs.StatementReader.{Told, statement, selection}
 use Rattle.cstmt.specs.Bodies.{once, twice, with_item, otherwise}
-use Rattle.cstmt.specs.Rows.{row_of, item_of}
+use Rattle.cstmt.specs.Rows.{row_of, item_of, boxed_of}
 use Rattle.cstmt.specs.Tallies.{tally_of, told_of}
 use Rattle.cexpr.proofs.LoopLemmas.{same_some, not_there}
 use Rattle.creader.proofs.Turns.{goes, fails, ends, is_over}
@@ -60,9 +60,9 @@ items-returns-clause-items t c =
 pub selection-returns-clause-statement : goal.selection-returns-clause-statement
 selection-returns-clause-statement t c =
     let condition : Got Source = got_of source_of c.in_ok-condition.condition in
-    let then : Told Stmt = told_of stmt_of c.in_ok-then.then in
+    let then : Told Stmt = told_of boxed_of c.in_ok-then.then in
     let e : selection c.args.room (once c.args.room) (twice c.args.room) (names_of c.args.scope.now) (tally_of c.args.tally) (tokens_of c.args.tokens.now) ≡ otherwise (statement c.in_ok-room.room) (names_of c.args.scope.now) condition then =
     selected _ _ _ _ _ _ condition then c.in_ok-outer.ensures c.in_ok-room.ensures c.in_ok-condition.ensures c.in_ok-then.ensures.statement in
-    let same : otherwise (statement c.in_ok-room.room) (names_of c.statement.new.scope) condition then ≡ otherwise (statement c.in_ok-room.room) (names_of c.args.scope.now) condition then =
+    let same : otherwise (statement c.in_ok-room.room) (names_of c.inner.new.scope) condition then ≡ otherwise (statement c.in_ok-room.room) (names_of c.args.scope.now) condition then =
     ap (λ scope. otherwise (statement c.in_ok-room.room) (names_of scope) condition then) c.in_ok-then.ensures.names in
     subst (λ read. Gives (told_of stmt_of) c.otherwise.result read) (same ∙ sym e) c.otherwise.ensures.statement
