@@ -66,69 +66,64 @@ fn element(alloc: Global, at: u64) -> Result<Target, AllocError>
 }
 
 /// `A[at] = n;`
-fn assignment(alloc: Global, at: u64, n: u64) -> Result<Stmt, AllocError>
-    ensures { IfOk result (λ s. stmt_of s ≡ Tree.Assign 0 (Tree.more_exprs (Tree.Literal at Tree.Ull) Tree.no_exprs) (Tree.Number (Tree.Literal n Tree.Ull))) }
+fn assignment(alloc: Global, at: u64, n: u64) -> Result<Box<Stmt>, AllocError>
+    ensures { IfOk result (λ s. stmt_of s.value ≡ Tree.Assign 0 (Tree.more_exprs (Tree.Literal at Tree.Ull) Tree.no_exprs) (Tree.Number (Tree.Literal n Tree.Ull))) }
 {
-    Ok(Stmt::Assign(element(alloc, at)?, Source::Number(number(n))))
+    let target = element(alloc, at)?;
+    Ok(Box::new(alloc, Stmt::Assign(target, Source::Number(number(n))))?)
 }
 
 /// `A[at] op= n;`
-fn update(alloc: Global, at: u64, op: BinaryOp, n: u64) -> Result<Stmt, AllocError>
-    ensures { IfOk result (λ s. stmt_of s ≡ Tree.Update 0 (Tree.more_exprs (Tree.Literal at Tree.Ull) Tree.no_exprs) (binary_of op) (Tree.Literal n Tree.Ull)) }
+fn update(alloc: Global, at: u64, op: BinaryOp, n: u64) -> Result<Box<Stmt>, AllocError>
+    ensures { IfOk result (λ s. stmt_of s.value ≡ Tree.Update 0 (Tree.more_exprs (Tree.Literal at Tree.Ull) Tree.no_exprs) (binary_of op) (Tree.Literal n Tree.Ull)) }
 {
-    Ok(Stmt::Update(element(alloc, at)?, op, number(n)))
+    let target = element(alloc, at)?;
+    Ok(Box::new(alloc, Stmt::Update(target, op, number(n)))?)
 }
 
 /// `if (local < n) then else other`
-fn choice(alloc: Global, n: u64, then: Stmt, other: Stmt) -> Result<Stmt, AllocError>
-    ensures { IfOk result (λ s. stmt_of s ≡ Tree.IfElse (Tree.Compare Tree.Less (Tree.Object 1 Tree.no_exprs) (Tree.Literal n Tree.Ull)) (stmt_of then) (stmt_of other)) }
+fn choice(alloc: Global, n: u64, then: Box<Stmt>, other: Box<Stmt>) -> Result<Box<Stmt>, AllocError>
+    ensures { IfOk result (λ s. stmt_of s.value ≡ Tree.IfElse (Tree.Compare Tree.Less (Tree.Object 1 Tree.no_exprs) (Tree.Literal n Tree.Ull)) (stmt_of then.value) (stmt_of other.value)) }
 {
     let cond = below(alloc, n)?;
-    let then = Box::new(alloc, then)?;
-    let other = Box::new(alloc, other)?;
-    Ok(Stmt::If(cond, then, Some(other)))
+    Ok(Box::new(alloc, Stmt::If(cond, then, Some(other)))?)
 }
 
 /// `printf("%llu\n", local);`
-fn line(alloc: Global) -> Result<Stmt, AllocError>
-    ensures { IfOk result (λ s. stmt_of s ≡ Tree.Print (Tree.Decimal (Tree.Object 1 Tree.no_exprs) ∷ Tree.Characters (codes "\n") ∷ [])) }
+fn line(alloc: Global) -> Result<Box<Stmt>, AllocError>
+    ensures { IfOk result (λ s. stmt_of s.value ≡ Tree.Print (Tree.Decimal (Tree.Object 1 Tree.no_exprs) ∷ Tree.Characters (codes "\n") ∷ [])) }
 {
     let mut parts = Vec::new(alloc);
     parts.push(PrintPart::Decimal(local(alloc)))?;
     parts.push(PrintPart::Characters(Vec::from_slice(alloc, b"\n")?))?;
-    Ok(Stmt::Print(parts, HERE))
+    Ok(Box::new(alloc, Stmt::Print(parts, HERE))?)
 }
 
 /// `for (local = 9; local < 12; local++) body`
-fn turns(alloc: Global, body: Stmt) -> Result<Stmt, AllocError>
-    ensures { IfOk result (λ s. stmt_of s ≡ Tree.For 1 (codes "i") (Tree.Number (Tree.Literal 9 Tree.Ull)) (Tree.Compare Tree.Less (Tree.Object 1 Tree.no_exprs) (Tree.Literal 12 Tree.Ull)) (Tree.Up 1) (stmt_of body)) }
+fn turns(alloc: Global, body: Box<Stmt>) -> Result<Box<Stmt>, AllocError>
+    ensures { IfOk result (λ s. stmt_of s.value ≡ Tree.For 1 (codes "i") (Tree.Number (Tree.Literal 9 Tree.Ull)) (Tree.Compare Tree.Less (Tree.Object 1 Tree.no_exprs) (Tree.Literal 12 Tree.Ull)) (Tree.Up 1) (stmt_of body.value)) }
 {
+    let test = below(alloc, 12)?;
+    let name = String::from_str(alloc, "i")?;
     let head = Head {
         variable: VarId(1),
-        name: String::from_str(alloc, "i")?,
+        name,
         start: Source::Number(number(9)),
-        test: below(alloc, 12)?,
+        test,
         step: Increment::Up(VarId(1)),
         place: HERE,
         start_place: HERE,
     };
-    Ok(Stmt::For(head, Box::new(alloc, body)?))
+    Ok(Box::new(alloc, Stmt::For(head, body))?)
 }
 
 /// The loop that prints, which has a run wherever it stands.
-fn counting(alloc: Global) -> Result<Stmt, AllocError>
-    ensures { IfOk result (λ s. (frame : List Slot) (ks : List Kept) → IsSome (run (stmt_of s) (standing frame ks))) }
+fn counting(alloc: Global) -> Result<Box<Stmt>, AllocError>
+    ensures { IfOk result (λ s. (frame : List Slot) (ks : List Kept) → IsSome (run (stmt_of s.value) (standing frame ks))) }
 {
     let body = line(alloc)?;
     let stmt = turns(alloc, body)?;
     Ok(stmt)
-}
-
-/// The statement as a block's item.
-fn item(alloc: Global, stmt: Stmt) -> Result<Item, AllocError>
-    ensures { IfOk result (λ i. (rest : Tree.Items) → with_item i rest ≡ Tree.stmt (stmt_of stmt) rest) }
-{
-    Ok(Item::Statement(Box::new(alloc, stmt)?))
 }
 
 /// `unsigned long long i = n;`
@@ -161,7 +156,7 @@ fn assignments_write_elements(rt: HostRuntime) -> Result<(), Fail> {
     let mut store = store(alloc)?;
     let mut frame = Frame::new(Vec::new(alloc));
     let mut sink = Memory::new(alloc);
-    assert!(rt; statement(&stmt, &mut frame, &mut store, &mut sink).is_ok());
+    assert!(rt; statement(&*stmt, &mut frame, &mut store, &mut sink).is_ok());
     assert_eq!(rt; store.arrays()[0].values(), [7u64, 7, 9].as_slice());
     Ok(())
 }
@@ -173,19 +168,28 @@ fn updates_take_the_old_value(rt: HostRuntime) -> Result<(), Fail> {
     let mut store = store(alloc)?;
     let mut frame = Frame::new(Vec::new(alloc));
     let mut sink = Memory::new(alloc);
-    assert!(rt; statement(&stmt, &mut frame, &mut store, &mut sink).is_ok());
+    assert!(rt; statement(&*stmt, &mut frame, &mut store, &mut sink).is_ok());
     assert_eq!(rt; store.arrays()[0].values(), [7, u64::MAX, 7].as_slice());
     Ok(())
+}
+
+/// A choice by the local: the first element is 1 or 2.
+fn chosen(alloc: Global) -> Result<Box<Stmt>, AllocError>
+    ensures { IfOk result (λ s. stmt_of s.value ≡ Tree.IfElse (Tree.Compare Tree.Less (Tree.Object 1 Tree.no_exprs) (Tree.Literal 4 Tree.Ull)) (Tree.Assign 0 (Tree.more_exprs (Tree.Literal 0 Tree.Ull) Tree.no_exprs) (Tree.Number (Tree.Literal 1 Tree.Ull))) (Tree.Assign 0 (Tree.more_exprs (Tree.Literal 0 Tree.Ull) Tree.no_exprs) (Tree.Number (Tree.Literal 2 Tree.Ull)))) }
+{
+    let then = assignment(alloc, 0, 1)?;
+    let other = assignment(alloc, 0, 2)?;
+    choice(alloc, 4, then, other)
 }
 
 /// A declaration of the local and a choice by it.
 fn body(alloc: Global) -> Result<Vec<Item>, AllocError>
     ensures { IfOk result (λ is. items_of is.items ≡ Tree.local 1 (codes "i") (Some (Tree.Number (Tree.Literal 4 Tree.Ull))) (Tree.stmt (Tree.IfElse (Tree.Compare Tree.Less (Tree.Object 1 Tree.no_exprs) (Tree.Literal 4 Tree.Ull)) (Tree.Assign 0 (Tree.more_exprs (Tree.Literal 0 Tree.Ull) Tree.no_exprs) (Tree.Number (Tree.Literal 1 Tree.Ull))) (Tree.Assign 0 (Tree.more_exprs (Tree.Literal 0 Tree.Ull) Tree.no_exprs) (Tree.Number (Tree.Literal 2 Tree.Ull)))) Tree.no_items)) }
 {
-    let choice = choice(alloc, 4, assignment(alloc, 0, 1)?, assignment(alloc, 0, 2)?)?;
+    let choice = chosen(alloc)?;
     let mut items = Vec::new(alloc);
     items.push(declaration(alloc, 4)?)?;
-    items.push(item(alloc, choice)?)?;
+    items.push(Item::Statement(choice))?;
     Ok(items)
 }
 
@@ -208,7 +212,7 @@ fn loops_print_in_each_turn(rt: HostRuntime) -> Result<(), Fail> {
     let mut store = store(alloc)?;
     let mut frame = Frame::new(Vec::new(alloc));
     let mut sink = Memory::new(alloc);
-    assert!(rt; statement(&stmt, &mut frame, &mut store, &mut sink).is_ok());
+    assert!(rt; statement(&*stmt, &mut frame, &mut store, &mut sink).is_ok());
     assert_eq!(rt; sink.bytes(), b"9\n10\n11\n".as_slice());
     Ok(())
 }
@@ -240,7 +244,7 @@ fn a_failing_sink_ends_the_run(rt: HostRuntime) -> Result<(), Fail> {
     let mut store = store(alloc)?;
     let mut frame = Frame::new(Vec::new(alloc));
     let mut sink = Writer::new(OneByte { calls: 0 });
-    let answer = statement(&stmt, &mut frame, &mut store, &mut sink);
+    let answer = statement(&*stmt, &mut frame, &mut store, &mut sink);
     assert!(rt; matches!(answer, Err(Refusal::OutputFailed)));
     assert_eq!(rt; sink.failures(), 1);
     Ok(())
