@@ -4,6 +4,7 @@ pub mod Steps
 pub mod Turning
 pub mod Unique
 pub mod Laws
+pub mod Small
 pub mod Residues
 pub mod Numbers
 pub mod FormValues

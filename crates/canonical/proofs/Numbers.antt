@@ -38,8 +38,8 @@ pub record IsKept (f g : Affine) : Type 0 where
 
 pub kept_is : (f g : Affine) → kept f ≡ Some g → IsKept f g
 kept_is f g e =
-    let parts = cond_some (is_small f.constant && are_small f.terms && nat_le (length f.terms) 64) f g e in
-    let numbers = first_of (is_small f.constant && are_small f.terms) (nat_le (length f.terms) 64) parts.0 in
+    let parts = cond_some (is_small f.constant && are_small f.terms && nat_le (length f.terms) 32) f g e in
+    let numbers = first_of (is_small f.constant && are_small f.terms) (nat_le (length f.terms) 32) parts.0 in
     record { same = parts.1; small = leb-true (unsigned_abs f.constant) (2 ^ 32) (first_of (is_small f.constant) (are_small f.terms) numbers) }
 
 -- a form without terms is its number

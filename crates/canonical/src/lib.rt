@@ -2,6 +2,7 @@
 #![tactic(auto)]
 
 mod assigned;
+mod difference;
 mod entered;
 mod head;
 mod mentioned;

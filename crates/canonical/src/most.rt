@@ -3,21 +3,25 @@
 ghost use Rattle.std.specs.Prelude.{◌≡◌, ◌≤◌, ◌^◌, ◌+◌, ℤ, ◌+ℤ◌, ◌-ℤ◌, ◌≤ℤ◌, pos, IfOk, IfErr};
 ghost use Rattle.semantics.specs.Tree.{Variable};
 ghost use Rattle.affine.specs.Affine.{value};
+ghost use Rattle.affine.specs.Limits.{Fits, IsWithin};
 ghost use Rattle.forms.specs.declared.faults.Fault.TheVariants.{OutOfMemory};
 ghost use Rattle.canonical.specs.declared.stride.Direction.{Direction as Directions};
 ghost use Rattle.canonical.specs.Sides.{CannotWrap, end_shift};
+ghost use Rattle.canonical.specs.Whole.{IsWell};
 ghost use Rattle.canonical.specs.Most.{way, distance, AreWithin, IsMost};
 
+use crate::difference::difference;
 use crate::head::Canonical;
 use crate::stride::{Bound, Direction};
 use affine::{Form, VarBox};
-use forms::Fault;
+use forms::{Fault, refused};
 use ktree::Place;
 use std::alloc::Global;
 
 /// How much further than the end the number lies that the variable is compared with, below 0.
 fn short(bound: Bound) -> i128
-    ensures { (d : Directions) → result ≡ way d (pos 0) (end_shift d bound) }
+    ensures way { (d : Directions) → result ≡ way d (pos 0) (end_shift d bound) }
+    ensures within { IsWithin 1 result }
 {
     match bound {
         Bound::Inclusive => 0,
@@ -28,16 +32,15 @@ fn short(bound: Bound) -> i128
 
 /// How far the number that the variable is compared with lies behind its start.
 fn apart(canonical: &Canonical, place: Place) -> Result<Form, Fault>
+    requires { IsWell canonical.now }
     ensures ok { IfOk result (λ form. (values : Variable → ℤ) → value form values ≡ way canonical.now.stride.direction (value canonical.now.start values) (value canonical.now.limit values)) }
+    ensures near { IfOk result (λ form. IsWithin (2 ^ 33) form.constant) }
+    ensures fits { IfOk result Fits }
     ensures err { IfErr result (λ fault. fault ≡ OutOfMemory) }
 {
-    let apart = match canonical.stride.direction {
-        Direction::Rising => canonical.limit.subtract(&canonical.start, place),
-        Direction::Falling => canonical.start.subtract(&canonical.limit, place),
-    };
-    match apart {
-        Ok(form) => Ok(form),
-        Err(_) => Err(Fault::OutOfMemory),
+    match canonical.stride.direction {
+        Direction::Rising => difference(&canonical.limit, &canonical.start, place),
+        Direction::Falling => difference(&canonical.start, &canonical.limit, place),
     }
 }
 
@@ -48,16 +51,17 @@ fn apart(canonical: &Canonical, place: Place) -> Result<Form, Fault>
 ///
 /// `OutOfMemory`.
 pub fn distance(alloc: Global, canonical: &Canonical, place: Place) -> Result<Form, Fault>
+    requires { IsWell canonical.now }
     ensures ok { IfOk result (λ form. (values : Variable → ℤ) → value form values ≡ distance canonical.now values) }
     ensures err { IfErr result (λ fault. fault ≡ OutOfMemory) }
 {
     let apart = apart(canonical, place)?;
     let Ok(short) = Form::constant(alloc, short(canonical.bound), place) else {
-        return Err(Fault::OutOfMemory);
+        unreachable!()
     };
     match apart.add(&short, place) {
         Ok(form) => Ok(form),
-        Err(_) => Err(Fault::OutOfMemory),
+        Err(refusal) => Err(refused(refusal, place)),
     }
 }
 
@@ -85,7 +89,7 @@ pub fn most_turns(
     bounds: &VarBox,
     place: Place,
 ) -> Result<u64, Fault>
-    requires by_one { 1 ≤ canonical.now.stride.by }
+    requires well { IsWell canonical.now }
     requires stays { CannotWrap bounds.now canonical.now }
     ensures most { IfOk result (IsMost bounds.now canonical.now) }
     ensures err { IfErr result (λ fault. fault ≡ OutOfMemory) }

@@ -1,10 +1,12 @@
 //! Whether a loop's variable may wrap.
 
-ghost use Rattle.std.specs.Prelude.{◌≡◌, ◌↔◌, IsTrue, true, false, IfOk, IfErr};
+ghost use Rattle.std.specs.Prelude.{◌≡◌, ◌↔◌, IsTrue, true, false, Some, IfOk, IfErr};
+ghost use Rattle.forms.specs.Forms.{kept};
 ghost use Rattle.forms.specs.declared.faults.Fault.TheVariants.{OutOfMemory};
 ghost use Rattle.canonical.specs.Sides.{CannotWrap};
-ghost use Rattle.canonical.specs.Whole.{IsBelow, HasRoom};
+ghost use Rattle.canonical.specs.Whole.{IsBelow, HasRoom, IsWell};
 
+use crate::difference::difference;
 use crate::head::Canonical;
 use crate::range::{is_at_least, is_modest};
 use crate::stride::{Bound, Direction};
@@ -14,17 +16,18 @@ use ktree::Place;
 
 /// Whether the first form is at least the second, wherever in the box.
 fn is_least(greater: &Form, less: &Form, bounds: &VarBox, place: Place) -> Result<bool, Fault>
+    requires greater { kept greater.now ≡ Some greater.now }
+    requires less { kept less.now ≡ Some less.now }
     ensures ok { IfOk result (λ least. IsTrue least ↔ IsBelow less.now greater.now bounds.now) }
     ensures err { IfErr result (λ fault. fault ≡ OutOfMemory) }
 {
-    match greater.subtract(less, place) {
-        Ok(difference) => Ok(is_at_least(&difference, 0, bounds)),
-        Err(_) => Err(Fault::OutOfMemory),
-    }
+    let difference = difference(greater, less, place)?;
+    Ok(is_at_least(&difference, 0, bounds))
 }
 
 /// Whether what the test asks for beyond the range of the bounds is met wherever in the box.
 fn has_room(canonical: &Canonical, bounds: &VarBox, place: Place) -> Result<bool, Fault>
+    requires { IsWell canonical.now }
     ensures ok { IfOk result (λ room. IsTrue room ↔ HasRoom bounds.now canonical.now) }
     ensures err { IfErr result (λ fault. fault ≡ OutOfMemory) }
 {
@@ -49,6 +52,7 @@ fn has_room(canonical: &Canonical, bounds: &VarBox, place: Place) -> Result<bool
 ///
 /// `OutOfMemory`.
 pub fn wraps(canonical: &Canonical, bounds: &VarBox, place: Place) -> Result<bool, Fault>
+    requires { IsWell canonical.now }
     ensures stays { IfOk result (λ wraps. wraps ≡ false → CannotWrap bounds.now canonical.now) }
     ensures wraps { IfOk result (λ wraps. wraps ≡ true → CannotWrap bounds.now canonical.now → ⊥) }
     ensures err { IfErr result (λ fault. fault ≡ OutOfMemory) }

@@ -10,6 +10,7 @@ ghost use Rattle.forms.specs.declared.faults.Fault.TheVariants.{OutOfMemory, Lim
 ghost use Rattle.canonical.specs.declared.head.Canonical as canonicals;
 ghost use Rattle.canonical.specs.Loops.{IsLoop, inside};
 ghost use Rattle.canonical.specs.Sides.{CannotWrap};
+ghost use Rattle.canonical.specs.Whole.{IsWell};
 ghost use Rattle.canonical.specs.Most.{IsMost};
 ghost use Rattle.counters.specs.Counters.{InCounters, AreForms, Given};
 ghost use Rattle.counters.specs.Levels.{IsLevel, IsInner, with_inner, Enters, AreLevels};
@@ -80,7 +81,7 @@ fn level_of(
     place: Place,
 ) -> Result<Level, Fault>
     requires few { length outer.now ≤ 8 }
-    requires by_one { 1 ≤ canonical.stride.by }
+    requires well { IsWell canonical }
     requires stays { CannotWrap bounds.now canonical }
     ensures canonical { IfOk result (λ level. level.canonical ≡ canonical) }
     ensures most { IfOk result (λ level. IsMost bounds.now canonical level.most) }

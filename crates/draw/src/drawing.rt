@@ -91,6 +91,20 @@ impl Drawing {
         Ok((Drawing { table, size }, made))
     }
 
+    /// How many tickets there are.
+    pub fn count(&self) -> u64
+        ensures { result ≡ self.now.count }
+    {
+        self.size.count
+    }
+
+    /// How many seats there are.
+    pub fn seats(&self) -> u64
+        ensures { result ≡ self.now.seats }
+    {
+        self.size.seats
+    }
+
     /// Draws the next ticket, by one atomic step, and with no memory. It is `None` once all tickets
     /// are drawn; a seat that was told so answers `None` from then on without a step.
     pub fn next(&self, seat: &mut DrawSeat) -> Option<u64>

@@ -92,7 +92,7 @@ pub loop_listed : (text : List ℕ) (place : Place) (rest : Tree.Items) (said : 
     → (s : Tree.Stmt) → Some s ≡ first_stmt_of rest → (private : Vec VarId Global) → numbers private.items ≡ declared_in s → LineHas text IsPrivate [] place.line rest
     → IsParallelLoop text place.line rest (record { line = place; directive = said; private = private })
 loop_listed text place rest said reads s first private declares h =
-    let found = asked text place.line rest said.schedule said.collapse reads s first h in
+    let found = asked text place.line rest said.schedule said.collapse reads s first IsPrivate h in
     record {
       at_line = refl;
       reads = reads;

@@ -14,11 +14,11 @@ use Rattle.ktree.specs.declared.statement.Stmt.{Stmt, For}
 use Rattle.ktree.specs.declared.statement.Head.{Head}
 use Rattle.ktree.specs.declared.statement.Item.{Item, Directive, Local, Statement'}
 use Rattle.pragma.specs.Clauses.{ReadsLoop}
-use Rattle.pragma.specs.Parallel.{associated, FirstHas, LineHas, LoopsHave, ItemsHave}
+use Rattle.pragma.specs.Parallel.{AskedOfLoop, associated, FirstHas, LineHas, LoopsHave, ItemsHave}
 use Rattle.pragma.specs.Plain.{Judges}
 use Rattle.pragma.proofs.LoopLaw.{read_once}
 use Rattle.pragma.proofs.PlainLaw.{next_item, all_behind, judges_same}
-use Rattle.flow.specs.Private.{is_own, keeps, keeps_all, is_private_body, IsPrivate, loop_body_of, nest_body_of, only_body_of, first_stmt_of, FirstLineIsPrivate, FirstLoopsArePrivate}
+use Rattle.flow.specs.Private.{is_own, keeps, keeps_all, is_private_body, IsPrivate, loop_body_of, nest_body_of, only_body_of, first_stmt_of, FirstLineIsPrivate, FirstLoopsArePrivate, IsNest}
 
 or_false : (b : Bool) → (b || false) ≡ b
 or_false true = refl
@@ -123,7 +123,7 @@ module _ (depth i : ℕ) (s body : Tree.Stmt) (lt : i < depth) (left : nest_body
   nest_ends none = ap (option_and_then (nest_body_of (depth - (i + 1)))) none ∙ nest_left
 
 -- a nest with a body
-nest_with : (n : ℕ) (s b : Tree.Stmt) → Some b ≡ nest_body_of n s → (loops : List Loop) × (nest_of n s ≡ Some (loops, b))
+pub nest_with : (n : ℕ) (s b : Tree.Stmt) → Some b ≡ nest_body_of n s → (loops : List Loop) × (nest_of n s ≡ Some (loops, b))
 nest_with n s b e = go (nest_of n s) refl e
   where
     go : (o : Option (List Loop × Tree.Stmt)) → nest_of n s ≡ o → Some b ≡ option_map (λ (nest : List Loop × Tree.Stmt). nest.1) o → (loops : List Loop) × (nest_of n s ≡ Some (loops, b))
@@ -134,13 +134,13 @@ pub body_of_nest : (n : ℕ) (s b : Tree.Stmt) (loops : List Loop) → nest_of n
 body_of_nest n s b loops e = ap (option_map (λ (nest : List Loop × Tree.Stmt). nest.1)) e
 
 -- what is asked of the statement that stands first
-pub first_is : (n : ℕ) (rest : Tree.Items) (s : Tree.Stmt) → Some s ≡ first_stmt_of rest → FirstHas IsPrivate [] n rest ↔ IsPrivate [] n s
-first_is n Tree.no_items s e = absurd (cc e)
-first_is n (Tree.mark line rest) s e = absurd (cc e)
-first_is n (Tree.local x name start rest) s e = absurd (cc e)
-first_is n (Tree.stmt t rest) s e =
+pub first_is : (P : AskedOfLoop) (n : ℕ) (rest : Tree.Items) (s : Tree.Stmt) → Some s ≡ first_stmt_of rest → FirstHas P [] n rest ↔ P [] n s
+first_is P n Tree.no_items s e = absurd (cc e)
+first_is P n (Tree.mark line rest) s e = absurd (cc e)
+first_is P n (Tree.local x name start rest) s e = absurd (cc e)
+first_is P n (Tree.stmt t rest) s e =
     let same : s ≡ t = cc e in
-    (subst (IsPrivate [] n) (sym same), subst (IsPrivate [] n) same)
+    (subst (P [] n) (sym same), subst (P [] n) same)
 
 -- no statement stands first
 pub no_first : (n : ℕ) (rest : Tree.Items) → None ≡ first_stmt_of rest → FirstHas IsPrivate [] n rest → ⊥
@@ -151,24 +151,30 @@ no_first n (Tree.stmt t rest) e h = absurd (cc e)
 
 -- a directive that has a statement behind it
 module _ (text : List ℕ) (line : ℕ) (rest : Tree.Items) (k c : Option ℕ) (reads : ReadsLoop (line_at text line) k c) (s : Tree.Stmt) (first : Some s ≡ first_stmt_of rest) where
-  pub asked : LineHas text IsPrivate [] line rest → IsPrivate [] (associated c) s
-  asked h =
+  pub asked : (P : AskedOfLoop) → LineHas text P [] line rest → P [] (associated c) s
+  asked P h =
       let once : (h.0 ≡ k) × (h.1 ≡ c) = read_once (line_at text line) h.0 h.1 k c h.2 reads in
-      subst (λ d. IsPrivate [] (associated d) s) once.1 ((first_is (associated h.1) rest s first).0 h.3)
+      subst (λ d. P [] (associated d) s) once.1 ((first_is P (associated h.1) rest s first).0 h.3)
 
   -- but no nest
-  pub no_nest : None ≡ nest_body_of (associated c) s → LineHas text IsPrivate [] line rest → ⊥
-  no_nest none h =
-      let private = asked h in
-      absurd (cc (none, body_of_nest (associated c) s private.1 private.0 private.2))
+  no_nest : None ≡ nest_body_of (associated c) s → IsNest [] (associated c) s → ⊥
+  no_nest none nest = absurd (cc (none, body_of_nest (associated c) s nest.1 nest.0 nest.2))
+
+  pub not_nested : None ≡ nest_body_of (associated c) s → LineHas text IsNest [] line rest → ⊥
+  not_nested none h = no_nest none (asked IsNest h)
+
+  pub not_private : None ≡ nest_body_of (associated c) s → LineHas text IsPrivate [] line rest → ⊥
+  not_private none h =
+      let private = asked IsPrivate h in
+      no_nest none (private.0, private.1, private.2)
 
   -- and a nest
   pub nest_judged : {A : Type 0} (o : Option A) (b : Tree.Stmt) → Some b ≡ nest_body_of (associated c) s → is_none o ≡ is_private_body b → Judges o (LineHas text IsPrivate [] line rest)
   nest_judged None b nest judged =
       let found = nest_with (associated c) s b nest in
-      (k, c, reads, (first_is (associated c) rest s first).1 (found.0, b, found.1, sym judged))
+      (k, c, reads, (first_is IsPrivate (associated c) rest s first).1 (found.0, b, found.1, sym judged))
   nest_judged (Some fault) b nest judged = λ h.
-      let private = asked h in
+      let private = asked IsPrivate h in
       let same : b ≡ private.1 = cc (nest, body_of_nest (associated c) s private.1 private.0 private.2) in
       absurd (cc (judged, ap is_private_body same, private.3))
 

@@ -1,11 +1,11 @@
 //! The data of the parallel loops of a kernel.
 
-ghost use Rattle.std.specs.Prelude.{◌≡◌, ◌⊎◌, ℕ, [], Option, option_map, OnOk, IfOk, IfErr};
+ghost use Rattle.std.specs.Prelude.{◌≡◌, ◌⊎◌, ℕ, [], Option, option_map, IfSome, OnOk, IfOk, IfErr};
 ghost use Rattle.semantics.specs.Tree.{no_items};
 ghost use Rattle.ktree.specs.View.{stmt_of, with_item, items_of, kernel_of};
 ghost use Rattle.pragma.specs.Parallel.{associated, LineHas, LoopsHave, ItemsHave};
 ghost use Rattle.pragma.specs.Plain.{Judges};
-ghost use Rattle.flow.specs.Private.{IsPrivate, FirstLineIsPrivate, FirstLoopsArePrivate};
+ghost use Rattle.flow.specs.Private.{IsPrivate, FirstLineIsPrivate, FirstLoopsArePrivate, TellsOfLine, TellsOfLoops, TellsOfItems, TellsOfFirstLine, TellsOfFirstLoops};
 ghost use Rattle.flow.specs.Parallel.{AreParallelLoops};
 ghost use Rattle.flow.specs.declared.fault.DataFault.TheVariants.{OutOfMemory};
 
@@ -30,7 +30,8 @@ fn depth(collapse: Option<Collapse>) -> u64
 
 /// What is wrong with the parallel loop of the directive line at a place, before these items.
 fn loop_fault(directives: &Directives, place: Place, rest: &[Item]) -> Option<DataFault>
-    ensures { Judges result (LineHas directives.now IsPrivate [] place.line (items_of rest.now)) }
+    ensures judged { Judges result (LineHas directives.now IsPrivate [] place.line (items_of rest.now)) }
+    ensures cause { IfSome result (λ f. TellsOfLine f directives.now place.line (items_of rest.now)) }
 {
     let Ok(said) = directives.at(place) else {
         return Some(DataFault::Directive(place));
@@ -46,7 +47,8 @@ fn loop_fault(directives: &Directives, place: Place, rest: &[Item]) -> Option<Da
 
 /// What is wrong with an item that is a directive line, before these items.
 fn line_fault(directives: &Directives, item: &Item, rest: &[Item]) -> Option<DataFault>
-    ensures { Judges result (FirstLineIsPrivate directives.now (with_item item.now no_items) (items_of rest.now)) }
+    ensures judged { Judges result (FirstLineIsPrivate directives.now (with_item item.now no_items) (items_of rest.now)) }
+    ensures cause { IfSome result (λ f. TellsOfFirstLine f directives.now (with_item item.now no_items) (items_of rest.now)) }
 {
     match item {
         Item::Directive(place) => loop_fault(directives, *place, rest),
@@ -58,7 +60,8 @@ fn line_fault(directives: &Directives, item: &Item, rest: &[Item]) -> Option<Dat
 /// What is wrong with the parallel loops in a statement.
 #[cycle(classifying)]
 fn statement_fault(directives: &Directives, statement: &Stmt) -> Option<DataFault>
-    ensures { Judges result (LoopsHave directives.now IsPrivate [] (stmt_of statement.now)) }
+    ensures judged { Judges result (LoopsHave directives.now IsPrivate [] (stmt_of statement.now)) }
+    ensures cause { IfSome result (λ f. TellsOfLoops f directives.now (stmt_of statement.now)) }
 {
     match statement {
         Stmt::Assign(_, _) => None,
@@ -81,7 +84,8 @@ fn statement_fault(directives: &Directives, statement: &Stmt) -> Option<DataFaul
 /// What is wrong with those among a block's items.
 #[cycle(classifying)]
 fn items_fault(directives: &Directives, items: &[Item]) -> Option<DataFault>
-    ensures { Judges result (ItemsHave directives.now IsPrivate [] (items_of items.now)) }
+    ensures judged { Judges result (ItemsHave directives.now IsPrivate [] (items_of items.now)) }
+    ensures cause { IfSome result (λ f. TellsOfItems f directives.now (items_of items.now)) }
 {
     for (i, item) in items.iter().enumerate() {
         if let Some(fault) = line_fault(directives, item, &items[i + 1..]) {
@@ -97,7 +101,8 @@ fn items_fault(directives: &Directives, items: &[Item]) -> Option<DataFault>
 /// What is wrong with those in an item.
 #[cycle(classifying)]
 fn item_fault(directives: &Directives, item: &Item) -> Option<DataFault>
-    ensures { Judges result (FirstLoopsArePrivate directives.now (with_item item.now no_items)) }
+    ensures judged { Judges result (FirstLoopsArePrivate directives.now (with_item item.now no_items)) }
+    ensures cause { IfSome result (λ f. TellsOfFirstLoops f directives.now (with_item item.now no_items)) }
 {
     match item {
         Item::Directive(_) => None,
@@ -112,7 +117,7 @@ fn item_fault(directives: &Directives, item: &Item) -> Option<DataFault>
 ///
 /// # Errors
 ///
-/// The first place in the text where it is not so, and `OutOfMemory` where a growth is refused.
+/// The first place in the text where it is not so, by what is wrong there, and `OutOfMemory` where a growth is refused.
 pub fn classify(
     alloc: Global,
     kernel: &Kernel,
@@ -121,6 +126,7 @@ pub fn classify(
     ensures ok { IfOk result (λ loops. AreParallelLoops directives.now (kernel_of kernel.now) loops.items) }
     ensures private { OnOk result (ItemsHave directives.now IsPrivate [] (kernel_of kernel.now).body) }
     ensures err { IfErr result (λ f. (f ≡ OutOfMemory) ⊎ (ItemsHave directives.now IsPrivate [] (kernel_of kernel.now).body → ⊥)) }
+    ensures cause { IfErr result (λ f. (f ≡ OutOfMemory) ⊎ TellsOfItems f directives.now (kernel_of kernel.now).body) }
 {
     if let Some(fault) = items_fault(directives, kernel.body.as_slice()) {
         return Err(fault);

@@ -1,10 +1,10 @@
 //! What the body of a parallel loop declares, and what it assigns.
 
-ghost use Rattle.std.specs.Prelude.{◌≡◌, is_none};
+ghost use Rattle.std.specs.Prelude.{◌≡◌, is_none, IfSome};
 ghost use Rattle.semantics.specs.Tree.{no_items};
 ghost use Rattle.semantics.specs.Meaning.Agrees.{is_among, declared_in, declared_among};
 ghost use Rattle.ktree.specs.View.{stmt_of, with_item, items_of, exprs_of};
-ghost use Rattle.flow.specs.Private.{is_own, keeps, keeps_all, is_private_body};
+ghost use Rattle.flow.specs.Private.{is_own, keeps, keeps_all, is_private_body, TellsOfWrite, TellsOf, TellsOfAny, TellsOfBody};
 
 use crate::fault::DataFault;
 use ktree::{Item, Stmt, Target, VarId};
@@ -57,7 +57,8 @@ fn item_declares(item: &Item, variable: VarId) -> bool
 
 /// What is wrong with an assignment in a body: of scalars it may write those alone that the body declares.
 fn target_fault(target: &Target, body: &Stmt) -> Option<DataFault>
-    ensures { is_none result ≡ is_own (is_among (declared_in (stmt_of body.now))) target.now.variable.0 (exprs_of target.now.subscripts.items) }
+    ensures judged { is_none result ≡ is_own (is_among (declared_in (stmt_of body.now))) target.now.variable.0 (exprs_of target.now.subscripts.items) }
+    ensures cause { IfSome result (λ f. TellsOfWrite f (is_among (declared_in (stmt_of body.now))) target.now.variable.0 (exprs_of target.now.subscripts.items)) }
 {
     if !target.subscripts.is_empty() {
         return None;
@@ -71,16 +72,19 @@ fn target_fault(target: &Target, body: &Stmt) -> Option<DataFault>
 /// The first fault of a statement in a body.
 #[cycle(keeping)]
 fn statement_fault(statement: &Stmt, body: &Stmt) -> Option<DataFault>
-    ensures { is_none result ≡ keeps (is_among (declared_in (stmt_of body.now))) (stmt_of statement.now) }
+    ensures judged { is_none result ≡ keeps (is_among (declared_in (stmt_of body.now))) (stmt_of statement.now) }
+    ensures cause { IfSome result (λ f. TellsOf f (is_among (declared_in (stmt_of body.now))) (stmt_of statement.now)) }
 {
     match statement {
         Stmt::Assign(target, _) => target_fault(target, body),
         Stmt::Update(target, _, _) => target_fault(target, body),
         Stmt::If(_, then, other) => {
-            let first = statement_fault(then, body);
+            if let Some(fault) = statement_fault(then, body) {
+                return Some(fault);
+            }
             match other {
-                None => first,
-                Some(other) => first.or(statement_fault(other, body)),
+                None => None,
+                Some(other) => statement_fault(other, body),
             }
         }
         Stmt::For(_, inner) => statement_fault(inner, body),
@@ -92,7 +96,8 @@ fn statement_fault(statement: &Stmt, body: &Stmt) -> Option<DataFault>
 /// The first of a block's items.
 #[cycle(keeping)]
 fn block_fault(items: &[Item], body: &Stmt) -> Option<DataFault>
-    ensures { is_none result ≡ keeps_all (is_among (declared_in (stmt_of body.now))) (items_of items.now) }
+    ensures judged { is_none result ≡ keeps_all (is_among (declared_in (stmt_of body.now))) (items_of items.now) }
+    ensures cause { IfSome result (λ f. TellsOfAny f (is_among (declared_in (stmt_of body.now))) (items_of items.now)) }
 {
     for item in items {
         if let Some(fault) = item_fault(item, body) {
@@ -105,7 +110,8 @@ fn block_fault(items: &[Item], body: &Stmt) -> Option<DataFault>
 /// The first of an item.
 #[cycle(keeping)]
 fn item_fault(item: &Item, body: &Stmt) -> Option<DataFault>
-    ensures { is_none result ≡ keeps_all (is_among (declared_in (stmt_of body.now))) (with_item item.now no_items) }
+    ensures judged { is_none result ≡ keeps_all (is_among (declared_in (stmt_of body.now))) (with_item item.now no_items) }
+    ensures cause { IfSome result (λ f. TellsOfAny f (is_among (declared_in (stmt_of body.now))) (with_item item.now no_items)) }
 {
     match item {
         Item::Directive(_) => None,
@@ -116,7 +122,8 @@ fn item_fault(item: &Item, body: &Stmt) -> Option<DataFault>
 
 /// The first fault of a parallel loop's body: printf, or a scalar that is assigned and declared outside.
 pub(crate) fn body_fault(body: &Stmt) -> Option<DataFault>
-    ensures { is_none result ≡ is_private_body (stmt_of body.now) }
+    ensures judged { is_none result ≡ is_private_body (stmt_of body.now) }
+    ensures cause { IfSome result (λ f. TellsOfBody f (stmt_of body.now)) }
 {
     statement_fault(body, body)
 }

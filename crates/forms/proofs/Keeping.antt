@@ -23,10 +23,10 @@ and_true : (a b : Bool) → a ≡ true → b ≡ true → (a && b) ≡ true
 and_true true b e f = f
 and_true false b e f = e
 
--- numbers within 2^32, and at most 64 variables
+-- numbers within 2^32, and at most 32 variables
 pub record IsKept (form : Affine) : Type 0 where
   pub numbers : NumbersWithin (2 ^ 32) form
-  pub few : length form.terms ≤ 64
+  pub few : length form.terms ≤ 32
 
 are_small-within : (ts : List Term) → are_small ts ≡ true → CoefficientsWithin (2 ^ 32) ts
 are_small-within [] e = All-nil (λ (t : Term). IsWithin (2 ^ 32) t.coefficient)
@@ -42,22 +42,22 @@ within-are_small (t ∷ ts) h =
 
 -- the test of the limits
 abbrev test : Affine → Bool
-test f = is_small f.constant && are_small f.terms && nat_le (length f.terms) 64
+test f = is_small f.constant && are_small f.terms && nat_le (length f.terms) 32
 
 test-IsKept : (f : Affine) → test f ≡ true → IsKept f
 test-IsKept f e =
-    let p = both_true (is_small f.constant && are_small f.terms) (nat_le (length f.terms) 64) e in
+    let p = both_true (is_small f.constant && are_small f.terms) (nat_le (length f.terms) 32) e in
     let q = both_true (is_small f.constant) (are_small f.terms) p.0 in
     record {
       numbers = record { constant = leb-true (unsigned_abs f.constant) (2 ^ 32) q.0; coefficients = are_small-within f.terms q.1 };
-      few = leb-true (length f.terms) 64 p.1;
+      few = leb-true (length f.terms) 32 p.1;
     }
 
 IsKept-test : (f : Affine) → IsKept f → test f ≡ true
 IsKept-test f h =
-    and_true (is_small f.constant && are_small f.terms) (nat_le (length f.terms) 64)
+    and_true (is_small f.constant && are_small f.terms) (nat_le (length f.terms) 32)
     (and_true (is_small f.constant) (are_small f.terms) (le-leb (unsigned_abs f.constant) (2 ^ 32) h.numbers.constant) (within-are_small f.terms h.numbers.coefficients))
-    (le-leb (length f.terms) 64 h.few)
+    (le-leb (length f.terms) 32 h.few)
 
 -- a form that keeps them is kept
 pub kept-is : (f : Affine) → IsKept f → kept f ≡ Some f
@@ -90,16 +90,19 @@ IsKept-Fits f h =
       terms =
           record {
             numbers = All-weaker (λ (t : Term). IsWithin (2 ^ 32) t.coefficient) (λ (t : Term). IsWithin (2 ^ 62) t.coefficient) (λ t k. omega arith) f.terms h.numbers.coefficients;
-            variables = h.few;
+            variables = omega (arith, h.few);
           };
     }
 
 -- a test of the numbers, and of how many variables there are
-pub kept-tested : (f : Affine) → Fits f → NumbersWithin (2 ^ 32) f → kept f ≡ Some f
-kept-tested f fits h = kept-is f (record { numbers = h; few = fits.terms.variables })
+pub kept-tested : (f : Affine) → NumbersWithin (2 ^ 32) f → length f.terms ≤ 32 → kept f ≡ Some f
+kept-tested f h few = kept-is f (record { numbers = h; few = few })
 
 pub kept-large : (f : Affine) → ¬ (NumbersWithin (2 ^ 32) f) → kept f ≡ None
 kept-large f h = kept-none f (λ k. h k.numbers)
+
+pub kept-many : (f : Affine) → ¬ (length f.terms ≤ 32) → kept f ≡ None
+kept-many f h = kept-none f (λ k. h k.few)
 
 -- a form that does not fit is not kept
 pub refused_form : (place : Place) (f : Affine) (r : Refusal) (fault : Fault) → Refuses place f r → (r ≡ refusals.Limit place → fault ≡ Limit place)

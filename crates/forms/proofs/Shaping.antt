@@ -56,7 +56,7 @@ both_kept op a b None p h e = absurd (cc e)
 both_kept op a b (Some f) None h e = absurd (cc e)
 both_kept op a b (Some f) (Some g) h e = operated_kept op a b f g h e
 
--- a form that an expression has is kept: its numbers are within 2^32, and its variables at most 64
+-- a form that an expression has is kept: its numbers are within 2^32, and its variables at most 32
 pub form_kept : (box : List Side) (e : Expr) (f : Affine) → form_of box e ≡ Some f → kept f ≡ Some f
 form_kept box (Literal n suffix) f is = kept-again (constant_form (pos n)) f is
 form_kept box (Constant name n) f is = kept-again (constant_form (pos n)) f is

@@ -15,9 +15,9 @@ abbrev pub are_small : List Term → Bool
 are_small [] = true
 are_small (t ∷ ts) = is_small t.coefficient && are_small ts
 
--- a form whose numbers are within 2^32 in absolute value, with at most 64 variables
+-- a form whose numbers are within 2^32 in absolute value, with at most 32 variables
 abbrev pub kept : Affine → Option Affine
-kept f = if is_small f.constant && are_small f.terms && nat_le (length f.terms) 64 then Some f else None
+kept f = if is_small f.constant && are_small f.terms && nat_le (length f.terms) 32 then Some f else None
 
 -- the variables that a box gives values are those of the loops round a place
 abbrev pub is_counter : List Side → Variable → Bool

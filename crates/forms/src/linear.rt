@@ -173,7 +173,7 @@ fn parts_of(alloc: Global, expr: &Expr, bounds: &VarBox, place: Place) -> Result
 /// # Errors
 ///
 /// `NotAffine` at the place, where some part of the expression is not so; else `Limit`, where a form on the way has a number
-/// above 2^32 in absolute value or more than 64 variables; `OutOfMemory`.
+/// above 2^32 in absolute value or more than 32 variables; `OutOfMemory`.
 pub fn form_of(alloc: Global, expr: &Expr, bounds: &VarBox, place: Place) -> Result<Form, Fault>
     ensures ok { IfOk result (λ form. form_of bounds.now (expr_of expr.now) ≡ Some form) }
     ensures err { IfErr result (λ fault. (fault ≡ Fault.OutOfMemory) ⊎ (form_of bounds.now (expr_of expr.now) ≡ None)) }

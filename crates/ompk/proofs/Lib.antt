@@ -1,7 +1,0 @@
-pub mod Declared
-pub mod Unique
-pub mod Starting
-pub mod Output
-pub mod Written
-pub mod Parts
-pub mod Numbers

@@ -1,3 +1,1 @@
 pub mod Refused
-pub mod Outcome
-pub mod Message

@@ -15,7 +15,7 @@ use Rattle.forms.specs.declared.faults.Fault as loop_faults
 use Rattle.nest.specs.Nests.{IsNested, IsInRange}
 use Rattle.nest.specs.Perfect.{AreRightNests}
 use Rattle.pragma.specs.Parallel.{ItemsHave}
-use Rattle.flow.specs.Private.{IsPrivate, data_refusal_of}
+use Rattle.flow.specs.Private.{IsPrivate, TellsOfItems, data_refusal_of}
 use Rattle.flow.specs.declared.fault.DataFault.{DataFault}
 use Rattle.deptest.specs.Accepted.{HasPassed}
 use Rattle.deptest.specs.Refused.{RefusesLoops}
@@ -32,14 +32,26 @@ RefusesRanges tree r = (r ≡ OutOfMemory) ⊎ ((f : loop_faults.Fault) × (r �
 abbrev pub RefusesLines : List ℕ → Kernel → Refusal → Type 0
 RefusesLines text tree r = (f : line_faults.Fault) × (r ≡ lines.refusal_of f) × (IsDirected text tree → ⊥)
 
--- a parallel loop writes a shared scalar or prints, or a local may be read before it is assigned
+-- a local may be read before it is assigned; or a parallel loop writes a shared scalar, or prints, or a line has no nest, whichever is told
 abbrev pub RefusesData : List ℕ → Kernel → Refusal → Type 0
 RefusesData text tree r =
-    ((number_of r ≡ 10) × (IsDefinite no_privates tree → ⊥)) ⊎ ((f : DataFault) × (r ≡ data_refusal_of f) × (ItemsHave text IsPrivate [] tree.body → ⊥))
+    ((number_of r ≡ 10) × (IsDefinite no_privates tree → ⊥)) ⊎ ((f : DataFault) × (r ≡ data_refusal_of f) × TellsOfItems f text tree.body)
 
--- memory was refused, or the tree does not pass what stands before the dependence test
+-- the passes before that of the data find nothing wrong, nor does that of the data
+abbrev pub IsNestedRightly : List ℕ → Kernel → Type 0
+IsNestedRightly text tree = IsDirected text tree × AreRightNests text tree
+
+abbrev pub HasRightData : List ℕ → Kernel → Type 0
+HasRightData text tree = IsDefinite no_privates tree × ItemsHave text IsPrivate [] tree.body
+
+-- memory was refused, or the first pass that finds something wrong tells it: lines, then nests, then data, then ranges
 abbrev pub RefusesPasses : List ℕ → Kernel → Refusal → Type 0
-RefusesPasses text tree r = (RefusesNests text tree r ⊎ RefusesRanges tree r) ⊎ (RefusesLines text tree r ⊎ RefusesData text tree r)
+RefusesPasses text tree r =
+    (r ≡ OutOfMemory)
+    ⊎ (RefusesLines text tree r
+    ⊎ ((IsDirected text tree × RefusesNests text tree r)
+    ⊎ ((IsNestedRightly text tree × RefusesData text tree r)
+    ⊎ ((IsNestedRightly text tree × HasRightData text tree) × RefusesRanges tree r))))
 
 -- all of that is well, and the dependence test refuses the tree, or memory was refused
 abbrev pub RefusesPairs : List ℕ → Kernel → Refusal → Type 0

@@ -2,11 +2,8 @@
 #![tactic(auto)]
 
 mod accepting;
-mod running;
-mod teaming;
-mod telling;
 
 pub use accepting::check;
 pub use deptest::Checked;
-pub use running::{run, runs_of_accepted, seq};
-pub use telling::{status, tell};
+pub use ompk_message::{status, tell};
+pub use ompk_run::{run, runs_of_accepted, seq};

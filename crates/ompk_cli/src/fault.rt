@@ -1,8 +1,8 @@
 //! Why the program does not do what it is asked for.
 
 use clap::Error;
-use clap::error::ErrorKind;
 use ktree::Refusal;
+use ompk_command::Usage;
 use std::alloc::{AllocError, AllocFailed};
 
 /// Why the program does not do what it is asked for.
@@ -36,11 +36,11 @@ impl<T: Drop> From<AllocFailed<T>> for Fault<'_> {
     }
 }
 
-impl From<Error> for Fault<'_> {
-    fn from(error: Error) -> Self {
-        match error.kind() {
-            ErrorKind::OutOfMemory => Fault::Refused(Refusal::OutOfMemory),
-            _ => Fault::Usage(error),
+impl From<Usage> for Fault<'_> {
+    fn from(usage: Usage) -> Self {
+        match usage {
+            Usage::OutOfMemory => Fault::Refused(Refusal::OutOfMemory),
+            Usage::Told(error) => Fault::Usage(error),
         }
     }
 }

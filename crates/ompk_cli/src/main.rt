@@ -2,13 +2,14 @@
 #![tactic(auto)]
 
 ghost use Rattle.std.specs.Prelude.{◌+◌, ◌<◌, ◌^◌};
+ghost use Rattle.ompk_cli.specs.Status.{HasStatus};
 
 mod fault;
-mod task;
 
 use fault::Fault;
 use ktree::{Refusal, Workers};
 use ompk::{Checked, check, run, seq, status, tell};
+use ompk_command::{Task, read_task};
 use seqrun::{Sink, Writer, put_all};
 use std::io::ErrorKind;
 use std::process::ExitCode;
@@ -16,7 +17,6 @@ use std::rt::Files;
 use std::sync::Wait;
 use std::thread::{Builder, Threads};
 use std::{env, fs};
-use task::{Task, read_task};
 use team::OpenGate;
 
 // The words of the command line.
@@ -121,7 +121,9 @@ where
 }
 
 // Says what is wrong, and answers the exit status for it.
-fn report(rt: &HostRuntime, fault: Fault<'_>) -> u8 {
+fn report(rt: &HostRuntime, fault: Fault<'_>) -> u8
+    ensures { HasStatus fault.entry result }
+{
     match fault {
         Fault::Refused(refusal) => {
             let _ = tell(&refusal, &mut Writer::new(rt.stderr()));
@@ -162,7 +164,7 @@ fn main(rt: HostRuntime) -> ExitCode {
         };
         let done = match read_task(rt.alloc(), words.as_slice()) {
             Ok(task) => perform(&rt, &task, &mut Writer::new(rt.stdout())),
-            Err(fault) => Err(fault),
+            Err(usage) => Err(Fault::from(usage)),
         };
         match done {
             Ok(()) => 0,

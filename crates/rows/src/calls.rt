@@ -3,7 +3,7 @@
 ghost use Rattle.std.specs.Prelude.{◌≡◌, ◌+◌, ◌<◌, ◌≤◌, ◌^◌};
 
 use ktree::{Cause, Conflict, InputFault, NotShown, Place, Refusal, Workers};
-use ompk::{check, run, status, tell};
+use ompk::{check, run, seq, status, tell};
 use seqrun::{Memory, Sink, SinkFault};
 use std::alloc::{AllocError, Global};
 use std::process::Abort;
@@ -12,10 +12,13 @@ use std::sync::atomic::{AtomicU64, Ordering};
 use std::test::Fail;
 use std::thread;
 use std::thread::Threads;
-use team::{Gate, OpenGate};
+use team::{Gate, OpenGate, Taken};
 
 const INCREMENT: &[u8] =
     b"#include <stdint.h>\nuint64_t A[8];\nvoid kernel(void)\n{\n#pragma omp parallel for schedule(dynamic, 3)\nfor (uint64_t i = 0; i < 8; i++) { A[i] = A[i] + i; }\n}\n";
+
+const SERIAL: &[u8] =
+    b"uint64_t A[8];\nvoid kernel(void)\n{\nfor (uint64_t i = 0; i < 8; i++) { A[i] = A[i] + i; }\n}\n";
 
 const ONES: &[u8] = b"A 1 1 1 1 1 1 1 1\n";
 
@@ -94,10 +97,21 @@ struct Both {
     outside: AtomicU64,
 }
 
+impl Both {
+    fn new() -> Both {
+        Both {
+            entered: AtomicU64::new(0),
+            late: AtomicU64::new(0),
+            chunks: AtomicU64::new(0),
+            outside: AtomicU64::new(0),
+        }
+    }
+}
+
 impl Gate for Both {
-    fn entered(&self, worker: u64, chunk: u64) {
-        if worker < 2 && chunk < 3 {
-            self.chunks.fetch_add(1 << chunk, Ordering::SeqCst);
+    fn entered(&self, taken: Taken) {
+        if taken.worker < 2 && taken.chunk < 3 {
+            self.chunks.fetch_add(1 << taken.chunk, Ordering::SeqCst);
         } else {
             self.outside.fetch_add(1, Ordering::SeqCst);
         }
@@ -113,7 +127,7 @@ impl Gate for Both {
 }
 
 // Whether this is the line of a refusal.
-fn says(alloc: Global, refusal: &Refusal, line: &[u8]) -> bool {
+pub(crate) fn says(alloc: Global, refusal: &Refusal, line: &[u8]) -> bool {
     let mut sink = Memory::new(alloc);
     tell(refusal, &mut sink).is_ok() && sink.bytes() == line
 }
@@ -182,10 +196,11 @@ fn refusals_have_their_statuses(rt: HostRuntime) {
     assert_eq!(rt; status(&Refusal::OutOfMemory), 4);
 }
 
-// Runs the kernel on an input, with so many workers.
-fn increment<R: Threads + Wait + Sync + Abort, G: Gate + Sync, S: Sink>(
+// Runs the kernel of a text on an input, with so many workers.
+fn run_kernel<R: Threads + Wait + Sync + Abort, G: Gate + Sync, S: Sink>(
     rt: &R,
     alloc: Global,
+    text: &[u8],
     input: &[u8],
     count: u64,
     gate: &G,
@@ -193,7 +208,7 @@ fn increment<R: Threads + Wait + Sync + Abort, G: Gate + Sync, S: Sink>(
 ) -> Result<(), Refusal>
     requires { S.failed sink.old + 1 < 2 ^ 64 }
 {
-    let checked = check(alloc, INCREMENT)?;
+    let checked = check(alloc, text)?;
     let workers = Workers::new(count).expect(rt, "a number of workers");
     run(rt, alloc, &checked, input, workers, gate, sink)
 }
@@ -202,7 +217,15 @@ fn increment<R: Threads + Wait + Sync + Abort, G: Gate + Sync, S: Sink>(
 fn the_increment_runs(rt: HostRuntime) {
     for count in [1, 3, 64] {
         let mut sink = Memory::new(rt.alloc());
-        let ran = increment(&rt, rt.alloc(), ONES, count, &OpenGate, &mut sink);
+        let ran = run_kernel(
+            &rt,
+            rt.alloc(),
+            INCREMENT,
+            ONES,
+            count,
+            &OpenGate,
+            &mut sink,
+        );
         assert!(rt; ran.is_ok());
         assert_eq!(rt;
             sink.bytes(),
@@ -215,7 +238,15 @@ fn the_increment_runs(rt: HostRuntime) {
 #[test]
 fn a_faulty_input_writes_nothing(rt: HostRuntime) {
     let mut sink = Memory::new(rt.alloc());
-    let ran = increment(&rt, rt.alloc(), b"A 1 2\n", 2, &OpenGate, &mut sink);
+    let ran = run_kernel(
+        &rt,
+        rt.alloc(),
+        INCREMENT,
+        b"A 1 2\n",
+        2,
+        &OpenGate,
+        &mut sink,
+    );
     assert!(rt;
         matches!(
             ran,
@@ -231,7 +262,7 @@ fn a_faulty_input_writes_nothing(rt: HostRuntime) {
 #[test]
 fn a_closed_sink_is_told(rt: HostRuntime) {
     let mut sink = Closed { failures: 0 };
-    let ran = increment(&rt, rt.alloc(), b"", 2, &OpenGate, &mut sink);
+    let ran = run_kernel(&rt, rt.alloc(), INCREMENT, b"", 2, &OpenGate, &mut sink);
     assert!(rt; matches!(ran, Err(Refusal::OutputFailed)));
     assert_eq!(rt; sink.failures(), 1);
 }
@@ -240,7 +271,7 @@ fn a_closed_sink_is_told(rt: HostRuntime) {
 fn a_slow_sink_is_told_all_before_it_fails(rt: HostRuntime) {
     // The output has 20 bytes.
     let mut sink = OneByte::new(rt.alloc(), 21);
-    assert!(rt; increment(&rt, rt.alloc(), ONES, 2, &OpenGate, &mut sink).is_ok());
+    assert!(rt; run_kernel(&rt, rt.alloc(), INCREMENT, ONES, 2, &OpenGate, &mut sink).is_ok());
     assert_eq!(rt; sink.failures(), 0);
     assert_eq!(rt; sink.bytes.as_slice(), b"A = 1 2 3 4 5 6 7 8\n".as_slice());
     for (failing, told) in [
@@ -248,7 +279,7 @@ fn a_slow_sink_is_told_all_before_it_fails(rt: HostRuntime) {
         (20, b"A = 1 2 3 4 5 6 7 8".as_slice()),
     ] {
         let mut sink = OneByte::new(rt.alloc(), failing);
-        let ran = increment(&rt, rt.alloc(), ONES, 2, &OpenGate, &mut sink);
+        let ran = run_kernel(&rt, rt.alloc(), INCREMENT, ONES, 2, &OpenGate, &mut sink);
         assert!(rt; matches!(ran, Err(Refusal::OutputFailed)), "at {failing}");
         assert_eq!(rt; sink.failures(), 1);
         assert_eq!(rt; sink.bytes.as_slice(), told);
@@ -257,17 +288,30 @@ fn a_slow_sink_is_told_all_before_it_fails(rt: HostRuntime) {
 
 #[test]
 fn two_workers_are_in_the_loop_at_once(rt: HostRuntime) {
-    let gate = Both {
-        entered: AtomicU64::new(0),
-        late: AtomicU64::new(0),
-        chunks: AtomicU64::new(0),
-        outside: AtomicU64::new(0),
-    };
+    let gate = Both::new();
     let mut sink = Memory::new(rt.alloc());
-    assert!(rt; increment(&rt, rt.alloc(), ONES, 2, &gate, &mut sink).is_ok());
+    assert!(rt; run_kernel(&rt, rt.alloc(), INCREMENT, ONES, 2, &gate, &mut sink).is_ok());
     assert_eq!(rt; sink.bytes(), b"A = 1 2 3 4 5 6 7 8\n".as_slice());
     assert_eq!(rt; gate.late.load(Ordering::SeqCst), 0);
     assert_eq!(rt; gate.entered.load(Ordering::SeqCst), 3);
     assert_eq!(rt; gate.chunks.load(Ordering::SeqCst), 7);
     assert_eq!(rt; gate.outside.load(Ordering::SeqCst), 0);
+}
+
+#[test]
+fn a_loop_behind_no_line_is_run_by_no_team(rt: HostRuntime) {
+    let gate = Both::new();
+    let mut sink = Memory::new(rt.alloc());
+    assert!(rt; run_kernel(&rt, rt.alloc(), SERIAL, ONES, 2, &gate, &mut sink).is_ok());
+    assert_eq!(rt; sink.bytes(), b"A = 1 2 3 4 5 6 7 8\n".as_slice());
+    assert_eq!(rt; gate.entered.load(Ordering::SeqCst), 0);
+}
+
+#[test]
+fn a_closed_sink_is_told_by_one_thread_too(rt: HostRuntime) {
+    let checked = check(rt.alloc(), SERIAL).ok().expect(&rt, "a kernel");
+    let mut sink = Closed { failures: 0 };
+    let ran = seq(rt.alloc(), &checked, ONES, &mut sink);
+    assert!(rt; matches!(ran, Err(Refusal::OutputFailed)));
+    assert_eq!(rt; sink.failures(), 1);
 }

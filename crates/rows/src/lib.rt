@@ -1,8 +1,11 @@
-//! Tests of the whole road: kernels and what they write, calls and what they answer, and the verdicts on parallel loops, found by hand.
+//! Tests of the whole road: kernels and what they write, calls and what they answer, the verdicts on parallel loops, found by hand, and which of
+//! two faults is told.
 #![tactic(auto)]
 
 #[cfg(test)]
 mod calls;
+#[cfg(test)]
+mod first_faults;
 #[cfg(test)]
 mod kernels;
 #[cfg(test)]

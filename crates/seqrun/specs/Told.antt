@@ -1,5 +1,5 @@
 -- What a sink took, and how often it failed.
-use Rattle.std.specs.Prelude.{ℕ, ◌≡◌, ◌+◌, ◌⊎◌, List, ◌++◌}
+use Rattle.std.specs.Prelude.{ℕ, ◌≡◌, ◌+◌, ◌⊎◌, List, ◌++◌, Option}
 use Rattle.semantics.specs.Theorems.{Begins}
 use Rattle.ktree.specs.declared.refusal.Refusal.{Refusal}
 use Rattle.ktree.specs.declared.refusal.Refusal.TheVariants.{OutOfMemory, OutputFailed}
@@ -8,6 +8,12 @@ use Rattle.ktree.specs.declared.refusal.Refusal.TheVariants.{OutOfMemory, Output
 pub record Told : Type 0 where
   pub bytes : List ℕ
   pub failures : ℕ
+
+-- what a sink over a writer took, how often it failed, and what the writer holds, where that is known
+pub record Written : Type 0 where
+  pub bytes : List ℕ
+  pub failures : ℕ
+  pub contents : Option (List ℕ)
 
 -- behind the bytes from before stands a beginning of these, and nothing else
 abbrev pub AddsBeginning : List ℕ → List ℕ → List ℕ → Type 0

@@ -1,5 +1,6 @@
 //! Where a run's output goes.
 
+ghost use Rattle.std.specs.Io.KnownBytes.{WriteAppends};
 ghost use Rattle.std.specs.Prelude.{◌≡◌, ◌+◌, ◌<◌, ◌≤◌, ◌^◌, List, ℕ, [], ◌++◌, length, take, IfOk, IfErr, OnOk, OnErr};
 ghost use Rattle.ktree.specs.declared.refusal.Refusal.TheVariants.{OutputFailed};
 ghost use Rattle.seqrun.specs.Told.{AddsBeginning};
@@ -117,20 +118,21 @@ impl Sink for Memory {
 
 /// A sink over a writer. A write of 0 of some bytes is a failure, as is an error of the writer's.
 ///
-/// The bytes that it took are its own account: those that the writer said it wrote. Where they end up is the writer's.
+/// The bytes that it took are its own account: those that the writer said it wrote. Where it is known what the writer holds, these and
+/// no others are put there. Contracts see both, and how often it failed.
 #[derive(Drop)]
-pub struct Writer<W> {
+pub struct Writer<W: Write> {
     inner: W,
     account: Account,
     failures: u64,
 }
 
-impl<W> Model for Writer<W> {
-    ghost use Rattle.seqrun.specs.Told.{Told};
+impl<W: Write> Model for Writer<W> {
+    ghost use Rattle.seqrun.specs.Told.{Written};
 
-    ghost Value = { Told };
+    ghost Value = { Written };
 
-    ghost view = { λ w. record { bytes = w.account.told; failures = w.failures } };
+    ghost view = { λ w. record { bytes = w.account.told; failures = w.failures; contents = W.contents w.inner } };
 }
 
 impl<W: Write> Writer<W> {
@@ -138,6 +140,7 @@ impl<W: Write> Writer<W> {
     pub fn new(inner: W) -> Writer<W>
         ensures told { result.bytes ≡ [] }
         ensures failed { result.failures ≡ 0 }
+        ensures contents { result.contents ≡ W.contents inner }
     {
         Writer {
             inner,
@@ -152,7 +155,16 @@ impl<W: Write> Sink for Writer<W> {
 
     ghost failed = { λ w. w.failures };
 
-    fn put(&mut self, bytes: &[u8]) -> Result<usize, SinkFault> {
+    fn put(&mut self, bytes: &[u8]) -> Result<usize, SinkFault>
+        requires { self.old.failures + 1 < 2 ^ 64 }
+        ensures within { IfOk result (λ count. count ≤ length bytes.now) }
+        ensures some { IfOk result (λ count. 0 < length bytes.now → 0 < count) }
+        ensures taken { IfOk result (λ count. self.new.bytes ≡ self.old.bytes ++ take count bytes.now) }
+        ensures sound { OnOk result (self.new.failures ≡ self.old.failures) }
+        ensures refused { OnErr result (self.new.bytes ≡ self.old.bytes) }
+        ensures counted { OnErr result (self.new.failures ≡ self.old.failures + 1) }
+        ensures written { WriteAppends self.old.contents self.new.contents result bytes.now }
+    {
         match self.inner.write(bytes) {
             Ok(count) if 0 < count || bytes.is_empty() => {
                 self.account.note(&bytes[..count]);

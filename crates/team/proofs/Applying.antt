@@ -115,9 +115,9 @@ pick P (c ∷ cs) n all some = go (c.work.chunk.0 == n) refl (λ more. pick P cs
     go false e rest = let none : once n c.work.chunk.0 ≡ 0 = grind (arith, nat_tests) in rest (omega arith)
 
 -- the writes of all chunks, once they are in the store
-module _ (l : LoweredLoop) (before after : List Kept) (cs : List Changes) (all : AreAll l before cs) (written : All (IsWritten l before after) cs) where
+module _ (l : LoweredLoop) (before after : List Kept) (chunks : List Chunk) (cs : List Changes) (all : AreAll l before chunks cs) (written : All (IsWritten l before after) cs) where
   abbrev IsBoth : Changes → Type 0
-  IsBoth d = IsChange l before all.chunks d × IsWritten l before after d
+  IsBoth d = IsChange l before chunks d × IsWritten l before after d
 
   -- the chunk of an iteration, and what it wrote
   record Wrote (i : ℕ) : Type 0 where
@@ -128,11 +128,11 @@ module _ (l : LoweredLoop) (before after : List Kept) (cs : List Changes) (all :
 
   wrote : (i : ℕ) → i < l.bound → Wrote i
   wrote i lt =
-      let found = chunk_of l.bound i all.chunks all.cut lt in
-      let there : found.number < length all.chunks = slice_get_within all.chunks found.number found.chunk found.is in
+      let found = chunk_of l.bound i chunks all.cut lt in
+      let there : found.number < length chunks = slice_get_within chunks found.number found.chunk found.is in
       let one = pick IsBoth cs found.number (λ k d less. (all.each k d less, written k d less)) (all.every found.number there) in
       let same : record { first = one.0.work.first; count = one.0.work.count } ≡ found.chunk =
-      same_Some _ _ (sym one.2.0.work ∙ ap (λ n. slice_get all.chunks n) one.1 ∙ found.is) in
+      same_Some _ _ (sym one.2.0.work ∙ ap (λ n. slice_get chunks n) one.1 ∙ found.is) in
       let f : one.0.work.first ≡ found.chunk.first = ap (λ (c : Chunk). c.first) same in
       let n : one.0.work.count ≡ found.chunk.count = ap (λ (c : Chunk). c.count) same in
       let low = found.first in

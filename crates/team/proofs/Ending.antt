@@ -1,6 +1,6 @@
 -- What the workers' ends are together.
-use Rattle.std.specs.Prelude.{suc, ◌≡◌, true, List, [], ◌∷◌, ◌++◌, map, flat_map, length, All, Result, Ok, Err, IfOk}
-use Rattle.std.proofs.Common.{refl, sym, ap, ◌∙◌, subst, append-nil}
+use Rattle.std.specs.Prelude.{ℕ, suc, ◌<◌, ◌≡◌, true, List, [], ◌∷◌, ◌++◌, map, flat_map, length, All, Result, Ok, Err, IfOk}
+use Rattle.std.proofs.Common.{refl, sym, ap, ◌∙◌, subst, append-nil, length-append, arith}
 use Rattle.std.proofs.lemmas.List.{map-append}
 use Rattle.std.proofs.lemmas.Grind.{flat_map-append}
 use Rattle.std.proofs.lemmas.List.Elements.{All-nil, All-cons, All-head, All-tail, All-append, All-same, All-push}
@@ -35,6 +35,10 @@ pub kept-more : (p : Job) (hs hs' : List (PromisedHandle (Result Finished Refusa
 kept-more p hs hs' h is all here =
     let P : PromisedHandle (Result Finished Refusal) Job → Type 0 = λ k. k.promise ≡ p in
     All-same P hs' (hs ++ h ∷ []) is (All-push P hs h all here)
+
+-- so many come before one that stands in the list
+pub fewer : {X : Type 0} (ys rest all : List X) (x : X) (n : ℕ) → ys ++ x ∷ rest ≡ all → n ≡ length ys → n < length all
+fewer ys rest all x n whole is = let long = ap length whole in omega (arith, length-append ys (x ∷ rest))
 
 length_mapped : {X Y : Type 0} (f : X → Y) (xs : List X) → length (map f xs) ≡ length xs
 length_mapped f [] = refl

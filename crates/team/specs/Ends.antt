@@ -1,7 +1,7 @@
 -- What the workers' ends are, and what comes of them together.
 use Rattle.std.specs.Prelude.{ℕ, ◌≡◌, ◌<◌, ◌≤◌, ◌+◌, unwrap_or, slice_index, true, List, [], ◌∷◌, length, map, flat_map, slice_get, All, IfOk, Result, Ok, Some}
 use Rattle.semantics.specs.Meaning.Places.{below}
-use Rattle.semantics.specs.Loops.Chunk.{Chunk, chunk_iterations}
+use Rattle.semantics.specs.Loops.Chunk.{Chunk, Dynamic, cut, chunk_iterations}
 use Rattle.semantics.specs.Loops.Arrangement.{times}
 use Rattle.draw.specs.Tickets.{DrawingName, SeatState}
 use Rattle.semantics.specs.Meaning.Value.{value}
@@ -19,6 +19,10 @@ use Rattle.team.specs.declared.worker.Finished.{Finished}
 pub record IsCut (n : ℕ) (chunks : List Chunk) : Type 0 where
   pub joined : flat_map chunk_iterations chunks ≡ below n
   pub filled : All (λ c. 0 < c.count) chunks
+
+-- the chunks of a loop, as its own clause cuts it for so many workers (OpenMP 5.2, 11.5.3)
+abbrev pub chunks_of_loop : LoweredLoop → ℕ → List Chunk
+chunks_of_loop l workers = cut (Dynamic l.size) l.bound workers
 
 -- the iterations that a worker was given are those of its ticket's chunk
 abbrev pub IsWork : List Chunk → Work → Type 0
@@ -56,9 +60,8 @@ pub record IsChange (lowered : LoweredLoop) (store : List Kept) (chunks : List C
   pub within : c.work.first + c.work.count ≤ lowered.bound
   pub each : (j : ℕ) → j < c.work.count → IsWorth lowered store (c.work.first + j) (slice_index c.values.items j)
 
--- what all chunks of some cut write, each chunk's writes being among these
-pub record AreAll (lowered : LoweredLoop) (store : List Kept) (cs : List Changes) : Type 0 where
-  pub chunks : List Chunk
+-- what all of these chunks write, each chunk's writes being among these
+pub record AreAll (lowered : LoweredLoop) (store : List Kept) (chunks : List Chunk) (cs : List Changes) : Type 0 where
   pub cut : IsCut lowered.bound chunks
   pub each : All (IsChange lowered store chunks) cs
   pub every : (number : ℕ) → number < length chunks → 0 < times number (map (λ c. c.work.chunk.0) cs)

@@ -5,5 +5,5 @@ mod gate;
 mod team;
 mod worker;
 
-pub use gate::{Gate, OpenGate};
+pub use gate::{Gate, OpenGate, Taken};
 pub use team::run_loop;

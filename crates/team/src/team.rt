@@ -6,12 +6,12 @@ ghost use Rattle.overlay.specs.Loop.{Fits, Shows, RunsTo, statement_of};
 ghost use Rattle.overlay.specs.Kept.{Kept, Locals, state_with};
 ghost use Rattle.overlay.specs.declared.lowered.LoweredLoop.{LoweredLoop};
 ghost use Rattle.semantics.specs.Loops.Chunk.{Chunk};
-ghost use Rattle.team.specs.Ends.{IsCut, IsPieceOf, IsFinished, AreFinished, CameFrom, IsChange, AreAll, IsWritten, KeepsOthers};
+ghost use Rattle.team.specs.Ends.{chunks_of_loop, IsCut, IsPieceOf, IsFinished, AreFinished, CameFrom, IsChange, AreAll, IsWritten, KeepsOthers};
 ghost use Rattle.semantics.specs.Loops.Piece.{no_roles};
 ghost use Rattle.semantics.specs.Theorems.{RunsAsTheLoop};
 
 use crate::gate::Gate;
-use crate::worker::{Finished, Job, work};
+use crate::worker::{Finished, Job, Member, work};
 use draw::{DrawSeat, Drawing};
 use ktree::{Refusal, Workers};
 use overlay::{Changes, LoweredLoop, Piece, Store};
@@ -21,7 +21,24 @@ use std::sync::Wait;
 use std::thread;
 use std::thread::Threads;
 
-/// Starts a worker for each seat, all at once, and joins them. A thread that does not start is `OutOfMemory`.
+/// The members of a team, one for each seat, by their numbers.
+fn members(alloc: Global, drawing: &Drawing, seats: Vec<DrawSeat>) -> Result<Vec<Member>, Refusal>
+    requires seats { All (λ seat. seat ≡ fresh drawing.now) seats.items }
+    requires all { vec_len seats ≡ drawing.now.seats }
+    ensures len { IfOk result (λ v. vec_len v ≡ vec_len seats) }
+    ensures seats { IfOk result (λ v. All (λ member. member.seat ≡ fresh drawing.now) v.items) }
+    ensures refusal { IfErr result (λ refusal. refusal ≡ Refusal.OutOfMemory) }
+{
+    let mut members = Vec::with_capacity(alloc, seats.len())?;
+    let mut number = 0;
+    for seat in seats {
+        members.push(Member { number, seat })?;
+        number += 1;
+    }
+    Ok(members)
+}
+
+/// Starts a worker for each member, all at once, and joins them. A thread that does not start is `OutOfMemory`.
 fn run_all<'l, 's, R: Threads + Wait + Sync, G: Gate>(
     rt: &R,
     alloc: Global,
@@ -29,14 +46,14 @@ fn run_all<'l, 's, R: Threads + Wait + Sync, G: Gate>(
     store: &'s Store,
     chunks: &Chunks,
     drawing: &Drawing,
-    seats: Vec<DrawSeat>,
+    members: Vec<Member>,
     gate: &G,
 ) -> Result<Vec<Result<Finished<'l, 's>, Refusal>>, Refusal>
     requires fits { Fits lowered.now store.now }
     requires cut { IsCut lowered.now.bound chunks.now }
     requires count { drawing.now.count ≡ length chunks.now }
-    requires seats { All (λ seat. seat ≡ fresh drawing.now) seats.items }
-    ensures len { IfOk result (λ v. vec_len v ≡ vec_len seats) }
+    requires seats { All (λ member. member.seat ≡ fresh drawing.now) members.items }
+    ensures len { IfOk result (λ v. vec_len v ≡ vec_len members) }
     ensures ends { IfOk result (λ v. AreFinished lowered.now store.now chunks.now drawing.now v.items) }
     ensures refusal { IfErr result (λ refusal. refusal ≡ Refusal.OutOfMemory) }
 {
@@ -44,8 +61,8 @@ fn run_all<'l, 's, R: Threads + Wait + Sync, G: Gate>(
         thread::scope_env(),
         rt,
         |scope| -> Result<Vec<Result<Finished, Refusal>>, Refusal>
-            requires { Fits lowered.now store.now × IsCut lowered.now.bound chunks.now × (drawing.now.count ≡ length chunks.now) × All (λ seat. seat ≡ fresh drawing.now) seats.items }
-            ensures ends { IfOk result (λ v. (vec_len v ≡ vec_len seats) × AreFinished lowered.entry.now store.entry.now chunks.entry.now drawing.entry.now v.items) }
+            requires { Fits lowered.now store.now × IsCut lowered.now.bound chunks.now × (drawing.now.count ≡ length chunks.now) × All (λ member. member.seat ≡ fresh drawing.now) members.items }
+            ensures ends { IfOk result (λ v. (vec_len v ≡ vec_len members) × AreFinished lowered.entry.now store.entry.now chunks.entry.now drawing.entry.now v.items) }
             ensures refusal { IfErr result (λ refusal. refusal ≡ Refusal.OutOfMemory) }
         {
             let promise = Job {
@@ -54,22 +71,19 @@ fn run_all<'l, 's, R: Threads + Wait + Sync, G: Gate>(
                 chunks,
                 drawing,
             };
-            let mut children = Vec::with_capacity(alloc, seats.len())?;
-            let mut worker = 0u64;
-            for seat in seats {
-                let number = worker;
+            let mut children = Vec::with_capacity(alloc, members.len())?;
+            for member in members {
                 let child = scope.spawn_with(
                     promise,
                     move || -> Result<Finished, Refusal>
-                        requires { Fits lowered.now store.now × IsCut lowered.now.bound chunks.now × (drawing.now.count ≡ length chunks.now) × (seat ≡ fresh drawing.now) }
+                        requires { Fits lowered.now store.now × IsCut lowered.now.bound chunks.now × (drawing.now.count ≡ length chunks.now) × (member.seat ≡ fresh drawing.now) }
                         ensures { IfOk result (λ f. IsFinished lowered.entry.now store.entry.now chunks.entry.now drawing.entry.now f) }
-                    { work(alloc, lowered, store, chunks, drawing, seat, number, gate) },
+                    { work(alloc, lowered, store, chunks, drawing, member, gate) },
                 );
                 let Ok(child) = child else {
                     return Err(Refusal::OutOfMemory);
                 };
                 children.push(child)?;
-                worker = worker.wrapping_add(1);
             }
             Ok(thread::join_promised(rt, children)?)
         },
@@ -130,10 +144,35 @@ fn apply_all(store: &mut Store, lowered: &LoweredLoop, changes: Vec<Changes>)
 /// The chunks of a loop, as its schedule cuts it.
 fn chunks_of(alloc: Global, lowered: &LoweredLoop, workers: Workers) -> Result<Chunks, Refusal>
     requires { lowered.now.bound ≤ 2 ^ 24 }
+    ensures chunks { IfOk result (λ cs. cs ≡ chunks_of_loop lowered.now workers) }
     ensures cut { IfOk result (λ cs. IsCut lowered.now.bound cs × (length cs ≤ lowered.now.bound)) }
     ensures refusal { IfErr result (λ refusal. refusal ≡ Refusal.OutOfMemory) }
 {
     chunk_list(alloc, Sched::Dynamic(lowered.size), lowered.bound, workers)
+}
+
+/// Starts so many workers that draw these chunks, and joins them: the drawing, and each worker's end.
+fn run_workers<'l, 's, R: Threads + Wait + Sync, G: Gate>(
+    rt: &R,
+    alloc: Global,
+    lowered: &'l LoweredLoop,
+    store: &'s Store,
+    chunks: &Chunks,
+    workers: Workers,
+    gate: &G,
+) -> Result<(Drawing, Vec<Result<Finished<'l, 's>, Refusal>>), Refusal>
+    requires fits { Fits lowered.now store.now }
+    requires cut { IsCut lowered.now.bound chunks.now }
+    requires few { length chunks.now ≤ 2 ^ 24 }
+    ensures drawing { IfOk result (λ r. (r.0.count ≡ length chunks.now) × (r.0.seats ≡ workers)) }
+    ensures len { IfOk result (λ r. vec_len r.1 ≡ workers) }
+    ensures ends { IfOk result (λ r. AreFinished lowered.now store.now chunks.now r.0 r.1.items) }
+    ensures refusal { IfErr result (λ refusal. refusal ≡ Refusal.OutOfMemory) }
+{
+    let (drawing, seats) = Drawing::new(alloc, chunks.len(), workers.get())?;
+    let members = members(alloc, &drawing, seats)?;
+    let ends = run_all(rt, alloc, lowered, store, chunks, &drawing, members, gate)?;
+    Ok((drawing, ends))
 }
 
 /// What all chunks of a loop write, each run by the worker that drew it.
@@ -147,13 +186,14 @@ fn run_chunks<R: Threads + Wait + Sync, G: Gate>(
 ) -> Result<Vec<Changes>, Refusal>
     requires fits { Fits lowered.now store.now }
     requires bound { lowered.now.bound ≤ 2 ^ 24 }
-    ensures changes { IfOk result (λ cs. AreAll lowered.now store.now cs.items) }
+    ensures changes { IfOk result (λ cs. AreAll lowered.now store.now (chunks_of_loop lowered.now workers) cs.items) }
     ensures refusal { IfErr result (λ refusal. refusal ≡ Refusal.OutOfMemory) }
 {
     let chunks = chunks_of(alloc, lowered, workers)?;
-    let (drawing, seats) = Drawing::new(alloc, chunks.len(), workers.get())?;
-    let ends = run_all(rt, alloc, lowered, store, &chunks, &drawing, seats, gate)?;
+    let (drawing, ends) = run_workers(rt, alloc, lowered, store, &chunks, workers, gate)?;
     let (seats, pieces) = collect(alloc, ends)?;
+    let everyone = seats.len() as u64 == workers.get();
+    prove!(everyone);
     let whole = drawing.close(seats).whole();
     prove!(whole);
     release_all(alloc, pieces)

@@ -1,17 +1,25 @@
 //! One worker of a team.
 
-ghost use Rattle.std.specs.Prelude.{◌≡◌, ◌≤◌, length, IfOk};
+ghost use Rattle.std.specs.Prelude.{◌≡◌, ◌<◌, ◌≤◌, length, IfOk};
 ghost use Rattle.draw.specs.Tickets.{fresh};
 ghost use Rattle.overlay.specs.Loop.{Fits};
 ghost use Rattle.team.specs.Ends.{IsCut, IsFinished};
 
-use crate::gate::Gate;
+use crate::gate::{Gate, Taken};
 use draw::{DrawSeat, Drawing};
 use ktree::{ChunkNo, Refusal};
 use overlay::{LoweredLoop, Piece, Store, Work, run_chunk};
 use schedule::Chunks;
 use std::alloc::Global;
 use std::thread::Promise;
+
+/// A member of a team before it starts: its number among them, and its right to draw.
+#[derive(Drop)]
+pub struct Member {
+    pub number: u64,
+    pub seat: DrawSeat,
+    pub ghost within: { number < seat.of.seats },
+}
 
 /// What a worker leaves when it met the end of the chunks.
 #[derive(Drop)]
@@ -43,19 +51,27 @@ pub fn work<'l, 's, G: Gate>(
     store: &'s Store,
     chunks: &Chunks,
     drawing: &Drawing,
-    mut seat: DrawSeat,
-    worker: u64,
+    member: Member,
     gate: &G,
 ) -> Result<Finished<'l, 's>, Refusal>
     requires fits { Fits lowered.now store.now }
     requires cut { IsCut lowered.now.bound chunks.now }
     requires count { drawing.now.count ≡ length chunks.now }
-    requires seat { seat ≡ fresh drawing.now }
+    requires seat { member.seat ≡ fresh drawing.now }
     ensures { IfOk result (λ f. IsFinished lowered.now store.now chunks.now drawing.now f) }
 {
+    let Member {
+        number: worker,
+        mut seat,
+    } = member;
     let mut pieces = Vec::new(alloc);
     while let Some(ticket) = drawing.next(&mut seat) {
-        gate.entered(worker, ticket);
+        gate.entered(Taken {
+            worker,
+            workers: drawing.seats(),
+            chunk: ticket,
+            chunks: drawing.count(),
+        });
         let chunk = chunks.at(ticket);
         let work = Work {
             chunk: ChunkNo(ticket),

@@ -11,12 +11,12 @@ use std::sync::atomic::{AtomicU64, Ordering};
 use std::test::Fail;
 use std::thread;
 use std::thread::Threads;
-use team::{Gate, OpenGate, run_loop};
+use team::{Gate, OpenGate, Taken, run_loop};
 
 const A: VarId = VarId(0);
 
 /// Holds each worker until so many chunks were entered, each turn giving way, and keeps who entered with which: of the chunks and of
-/// the workers the sum of two to the power of each number, and how many numbers are above 63.
+/// the workers the sum of two to the power of each number, and how often it was told of another number of them.
 #[derive(Drop)]
 struct Held {
     entered: AtomicU64,
@@ -41,10 +41,10 @@ impl Held {
 }
 
 impl Gate for Held {
-    fn entered(&self, worker: u64, chunk: u64) {
-        if worker < 64 && chunk < 64 {
-            self.chunks.fetch_add(1 << chunk, Ordering::SeqCst);
-            self.workers.fetch_add(1 << worker, Ordering::SeqCst);
+    fn entered(&self, taken: Taken) {
+        if taken.workers == self.all && taken.chunks == self.all && self.all <= 64 {
+            self.chunks.fetch_add(1 << taken.chunk, Ordering::SeqCst);
+            self.workers.fetch_add(1 << taken.worker, Ordering::SeqCst);
         } else {
             self.outside.fetch_add(1, Ordering::SeqCst);
         }

@@ -16,3 +16,8 @@ pub side-numbers-requires-clause-well : goal.side-numbers-requires-clause-well
 side-numbers-requires-clause-well c =
     let head = c.args.head.now in
     canonical_well c.args.bounds.now head.variable.0 (source_of head.start) (cond_of head.test) (increment_of head.step) c.in-Ok.canonical c.in-Ok.ensures.ok
+
+pub wraps-requires : goal.wraps-requires
+wraps-requires c =
+    let head = c.args.head.now in
+    canonical_well c.args.bounds.now head.variable.0 (source_of head.start) (cond_of head.test) (increment_of head.step) c.in-Ok.canonical c.in-Ok.ensures.ok

@@ -16,4 +16,4 @@ returns-in-Ok-add-clause-ok c =
     λ (v : Variable → ℤ).
     c.in-Ok-add.ensures.value v
     ∙ distance_is l v (value c.in_ok-apart.apart v) (value c.in-Ok.short v) c.short.result (c.in_ok-apart.ensures.ok v) (constant_value c.in-Ok.short c.short.result v is)
-    (c.short.ensures l.stride.direction)
+    (c.short.ensures.way l.stride.direction)

@@ -1,22 +1,40 @@
-use Rattle.std.proofs.Common.{ap, ◌∙◌}
+use Rattle.std.proofs.Common.{ap, ◌∙◌, inr}
 use Rattle.ktree.specs.View.{stmt_of, items_of}
 use Rattle.flow.specs.Private.{nest_body_of}
-use Rattle.flow.proofs.PrivateLemmas.{no_nest, nest_judged}
+use Rattle.flow.proofs.PrivateLemmas.{not_private, not_nested, nest_judged}
+use Rattle.flow.proofs.FaultLemmas.{nest_told}
 use Rattle.flow.proofs.classifying.loop_fault.Goals as goal
 
-pub returns-in_default : goal.returns-in_default
-returns-in_default c = λ h. c.in_default.ensures.err.1 h.0 h.1 h.2
+pub returns-in_default-clause-judged : goal.returns-in_default-clause-judged
+returns-in_default-clause-judged c = λ h. c.in_default.ensures.err.1 h.0 h.1 h.2
 
-pub returns-in_default-nest_body : goal.returns-in_default-nest_body
-returns-in_default-nest_body c =
+pub returns-in_default-clause-cause : goal.returns-in_default-clause-cause
+returns-in_default-clause-cause c = inr (λ h. c.in_default.ensures.err.1 h.0 h.1 h.2)
+
+pub returns-in_default-nest_body-clause-judged : goal.returns-in_default-nest_body-clause-judged
+returns-in_default-nest_body-clause-judged c =
     let line = c.in-Ok.said in
     let statement = stmt_of c.in-Some.statement.now in
-    no_nest c.args.directives.now c.args.place.line (items_of c.args.rest.now) line.schedule line.collapse c.in-Ok.ensures.ok statement c.in-Some.ensures
+    not_private c.args.directives.now c.args.place.line (items_of c.args.rest.now) line.schedule line.collapse c.in-Ok.ensures.ok statement c.in-Some.ensures
     (c.in_default-nest_body.ensures ∙ ap (λ n. nest_body_of n statement) c.depth.ensures)
 
-pub returns : goal.returns
-returns c =
+pub returns-in_default-nest_body-clause-cause : goal.returns-in_default-nest_body-clause-cause
+returns-in_default-nest_body-clause-cause c =
+    let line = c.in-Ok.said in
+    let statement = stmt_of c.in-Some.statement.now in
+    inr (not_nested c.args.directives.now c.args.place.line (items_of c.args.rest.now) line.schedule line.collapse c.in-Ok.ensures.ok statement c.in-Some.ensures
+    (c.in_default-nest_body.ensures ∙ ap (λ n. nest_body_of n statement) c.depth.ensures))
+
+pub returns-clause-judged : goal.returns-clause-judged
+returns-clause-judged c =
     let line = c.in-Ok.said in
     let statement = stmt_of c.in-Some.statement.now in
     nest_judged c.args.directives.now c.args.place.line (items_of c.args.rest.now) line.schedule line.collapse c.in-Ok.ensures.ok statement c.in-Some.ensures
-    c.body_fault.result (stmt_of c.in-Some-nest_body.body.now) (c.in-Some-nest_body.ensures ∙ ap (λ n. nest_body_of n statement) c.depth.ensures) c.body_fault.ensures
+    c.body_fault.result (stmt_of c.in-Some-nest_body.body.now) (c.in-Some-nest_body.ensures ∙ ap (λ n. nest_body_of n statement) c.depth.ensures) c.body_fault.ensures.judged
+
+pub returns-clause-cause : goal.returns-clause-cause
+returns-clause-cause c =
+    let line = c.in-Ok.said in
+    let statement = stmt_of c.in-Some.statement.now in
+    nest_told c.args.directives.now c.args.place.line (items_of c.args.rest.now) line.schedule line.collapse c.in-Ok.ensures.ok statement c.in-Some.ensures
+    c.body_fault.result (stmt_of c.in-Some-nest_body.body.now) (c.in-Some-nest_body.ensures ∙ ap (λ n. nest_body_of n statement) c.depth.ensures) c.body_fault.ensures.cause

@@ -6,8 +6,8 @@ use Rattle.ktree.specs.View.{stmt_of}
 use Rattle.flow.proofs.PrivateLemmas.{element}
 use Rattle.flow.proofs.sharing.target_fault.Goals as goal
 
-pub returns-then-not-is_empty : goal.returns-then-not-is_empty
-returns-then-not-is_empty c =
+pub returns-then-not-is_empty-clause-judged : goal.returns-then-not-is_empty-clause-judged
+returns-then-not-is_empty-clause-judged c =
     let subscripts = c.args.target.now.subscripts in
     let some : vec_len subscripts ≢ 0 = eqb-false (vec_len subscripts) 0 (sym c.is_empty.ensures ∙ c.if-not-is_empty.true) in
     let above : 0 < length subscripts.items = omega arith in

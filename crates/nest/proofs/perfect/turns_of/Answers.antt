@@ -5,11 +5,15 @@ use Rattle.nest.specs.Heads.{head_of}
 use Rattle.nest.proofs.PerfectLaw.{wraps_not}
 use Rattle.nest.proofs.perfect.turns_of.Goals as goal
 
-pub most_turns-requires-clause-by_one : goal.most_turns-requires-clause-by_one
-most_turns-requires-clause-by_one c =
+pub wraps-requires : goal.wraps-requires
+wraps-requires c =
     let head = c.args.head.now in
-    let well = canonical_well c.args.bounds.now head.variable.0 (source_of head.start) (cond_of head.test) (increment_of head.step) c.in-Ok.canonical c.in-Ok.ensures.ok in
-    well.by_one
+    canonical_well c.args.bounds.now head.variable.0 (source_of head.start) (cond_of head.test) (increment_of head.step) c.in-Ok.canonical c.in-Ok.ensures.ok
+
+pub most_turns-requires-clause-well : goal.most_turns-requires-clause-well
+most_turns-requires-clause-well c =
+    let head = c.args.head.now in
+    canonical_well c.args.bounds.now head.variable.0 (source_of head.start) (cond_of head.test) (increment_of head.step) c.in-Ok.canonical c.in-Ok.ensures.ok
 
 pub side-numbers-requires-clause-well : goal.side-numbers-requires-clause-well
 side-numbers-requires-clause-well c =

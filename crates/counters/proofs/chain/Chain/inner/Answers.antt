@@ -10,10 +10,10 @@ pub level_of-requires-clause-few : goal.level_of-requires-clause-few
 level_of-requires-clause-few c =
     few_outer c.self.inside.bounds c.self.inside.levels.items _ c.self.invariant c.in_ok-made.ensures.ok.few (ap (λ vs. length vs) c.as_slice-outer.ensures.value)
 
-pub level_of-requires-clause-by_one : goal.level_of-requires-clause-by_one
-level_of-requires-clause-by_one c =
+pub level_of-requires-clause-well : goal.level_of-requires-clause-well
+level_of-requires-clause-well c =
     let head = c.args.head.now in
-    (canonical_well c.self.inside.bounds head.variable.0 (source_of head.start) (cond_of head.test) (increment_of head.step) c.in_ok-made.made.canonical c.in_ok-made.ensures.ok.form).by_one
+    canonical_well c.self.inside.bounds head.variable.0 (source_of head.start) (cond_of head.test) (increment_of head.step) c.in_ok-made.made.canonical c.in_ok-made.ensures.ok.form
 
 pub returns-clause-ok : goal.returns-clause-ok
 returns-clause-ok c =

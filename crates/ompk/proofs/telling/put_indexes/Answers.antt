@@ -1,8 +1,0 @@
-use Rattle.std.proofs.Common.{arith}
-use Rattle.ompk.specs.Message.{index_text}
-use Rattle.ompk.proofs.Parts.{begun_part}
-use Rattle.ompk.proofs.telling.put_indexes.Goals as goal
-
-pub returns-in_err-put_index-clause-beginning : goal.returns-in_err-put_index-clause-beginning
-returns-in_err-put_index-clause-beginning g c =
-    begun_part index_text c.args.indexes.now c.loop-index.index-index 0 _ _ _ (omega arith) c.loop-index.invariant.0 c.in_err-put_index.ensures.beginning

@@ -1,0 +1,364 @@
+//! What is said of a refusal.
+
+ghost use Rattle.std.specs.Prelude.{◌≡◌, ◌+◌, ◌<◌, ◌^◌, ◌++◌, ◌∷◌, [], map, codes, decimal, IfErr, OnErr, OnOk};
+ghost use Rattle.ktree.specs.Numbers.{number_of};
+ghost use Rattle.seqrun.specs.Told.{AddsBeginning};
+ghost use Rattle.ompk_message.specs.Message as message;
+ghost use Rattle.ompk_message.specs.Message.{joined, head_text, start_parts, access_parts, iteration_parts, index_text, cause_text, detail_parts, message_of, status_of};
+
+use itoa::Buffer;
+use ktree::{Cause, Conflict, NotShown, Place, Refusal};
+use seqrun::{Sink, put_all};
+
+// `K`, two digits and a space.
+fn head_of(number: u8) -> [u8; 4]
+    requires { number < 100 }
+    ensures { result ≡ head_text number }
+{
+    [b'K', b'0' + number / 10, b'0' + number % 10, b' ']
+}
+
+// Where something is wrong in a text.
+fn place_of(refusal: &Refusal) -> Option<Place>
+    ensures { result ≡ message.place_of refusal.now }
+{
+    match refusal {
+        Refusal::Syntax(place) => Some(*place),
+        Refusal::NumberOutOfRange(place) => Some(*place),
+        Refusal::UnknownName(place) => Some(*place),
+        Refusal::NameTwice(place) => Some(*place),
+        Refusal::Operands(place) => Some(*place),
+        Refusal::LoopNotCanonical(place) => Some(*place),
+        Refusal::LoopMayWrap(place) => Some(*place),
+        Refusal::NotAffine(place) => Some(*place),
+        Refusal::SubscriptOutOfRange(place) => Some(*place),
+        Refusal::MayBeUnassigned(place) => Some(*place),
+        Refusal::Directive(place) => Some(*place),
+        Refusal::NestNotPerfect(place) => Some(*place),
+        Refusal::ClauseForVariable(place) => Some(*place),
+        Refusal::SharedScalarWritten(place) => Some(*place),
+        Refusal::PrivateVariable(place) => Some(*place),
+        Refusal::Reduction(place) => Some(*place),
+        Refusal::Scan(place) => Some(*place),
+        Refusal::Ordered(place) => Some(*place),
+        Refusal::Conflict(conflict) => Some(conflict.accesses.first),
+        Refusal::NotShown(accesses) => Some(accesses.first),
+        Refusal::Limit(place) => Some(*place),
+        Refusal::Input(_) | Refusal::OutOfMemory | Refusal::OutputFailed => None,
+    }
+}
+
+// What is wrong.
+fn words_of(refusal: &Refusal) -> &'static [u8]
+    ensures { result.now ≡ message.words_of refusal.now }
+{
+    match refusal {
+        Refusal::Syntax(_) => b"syntax",
+        Refusal::NumberOutOfRange(_) => b"number out of range",
+        Refusal::UnknownName(_) => b"unknown name",
+        Refusal::NameTwice(_) => b"name twice",
+        Refusal::Operands(_) => b"operands",
+        Refusal::LoopNotCanonical(_) => b"loop not canonical",
+        Refusal::LoopMayWrap(_) => b"loop may wrap",
+        Refusal::NotAffine(_) => b"not affine",
+        Refusal::SubscriptOutOfRange(_) => b"subscript out of range",
+        Refusal::MayBeUnassigned(_) => b"may be unassigned",
+        Refusal::Directive(_) => b"directive",
+        Refusal::NestNotPerfect(_) => b"nest not perfect",
+        Refusal::ClauseForVariable(_) => b"clause for variable",
+        Refusal::SharedScalarWritten(_) => b"shared scalar written",
+        Refusal::PrivateVariable(_) => b"private variable",
+        Refusal::Reduction(_) => b"reduction",
+        Refusal::Scan(_) => b"scan",
+        Refusal::Ordered(_) => b"ordered",
+        Refusal::Conflict(_) => b"conflict",
+        Refusal::NotShown(_) => b"not shown",
+        Refusal::Limit(_) => b"limit",
+        Refusal::Input(_) => b"line ",
+        Refusal::OutOfMemory => b"out of memory",
+        Refusal::OutputFailed => b"output failed",
+    }
+}
+
+// What is wrong with an input's line.
+fn cause_words(cause: Cause) -> &'static [u8]
+    ensures { result.now ≡ cause_text cause }
+{
+    match cause {
+        Cause::Form => b"form",
+        Cause::Name => b"name",
+        Cause::Twice => b"twice",
+        Cause::Count => b"count",
+        Cause::Number => b"number",
+    }
+}
+
+// Puts these one behind another.
+fn put_parts<S: Sink>(sink: &mut S, parts: &[&[u8]]) -> Result<(), Refusal>
+    requires { S.failed sink.old + 1 < 2 ^ 64 }
+    ensures all { OnOk result (S.told sink.new ≡ S.told sink.old ++ joined (map (λ part. part.now) parts.now)) }
+    ensures beginning { AddsBeginning (S.told sink.old) (S.told sink.new) (joined (map (λ part. part.now) parts.now)) }
+    ensures sound { OnOk result (S.failed sink.new ≡ S.failed sink.old) }
+    ensures counted { OnErr result (S.failed sink.new ≡ S.failed sink.old + 1) }
+    ensures refusal { IfErr result (λ refusal. refusal ≡ Refusal.OutputFailed) }
+{
+    for part in parts {
+        put_all(sink, part)?;
+    }
+    Ok(())
+}
+
+// A number, and a place if there is one.
+fn put_start_at<S: Sink>(sink: &mut S, number: u8, place: Option<Place>) -> Result<(), Refusal>
+    requires number { number < 100 }
+    requires room { S.failed sink.old + 1 < 2 ^ 64 }
+    ensures all { OnOk result (S.told sink.new ≡ S.told sink.old ++ joined (head_text number ∷ start_parts place)) }
+    ensures beginning { AddsBeginning (S.told sink.old) (S.told sink.new) (joined (head_text number ∷ start_parts place)) }
+    ensures sound { OnOk result (S.failed sink.new ≡ S.failed sink.old) }
+    ensures counted { OnErr result (S.failed sink.new ≡ S.failed sink.old + 1) }
+    ensures refusal { IfErr result (λ refusal. refusal ≡ Refusal.OutputFailed) }
+{
+    let head = head_of(number);
+    let Some(place) = place else {
+        return put_parts(sink, &[&head]);
+    };
+    let (mut line, mut column) = (Buffer::new(), Buffer::new());
+    put_parts(
+        sink,
+        &[
+            &head,
+            line.format(place.line).as_bytes(),
+            b":",
+            column.format(place.column).as_bytes(),
+            b" ",
+        ],
+    )
+}
+
+// Those of a refusal.
+fn put_start<S: Sink>(sink: &mut S, refusal: &Refusal) -> Result<(), Refusal>
+    requires { S.failed sink.old + 1 < 2 ^ 64 }
+    ensures all { OnOk result (S.told sink.new ≡ S.told sink.old ++ joined (head_text (number_of refusal.now) ∷ start_parts (message.place_of refusal.now))) }
+    ensures beginning { AddsBeginning (S.told sink.old) (S.told sink.new) (joined (head_text (number_of refusal.now) ∷ start_parts (message.place_of refusal.now))) }
+    ensures sound { OnOk result (S.failed sink.new ≡ S.failed sink.old) }
+    ensures counted { OnErr result (S.failed sink.new ≡ S.failed sink.old + 1) }
+    ensures refusal { IfErr result (λ refusal. refusal ≡ Refusal.OutputFailed) }
+{
+    put_start_at(sink, refusal.number(), place_of(refusal))
+}
+
+// An array, and where its two accesses stand.
+fn put_accesses<S: Sink>(sink: &mut S, accesses: &NotShown) -> Result<(), Refusal>
+    requires { S.failed sink.old + 1 < 2 ^ 64 }
+    ensures all { OnOk result (S.told sink.new ≡ S.told sink.old ++ joined (access_parts accesses.now)) }
+    ensures beginning { AddsBeginning (S.told sink.old) (S.told sink.new) (joined (access_parts accesses.now)) }
+    ensures sound { OnOk result (S.failed sink.new ≡ S.failed sink.old) }
+    ensures counted { OnErr result (S.failed sink.new ≡ S.failed sink.old + 1) }
+    ensures refusal { IfErr result (λ refusal. refusal ≡ Refusal.OutputFailed) }
+{
+    let (first, second) = (accesses.first, accesses.second);
+    let (mut line, mut column) = (Buffer::new(), Buffer::new());
+    let (mut second_line, mut second_column) = (Buffer::new(), Buffer::new());
+    put_parts(
+        sink,
+        &[
+            b": ",
+            accesses.array.as_bytes(),
+            b" at ",
+            line.format(first.line).as_bytes(),
+            b":",
+            column.format(first.column).as_bytes(),
+            b" and ",
+            second_line.format(second.line).as_bytes(),
+            b":",
+            second_column.format(second.column).as_bytes(),
+        ],
+    )
+}
+
+// Those, and the end of the line.
+fn tell_accesses<S: Sink>(sink: &mut S, accesses: &NotShown) -> Result<(), Refusal>
+    requires { S.failed sink.old + 1 < 2 ^ 64 }
+    ensures all { OnOk result (S.told sink.new ≡ S.told sink.old ++ joined (access_parts accesses.now ++ codes "\n" ∷ [])) }
+    ensures beginning { AddsBeginning (S.told sink.old) (S.told sink.new) (joined (access_parts accesses.now ++ codes "\n" ∷ [])) }
+    ensures sound { OnOk result (S.failed sink.new ≡ S.failed sink.old) }
+    ensures counted { OnErr result (S.failed sink.new ≡ S.failed sink.old + 1) }
+    ensures refusal { IfErr result (λ refusal. refusal ≡ Refusal.OutputFailed) }
+{
+    put_accesses(sink, accesses)?;
+    put_all(sink, b"\n")
+}
+
+// An element's index, in brackets.
+fn put_index<S: Sink>(sink: &mut S, index: u64) -> Result<(), Refusal>
+    requires { S.failed sink.old + 1 < 2 ^ 64 }
+    ensures all { OnOk result (S.told sink.new ≡ S.told sink.old ++ index_text index) }
+    ensures beginning { AddsBeginning (S.told sink.old) (S.told sink.new) (index_text index) }
+    ensures sound { OnOk result (S.failed sink.new ≡ S.failed sink.old) }
+    ensures counted { OnErr result (S.failed sink.new ≡ S.failed sink.old + 1) }
+    ensures refusal { IfErr result (λ refusal. refusal ≡ Refusal.OutputFailed) }
+{
+    let mut buffer = Buffer::new();
+    put_parts(sink, &[b"[", buffer.format(index).as_bytes(), b"]"])
+}
+
+// All its indexes.
+fn put_indexes<S: Sink>(sink: &mut S, indexes: &[u64]) -> Result<(), Refusal>
+    requires { S.failed sink.old + 1 < 2 ^ 64 }
+    ensures all { OnOk result (S.told sink.new ≡ S.told sink.old ++ joined (map index_text indexes.now)) }
+    ensures beginning { AddsBeginning (S.told sink.old) (S.told sink.new) (joined (map index_text indexes.now)) }
+    ensures sound { OnOk result (S.failed sink.new ≡ S.failed sink.old) }
+    ensures counted { OnErr result (S.failed sink.new ≡ S.failed sink.old + 1) }
+    ensures refusal { IfErr result (λ refusal. refusal ≡ Refusal.OutputFailed) }
+{
+    for index in indexes {
+        put_index(sink, *index)?;
+    }
+    Ok(())
+}
+
+// Those, and the end of the line.
+fn tell_indexes<S: Sink>(sink: &mut S, indexes: &[u64]) -> Result<(), Refusal>
+    requires { S.failed sink.old + 1 < 2 ^ 64 }
+    ensures all { OnOk result (S.told sink.new ≡ S.told sink.old ++ joined (map index_text indexes.now ++ codes "\n" ∷ [])) }
+    ensures beginning { AddsBeginning (S.told sink.old) (S.told sink.new) (joined (map index_text indexes.now ++ codes "\n" ∷ [])) }
+    ensures sound { OnOk result (S.failed sink.new ≡ S.failed sink.old) }
+    ensures counted { OnErr result (S.failed sink.new ≡ S.failed sink.old + 1) }
+    ensures refusal { IfErr result (λ refusal. refusal ≡ Refusal.OutputFailed) }
+{
+    put_indexes(sink, indexes)?;
+    put_all(sink, b"\n")
+}
+
+// Two iterations, and the array of an element that both touch.
+fn put_iterations<S: Sink>(sink: &mut S, conflict: &Conflict) -> Result<(), Refusal>
+    requires { S.failed sink.old + 1 < 2 ^ 64 }
+    ensures all { OnOk result (S.told sink.new ≡ S.told sink.old ++ joined (iteration_parts conflict.now)) }
+    ensures beginning { AddsBeginning (S.told sink.old) (S.told sink.new) (joined (iteration_parts conflict.now)) }
+    ensures sound { OnOk result (S.failed sink.new ≡ S.failed sink.old) }
+    ensures counted { OnErr result (S.failed sink.new ≡ S.failed sink.old + 1) }
+    ensures refusal { IfErr result (λ refusal. refusal ≡ Refusal.OutputFailed) }
+{
+    let (mut earlier, mut later) = (Buffer::new(), Buffer::new());
+    put_parts(
+        sink,
+        &[
+            b", iterations ",
+            earlier.format(conflict.earlier).as_bytes(),
+            b" and ",
+            later.format(conflict.later).as_bytes(),
+            b", element ",
+            conflict.accesses.array.as_bytes(),
+        ],
+    )
+}
+
+// Those, and the element's indexes.
+fn tell_iterations<S: Sink>(sink: &mut S, conflict: &Conflict) -> Result<(), Refusal>
+    requires { S.failed sink.old + 1 < 2 ^ 64 }
+    ensures all { OnOk result (S.told sink.new ≡ S.told sink.old ++ joined (iteration_parts conflict.now ++ (map index_text conflict.now.indexes.items ++ codes "\n" ∷ []))) }
+    ensures beginning { AddsBeginning (S.told sink.old) (S.told sink.new) (joined (iteration_parts conflict.now ++ (map index_text conflict.now.indexes.items ++ codes "\n" ∷ []))) }
+    ensures sound { OnOk result (S.failed sink.new ≡ S.failed sink.old) }
+    ensures counted { OnErr result (S.failed sink.new ≡ S.failed sink.old + 1) }
+    ensures refusal { IfErr result (λ refusal. refusal ≡ Refusal.OutputFailed) }
+{
+    put_iterations(sink, conflict)?;
+    tell_indexes(sink, conflict.indexes.as_slice())
+}
+
+// Two accesses that conflict.
+fn tell_conflict<S: Sink>(sink: &mut S, conflict: &Conflict) -> Result<(), Refusal>
+    requires { S.failed sink.old + 1 < 2 ^ 64 }
+    ensures all { OnOk result (S.told sink.new ≡ S.told sink.old ++ joined (access_parts conflict.now.accesses ++ (iteration_parts conflict.now ++ (map index_text conflict.now.indexes.items ++ codes "\n" ∷ [])))) }
+    ensures beginning { AddsBeginning (S.told sink.old) (S.told sink.new) (joined (access_parts conflict.now.accesses ++ (iteration_parts conflict.now ++ (map index_text conflict.now.indexes.items ++ codes "\n" ∷ [])))) }
+    ensures sound { OnOk result (S.failed sink.new ≡ S.failed sink.old) }
+    ensures counted { OnErr result (S.failed sink.new ≡ S.failed sink.old + 1) }
+    ensures refusal { IfErr result (λ refusal. refusal ≡ Refusal.OutputFailed) }
+{
+    put_accesses(sink, &conflict.accesses)?;
+    tell_iterations(sink, conflict)
+}
+
+// A faulty line of an input.
+fn tell_line<S: Sink>(sink: &mut S, line: u64, cause: &[u8]) -> Result<(), Refusal>
+    requires { S.failed sink.old + 1 < 2 ^ 64 }
+    ensures all { OnOk result (S.told sink.new ≡ S.told sink.old ++ joined ((decimal line ∷ codes ": " ∷ cause.now ∷ []) ++ codes "\n" ∷ [])) }
+    ensures beginning { AddsBeginning (S.told sink.old) (S.told sink.new) (joined ((decimal line ∷ codes ": " ∷ cause.now ∷ []) ++ codes "\n" ∷ [])) }
+    ensures sound { OnOk result (S.failed sink.new ≡ S.failed sink.old) }
+    ensures counted { OnErr result (S.failed sink.new ≡ S.failed sink.old + 1) }
+    ensures refusal { IfErr result (λ refusal. refusal ≡ Refusal.OutputFailed) }
+{
+    let mut buffer = Buffer::new();
+    put_parts(sink, &[buffer.format(line).as_bytes(), b": ", cause, b"\n"])
+}
+
+// What is said further, and the end of the line.
+fn tell_details<S: Sink>(sink: &mut S, refusal: &Refusal) -> Result<(), Refusal>
+    requires { S.failed sink.old + 1 < 2 ^ 64 }
+    ensures all { OnOk result (S.told sink.new ≡ S.told sink.old ++ joined (detail_parts refusal.now ++ codes "\n" ∷ [])) }
+    ensures beginning { AddsBeginning (S.told sink.old) (S.told sink.new) (joined (detail_parts refusal.now ++ codes "\n" ∷ [])) }
+    ensures sound { OnOk result (S.failed sink.new ≡ S.failed sink.old) }
+    ensures counted { OnErr result (S.failed sink.new ≡ S.failed sink.old + 1) }
+    ensures refusal { IfErr result (λ refusal. refusal ≡ Refusal.OutputFailed) }
+{
+    match refusal {
+        Refusal::Conflict(conflict) => tell_conflict(sink, conflict),
+        Refusal::NotShown(accesses) => tell_accesses(sink, accesses),
+        Refusal::Input(fault) => tell_line(sink, fault.line, cause_words(fault.cause)),
+        _ => put_all(sink, b"\n"),
+    }
+}
+
+// Its words.
+fn put_words<S: Sink>(sink: &mut S, refusal: &Refusal) -> Result<(), Refusal>
+    requires { S.failed sink.old + 1 < 2 ^ 64 }
+    ensures all { OnOk result (S.told sink.new ≡ S.told sink.old ++ joined (message.words_of refusal.now ∷ [])) }
+    ensures beginning { AddsBeginning (S.told sink.old) (S.told sink.new) (joined (message.words_of refusal.now ∷ [])) }
+    ensures sound { OnOk result (S.failed sink.new ≡ S.failed sink.old) }
+    ensures counted { OnErr result (S.failed sink.new ≡ S.failed sink.old + 1) }
+    ensures refusal { IfErr result (λ refusal. refusal ≡ Refusal.OutputFailed) }
+{
+    put_parts(sink, &[words_of(refusal)])
+}
+
+// What is wrong, and what is said further.
+fn tell_words<S: Sink>(sink: &mut S, refusal: &Refusal) -> Result<(), Refusal>
+    requires { S.failed sink.old + 1 < 2 ^ 64 }
+    ensures all { OnOk result (S.told sink.new ≡ S.told sink.old ++ joined (message.words_of refusal.now ∷ (detail_parts refusal.now ++ codes "\n" ∷ []))) }
+    ensures beginning { AddsBeginning (S.told sink.old) (S.told sink.new) (joined (message.words_of refusal.now ∷ (detail_parts refusal.now ++ codes "\n" ∷ []))) }
+    ensures sound { OnOk result (S.failed sink.new ≡ S.failed sink.old) }
+    ensures counted { OnErr result (S.failed sink.new ≡ S.failed sink.old + 1) }
+    ensures refusal { IfErr result (λ refusal. refusal ≡ Refusal.OutputFailed) }
+{
+    put_words(sink, refusal)?;
+    tell_details(sink, refusal)
+}
+
+/// Writes the one line that says why something is refused: `Knn`, the place where there is one, and what is wrong.
+///
+/// # Errors
+///
+/// `OutputFailed` where the sink fails; a beginning of the line may be written then. No memory is taken.
+pub fn tell<S: Sink>(refusal: &Refusal, sink: &mut S) -> Result<(), Refusal>
+    requires { S.failed sink.old + 1 < 2 ^ 64 }
+    ensures all { OnOk result (S.told sink.new ≡ S.told sink.old ++ message_of refusal.now) }
+    ensures beginning { AddsBeginning (S.told sink.old) (S.told sink.new) (message_of refusal.now) }
+    ensures sound { OnOk result (S.failed sink.new ≡ S.failed sink.old) }
+    ensures counted { OnErr result (S.failed sink.new ≡ S.failed sink.old + 1) }
+    ensures refusal { IfErr result (λ refusal. refusal ≡ Refusal.OutputFailed) }
+{
+    put_start(sink, refusal)?;
+    tell_words(sink, refusal)
+}
+
+/// The exit status of a program that meets this refusal: 1 for a faulty input or output, 4 for want of memory, and 3 for a
+/// text that is refused.
+pub fn status(refusal: &Refusal) -> u8
+    ensures { result ≡ status_of (number_of refusal.now) }
+{
+    match refusal {
+        Refusal::Input(_) | Refusal::OutputFailed => 1,
+        Refusal::OutOfMemory => 4,
+        _ => 3,
+    }
+}

@@ -1,0 +1,8 @@
+//! Runs of accepted kernels, on a team of workers or by one thread.
+#![tactic(auto)]
+
+mod handing;
+mod running;
+mod teaming;
+
+pub use running::{run, runs_of_accepted, seq};
