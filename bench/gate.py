@@ -7,12 +7,9 @@
                                               libraries, tests included: the fifteen dearest. The first has the start of the check
 """
 import collections
-import importlib.machinery
-import importlib.util
 import os
 import re
 import resource
-import shutil
 import signal
 import subprocess
 import sys
@@ -20,6 +17,11 @@ import tempfile
 import time
 
 TOP = os.path.dirname(os.path.dirname(os.path.abspath(__file__)))
+sys.path.insert(0, os.path.join(TOP, "tools"))
+sys.dont_write_bytecode = True
+
+import kit
+
 TICK = os.sysconf("SC_CLK_TCK")
 KINDS = ("proofs", "tests", "edits")
 
@@ -94,16 +96,6 @@ def tell(tasks, spent):
     print(f"{'all crates':20}" + "".join(f"{it:9.0f}" for it in whole) + f"{sum(whole):9.0f}", flush=True)
 
 
-def load_rt():
-    """The toolchain's command as a module."""
-    path = os.path.realpath(shutil.which("rt") or sys.exit("gate: there is no command rt on the path"))
-    sys.dont_write_bytecode = True
-    loader = importlib.machinery.SourceFileLoader("rt", path)
-    module = importlib.util.module_from_spec(importlib.util.spec_from_loader("rt", loader))
-    loader.exec_module(module)
-    return module
-
-
 def function_of(crate, module):
     """The function whose proof a kept module is a part of, or the module itself."""
     found = re.match(rf"Rattle-{crate}-proofs\.(.*?)\.(?:Lts|Proof|Tie|Goals|Answers|Given|Kinds|Symbol|TheLinks|Body|Calls|Key|Invariants)\b", module)
@@ -112,7 +104,7 @@ def function_of(crate, module):
 
 def functions(names):
     """Checks each crate from nothing by one job, and tells from the times at which its modules are kept what each function took."""
-    rt = load_rt()
+    rt = kit.load()
     os.chdir(TOP)
     rt.rtlib.Crate = rt.Crate
     crates = {it.name: it for it in rt.rtlib.crates_below(TOP)}

@@ -11,8 +11,6 @@ not refused, and their number; the status is 0 where each edit is refused.
 """
 import dataclasses
 import glob
-import importlib.machinery
-import importlib.util
 import os
 import re
 import shutil
@@ -21,6 +19,11 @@ import tempfile
 import time
 
 TOP = os.path.dirname(os.path.dirname(os.path.abspath(__file__)))
+sys.path.insert(0, os.path.join(TOP, "tools"))
+sys.dont_write_bytecode = True
+
+import kit
+
 JOBS = ["--jobs", "1"]
 HEAD = re.compile(r"(\s*)(?:pub(?:\([^)]*\))? )?(?:const )?(?:unsafe )?fn (\w+)")
 IMPL = re.compile(r"impl(?:<.*?>)? (?:(?P<trait>.*) for )?(?:\w+::)*(?P<type>\w+)")
@@ -67,19 +70,6 @@ class Edit:
     @property
     def name(self):
         return os.path.basename(self.file)
-
-
-def load_rt():
-    """The toolchain's command as a module."""
-    found = shutil.which("rt")
-    if not found:
-        sys.exit("edits: there is no command rt on the path")
-    path = os.path.realpath(found)
-    sys.dont_write_bytecode = True
-    loader = importlib.machinery.SourceFileLoader("rt", path)
-    module = importlib.util.module_from_spec(importlib.util.spec_from_loader("rt", loader))
-    loader.exec_module(module)
-    return module
 
 
 def read(path):
@@ -257,7 +247,7 @@ def read_all(rt):
 def main(names):
     started = time.time()
     os.chdir(TOP)
-    rt = load_rt()
+    rt = kit.load()
     if names == ["--read"]:
         return read_all(rt)
     rt.rtlib.guarded()

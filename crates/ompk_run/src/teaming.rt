@@ -25,7 +25,7 @@ use std::sync::Wait;
 use std::thread::Threads;
 use team::{Gate, run_loop};
 
-// A team of so many workers for each loop behind a directive line; the gate is told of the chunks that they take.
+// A team of so many workers for each loop that is handed to it; the gate is told of the chunks that they take.
 #[derive(Drop)]
 pub(crate) struct Teaming<'r, R: Threads + Wait + Sync, G: Gate> {
     pub(crate) rt: &'r R,
@@ -77,7 +77,7 @@ fn directive_place(item: &Item) -> Option<Place>
     }
 }
 
-// Runs a statement, the loops behind directive lines in it by the team (C11 6.8; OpenMP 5.2, 11.5).
+// Runs a statement, the loops in it that are handed to the team by it (C11 6.8; OpenMP 5.2, 11.5).
 #[cycle(teaming)]
 fn team_statement<R: Threads + Wait + Sync, G: Gate, S: Sink>(
     stmt: &Stmt,
@@ -123,7 +123,7 @@ fn team_statement<R: Threads + Wait + Sync, G: Gate, S: Sink>(
     }
 }
 
-// Runs the items of a block in their order, the loops behind directive lines by the team (C11 6.8.2).
+// Runs the items of a block in their order, the loops that are handed to the team by it (C11 6.8.2).
 #[cycle(teaming)]
 pub(crate) fn team_block<R: Threads + Wait + Sync, G: Gate, S: Sink>(
     items: &[Item],
