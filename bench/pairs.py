@@ -2,7 +2,8 @@
 """Times the dependence test on bodies of ever more statements `A[n*i+c] = i;` in a parallel loop of two iterations.
 
 Each statement is paired with itself and with those behind it: milliseconds of `ompk check`, and nanoseconds a pair, which
-should not grow.
+should not grow. Then on bodies of one write behind ever more reads of its array, each of which has one pair alone, with the
+write: milliseconds, and nanoseconds a read.
 """
 import pathlib
 import subprocess
@@ -13,28 +14,42 @@ import time
 TOP = pathlib.Path(__file__).resolve().parent.parent
 PROGRAM = TOP / "crates/ompk_cli/out/ompk_cli"
 STATEMENTS = [64, 500, 1000, 2000, 4000]
+READS = [1000, 10000, 60000]
 
 
-def text(count):
-    body = "".join(f"A[{count}*i+{c}] = i;\n" for c in range(count))
+def kernel(size, body):
     head = "#pragma omp parallel for\nfor (uint64_t i = 0; i < 2; i++) {\n"
-    return f"uint64_t A[{2 * count}];\nvoid kernel(void) {{\n{head}{body}}}\n}}\n"
+    return f"uint64_t A[{size}];\nvoid kernel(void) {{\n{head}{body}}}\n}}\n"
+
+
+def writing(count):
+    return kernel(2 * count, "".join(f"A[{count}*i+{c}] = i;\n" for c in range(count)))
+
+
+def reading(count):
+    return kernel(4, f"uint64_t t = {'+'.join(['A[2*i+1]'] * count)};\nA[2*i] = t;\n")
+
+
+def seconds_to_check(path, text):
+    path.write_text(text)
+    start = time.perf_counter()
+    done = subprocess.run([PROGRAM, "check", path], capture_output=True)
+    if done.stdout != b"accepted\n":
+        sys.exit(f"{text[:80]!r}: {done.stderr.decode()}")
+    return time.perf_counter() - start
 
 
 def main():
     if not PROGRAM.exists():
         sys.exit("build the program first: ./ompk --help")
     with tempfile.TemporaryDirectory() as folder:
+        path = pathlib.Path(folder) / "pairs.c"
         for count in STATEMENTS:
-            path = pathlib.Path(folder) / "pairs.c"
-            path.write_text(text(count))
-            start = time.perf_counter()
-            done = subprocess.run([PROGRAM, "check", path], capture_output=True)
-            seconds = time.perf_counter() - start
-            if done.stdout != b"accepted\n":
-                sys.exit(f"{count} statements: {done.stderr.decode()}")
-            pairs = count * (count + 1) // 2
+            seconds, pairs = seconds_to_check(path, writing(count)), count * (count + 1) // 2
             print(f"{pairs:>9} pairs: {seconds * 1e3:8.1f} ms, {seconds * 1e9 / pairs:7.0f} ns a pair")
+        for count in READS:
+            seconds = seconds_to_check(path, reading(count))
+            print(f"{count:>9} reads: {seconds * 1e3:8.1f} ms, {seconds * 1e9 / count:7.0f} ns a read")
 
 
 main()

@@ -2,12 +2,14 @@
 """Tries the edits that must fail, crates/NAME/edits/*.edit: wrong bodies of functions, in the form of `rt must-fail`.
 
     python3 tests/edits.py [NAME..]        of all crates, or of these
+    python3 tests/edits.py --proved        of all crates, each of which was proved just now as it stands
     python3 tests/edits.py --read          says in a second which edits, of edits/ and of must-fail/, cannot be applied, and tries none
 
 Edits of different functions of a crate are tried together, in one check. An edit is refused only where a goal of the very
-function that it changes is refused; where that is not shown, and where it changes no function (a limit, say), it is tried
-alone. The crate as it stands has to be proved over the same kept work. It prints a line for each crate, the edits that are
-not refused, and their number; the status is 0 where each edit is refused.
+function that it changes is refused, and one of a constant only where a goal of a function that names the constant is; where
+that is not shown, it is tried alone. Unless --proved says that it was, the crate as it stands has to be proved, over the same
+kept work. It prints a line for each crate, the edits that are not refused, and their number; the status is 0 where each edit
+is refused.
 """
 import dataclasses
 import glob
@@ -26,6 +28,7 @@ import kit
 
 JOBS = ["--jobs", "1"]
 HEAD = re.compile(r"(\s*)(?:pub(?:\([^)]*\))? )?(?:const )?(?:unsafe )?fn (\w+)")
+CONST = re.compile(r"\s*(?:pub(?:\([^)]*\))? )?const (\w+):")
 IMPL = re.compile(r"impl(?:<.*?>)? (?:(?P<trait>.*) for )?(?:\w+::)*(?P<type>\w+)")
 NAMES_ALONE = "only because a proof file names what the edit took away"
 NAMES = re.compile(r"has no field|is not in scope|has no `|was not admitted")
@@ -61,15 +64,20 @@ class Function:
 
 @dataclasses.dataclass
 class Edit:
-    """An edit, the functions that it changes, and the lines that it puts in place of others."""
+    """An edit, the functions that it changes, or that name the constant that it changes, and the lines that it puts in place of others."""
 
     file: str
     functions: list
     rows: list
+    is_constant: bool = False
 
     @property
     def name(self):
         return os.path.basename(self.file)
+
+    def is_shown(self, crate, lines):
+        """Whether these lines refuse a goal of each function that it changes, or of one that names its constant."""
+        return (any if self.is_constant else all)(own_goal(crate, it, lines) for it in self.functions)
 
 
 def read(path):
@@ -105,24 +113,36 @@ def owner_of(rows, top):
     return impl["type"] + "+" + re.sub(r"<.*", "", impl["trait"]).rpartition("::")[2]
 
 
+def functions_naming(path, rows, name):
+    """The functions of a file that name a constant."""
+    found = (function_at(path, rows, at) for at, row in enumerate(rows) if re.search(rf"\b{name}\b", row))
+    return list(dict.fromkeys(it for it in found if it))
+
+
 def placed(rt, crate, file):
-    """The edit of a file with the functions that it changes, none where it changes other text; or why it cannot be read."""
+    """The edit of a file with the functions that it changes, none where it changes other text than theirs and a constant's; or
+    why it cannot be read."""
     texts, why = rt.read_edit(file, crate.folder)
     if why:
         return None, why
-    functions, changed = [], []
+    functions, constants, changed = [], [], []
     for path, text in texts.items():
         old, new = read(f"{crate.folder}/{path}").split("\n"), text.split("\n")
         if len(old) != len(new) or not path.endswith(".rt"):
             return Edit(file, [], []), None
         for at, (before, after) in enumerate(zip(old, new)):
             if before != after:
-                function = function_at(path, old, at)
-                if not function:
+                function, constant = function_at(path, old, at), CONST.match(before)
+                if not function and not constant:
                     return Edit(file, [], []), None
-                functions.append(function)
+                if function:
+                    functions.append(function)
+                else:
+                    constants += functions_naming(path, old, constant[1])
                 changed.append((path, at, after))
-    return Edit(file, functions, changed), None
+    if functions and constants:
+        return Edit(file, [], []), None
+    return Edit(file, functions or constants, changed, bool(constants)), None
 
 
 def in_batches(edits):
@@ -180,7 +200,7 @@ def try_batch(rt, crate, batch, kept):
     judged = ran.returncode == 1 and lines[-1].startswith(("only=", "logic=not-proved"))
     if not judged or any(rt.unread(it, texts) for it in lines):
         return []
-    return [edit for edit in batch if all(own_goal(crate, it, lines) for it in edit.functions)]
+    return [edit for edit in batch if edit.is_shown(crate, lines)]
 
 
 def is_proved(rt, crate, edits, kept):
@@ -192,9 +212,9 @@ def is_proved(rt, crate, edits, kept):
     return ran.returncode == 0
 
 
-def try_crate(rt, crate, files):
+def try_crate(rt, crate, files, was_proved):
     """The edits of a crate that are not refused, each with the reason; how many were shown together; and the checks it took."""
-    edits, failed, checks = [], [], 1
+    edits, failed, checks = [], [], 0
     for file in files:
         edit, why = placed(rt, crate, file)
         if why:
@@ -212,7 +232,8 @@ def try_crate(rt, crate, files):
         alone = [it for it in edits if it not in shown]
         tried = [(it, *rt.must_fail(crate, it.file, JOBS, kept)) for it in alone]
         checks += len(alone)
-        if not is_proved(rt, crate, edits, kept):
+        checks += not was_proved
+        if not was_proved and not is_proved(rt, crate, edits, kept):
             shown, tried = [], [(it, *rt.must_fail(crate, it.file, JOBS)) for it in edits]
             checks += len(edits)
     failed += [text for _, refused, text in tried if not refused]
@@ -250,6 +271,8 @@ def main(names):
     rt = kit.load()
     if names == ["--read"]:
         return read_all(rt)
+    was_proved = names == ["--proved"]
+    names = [] if was_proved else names
     rt.rtlib.guarded()
     rt.rtlib.Crate = rt.Crate
     rt.Crate.cuts_libraries = True
@@ -263,7 +286,7 @@ def main(names):
 
     def task(crate):
         begun = time.time()
-        failed, shown, checks = try_crate(rt, crate, files[crate.name])
+        failed, shown, checks = try_crate(rt, crate, files[crate.name], was_proved)
         count = len(files[crate.name])
         took = time.time() - begun
         print(f"edits of {crate.name}: {count - len(failed)} of {count} refused, {shown} together, {checks} checks, {took:.0f} s", flush=True)

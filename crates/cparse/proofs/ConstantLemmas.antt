@@ -5,16 +5,16 @@ use Rattle.semantics.specs.Tree.{Name, Source}
 use Rattle.semantics.specs.Source.Token.{Token}
 use Rattle.semantics.specs.Source.Typing.{constant}
 use Rattle.semantics.specs.Source.Scope.{Scope, AConstant, with_constants}
-use Rattle.creader.specs.Reading.{Got, ◌>>=◌, got, chosen}
-use Rattle.cexpr.specs.Operators.{number_in, is_number}
-use Rattle.cexpr.specs.ExpressionReader.{expression}
-use Rattle.creader.specs.NextTokens.{new_name, becomes, comma}
-use Rattle.cstmt.specs.StatementReader.{is_unused}
+use Rattle.cparse_cursor.specs.Reading.{Got, ◌>>=◌, got, chosen}
+use Rattle.cparse_expr.specs.Operators.{number_in, is_number}
+use Rattle.cparse_expr.specs.ExpressionReader.{expression}
+use Rattle.cparse_cursor.specs.NextTokens.{new_name, becomes, comma}
+use Rattle.cparse_stmt.specs.StatementReader.{is_unused}
 use Rattle.cparse.specs.TextReader.{constants, value_of, has_value}
 use Rattle.cparse.specs.DeclarationSteps.{constant_read, one_constant, and_then, visible}
-use Rattle.creader.specs.Outcome.{Fails}
-use Rattle.creader.specs.declared.stop.Stop.{Stop}
-use Rattle.creader.specs.declared.stop.Stop.TheVariants.{Memory, Syntax, Limit}
+use Rattle.cparse_cursor.specs.Outcome.{Fails}
+use Rattle.cparse_cursor.specs.declared.stop.Stop.{Stop}
+use Rattle.cparse_cursor.specs.declared.stop.Stop.TheVariants.{Memory, Syntax, Limit}
 use Rattle.cparse.proofs.DeclarationLemmas.{behind_row, behind_nothing, row_one}
 
 -- behind one constant

@@ -6,16 +6,16 @@ use Rattle.semantics.specs.Tree.{Source}
 use Rattle.semantics.specs.Source.Token.{Token, Sign, OpenBracket}
 use Rattle.semantics.specs.Source.Typing.{constant}
 use Rattle.semantics.specs.Source.Scope.{Scope}
-use Rattle.creader.specs.Reading.{Got, ◌>>=◌, got}
-use Rattle.cexpr.specs.Operators.{number_in, is_number}
-use Rattle.creader.specs.NextTokens.{close_bracket, open_bracket}
-use Rattle.cexpr.specs.ExpressionReader.{expression}
+use Rattle.cparse_cursor.specs.Reading.{Got, ◌>>=◌, got}
+use Rattle.cparse_expr.specs.Operators.{number_in, is_number}
+use Rattle.cparse_cursor.specs.NextTokens.{close_bracket, open_bracket}
+use Rattle.cparse_expr.specs.ExpressionReader.{expression}
 use Rattle.cparse.specs.TextReader.{lengths, length_of, is_length}
 use Rattle.cparse.specs.DeclarationSteps.{dimension, and_then}
-use Rattle.creader.specs.Outcome.{Fails}
-use Rattle.creader.specs.declared.stop.Stop.{Stop}
-use Rattle.creader.specs.declared.stop.Stop.TheVariants.{Memory, Syntax, Limit}
-use Rattle.cexpr.proofs.LoopLemmas.{opens}
+use Rattle.cparse_cursor.specs.Outcome.{Fails}
+use Rattle.cparse_cursor.specs.declared.stop.Stop.{Stop}
+use Rattle.cparse_cursor.specs.declared.stop.Stop.TheVariants.{Memory, Syntax, Limit}
+use Rattle.cparse_expr.proofs.LoopLemmas.{opens}
 
 pub length_some : (n : ℕ) → length_of (Some n) ≡ max n 1
 length_some zero = refl

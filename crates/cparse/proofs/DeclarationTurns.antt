@@ -5,15 +5,15 @@ use Rattle.std.proofs.lemmas.List.{append_assoc, append-nil, length-append}
 use Rattle.semantics.specs.Tree.{Name, Declaration}
 use Rattle.semantics.specs.Source.Token.{Token, Word, Digits, Quoted, Sign, Header, Line}
 use Rattle.semantics.specs.Source.Scope.{Scope, AVariable, with_constants, same_name}
-use Rattle.creader.specs.Reading.{Got, ◌>>=◌}
-use Rattle.creader.specs.NextTokens.{word}
+use Rattle.cparse_cursor.specs.Reading.{Got, ◌>>=◌}
+use Rattle.cparse_cursor.specs.NextTokens.{word}
 use Rattle.cparse.specs.TextReader.{Decls, enumeration, variable, declarations}
 use Rattle.cparse.specs.DeclarationSteps.{enum_step, variable_step}
-use Rattle.creader.specs.Outcome.{Fails}
-use Rattle.creader.specs.declared.stop.Stop.{Stop}
-use Rattle.creader.specs.declared.stop.Stop.TheVariants.{Memory, Syntax, Limit}
+use Rattle.cparse_cursor.specs.Outcome.{Fails}
+use Rattle.cparse_cursor.specs.declared.stop.Stop.{Stop}
+use Rattle.cparse_cursor.specs.declared.stop.Stop.TheVariants.{Memory, Syntax, Limit}
 use Rattle.cparse.proofs.DeclarationLemmas.{and_apart, and_right}
-use Rattle.cstmt.proofs.StatementSound.{word_is}
+use Rattle.cparse_stmt.proofs.StatementSound.{word_is}
 
 -- what was declared, with more in front of it
 abbrev pub behind_decls : Decls → Option Decls → Option Decls

@@ -12,7 +12,7 @@ use Rattle.semantics.specs.Source.Statements.{ReadsSource, number, truth, ReadsT
 use Rattle.semantics.specs.Source.Grammar.{ReadsLengths, no_lengths, dimension, ReadsConstants, only, further, ReadsDecls, no_decls, enum, headers, Reads}
 use Rattle.semantics.specs.Source.Grammar as grammar
 use Rattle.cparse.specs.SameTokens.{IsSame, AreSame}
-use Rattle.creader.proofs.Binds.{first_true, second_true, both_true}
+use Rattle.cparse_cursor.proofs.Binds.{first_true, second_true, both_true}
 
 -- a literal in its range, or another token
 abbrev pub is_fit : Token → Bool

@@ -7,13 +7,13 @@ use Rattle.ctoken.specs.Meant.{AreTokensOf, HasNoTokens}
 use Rattle.ctoken.specs.declared.token.Token.{Token}
 use Rattle.ctoken.proofs.FrontLaw.{one_cut}
 use Rattle.cparse.specs.TextReader.{Whole, kernel}
-use Rattle.creader.specs.Lexemes.{tokens_of}
+use Rattle.cparse_cursor.specs.Lexemes.{tokens_of}
 use Rattle.cparse.specs.SameTokens.{AreSame, AreLexed}
 use Rattle.cparse.specs.Parsed.{HasNoTree, StopsFor}
-use Rattle.creader.specs.Outcome.{Fails}
-use Rattle.creader.specs.declared.lexeme.Lexeme.{Lexeme}
-use Rattle.creader.specs.declared.stop.Stop.{Stop}
-use Rattle.creader.specs.declared.stop.Stop.TheVariants as stop
+use Rattle.cparse_cursor.specs.Outcome.{Fails}
+use Rattle.cparse_cursor.specs.declared.lexeme.Lexeme.{Lexeme}
+use Rattle.cparse_cursor.specs.declared.stop.Stop.{Stop}
+use Rattle.cparse_cursor.specs.declared.stop.Stop.TheVariants as stop
 use Rattle.cparse.proofs.Literals.{reads_fit, fit_are, are_back}
 use Rattle.cparse.proofs.TextComplete.{kernel_read}
 use Rattle.cparse.proofs.TextSound.{kernel_sound, one_tree}

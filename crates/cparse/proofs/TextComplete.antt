@@ -9,18 +9,18 @@ use Rattle.semantics.specs.Source.Typing.{constant}
 use Rattle.semantics.specs.Source.Scope.{Scope, AVariable, AConstant, with_constants, find, IsFree}
 use Rattle.semantics.specs.Source.Statements.{statement_count}
 use Rattle.semantics.specs.Source.Grammar.{ReadsLengths, no_lengths, dimension, ReadsConstants, only, further, ReadsDecls, no_decls, enum, object, elements, headers, Reads}
-use Rattle.creader.specs.Reading.{Got, ◌>>=◌, got, chosen}
-use Rattle.cexpr.specs.Operators.{number_in, is_number}
-use Rattle.creader.specs.NextTokens.{close_bracket, word}
-use Rattle.cexpr.specs.ExpressionReader.{expression}
-use Rattle.creader.specs.NextTokens as ahead
-use Rattle.cstmt.specs.StatementReader as reader
-use Rattle.cstmt.specs.StatementReader.{items, Told, Tally}
+use Rattle.cparse_cursor.specs.Reading.{Got, ◌>>=◌, got, chosen}
+use Rattle.cparse_expr.specs.Operators.{number_in, is_number}
+use Rattle.cparse_cursor.specs.NextTokens.{close_bracket, word}
+use Rattle.cparse_expr.specs.ExpressionReader.{expression}
+use Rattle.cparse_cursor.specs.NextTokens as ahead
+use Rattle.cparse_stmt.specs.StatementReader as reader
+use Rattle.cparse_stmt.specs.StatementReader.{items, Told, Tally}
 use Rattle.cparse.specs.TextReader as text
 use Rattle.cparse.specs.TextReader.{lengths, length_of, is_length, constants, value_of, has_value, declarations, Decls, Whole, behind_headers, kernel}
-use Rattle.creader.proofs.Binds.{bind_to}
-use Rattle.cexpr.proofs.ExpressionComplete.{right, expr_read}
-use Rattle.cstmt.proofs.StatementComplete.{IsClean, clean_more, items_read, tally_of}
+use Rattle.cparse_cursor.proofs.Binds.{bind_to}
+use Rattle.cparse_expr.proofs.ExpressionComplete.{right, expr_read}
+use Rattle.cparse_stmt.proofs.StatementComplete.{IsClean, clean_more, items_read, tally_of}
 
 -- the lengths of an array, up to the end of its declaration
 lengths_read : {scope : Scope} {ts : List Token} {ns : List ℕ} → ReadsLengths scope ts ns → (n : ℕ) → length ts ≤ n → (rest : List Token) → lengths n scope (ts ++ Sign Semicolon ∷ rest) ≡ Some (right ns (Sign Semicolon ∷ rest))

@@ -10,19 +10,19 @@ use Rattle.semantics.specs.Source.Scope.{Scope, AVariable, AConstant, with_const
 use Rattle.semantics.specs.Source.Expressions.{ReadsExpr}
 use Rattle.semantics.specs.Source.Statements.{statement_count}
 use Rattle.semantics.specs.Source.Grammar.{ReadsLengths, no_lengths, dimension, ReadsConstants, only, further, ReadsDecls, no_decls, enum, object, elements, headers, Reads}
-use Rattle.creader.specs.Reading.{Got, Reader, ◌>>=◌, got, chosen}
-use Rattle.cexpr.specs.Operators.{number_in, is_number}
-use Rattle.creader.specs.NextTokens.{close_paren, close_bracket, word}
-use Rattle.cexpr.specs.ExpressionReader.{expression}
-use Rattle.creader.specs.NextTokens as ahead
-use Rattle.cstmt.specs.StatementReader as reader
-use Rattle.cstmt.specs.StatementReader.{items, Told, Tally}
+use Rattle.cparse_cursor.specs.Reading.{Got, Reader, ◌>>=◌, got, chosen}
+use Rattle.cparse_expr.specs.Operators.{number_in, is_number}
+use Rattle.cparse_cursor.specs.NextTokens.{close_paren, close_bracket, word}
+use Rattle.cparse_expr.specs.ExpressionReader.{expression}
+use Rattle.cparse_cursor.specs.NextTokens as ahead
+use Rattle.cparse_stmt.specs.StatementReader as reader
+use Rattle.cparse_stmt.specs.StatementReader.{items, Told, Tally}
 use Rattle.cparse.specs.TextReader as text
 use Rattle.cparse.specs.TextReader.{lengths, length_of, is_length, constants, value_of, has_value, declarations, Decls, Whole, behind_headers, kernel}
-use Rattle.creader.proofs.Binds.{bind_some, first_true, second_true}
-use Rattle.cexpr.proofs.ExpressionSound.{AsAt, as_number, Front, IsSound, out, no_some, close_paren_is, close_bracket_is, expression_sound}
-use Rattle.cstmt.proofs.StatementSound.{semicolon_is, open_paren_is, becomes_is, close_brace_is, word_is, new_name_is, free_name, items_sound, statement_sound}
-use Rattle.cstmt.proofs.StatementComplete.{same_is}
+use Rattle.cparse_cursor.proofs.Binds.{bind_some, first_true, second_true}
+use Rattle.cparse_expr.proofs.ExpressionSound.{AsAt, as_number, Front, IsSound, out, no_some, close_paren_is, close_bracket_is, expression_sound}
+use Rattle.cparse_stmt.proofs.StatementSound.{semicolon_is, open_paren_is, becomes_is, close_brace_is, word_is, new_name_is, free_name, items_sound, statement_sound}
+use Rattle.cparse_stmt.proofs.StatementComplete.{same_is}
 use Rattle.cparse.proofs.TextComplete.{kernel_read}
 
 open_brace_is : (ts us : List Token) → ahead.open_brace ts ≡ Some us → ts ≡ Sign OpenBrace ∷ us

@@ -16,10 +16,10 @@ use Rattle.ctoken.specs.Meant.{symbol_of, number_of, IsKind, IsLineOf, StandFor,
 use Rattle.ctoken.specs.declared.token.Token.{Token}
 use Rattle.ctoken.specs.declared.token.TokenKind.{TokenKind}
 use Rattle.ctoken.specs.declared.token.TokenKind.TheVariants as given
-use Rattle.creader.specs.declared.lexeme.Kind.{Kind}
-use Rattle.creader.specs.declared.lexeme.Kind.TheVariants as seen
-use Rattle.creader.specs.declared.lexeme.Lexeme.{Lexeme}
-use Rattle.creader.specs.Lexemes.{value_of, kind_of, tokens_of}
+use Rattle.cparse_cursor.specs.declared.lexeme.Kind.{Kind}
+use Rattle.cparse_cursor.specs.declared.lexeme.Kind.TheVariants as seen
+use Rattle.cparse_cursor.specs.declared.lexeme.Lexeme.{Lexeme}
+use Rattle.cparse_cursor.specs.Lexemes.{value_of, kind_of, tokens_of}
 use Rattle.cparse.specs.SameTokens.{IsSame, AreSame, IsKindOf, IsLexed, AreLexed}
 
 -- one token more of a front

@@ -4,11 +4,11 @@ use Rattle.semantics.specs.Tree.{Name}
 use Rattle.semantics.specs.Source.Token.{Token}
 use Rattle.semantics.specs.Source.Typing.{constant}
 use Rattle.semantics.specs.Source.Scope.{Scope, Entity, AVariable, AConstant, with_constants}
-use Rattle.creader.specs.Reading.{Got, Reader, ◌>>=◌, got}
-use Rattle.cexpr.specs.Operators.{number_in, is_number}
-use Rattle.creader.specs.NextTokens.{close_bracket, becomes, new_name}
-use Rattle.cexpr.specs.ExpressionReader.{expression}
-use Rattle.cstmt.specs.StatementReader.{is_unused}
+use Rattle.cparse_cursor.specs.Reading.{Got, Reader, ◌>>=◌, got}
+use Rattle.cparse_expr.specs.Operators.{number_in, is_number}
+use Rattle.cparse_cursor.specs.NextTokens.{close_bracket, becomes, new_name}
+use Rattle.cparse_expr.specs.ExpressionReader.{expression}
+use Rattle.cparse_stmt.specs.StatementReader.{is_unused}
 use Rattle.cparse.specs.TextReader.{length_of, is_length, value_of, has_value, enumeration, variable, Decls}
 
 -- a constant expression, if it has a value (C11 6.6)

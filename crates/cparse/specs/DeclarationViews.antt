@@ -8,7 +8,7 @@ use Rattle.cparse.specs.declared.constants.Constant.{Constant}
 use Rattle.cparse.specs.declared.constants.Valued.{Valued}
 use Rattle.cparse.specs.declared.declarations.FileScope.{FileScope}
 use Rattle.cparse.specs.declared.declarations.Named.{Named}
-use Rattle.creader.specs.Lexemes.{tokens_of}
+use Rattle.cparse_cursor.specs.Lexemes.{tokens_of}
 use Rattle.cparse.specs.declared.kernel.Whole as code
 use Rattle.ktree.specs.View.{kernel_of}
 use Rattle.cparse.specs.TextReader.{Decls, Whole}

@@ -4,8 +4,8 @@ use Rattle.semantics.specs.Tree.{Kernel}
 use Rattle.semantics.specs.Source.Grammar.{ReadsText}
 use Rattle.ktree.specs.declared.refusal.Refusal.{Refusal}
 use Rattle.ktree.specs.declared.refusal.Refusal.TheVariants.{Syntax, NumberOutOfRange, UnknownName, NameTwice, Operands, Limit, OutOfMemory}
-use Rattle.creader.specs.declared.stop.Stop.{Stop}
-use Rattle.creader.specs.declared.stop.Stop.TheVariants as stop
+use Rattle.cparse_cursor.specs.declared.stop.Stop.{Stop}
+use Rattle.cparse_cursor.specs.declared.stop.Stop.TheVariants as stop
 
 -- no tree is read from the text
 abbrev pub HasNoTree : List ℕ → Type 0

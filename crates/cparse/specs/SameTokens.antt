@@ -6,9 +6,9 @@ use Rattle.ctoken.specs.Meant.{span_of}
 use Rattle.ctoken.specs.declared.token.Token.{Token as Given}
 use Rattle.ctoken.specs.declared.token.TokenKind.{TokenKind}
 use Rattle.ctoken.specs.declared.token.TokenKind.TheVariants as given
-use Rattle.creader.specs.declared.lexeme.Kind.{Kind}
-use Rattle.creader.specs.declared.lexeme.Kind.TheVariants as seen
-use Rattle.creader.specs.declared.lexeme.Lexeme.{Lexeme}
+use Rattle.cparse_cursor.specs.declared.lexeme.Kind.{Kind}
+use Rattle.cparse_cursor.specs.declared.lexeme.Kind.TheVariants as seen
+use Rattle.cparse_cursor.specs.declared.lexeme.Lexeme.{Lexeme}
 
 -- two literals of one value, or of values past 2^64
 abbrev pub IsSame : Token → Token → Type 0

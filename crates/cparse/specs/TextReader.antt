@@ -5,11 +5,11 @@ use Rattle.semantics.specs.Source.Token.{Token, Word, Sign, Header, OpenBracket}
 use Rattle.semantics.specs.Source.Typing.{constant}
 use Rattle.semantics.specs.Source.Scope.{Scope, AVariable, AConstant, with_constants, same_name}
 use Rattle.semantics.specs.Source.Grammar.{elements}
-use Rattle.creader.specs.Reading.{Reader, ◌>>=◌, got, chosen}
-use Rattle.cexpr.specs.Operators.{number_in, is_number}
-use Rattle.creader.specs.NextTokens.{close_paren, close_bracket, semicolon, open_paren, becomes, open_brace, close_brace, comma, word, new_name}
-use Rattle.cexpr.specs.ExpressionReader.{expression}
-use Rattle.cstmt.specs.StatementReader.{is_unused, items, statement}
+use Rattle.cparse_cursor.specs.Reading.{Reader, ◌>>=◌, got, chosen}
+use Rattle.cparse_expr.specs.Operators.{number_in, is_number}
+use Rattle.cparse_cursor.specs.NextTokens.{close_paren, close_bracket, semicolon, open_paren, becomes, open_brace, close_brace, comma, word, new_name}
+use Rattle.cparse_expr.specs.ExpressionReader.{expression}
+use Rattle.cparse_stmt.specs.StatementReader.{is_unused, items, statement}
 
 -- the length of a dimension, 1 where there is none (C11 6.7.6.2)
 abbrev pub length_of : Option ℕ → ℕ

@@ -6,19 +6,19 @@ ghost use Rattle.ktree.specs.View.{declaration_of};
 ghost use Rattle.cparse.specs.TextReader.{enumeration, variable, declarations};
 ghost use Rattle.cparse.specs.DeclarationSteps.{enum_step, variable_step};
 ghost use Rattle.cparse.specs.DeclarationViews.{enumerators_of, named_of, decls_of};
-ghost use Rattle.creader.specs.Names.{names_of};
-ghost use Rattle.creader.specs.Lexemes.{tokens_of};
-ghost use Rattle.creader.specs.Outcome.{Gives, got_of};
+ghost use Rattle.cparse_cursor.specs.Names.{names_of};
+ghost use Rattle.cparse_cursor.specs.Lexemes.{tokens_of};
+ghost use Rattle.cparse_cursor.specs.Outcome.{Gives, got_of};
 
 use crate::constants::constants;
 use crate::lengths::lengths;
-use creader::context::{Context, Outcome, Setting};
-use creader::lexeme::Lexeme;
-use creader::parsed::Parsed;
-use creader::punctuation::{close_brace, open_brace, semicolon};
-use creader::scope::{Entity, Scope, add, find};
-use creader::stop::{Fault, Flaw, Stop, earlier, unless};
-use creader::words::{if_word, new_name};
+use cparse_cursor::context::{Context, Outcome, Setting};
+use cparse_cursor::lexeme::Lexeme;
+use cparse_cursor::parsed::Parsed;
+use cparse_cursor::punctuation::{close_brace, open_brace, semicolon};
+use cparse_cursor::scope::{Entity, Scope, add, find};
+use cparse_cursor::stop::{Fault, Flaw, Stop, earlier, unless};
+use cparse_cursor::words::{if_word, new_name};
 use ktree::{Declaration, Enumerator, Place, VarId};
 
 /// What is declared, and the tokens behind it.

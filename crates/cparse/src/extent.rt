@@ -5,7 +5,7 @@ ghost use Rattle.semantics.specs.Meaning.Places.{size};
 ghost use Rattle.semantics.specs.Source.Grammar.{elements};
 ghost use Rattle.ktree.specs.View.{declaration_of};
 
-use creader::stop::{Fault, Flaw, earlier, unless};
+use cparse_cursor::stop::{Fault, Flaw, earlier, unless};
 use ktree::Declaration;
 
 /// The greatest number of elements of all variables.

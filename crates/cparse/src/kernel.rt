@@ -1,23 +1,23 @@
 //! All tokens of a text (C11 6.9).
 
 ghost use Rattle.std.specs.Prelude.{◌≡◌, length, IfOk, IfErr};
-ghost use Rattle.creader.specs.declared.stop.Stop.TheVariants.{Memory};
+ghost use Rattle.cparse_cursor.specs.declared.stop.Stop.TheVariants.{Memory};
 ghost use Rattle.cparse.specs.TextReader.{kernel};
 ghost use Rattle.cparse.specs.DeclarationViews.{whole_of};
-ghost use Rattle.creader.specs.Lexemes.{tokens_of};
-ghost use Rattle.creader.specs.Outcome.{Gives};
+ghost use Rattle.cparse_cursor.specs.Lexemes.{tokens_of};
+ghost use Rattle.cparse_cursor.specs.Outcome.{Gives};
 
 use crate::declarations::{FileScope, declarations};
 use crate::extent::too_many;
 use crate::opening::{at_end, behind_headers, opening};
-use creader::context::Setting;
-use creader::lexeme::Lexeme;
-use creader::punctuation::close_brace;
-use creader::scope::empty;
-use creader::stop::{Fault, Stop, earlier};
-use cstmt::statement::items;
-use cstmt::tally::Tally;
-use cstmt::told::Told;
+use cparse_cursor::context::Setting;
+use cparse_cursor::lexeme::Lexeme;
+use cparse_cursor::punctuation::close_brace;
+use cparse_cursor::scope::empty;
+use cparse_cursor::stop::{Fault, Stop, earlier};
+use cparse_stmt::statement::items;
+use cparse_stmt::tally::Tally;
+use cparse_stmt::told::Told;
 use ktree::{Declaration, Kernel};
 
 /// How many statements there may be.

@@ -3,15 +3,15 @@
 ghost use Rattle.std.specs.Prelude.{ℕ, ◌≡◌, length};
 ghost use Rattle.cparse.specs.TextReader.{lengths, length_of, is_length};
 ghost use Rattle.cparse.specs.DeclarationSteps.{dimension};
-ghost use Rattle.creader.specs.Names.{names_of};
-ghost use Rattle.creader.specs.Lexemes.{tokens_of};
-ghost use Rattle.creader.specs.Outcome.{Gives, got_of};
+ghost use Rattle.cparse_cursor.specs.Names.{names_of};
+ghost use Rattle.cparse_cursor.specs.Lexemes.{tokens_of};
+ghost use Rattle.cparse_cursor.specs.Outcome.{Gives, got_of};
 
 use crate::constants::constant_expression;
-use creader::context::{Context, Outcome};
-use creader::lexeme::Lexeme;
-use creader::parsed::{Parsed, and_then};
-use creader::punctuation::{close_bracket, open_bracket};
+use cparse_cursor::context::{Context, Outcome};
+use cparse_cursor::lexeme::Lexeme;
+use cparse_cursor::parsed::{Parsed, and_then};
+use cparse_cursor::punctuation::{close_bracket, open_bracket};
 
 /// A length, 1 where there is none.
 #[tactic(auto, using(crate::proofs::DeclarationLemmas::length_some))]

@@ -3,8 +3,8 @@
 ghost use Rattle.std.specs.Prelude.{ℕ, ◌≡◌, List, [], ◌∷◌, ◌++◌, IfOk};
 ghost use Rattle.cparse.specs.SameTokens.{IsKindOf, IsLexed, AreLexed};
 
-use creader::lexeme::{Kind, Lexeme};
-use creader::stop::Stop;
+use cparse_cursor::lexeme::{Kind, Lexeme};
+use cparse_cursor::stop::Stop;
 use ctoken::{Token, TokenKind};
 use std::alloc::Global;
 use std::str;

@@ -2,13 +2,13 @@
 
 ghost use Rattle.std.specs.Prelude.{◌≡◌, option_map};
 ghost use Rattle.cparse.specs.TextReader.{opening, behind_headers, at_end};
-ghost use Rattle.creader.specs.Lexemes.{tokens_of};
-ghost use Rattle.creader.specs.Outcome.{Gives};
+ghost use Rattle.cparse_cursor.specs.Lexemes.{tokens_of};
+ghost use Rattle.cparse_cursor.specs.Outcome.{Gives};
 
-use creader::lexeme::{Kind, Lexeme};
-use creader::punctuation::{close_paren, first_place, open_brace, open_paren};
-use creader::stop::Stop;
-use creader::words::word;
+use cparse_cursor::lexeme::{Kind, Lexeme};
+use cparse_cursor::punctuation::{close_paren, first_place, open_brace, open_paren};
+use cparse_cursor::stop::Stop;
+use cparse_cursor::words::word;
 use ktree::Place;
 
 /// The tokens behind the include lines (C11 6.10.2).

@@ -8,8 +8,8 @@ ghost use Rattle.cparse.specs.Parsed.{HasNoTree, StopsFor, RefusesTree};
 
 use crate::kernel::{Whole, kernel};
 use crate::lexing::lexemes;
-use creader::context::Setting;
-use creader::stop::{Fault, Flaw, Stop};
+use cparse_cursor::context::Setting;
+use cparse_cursor::stop::{Fault, Flaw, Stop};
 use ctoken::{Scanned, Token, scan};
 use ktree::{Kernel, Place, Refusal};
 use std::alloc::Global;

@@ -3,7 +3,7 @@ use Rattle.std.specs.Prelude.{ℕ, List}
 use Rattle.semantics.specs.Tree.{Kernel}
 use Rattle.ktree.specs.declared.refusal.Refusal.{Refusal}
 use Rattle.ktree.specs.declared.refusal.Refusal.TheVariants as refusals
-use Rattle.verdict.specs.Refused.{IsRefused}
+use Rattle.deptest_verdict.specs.Refused.{IsRefused}
 use Rattle.law_independence.proofs.ConflictKernels.{told_conflicts_are_conflicts}
 use Rattle.deptest.specs.Accepted.{HasPassed}
 use Rattle.deptest.specs.Refused.{NamesAConflict, RefusesLoops}

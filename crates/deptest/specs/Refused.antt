@@ -3,7 +3,7 @@ use Rattle.std.specs.Prelude.{ℕ, List, []}
 use Rattle.semantics.specs.Tree.{Kernel}
 use Rattle.ktree.specs.declared.refusal.Refusal.{Refusal}
 use Rattle.ktree.specs.declared.refusal.Refusal.TheVariants.{Conflict}
-use Rattle.verdict.specs.Refused.{IsRefused}
+use Rattle.deptest_verdict.specs.Refused.{IsRefused}
 use Rattle.law_independence.specs.Parallel.{SomeItemHas}
 use Rattle.law_independence.specs.ConflictLaws.{IsConflict}
 

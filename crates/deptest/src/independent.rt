@@ -5,11 +5,11 @@ ghost use Rattle.ktree.specs.View.{kernel_of};
 ghost use Rattle.deptest.specs.Accepted.{HasPassed, AreIndependent};
 ghost use Rattle.deptest.specs.Refused.{RefusesLoops};
 
+use deptest_verdict::judge;
 use ktree::{Kernel, Refusal};
 use pragma::Directives;
 use std::alloc::Global;
 use std::marker::Model;
-use verdict::judge;
 
 /// A kernel of whose parallel loops no two iterations conflict, at any turn of the serial loops round them, so that they may run
 /// in any order (OpenMP 5.2, 1.4.1 and 11.5).

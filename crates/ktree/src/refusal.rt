@@ -2,6 +2,7 @@
 
 ghost use Rattle.std.specs.Prelude.{◌≡◌};
 ghost use Rattle.ktree.specs.Numbers.{number_of};
+ghost use Rattle.ktree.specs.Places.{place_of};
 
 use crate::place::Place;
 use std::alloc::{AllocError, AllocFailed};
@@ -105,6 +106,36 @@ impl Refusal {
             Refusal::Input(_) => 22,
             Refusal::OutOfMemory => 23,
             Refusal::OutputFailed => 24,
+        }
+    }
+
+    /// Where the text is at fault; of two accesses, where the first stands.
+    pub fn place(&self) -> Option<Place>
+        ensures { result ≡ place_of self.now }
+    {
+        match self {
+            Refusal::Syntax(place) => Some(*place),
+            Refusal::NumberOutOfRange(place) => Some(*place),
+            Refusal::UnknownName(place) => Some(*place),
+            Refusal::NameTwice(place) => Some(*place),
+            Refusal::Operands(place) => Some(*place),
+            Refusal::LoopNotCanonical(place) => Some(*place),
+            Refusal::LoopMayWrap(place) => Some(*place),
+            Refusal::NotAffine(place) => Some(*place),
+            Refusal::SubscriptOutOfRange(place) => Some(*place),
+            Refusal::MayBeUnassigned(place) => Some(*place),
+            Refusal::Directive(place) => Some(*place),
+            Refusal::NestNotPerfect(place) => Some(*place),
+            Refusal::ClauseForVariable(place) => Some(*place),
+            Refusal::SharedScalarWritten(place) => Some(*place),
+            Refusal::PrivateVariable(place) => Some(*place),
+            Refusal::Reduction(place) => Some(*place),
+            Refusal::Scan(place) => Some(*place),
+            Refusal::Ordered(place) => Some(*place),
+            Refusal::Conflict(conflict) => Some(conflict.accesses.first),
+            Refusal::NotShown(accesses) => Some(accesses.first),
+            Refusal::Limit(place) => Some(*place),
+            Refusal::Input(_) | Refusal::OutOfMemory | Refusal::OutputFailed => None,
         }
     }
 }

@@ -11,23 +11,23 @@ use Rattle.semantics.specs.Loops.Access.{Touches, accesses}
 use Rattle.semantics.specs.Loops.Access as meant
 use Rattle.affine.specs.declared.interval.Side.{Side}
 use Rattle.affine.specs.Affine.{Affine, value}
-use Rattle.forms.specs.Forms.{form_of}
-use Rattle.canonical.specs.declared.head.Canonical.{Canonical}
-use Rattle.canonical.proofs.FormValues.{form_number}
-use Rattle.counters.specs.Levels.{Nesting}
+use Rattle.affine_expr.specs.Forms.{form_of}
+use Rattle.nest_loop.specs.declared.head.Canonical.{Canonical}
+use Rattle.nest_loop.proofs.FormValues.{form_number}
+use Rattle.pairtest_counter.specs.Levels.{Nesting}
 use Rattle.nest.specs.Perfect.{AreRectangular}
-use Rattle.space.specs.declared.bounds.Value.{Value}
-use Rattle.space.specs.Space.{vectors}
-use Rattle.space.specs.Nests.{given, AreRunsOf}
-use Rattle.space.proofs.Nesting.{nest_law}
-use Rattle.conflict.specs.Touching.{FirstTurns, held, AreIndexes, NestAt, IsEntered, TouchesAt}
-use Rattle.accesses.specs.Sites.{Site}
-use Rattle.accesses.specs.Found.{AreEach, IsTouched}
-use Rattle.accesses.specs.declared.told.Touched.{Touched}
-use Rattle.verdict.specs.Shown.{no_loops}
-use Rattle.verdict.specs.Refused.{touch_of, serial_loops, nest_loops}
-use Rattle.turns.specs.Turns.{AreEntered}
-use Rattle.turns.proofs.Laws.{iterations_are_there, iterations_are_turns, iterations_differ}
+use Rattle.nest_space.specs.declared.bounds.Value.{Value}
+use Rattle.nest_space.specs.Space.{vectors}
+use Rattle.nest_space.specs.Nests.{given, AreRunsOf}
+use Rattle.nest_space.proofs.Nesting.{nest_law}
+use Rattle.deptest_witness.specs.Touching.{FirstTurns, held, AreIndexes, NestAt, IsEntered, TouchesAt}
+use Rattle.pairtest_access.specs.Sites.{Site}
+use Rattle.pairtest_access.specs.Found.{AreEach, IsTouched}
+use Rattle.pairtest_access.specs.declared.told.Touched.{Touched}
+use Rattle.deptest_verdict.specs.Shown.{no_loops}
+use Rattle.deptest_verdict.specs.Refused.{touch_of, serial_loops, nest_loops}
+use Rattle.law_turns.specs.Turns.{AreEntered}
+use Rattle.law_turns.proofs.Laws.{iterations_are_there, iterations_are_turns, iterations_differ}
 use Rattle.law_independence.proofs.Entered.{entered_loops, inner_are, serial_are, nest_are, first_are}
 use Rattle.law_independence.proofs.Values.{IsAt, vector_at, first_there}
 use Rattle.law_independence.proofs.Rectangular.{heads_of}

@@ -7,16 +7,16 @@ use Rattle.semantics.specs.Loops.Nest.{Loop}
 use Rattle.ktree.specs.declared.refusal.Conflict as told
 use Rattle.ktree.specs.declared.refusal.Refusal.TheVariants as refusals
 use Rattle.affine.specs.declared.interval.Interval.{Interval}
-use Rattle.canonical.specs.Loops.{inside}
-use Rattle.canonical.proofs.Laws.{loop_is_unique}
-use Rattle.counters.specs.Levels.{Nesting}
+use Rattle.nest_loop.specs.Loops.{inside}
+use Rattle.nest_loop.proofs.Laws.{loop_is_unique}
+use Rattle.pairtest_counter.specs.Levels.{Nesting}
 use Rattle.nest.specs.Perfect.{RightNestFirst, LineNests, Nests, ItemsNest}
 use Rattle.pragma.specs.Parallel.{associated, FirstHas, LineHas}
 use Rattle.pragma.proofs.LoopLaw.{read_once}
-use Rattle.verdict.specs.Shown.{no_loops}
-use Rattle.verdict.specs.Refused.{RefusedFirst, LineRefused, LoopsRefused, ItemsRefused}
-use Rattle.turns.specs.Turns.{AreEntered}
-use Rattle.turns.proofs.Laws.{entered_join}
+use Rattle.deptest_verdict.specs.Shown.{no_loops}
+use Rattle.deptest_verdict.specs.Refused.{RefusedFirst, LineRefused, LoopsRefused, ItemsRefused}
+use Rattle.law_turns.specs.Turns.{AreEntered}
+use Rattle.law_turns.proofs.Laws.{entered_join}
 use Rattle.law_independence.specs.Inside.{LoopsAreRead, ItemsAreRead}
 use Rattle.law_independence.proofs.IndependentLinks.{one_entered}
 use Rattle.law_independence.proofs.Grammar.{decls_small, items_read}

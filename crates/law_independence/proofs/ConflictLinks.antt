@@ -7,13 +7,13 @@ use Rattle.semantics.specs.Tree.{Variable, Expr, Literal, Constant, Object, Unar
 use Rattle.semantics.specs.Loops.Nest.{Loop}
 use Rattle.semantics.specs.Loops.Access.{Access, Mode, Reads, Writes, expr_accesses, cond_accesses, source_accesses, start_accesses, part_accesses, accesses, items_accesses}
 use Rattle.semantics.specs.Loops.Access as meant
-use Rattle.counters.specs.Levels.{Nesting}
+use Rattle.pairtest_counter.specs.Levels.{Nesting}
 use Rattle.pairtest.specs.declared.access.Mode as found_mode
 use Rattle.pairtest.specs.declared.access.Mode.TheVariants as found
-use Rattle.accesses.specs.Sites.{Site, named, expr_sites, cond_sites, source_sites, start_sites, part_sites, Sites, ItemsSites}
-use Rattle.turns.specs.Turns.{AreEntered}
-use Rattle.turns.proofs.Laws.{entered_join}
-use Rattle.turns.proofs.Joining.{contains_none, contains_first, contains_cases}
+use Rattle.pairtest_access.specs.Sites.{Site, named, expr_sites, cond_sites, source_sites, start_sites, part_sites, Sites, ItemsSites}
+use Rattle.law_turns.specs.Turns.{AreEntered}
+use Rattle.law_turns.proofs.Laws.{entered_join}
+use Rattle.law_turns.proofs.Joining.{contains_none, contains_first, contains_cases}
 use Rattle.law_independence.specs.Inside.{LoopsAreRead, ItemsAreRead}
 use Rattle.law_independence.proofs.IndependentLinks.{one_entered}
 

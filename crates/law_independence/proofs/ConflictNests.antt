@@ -8,19 +8,19 @@ use Rattle.ktree.specs.declared.refusal.Conflict as told
 use Rattle.ktree.specs.declared.refusal.Refusal.TheVariants as refusals
 use Rattle.affine.specs.declared.interval.Interval.{Interval}
 use Rattle.affine.specs.declared.interval.Side.{Side}
-use Rattle.forms.specs.declared.faults.Fault.{Fault}
-use Rattle.forms.specs.declared.faults.Fault.TheVariants.{NotCanonical, MayWrap, NotAffine, OutOfRange, NotPerfect, Limit, OutOfMemory}
-use Rattle.forms.specs.Faults.{refusal_of}
-use Rattle.canonical.specs.declared.head.Canonical.{Canonical}
-use Rattle.canonical.specs.Loops.{IsLoop, inside}
-use Rattle.counters.specs.Levels.{Nesting}
+use Rattle.affine_expr.specs.declared.faults.Fault.{Fault}
+use Rattle.affine_expr.specs.declared.faults.Fault.TheVariants.{NotCanonical, MayWrap, NotAffine, OutOfRange, NotPerfect, Limit, OutOfMemory}
+use Rattle.affine_expr.specs.Faults.{refusal_of}
+use Rattle.nest_loop.specs.declared.head.Canonical.{Canonical}
+use Rattle.nest_loop.specs.Loops.{IsLoop, inside}
+use Rattle.pairtest_counter.specs.Levels.{Nesting}
 use Rattle.nest.specs.Perfect.{IsRightNest, AreRectangular}
-use Rattle.accesses.specs.Sites.{IsInside}
-use Rattle.accesses.specs.Found.{inner_loops}
-use Rattle.verdict.specs.Shown.{no_loops}
-use Rattle.verdict.specs.Refused.{IsVerdict, BodyRefused, NestRefused, LoopRefused}
-use Rattle.turns.specs.Turns.{AreEntered}
-use Rattle.turns.proofs.Laws.{entered_join}
+use Rattle.pairtest_access.specs.Sites.{IsInside}
+use Rattle.pairtest_access.specs.Found.{inner_loops}
+use Rattle.deptest_verdict.specs.Shown.{no_loops}
+use Rattle.deptest_verdict.specs.Refused.{IsVerdict, BodyRefused, NestRefused, LoopRefused}
+use Rattle.law_turns.specs.Turns.{AreEntered}
+use Rattle.law_turns.proofs.Laws.{entered_join}
 use Rattle.law_independence.specs.Inside.{IsRead, LoopsAreRead, ItemsAreRead}
 use Rattle.law_independence.proofs.IndependentLinks.{one_entered}
 use Rattle.law_independence.proofs.IndependentNests.{some_alone, longer}

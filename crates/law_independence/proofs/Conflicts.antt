@@ -7,20 +7,20 @@ use Rattle.semantics.specs.Loops.Access.{accesses}
 use Rattle.semantics.specs.Loops.Access as meant
 use Rattle.ktree.specs.declared.refusal.Conflict as told
 use Rattle.ktree.specs.declared.refusal.Refusal.TheVariants as refusals
-use Rattle.canonical.specs.declared.head.Canonical.{Canonical}
-use Rattle.counters.specs.Levels.{Nesting}
+use Rattle.nest_loop.specs.declared.head.Canonical.{Canonical}
+use Rattle.pairtest_counter.specs.Levels.{Nesting}
 use Rattle.nest.specs.Perfect.{AreRectangular}
 use Rattle.pairtest.specs.declared.access.Access.{Access}
 use Rattle.pairtest.specs.declared.access.Mode.TheVariants as found
-use Rattle.space.specs.Space.{vectors}
-use Rattle.conflict.specs.Touching.{NestAt, IsEntered, TouchesAt}
-use Rattle.conflict.specs.Pairs.{Share}
-use Rattle.accesses.specs.Sites.{Site, Sites}
-use Rattle.accesses.specs.Found.{AreFound, IsFound, IsTouched, IsTold}
-use Rattle.accesses.specs.declared.told.Touched.{Touched}
-use Rattle.verdict.specs.Shown.{no_loops}
-use Rattle.verdict.specs.Refused.{IsNameOf, touch_of, serial_loops, nest_loops, IsVerdict}
-use Rattle.turns.specs.Turns.{AreEntered}
+use Rattle.nest_space.specs.Space.{vectors}
+use Rattle.deptest_witness.specs.Touching.{NestAt, IsEntered, TouchesAt}
+use Rattle.deptest_witness.specs.Pairs.{Share}
+use Rattle.pairtest_access.specs.Sites.{Site, Sites}
+use Rattle.pairtest_access.specs.Found.{AreFound, IsFound, IsTouched, IsTold}
+use Rattle.pairtest_access.specs.declared.told.Touched.{Touched}
+use Rattle.deptest_verdict.specs.Shown.{no_loops}
+use Rattle.deptest_verdict.specs.Refused.{IsNameOf, touch_of, serial_loops, nest_loops, IsVerdict}
+use Rattle.law_turns.specs.Turns.{AreEntered}
 use Rattle.law_independence.specs.Inside.{LoopsAreRead}
 use Rattle.law_independence.specs.ConflictLaws.{IsConflict}
 use Rattle.law_independence.proofs.ConflictLinks.{Link, linked}

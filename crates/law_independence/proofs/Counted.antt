@@ -13,16 +13,16 @@ use Rattle.semantics.specs.Meaning.State.{State}
 use Rattle.semantics.specs.Meaning.Value.{both, values}
 use Rattle.semantics.specs.Meaning.Value as meaning
 use Rattle.affine.specs.Affine.{value}
-use Rattle.forms.specs.Forms.{form_of}
-use Rattle.canonical.specs.Turn.{AtTurn}
-use Rattle.counters.specs.declared.level.Level.{Level}
-use Rattle.counters.specs.Levels.{Nesting, AreLevels, values_at}
+use Rattle.affine_expr.specs.Forms.{form_of}
+use Rattle.nest_loop.specs.Turn.{AtTurn}
+use Rattle.pairtest_counter.specs.declared.level.Level.{Level}
+use Rattle.pairtest_counter.specs.Levels.{Nesting, AreLevels, values_at}
 use Rattle.nest.specs.Nests.{StaysBelow, AllStay}
 use Rattle.pairtest.specs.declared.access.Subscript.{Subscript}
 use Rattle.pairtest.specs.Meetings.{Turn, counter_sum, value_at, AreBelow}
-use Rattle.accesses.specs.Found.{AreEach, IsSubscript, coefficients, inner_loops}
-use Rattle.turns.specs.Turns.{AreCounters}
-use Rattle.turns.proofs.Laws.{forms_in_counters_are_same, expressions_have_forms}
+use Rattle.pairtest_access.specs.Found.{AreEach, IsSubscript, coefficients, inner_loops}
+use Rattle.law_turns.specs.Turns.{AreCounters}
+use Rattle.law_turns.proofs.Laws.{forms_in_counters_are_same, expressions_have_forms}
 use Rattle.law_independence.specs.Inside.{AreShort}
 use Rattle.law_independence.proofs.Sums.{stretch, stretch-last, in_counters_canonical, counted_value}
 

@@ -4,13 +4,13 @@ use Rattle.std.proofs.Common.{refl, sym, ap, ◌∙◌, arith}
 use Rattle.std.proofs.Math.Seq.{take-append_seam, drop-append_seam}
 use Rattle.std.proofs.lemmas.List.{append_assoc, length-append, length-map, map-append, reverse-append, length-reverse}
 use Rattle.semantics.specs.Loops.Nest.{Loop}
-use Rattle.canonical.specs.declared.head.Canonical.{Canonical}
-use Rattle.counters.specs.declared.level.Level.{Level}
-use Rattle.counters.specs.Levels.{Nesting}
-use Rattle.accesses.specs.Found.{inner_loops}
-use Rattle.verdict.specs.Refused.{serial_loops, nest_loops}
-use Rattle.turns.specs.Turns.{AreEntered}
-use Rattle.turns.proofs.Iterating.{nested}
+use Rattle.nest_loop.specs.declared.head.Canonical.{Canonical}
+use Rattle.pairtest_counter.specs.declared.level.Level.{Level}
+use Rattle.pairtest_counter.specs.Levels.{Nesting}
+use Rattle.pairtest_access.specs.Found.{inner_loops}
+use Rattle.deptest_verdict.specs.Refused.{serial_loops, nest_loops}
+use Rattle.law_turns.specs.Turns.{AreEntered}
+use Rattle.law_turns.proofs.Iterating.{nested}
 
 -- the canonical loops that were entered, the outermost first
 abbrev pub entered_loops : (hs : List Loop) (before after : Nesting) → AreEntered before hs after → List Canonical

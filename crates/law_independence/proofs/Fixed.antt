@@ -10,13 +10,13 @@ use Rattle.semantics.specs.Meaning.Agrees.{also}
 use Rattle.affine.specs.declared.interval.Side.{Side}
 use Rattle.affine.specs.Affine.{Affine}
 use Rattle.affine.specs.Arithmetic.{multiple_form, variable_form}
-use Rattle.forms.specs.Forms.{kept, is_counter, is_number, operated, form_of}
-use Rattle.canonical.specs.declared.stride.Direction.{Direction}
-use Rattle.canonical.specs.declared.stride.Direction.TheVariants.{Rising, Falling}
-use Rattle.canonical.specs.declared.stride.Stride.{Stride}
-use Rattle.canonical.specs.Canonical.{is_variable, stride_by, stride_in, stride_op, stride_of}
-use Rattle.canonical.proofs.Heads.{guarded, variable_is}
-use Rattle.commute.specs.Steady.{IsFixedExpr, IsFixedStep}
+use Rattle.affine_expr.specs.Forms.{kept, is_counter, is_number, operated, form_of}
+use Rattle.nest_loop.specs.declared.stride.Direction.{Direction}
+use Rattle.nest_loop.specs.declared.stride.Direction.TheVariants.{Rising, Falling}
+use Rattle.nest_loop.specs.declared.stride.Stride.{Stride}
+use Rattle.nest_loop.specs.Canonical.{is_variable, stride_by, stride_in, stride_op, stride_of}
+use Rattle.nest_loop.proofs.Heads.{guarded, variable_is}
+use Rattle.law_commute.specs.Steady.{IsFixedExpr, IsFixedStep}
 
 -- ---- results that are there have parts that are
 

@@ -10,10 +10,10 @@ use Rattle.semantics.specs.Source.Grammar.{ReadsLengths, no_lengths, dimension, 
 use Rattle.semantics.specs.Meaning.State.{State, Outside}
 use Rattle.affine.specs.declared.interval.Interval.{Interval}
 use Rattle.affine.specs.declared.interval.Side.{Side}
-use Rattle.forms.specs.Forms.{is_counter}
-use Rattle.canonical.specs.Constants.{Each, IsSmall}
-use Rattle.canonical.specs.Loops.{inside}
-use Rattle.canonical.proofs.Visible.{constant_there}
+use Rattle.affine_expr.specs.Forms.{is_counter}
+use Rattle.nest_loop.specs.Constants.{Each, IsSmall}
+use Rattle.nest_loop.specs.Loops.{inside}
+use Rattle.nest_loop.proofs.Visible.{constant_there}
 use Rattle.law_independence.specs.Inside.{LoopsAreRead, ItemsAreRead, AreShort, HaveShort}
 
 -- a state, to read constants in

@@ -9,8 +9,8 @@ use Rattle.semantics.specs.Meaning.Value.{values}
 use Rattle.semantics.specs.Loops.Nest.{Loop, Vector, iterations, at_vector}
 use Rattle.semantics.specs.Loops.Access as meant
 use Rattle.semantics.specs.Loops.Access.{Conflict, Element, Touches, Reaches, accesses}
-use Rattle.canonical.specs.Turn.{AtTurn}
-use Rattle.counters.specs.Levels.{Nesting, AreLevels, IsTurn, values_at}
+use Rattle.nest_loop.specs.Turn.{AtTurn}
+use Rattle.pairtest_counter.specs.Levels.{Nesting, AreLevels, IsTurn, values_at}
 use Rattle.nest.specs.Nests.{lengths_of}
 use Rattle.pairtest.specs.declared.access.Access.{Access}
 use Rattle.pairtest.specs.declared.access.Nest.{Nest}
@@ -19,13 +19,13 @@ use Rattle.pairtest.specs.Cases.{AllRefuted, dimensions}
 use Rattle.pairtest.specs.Meetings.{Turn, value_at, AreBelow}
 use Rattle.pairtest.specs.Meetings as meetings
 use Rattle.pairtest.proofs.Solutions.{refuted_pairs_do_not_meet_lem}
-use Rattle.accesses.specs.Sites.{Site}
-use Rattle.accesses.specs.Found.{AreFound, IsFound, inner_loops}
-use Rattle.verdict.specs.Pairs.{IsShown, AreShown}
-use Rattle.verdict.specs.Shown.{IsShownBody}
-use Rattle.turns.specs.Turns.{AreEntered, IsIteration}
-use Rattle.turns.proofs.Laws.{iterations_are_turns, entered_are_levels, turns_are_inside, turns_join, steps_tell_iterations}
-use Rattle.turns.proofs.Joining.{contains_none, contains_first, contains_later, contains_cases}
+use Rattle.pairtest_access.specs.Sites.{Site}
+use Rattle.pairtest_access.specs.Found.{AreFound, IsFound, inner_loops}
+use Rattle.deptest_verdict.specs.Pairs.{IsShown, AreShown}
+use Rattle.deptest_verdict.specs.Shown.{IsShownBody}
+use Rattle.law_turns.specs.Turns.{AreEntered, IsIteration}
+use Rattle.law_turns.proofs.Laws.{iterations_are_turns, entered_are_levels, turns_are_inside, turns_join, steps_tell_iterations}
+use Rattle.law_turns.proofs.Joining.{contains_none, contains_first, contains_later, contains_cases}
 use Rattle.law_independence.specs.Inside.{AreShort, HaveShort}
 use Rattle.law_independence.specs.IndependenceLaws.{IsNestOf, ShownBodiesAreIndependent}
 use Rattle.law_independence.proofs.IndependentLinks.{Link, linked}

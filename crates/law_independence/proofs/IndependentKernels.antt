@@ -3,12 +3,12 @@ use Rattle.std.specs.Prelude.{ℕ, List, [], ◌∷◌, ◌++◌}
 use Rattle.std.proofs.Common.{refl}
 use Rattle.semantics.specs.Tree.{Stmt, Assign, Update, If, IfElse, For, Block, Print, Items, no_items, mark, local, stmt, Declaration}
 use Rattle.semantics.specs.Loops.Nest.{Loop}
-use Rattle.counters.specs.Levels.{Nesting}
+use Rattle.pairtest_counter.specs.Levels.{Nesting}
 use Rattle.nest.specs.Nests.{Has, Have, StaysInside}
 use Rattle.pragma.specs.Parallel.{associated, FirstHas, LineHas, LoopsHave, ItemsHave}
-use Rattle.verdict.specs.Shown.{ShownFirst, LineShown, LoopsShown, ItemsShown, no_loops}
-use Rattle.turns.specs.Turns.{AreEntered}
-use Rattle.turns.proofs.Laws.{entered_join}
+use Rattle.deptest_verdict.specs.Shown.{ShownFirst, LineShown, LoopsShown, ItemsShown, no_loops}
+use Rattle.law_turns.specs.Turns.{AreEntered}
+use Rattle.law_turns.proofs.Laws.{entered_join}
 use Rattle.law_independence.specs.Inside.{LoopsAreRead, ItemsAreRead, HaveShort}
 use Rattle.law_independence.specs.IndependenceLaws.{IsIndependentNest, ShownKernelsAreIndependent}
 use Rattle.law_independence.proofs.IndependentLinks.{one_entered}

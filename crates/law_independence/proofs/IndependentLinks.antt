@@ -9,16 +9,16 @@ use Rattle.semantics.specs.Loops.Access.{Access, Mode, Reads, Writes, expr_acces
 use Rattle.semantics.specs.Loops.Access as meant
 use Rattle.affine.specs.declared.interval.Interval.{Interval}
 use Rattle.affine.specs.Box.{side}
-use Rattle.canonical.specs.Loops.{inside}
-use Rattle.canonical.proofs.Laws.{loop_is_unique}
-use Rattle.counters.specs.Levels.{Nesting, AreLevels}
+use Rattle.nest_loop.specs.Loops.{inside}
+use Rattle.nest_loop.proofs.Laws.{loop_is_unique}
+use Rattle.pairtest_counter.specs.Levels.{Nesting, AreLevels}
 use Rattle.nest.specs.Nests.{ExprHas, CondHas, SourceHas, StartHas, PartsHave, Has, Have, StaysInside}
 use Rattle.pairtest.specs.declared.access.Mode as found_mode
 use Rattle.pairtest.specs.declared.access.Mode.TheVariants as found
-use Rattle.accesses.specs.Sites.{Site, named, expr_sites, cond_sites, source_sites, start_sites, part_sites, IsInside, Sites, ItemsSites}
-use Rattle.turns.specs.Turns.{AreEntered}
-use Rattle.turns.proofs.Laws.{entered_join}
-use Rattle.turns.proofs.Joining.{contains_none, contains_first, contains_cases}
+use Rattle.pairtest_access.specs.Sites.{Site, named, expr_sites, cond_sites, source_sites, start_sites, part_sites, IsInside, Sites, ItemsSites}
+use Rattle.law_turns.specs.Turns.{AreEntered}
+use Rattle.law_turns.proofs.Laws.{entered_join}
+use Rattle.law_turns.proofs.Joining.{contains_none, contains_first, contains_cases}
 use Rattle.law_independence.specs.Inside.{IsRead, LoopsAreRead, ItemsAreRead}
 
 -- an access is this site: its own loops are those that were entered

@@ -8,17 +8,17 @@ use Rattle.semantics.specs.Loops.Nest.{Loop, as_loop, only_loop, holds_none, nes
 use Rattle.semantics.specs.Loops.Access.{Conflict}
 use Rattle.affine.specs.declared.interval.Interval.{Interval}
 use Rattle.affine.specs.declared.interval.Side.{Side}
-use Rattle.canonical.specs.declared.head.Canonical.{Canonical}
-use Rattle.canonical.specs.Loops.{IsLoop, inside}
-use Rattle.canonical.specs.Turn.{AtTurn}
-use Rattle.canonical.proofs.Laws.{loop_is_unique}
-use Rattle.counters.specs.Levels.{Nesting, values_at}
+use Rattle.nest_loop.specs.declared.head.Canonical.{Canonical}
+use Rattle.nest_loop.specs.Loops.{IsLoop, inside}
+use Rattle.nest_loop.specs.Turn.{AtTurn}
+use Rattle.nest_loop.proofs.Laws.{loop_is_unique}
+use Rattle.pairtest_counter.specs.Levels.{Nesting, values_at}
 use Rattle.nest.specs.Nests.{Has, Have, StaysInside}
-use Rattle.accesses.specs.Sites.{IsInside}
-use Rattle.accesses.specs.Found.{inner_loops}
-use Rattle.verdict.specs.Shown.{IsShownBody, IsShownNest, no_loops}
-use Rattle.turns.specs.Turns.{AreEntered}
-use Rattle.turns.proofs.Laws.{entered_join, entered_are_levels, outside_is_a_turn, iterations_are_turns}
+use Rattle.pairtest_access.specs.Sites.{IsInside}
+use Rattle.pairtest_access.specs.Found.{inner_loops}
+use Rattle.deptest_verdict.specs.Shown.{IsShownBody, IsShownNest, no_loops}
+use Rattle.law_turns.specs.Turns.{AreEntered}
+use Rattle.law_turns.proofs.Laws.{entered_join, entered_are_levels, outside_is_a_turn, iterations_are_turns}
 use Rattle.law_independence.specs.Inside.{IsRead, LoopsAreRead, ItemsAreRead}
 use Rattle.law_independence.specs.IndependenceLaws.{ShownLoopsAreIndependent}
 use Rattle.law_independence.proofs.IndependentLinks.{one_entered}

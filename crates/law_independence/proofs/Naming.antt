@@ -12,13 +12,13 @@ use Rattle.semantics.specs.Meaning.Agrees.{also, names_expr, names_exprs, names_
 use Rattle.semantics.proofs.EraseTokenLaw.{first_of, second_of}
 use Rattle.affine.specs.declared.interval.Interval.{Interval}
 use Rattle.affine.specs.declared.interval.Side.{Side}
-use Rattle.forms.specs.Forms.{is_counter}
-use Rattle.canonical.specs.Constants.{Each}
-use Rattle.canonical.specs.Loops.{inside}
-use Rattle.canonical.proofs.Visible.{each_found, each_weaker}
-use Rattle.canonical.proofs.Heads.{head_of}
+use Rattle.affine_expr.specs.Forms.{is_counter}
+use Rattle.nest_loop.specs.Constants.{Each}
+use Rattle.nest_loop.specs.Loops.{inside}
+use Rattle.nest_loop.proofs.Visible.{each_found, each_weaker}
+use Rattle.nest_loop.proofs.Heads.{head_of}
 use Rattle.nest.specs.Nests.{Has, Have, Asked}
-use Rattle.commute.specs.Steady.{IsFixedExpr, IsFixedCond}
+use Rattle.law_commute.specs.Steady.{IsFixedExpr, IsFixedCond}
 use Rattle.law_independence.proofs.Fixed.{form_fixed, own_fixed}
 use Rattle.law_independence.proofs.Starts.{StartsNameOthers, AllNameOthers}
 

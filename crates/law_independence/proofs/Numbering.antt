@@ -9,12 +9,12 @@ use Rattle.semantics.specs.Source.Statements.{ReadsStmt, assign, update, if_only
 use Rattle.semantics.specs.Meaning.Agrees.{is_among, declared_in, declared_among}
 use Rattle.affine.specs.declared.interval.Interval.{Interval}
 use Rattle.affine.specs.declared.interval.Side.{Side}
-use Rattle.forms.specs.Forms.{is_counter}
-use Rattle.canonical.specs.Constants.{Each}
-use Rattle.canonical.specs.Loops.{inside}
+use Rattle.affine_expr.specs.Forms.{is_counter}
+use Rattle.nest_loop.specs.Constants.{Each}
+use Rattle.nest_loop.specs.Loops.{inside}
 use Rattle.flow.proofs.PrivateLemmas.{among_both}
-use Rattle.total.proofs.Points.{rises, IsBelow}
-use Rattle.total.proofs.Growing.{visible_behind as also_visible, visible_later}
+use Rattle.law_runs.proofs.Points.{rises, IsBelow}
+use Rattle.law_runs.proofs.Growing.{visible_behind as also_visible, visible_later}
 
 -- ---- what is declared
 

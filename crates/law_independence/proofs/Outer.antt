@@ -10,17 +10,17 @@ use Rattle.semantics.specs.Tree.{Variable}
 use Rattle.semantics.specs.Meaning.State.{State, Slot, Holds, Outside}
 use Rattle.semantics.specs.Loops.Nest.{Loop, Vector, at_value, at_vector, iterations}
 use Rattle.affine.specs.declared.interval.Side.{Side}
-use Rattle.forms.specs.Forms.{is_counter}
-use Rattle.canonical.specs.Turn.{HoldsValue, AtTurn}
-use Rattle.counters.specs.Levels.{Nesting, values_at}
-use Rattle.counters.proofs.Chains.{canonical_named}
-use Rattle.space.specs.declared.bounds.Value.{Value}
-use Rattle.space.specs.Nests.{given}
-use Rattle.conflict.specs.Touching.{FirstTurns}
-use Rattle.verdict.specs.Shown.{no_loops}
-use Rattle.turns.specs.Turns.{AreEntered}
-use Rattle.turns.proofs.Laws.{iterations_are_there, iterations_are_turns, outside_is_a_turn}
-use Rattle.turns.proofs.Iterating.{nested}
+use Rattle.affine_expr.specs.Forms.{is_counter}
+use Rattle.nest_loop.specs.Turn.{HoldsValue, AtTurn}
+use Rattle.pairtest_counter.specs.Levels.{Nesting, values_at}
+use Rattle.pairtest_counter.proofs.Chains.{canonical_named}
+use Rattle.nest_space.specs.declared.bounds.Value.{Value}
+use Rattle.nest_space.specs.Nests.{given}
+use Rattle.deptest_witness.specs.Touching.{FirstTurns}
+use Rattle.deptest_verdict.specs.Shown.{no_loops}
+use Rattle.law_turns.specs.Turns.{AreEntered}
+use Rattle.law_turns.proofs.Laws.{iterations_are_there, iterations_are_turns, outside_is_a_turn}
+use Rattle.law_turns.proofs.Iterating.{nested}
 use Rattle.law_independence.specs.ConflictLaws.{IsFirstTurn}
 use Rattle.law_independence.proofs.Entered.{entered_loops}
 use Rattle.law_independence.proofs.Values.{IsAt, outside_at, IsFirstAt, first_there}

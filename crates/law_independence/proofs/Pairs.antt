@@ -8,9 +8,9 @@ use Rattle.pairtest.specs.declared.access.Nest.{Nest}
 use Rattle.pairtest.specs.declared.access.Mode.{Mode}
 use Rattle.pairtest.specs.declared.access.Mode.TheVariants.{Reads, Writes}
 use Rattle.pairtest.specs.Cases.{AllRefuted}
-use Rattle.accesses.specs.Sites.{Site}
-use Rattle.accesses.specs.Found.{AreFound, IsFound}
-use Rattle.verdict.specs.Pairs.{IsPair, IsFirstPair}
+use Rattle.pairtest_access.specs.Sites.{Site}
+use Rattle.pairtest_access.specs.Found.{AreFound, IsFound}
+use Rattle.deptest_verdict.specs.Pairs.{IsPair, IsFirstPair}
 
 -- two accesses are a pair where nothing follows from it that is not so anyway
 is_pair : (R : Type 0) (x y : Access) → ((IsPair x y → R) → ⊥) → IsPair x y

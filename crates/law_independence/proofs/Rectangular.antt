@@ -8,17 +8,17 @@ use Rattle.semantics.specs.Loops.Nest.{Loop}
 use Rattle.affine.specs.declared.interval.Side.{Side}
 use Rattle.affine.specs.Affine.{Affine}
 use Rattle.affine.specs.Arithmetic.{variable_form, multiple_form}
-use Rattle.forms.specs.Forms.{kept, is_counter, is_number, operated, form_of}
-use Rattle.canonical.specs.declared.stride.Stride.{Stride}
-use Rattle.canonical.specs.declared.stride.Bound.{Bound}
-use Rattle.canonical.specs.declared.head.Canonical.{Canonical}
-use Rattle.canonical.specs.Canonical.{is_variable, stride_of, bound_after, canonical_by, start_form, canonical}
-use Rattle.canonical.proofs.Heads.{guarded}
-use Rattle.counters.specs.Levels.{Nesting}
+use Rattle.affine_expr.specs.Forms.{kept, is_counter, is_number, operated, form_of}
+use Rattle.nest_loop.specs.declared.stride.Stride.{Stride}
+use Rattle.nest_loop.specs.declared.stride.Bound.{Bound}
+use Rattle.nest_loop.specs.declared.head.Canonical.{Canonical}
+use Rattle.nest_loop.specs.Canonical.{is_variable, stride_of, bound_after, canonical_by, start_form, canonical}
+use Rattle.nest_loop.proofs.Heads.{guarded}
+use Rattle.pairtest_counter.specs.Levels.{Nesting}
 use Rattle.nest.specs.Perfect.{AreRectangular}
-use Rattle.space.specs.Heads.{AreHeadsOf}
-use Rattle.turns.specs.Turns.{AreEntered}
-use Rattle.turns.proofs.Iterating.{nested}
+use Rattle.nest_space.specs.Heads.{AreHeadsOf}
+use Rattle.law_turns.specs.Turns.{AreEntered}
+use Rattle.law_turns.proofs.Iterating.{nested}
 use Rattle.law_independence.proofs.Entered.{entered_loops}
 
 wider_by : (x : Variable) (s : Option Stride) (b : Option Bound) (o p o' p' : Option Affine) (l : Canonical) → ((f : Affine) → o ≡ Some f → o' ≡ Some f) → ((f : Affine) → p ≡ Some f → p' ≡ Some f)

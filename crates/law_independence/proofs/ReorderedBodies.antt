@@ -11,18 +11,18 @@ use Rattle.semantics.specs.Meaning.Agrees.{is_among, declared_in, visible_behind
 use Rattle.semantics.specs.Loops.Nest.{Loop, as_loop, only_loop, holds_none}
 use Rattle.affine.specs.declared.interval.Interval.{Interval}
 use Rattle.affine.specs.declared.interval.Side.{Side}
-use Rattle.canonical.specs.Loops.{inside}
-use Rattle.canonical.proofs.Visible.{each_weaker}
-use Rattle.counters.specs.Levels.{Nesting}
+use Rattle.nest_loop.specs.Loops.{inside}
+use Rattle.nest_loop.proofs.Visible.{each_weaker}
+use Rattle.pairtest_counter.specs.Levels.{Nesting}
 use Rattle.nest.specs.Nests.{Has, Have, StaysInside}
 use Rattle.flow.specs.Private.{is_private_body}
-use Rattle.verdict.specs.Shown.{IsShownNest}
-use Rattle.total.proofs.Points.{IsBelow}
-use Rattle.turns.proofs.Laws.{entered_join}
+use Rattle.deptest_verdict.specs.Shown.{IsShownNest}
+use Rattle.law_runs.proofs.Points.{IsBelow}
+use Rattle.law_turns.proofs.Laws.{entered_join}
 use Rattle.law_independence.specs.Inside.{LoopsAreRead, ItemsAreRead}
 use Rattle.law_independence.proofs.IndependentLinks.{one_entered}
 use Rattle.law_independence.proofs.IndependentNests.{some_alone, longer, IsLoopThere, IsBodyThere, body_there, IsNestThere}
-use Rattle.commute.specs.Commuting.{KeepsToItself}
+use Rattle.law_commute.specs.Commuting.{KeepsToItself}
 use Rattle.law_independence.proofs.Numbering.{declared_from, IsPlace, place_inside}
 use Rattle.law_independence.proofs.Starts.{StartsNameOthers, AllNameOthers}
 use Rattle.law_independence.proofs.Naming.{IsNamed, stmt_named}

@@ -9,17 +9,17 @@ use Rattle.semantics.specs.Source.Statements.{ReadsStmt, assign, update, if_only
 use Rattle.semantics.specs.Source.Text.{line_at}
 use Rattle.semantics.specs.Meaning.Definite.{no_privates, definite_items, known_at_start}
 use Rattle.semantics.specs.Loops.Nest.{Loop}
-use Rattle.canonical.specs.Loops.{inside}
-use Rattle.counters.specs.Levels.{Nesting}
+use Rattle.nest_loop.specs.Loops.{inside}
+use Rattle.pairtest_counter.specs.Levels.{Nesting}
 use Rattle.pragma.specs.Parallel.{associated, FirstHas, LineHas, LoopsHave, ItemsHave}
 use Rattle.pragma.proofs.LoopLaw.{read_once}
 use Rattle.nest.specs.Nests.{Has, Have, StaysInside}
 use Rattle.flow.specs.Private.{IsPrivate}
-use Rattle.verdict.specs.Shown.{ShownFirst, LineShown, LoopsShown, ItemsShown, no_loops}
-use Rattle.total.proofs.Points.{rises}
-use Rattle.total.proofs.Nested.{decls_below, some_there}
-use Rattle.turns.specs.Turns.{AreEntered}
-use Rattle.turns.proofs.Laws.{entered_join}
+use Rattle.deptest_verdict.specs.Shown.{ShownFirst, LineShown, LoopsShown, ItemsShown, no_loops}
+use Rattle.law_runs.proofs.Points.{rises}
+use Rattle.law_runs.proofs.Nested.{decls_below, some_there}
+use Rattle.law_turns.specs.Turns.{AreEntered}
+use Rattle.law_turns.proofs.Laws.{entered_join}
 use Rattle.law_independence.specs.Inside.{LoopsAreRead, ItemsAreRead, HaveShort}
 use Rattle.law_independence.proofs.IndependentLinks.{one_entered}
 use Rattle.law_independence.proofs.IndependentNests.{body_there}

@@ -6,19 +6,19 @@ use Rattle.std.proofs.lemmas.Option.{same_Some}
 use Rattle.semantics.specs.Tree.{Stmt, Declaration}
 use Rattle.semantics.specs.Meaning.State.{State}
 use Rattle.semantics.specs.Loops.Nest.{Loop, Vector, iterations, at_vector}
-use Rattle.canonical.specs.Turn.{AtTurn}
-use Rattle.counters.specs.Levels.{Nesting, values_at}
+use Rattle.nest_loop.specs.Turn.{AtTurn}
+use Rattle.pairtest_counter.specs.Levels.{Nesting, values_at}
 use Rattle.nest.specs.Nests.{Has, StaysInside}
 use Rattle.flow.specs.Private.{is_private_body, IsPrivate}
-use Rattle.accesses.specs.Found.{inner_loops}
-use Rattle.verdict.specs.Shown.{IsShownLoop, no_loops}
-use Rattle.turns.specs.Turns.{AreEntered}
-use Rattle.turns.proofs.Laws.{outside_is_a_turn, iterations_are_there, iterations_are_turns, iterations_differ}
+use Rattle.pairtest_access.specs.Found.{inner_loops}
+use Rattle.deptest_verdict.specs.Shown.{IsShownLoop, no_loops}
+use Rattle.law_turns.specs.Turns.{AreEntered}
+use Rattle.law_turns.proofs.Laws.{outside_is_a_turn, iterations_are_there, iterations_are_turns, iterations_differ}
 use Rattle.law_independence.specs.Inside.{LoopsAreRead, HaveShort}
 use Rattle.law_independence.proofs.IndependentLinks.{linked}
 use Rattle.law_independence.proofs.IndependentNests.{IsNestThere, shown_loops_are_independent}
-use Rattle.commute.specs.Commuting.{KeepsToItself, InnerLoopsTurn}
-use Rattle.commute.proofs.Iterations.{independent_commute}
+use Rattle.law_commute.specs.Commuting.{KeepsToItself, InnerLoopsTurn}
+use Rattle.law_commute.proofs.Iterations.{independent_commute}
 use Rattle.law_independence.specs.OrderLaws.{CommutesAsNest}
 use Rattle.law_independence.proofs.ReorderedBodies.{IsStmtRead, body_keeps, nest_read}
 

@@ -7,9 +7,9 @@ use Rattle.semantics.specs.Source.Token.{Token}
 use Rattle.semantics.specs.Source.Scope.{Scope}
 use Rattle.semantics.specs.Source.Statements.{ReadsStmt, assign, update, if_only, if_else, for_loop, block, print, ReadsItems, no_more, line, empty_local, first_local, statement}
 use Rattle.semantics.specs.Meaning.Definite.{Known, known_with, may_take, may_test, no_privates, after_both, declared_known, definite, definite_items}
-use Rattle.canonical.specs.Constants.{Each}
-use Rattle.total.proofs.Points.{rises, IsBelow, allowed, tested_known, branches, and_then}
-use Rattle.total.proofs.Growing.{loop_known_is, grows, known_below, visible_behind, visible_later}
+use Rattle.nest_loop.specs.Constants.{Each}
+use Rattle.law_runs.proofs.Points.{rises, IsBelow, allowed, tested_known, branches, and_then}
+use Rattle.law_runs.proofs.Growing.{loop_known_is, grows, known_below, visible_behind, visible_later}
 
 -- all that it names is known, and the variable is not
 abbrev pub NamesOthers : Variable → Option Source → Type 0

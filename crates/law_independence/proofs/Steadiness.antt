@@ -12,14 +12,14 @@ use Rattle.semantics.proofs.EraseTokenLaw.{first_of, second_of}
 use Rattle.affine.specs.declared.interval.Interval.{Interval}
 use Rattle.affine.specs.declared.interval.Side.{Side}
 use Rattle.affine.specs.Affine.{Affine}
-use Rattle.forms.specs.Forms.{form_of}
-use Rattle.canonical.specs.Canonical.{assigns, assigns_among}
-use Rattle.canonical.specs.Loops.{inside}
-use Rattle.canonical.proofs.Heads.{head_of}
+use Rattle.affine_expr.specs.Forms.{form_of}
+use Rattle.nest_loop.specs.Canonical.{stepped, assigns, assigns_among}
+use Rattle.nest_loop.specs.Loops.{inside}
+use Rattle.nest_loop.proofs.Heads.{head_of}
 use Rattle.nest.specs.Nests.{ExprHas, CondHas, SourceHas, StartHas, Has, Have, StaysBelow, AllStay, lengths_of, StaysInside}
 use Rattle.flow.specs.Private.{is_own, keeps, keeps_all}
 use Rattle.flow.proofs.PrivateLemmas.{among_both}
-use Rattle.commute.specs.Steady.{IsFixedExpr, IsFixedCond, IsFixedSource, AreFixed, IsSteadyExpr, IsSteadyCond, IsSteadySource, IsSteadyStart, IsSteadyTarget, IsSteady, AreSteady}
+use Rattle.law_commute.specs.Steady.{IsFixedExpr, IsFixedCond, IsFixedSource, AreFixed, IsSteadyExpr, IsSteadyCond, IsSteadySource, IsSteadyStart, IsSteadyTarget, IsSteady, AreSteady}
 use Rattle.law_independence.proofs.Numbering.{declared_from}
 use Rattle.law_independence.proofs.Fixed.{form_fixed, own_fixed, step_fixed}
 use Rattle.law_independence.proofs.Naming.{NamesCounters, counters_inside}
@@ -110,6 +110,11 @@ module _ (ds : List Declaration) (own : Variable → Bool) where
         scalars = λ y o h. is.scalars y o (or_right (f y) (g y) h);
       }
 
+  -- a loop's body, before what the loop itself fixes
+  body_fixing : (box : List Side) (fixed : Variable → Bool) (xs : List Variable) (f g : Variable → Bool) → IsFixing ds own box fixed xs (λ y. f y || g y) → IsFixing ds own box fixed xs g
+  body_fixing box fixed xs f g is =
+      record { counters = is.counters; file = is.file; fresh = is.fresh; scalars = λ y o h. is.scalars y o (or_right (f y) (g y) h) }
+
   -- the others behind a local
   later_fixing : (box : List Side) (fixed : Variable → Bool) (x : Variable) (xs : List Variable) (f : Variable → Bool) → IsFixing ds own box fixed (x ∷ xs) f → IsFixing ds own box fixed xs f
   later_fixing box fixed x xs f is =
@@ -158,9 +163,10 @@ module _ (ds : List Declaration) (own : Variable → Bool) where
     )
     stmt_steady (for_loop {next = next} {start = start} {test = test} {step = step} {body = body} less free rs rt ru r) box fixed fixing h kept =
         let head = head_of box next start test step h.0 h.2.form in
-        let within = inner_fixing box fixed next (declared_in body) (λ y. assigns y body) h.1 fixing (declared_from r) h.2.kept in
+        let inner = body_fixing box fixed (next ∷ declared_in body) (λ y. stepped step == y) (λ y. assigns y body) fixing in
+        let within = inner_fixing box fixed next (declared_in body) (λ y. assigns y body) h.1 inner (declared_from r) h.2.kept in
         let wider : NamesCounters (also fixed next) box = λ y c. or_right (y == next) (fixed y) (fixing.counters y c) in (
-          first_fresh box fixed next (declared_in body) (λ y. assigns y body) fixing,
+          first_fresh box fixed next (declared_in body) (λ y. assigns y body) inner,
           subst (IsFixedSource fixed) (sym head.start_is) (form_fixed box fixed fixing.counters head.from h.0.start head.first),
           subst (IsFixedCond (also fixed next)) (sym head.test_is) (own_fixed fixed next, form_fixed box (also fixed next) wider head.to h.0.limit head.last),
           step_fixed fixed next step h.0.stride head.stride,

@@ -8,9 +8,9 @@ use Rattle.affine.specs.Affine.{Affine, term_sum, value, coefficient_at, with_va
 use Rattle.affine.specs.Arithmetic.{constant_form, sum_form, multiple_form, terms_without}
 use Rattle.affine.proofs.Terms.{IsCanonical-with_multiple}
 use Rattle.affine.proofs.Values.{term_sum-agree, term_sum-with_value, with_value-same, with_value-other}
-use Rattle.counters.specs.declared.level.Level.{Level}
-use Rattle.counters.specs.Counters.{Adds, none_left, one_more, InCounters}
-use Rattle.accesses.specs.Found.{coefficients}
+use Rattle.pairtest_counter.specs.declared.level.Level.{Level}
+use Rattle.pairtest_counter.specs.Counters.{Adds, none_left, one_more, InCounters}
+use Rattle.pairtest_access.specs.Found.{coefficients}
 use Rattle.pairtest.specs.Meetings.{counter_sum}
 
 -- ---- stretches of counters

@@ -12,24 +12,24 @@ use Rattle.semantics.specs.Loops.Nest.{Loop, Vector, at_value, at_vector, iterat
 use Rattle.semantics.proofs.NestLaw.{local_same}
 use Rattle.affine.specs.declared.interval.Side.{Side}
 use Rattle.affine.specs.Affine.{value}
-use Rattle.forms.specs.Forms.{is_counter}
-use Rattle.canonical.specs.declared.stride.Stride.{Stride}
-use Rattle.canonical.specs.Turn.{HoldsValue, HoldCounters}
-use Rattle.counters.specs.declared.level.Level.{Level}
-use Rattle.counters.specs.Levels.{Nesting, IsLevel}
-use Rattle.counters.proofs.Chains.{canonical_named}
-use Rattle.space.specs.declared.bounds.Value.{Value}
-use Rattle.space.specs.Space.{Turns, moved, counted, values_of, vectors}
-use Rattle.space.specs.Nests.{given, AreRunsOf}
-use Rattle.space.specs.Heads.{IsHeadOf}
-use Rattle.space.proofs.Walks.{values_are}
-use Rattle.space.proofs.Counted.{found_at}
-use Rattle.space.proofs.Places.{pair_found, never_empty}
-use Rattle.conflict.specs.Touching.{holding, FirstTurns, held}
-use Rattle.turns.specs.Turns.{AreEntered}
-use Rattle.turns.proofs.OneLoop.{run_value}
-use Rattle.turns.proofs.Joining.{behind}
-use Rattle.turns.proofs.Iterating.{nested, iterations_by}
+use Rattle.affine_expr.specs.Forms.{is_counter}
+use Rattle.nest_loop.specs.declared.stride.Stride.{Stride}
+use Rattle.nest_loop.specs.Turn.{HoldsValue, HoldCounters}
+use Rattle.pairtest_counter.specs.declared.level.Level.{Level}
+use Rattle.pairtest_counter.specs.Levels.{Nesting, IsLevel}
+use Rattle.pairtest_counter.proofs.Chains.{canonical_named}
+use Rattle.nest_space.specs.declared.bounds.Value.{Value}
+use Rattle.nest_space.specs.Space.{Turns, moved, counted, values_of, vectors}
+use Rattle.nest_space.specs.Nests.{given, AreRunsOf}
+use Rattle.nest_space.specs.Heads.{IsHeadOf}
+use Rattle.nest_space.proofs.Walks.{values_are}
+use Rattle.nest_space.proofs.Counted.{found_at}
+use Rattle.nest_space.proofs.Places.{pair_found, never_empty}
+use Rattle.deptest_witness.specs.Touching.{holding, FirstTurns, held}
+use Rattle.law_turns.specs.Turns.{AreEntered}
+use Rattle.law_turns.proofs.OneLoop.{run_value}
+use Rattle.law_turns.proofs.Joining.{behind}
+use Rattle.law_turns.proofs.Iterating.{nested, iterations_by}
 use Rattle.law_independence.proofs.Entered.{entered_loops}
 
 -- the variables of the loops of a box have these values in a state, and no other variable has one

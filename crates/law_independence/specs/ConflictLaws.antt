@@ -8,7 +8,7 @@ use Rattle.semantics.specs.Loops.Access.{Conflict}
 use Rattle.ktree.specs.declared.refusal.Conflict as told
 use Rattle.ktree.specs.declared.refusal.Refusal.TheVariants as refusals
 use Rattle.nest.specs.Perfect.{AreRightNests}
-use Rattle.verdict.specs.Refused.{IsNameOf, IsRefused}
+use Rattle.deptest_verdict.specs.Refused.{IsNameOf, IsRefused}
 use Rattle.law_independence.specs.Parallel.{SomeItemHas}
 
 -- the state in which a loop begins at the first turns of the serial loops round it

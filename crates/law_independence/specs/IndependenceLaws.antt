@@ -7,13 +7,13 @@ use Rattle.semantics.specs.Loops.Nest.{Loop, Vector, nest_of, iterations}
 use Rattle.semantics.specs.Loops.Access.{Conflict}
 use Rattle.semantics.specs.Loops.Piece.{SharedLoop}
 use Rattle.semantics.specs.Theorems.{IsIndependent}
-use Rattle.canonical.specs.Turn.{AtTurn}
-use Rattle.counters.specs.Levels.{Nesting, AreLevels, IsTurn, values_at}
+use Rattle.nest_loop.specs.Turn.{AtTurn}
+use Rattle.pairtest_counter.specs.Levels.{Nesting, AreLevels, IsTurn, values_at}
 use Rattle.pragma.specs.Parallel.{ItemsHave}
 use Rattle.nest.specs.Nests.{Has, StaysInside, IsInRange}
-use Rattle.accesses.specs.Found.{inner_loops}
-use Rattle.verdict.specs.Shown.{IsShownBody, IsShownLoop, no_loops, AreShownLoops}
-use Rattle.turns.specs.Turns.{AreEntered}
+use Rattle.pairtest_access.specs.Found.{inner_loops}
+use Rattle.deptest_verdict.specs.Shown.{IsShownBody, IsShownLoop, no_loops, AreShownLoops}
+use Rattle.law_turns.specs.Turns.{AreEntered}
 use Rattle.law_independence.specs.Inside.{LoopsAreRead, HaveShort}
 
 -- a nest inside serial loops, and the facts of its body that the grammar and the range check give

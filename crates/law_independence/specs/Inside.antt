@@ -7,10 +7,10 @@ use Rattle.semantics.specs.Source.Statements.{ReadsIncrement}
 use Rattle.semantics.specs.Loops.Nest.{Loop}
 use Rattle.affine.specs.declared.interval.Interval.{Interval}
 use Rattle.affine.specs.declared.interval.Side.{Side}
-use Rattle.forms.specs.Forms.{is_counter}
-use Rattle.canonical.specs.declared.head.Canonical.{Canonical}
-use Rattle.canonical.specs.Constants.{Each, IsSmall}
-use Rattle.canonical.specs.Loops.{IsLoop, inside}
+use Rattle.affine_expr.specs.Forms.{is_counter}
+use Rattle.nest_loop.specs.declared.head.Canonical.{Canonical}
+use Rattle.nest_loop.specs.Constants.{Each, IsSmall}
+use Rattle.nest_loop.specs.Loops.{IsLoop, inside}
 
 -- the text has this loop inside those of a box: its step was read where enum constants are small, and its variable is none of theirs (C11 6.8.5.3, 6.2.1)
 pub record IsRead (box : List Side) (h : Loop) : Type 0 where

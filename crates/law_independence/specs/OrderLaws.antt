@@ -10,7 +10,7 @@ use Rattle.semantics.specs.Theorems.{IsTurn, CommutesInAnyOrder}
 use Rattle.pragma.specs.Parallel.{ItemsHave}
 use Rattle.nest.specs.Nests.{IsInRange}
 use Rattle.flow.specs.Private.{IsPrivate}
-use Rattle.verdict.specs.Shown.{AreShownLoops}
+use Rattle.deptest_verdict.specs.Shown.{AreShownLoops}
 
 -- a statement is a nest of so many loops, and at each turn of the serial loops round it its iterations leave the same elements in any order
 abbrev pub CommutesAsNest : List Loop → ℕ → Stmt → Type 0

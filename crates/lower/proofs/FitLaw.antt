@@ -4,7 +4,7 @@ use Rattle.std.proofs.Common.{sym, ap, ◌∙◌, subst, arith}
 use Rattle.std.proofs.lemmas.Bool.{leb-true, le-leb}
 use Rattle.std.proofs.lemmas.Option.{slice_get-get_or}
 use Rattle.semantics.specs.Meaning.Places.{size}
-use Rattle.overlay.specs.Kept.{Kept, Covers}
+use Rattle.store.specs.Kept.{Kept, Covers}
 use Rattle.lower.proofs.TreeLaw.{fails}
 
 -- an item that is there

@@ -1,11 +1,12 @@
 //! Loops and the stores that they run on.
 
 ghost use Rattle.std.specs.Prelude.{◌≤◌, ◌^◌, IsTrue, ◌↔◌, slice_get};
-ghost use Rattle.overlay.specs.Kept.{Covers};
+ghost use Rattle.store.specs.Kept.{Covers};
 ghost use Rattle.overlay.specs.Loop.{OperandCovers, FormulaCovers, Fits};
 
 use ktree::VarId;
-use overlay::{Array, Formula, LoweredLoop, Operand, Store};
+use overlay::{Formula, LoweredLoop, Operand};
+use store::{Array, Store};
 
 /// Whether an array is there, has one dimension, and reaches so far.
 fn covers(arrays: &[Array], bound: u64, array: VarId) -> bool

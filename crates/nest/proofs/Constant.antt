@@ -5,14 +5,14 @@ use Rattle.semantics.specs.Tree
 use Rattle.affine.specs.declared.interval.Interval.{Interval}
 use Rattle.affine.specs.declared.interval.Side.{Side}
 use Rattle.affine.specs.Affine.{Affine}
-use Rattle.forms.specs.Forms.{form_of}
-use Rattle.canonical.specs.declared.stride.Stride.{Stride}
-use Rattle.canonical.specs.declared.stride.Bound.{Bound}
-use Rattle.canonical.specs.declared.head.Canonical.{Canonical}
-use Rattle.canonical.specs.Canonical.{is_variable, stride_of, bound_after, canonical_by, start_form, canonical}
-use Rattle.canonical.specs.Sides.{HasNumbers, IsCount, IsSide, exact, by_range, never, end_of, walked}
-use Rattle.canonical.specs.Loops.{inside}
-use Rattle.canonical.proofs.Laws.{canonical_well}
+use Rattle.affine_expr.specs.Forms.{form_of}
+use Rattle.nest_loop.specs.declared.stride.Stride.{Stride}
+use Rattle.nest_loop.specs.declared.stride.Bound.{Bound}
+use Rattle.nest_loop.specs.declared.head.Canonical.{Canonical}
+use Rattle.nest_loop.specs.Canonical.{is_variable, stride_of, bound_after, canonical_by, start_form, canonical}
+use Rattle.nest_loop.specs.Sides.{HasNumbers, IsCount, IsSide, exact, by_range, never, end_of, walked}
+use Rattle.nest_loop.specs.Loops.{inside}
+use Rattle.nest_loop.proofs.Laws.{canonical_well}
 use Rattle.nest.specs.Turns.{ConstantLoop, box_of, ConstantLoopsMakeBoxes}
 
 -- a loop has the variable of its head

@@ -13,10 +13,10 @@ use Rattle.affine.specs.Affine.{Affine, term_sum, value, with_value}
 use Rattle.affine.specs.Box.{interval_at, only_zero, Holds, IsInside}
 use Rattle.affine.proofs.Whole.{sum-times}
 use Rattle.affine.proofs.Values.{with_value-same}
-use Rattle.forms.specs.Forms.{is_counter}
-use Rattle.canonical.specs.declared.stride.Direction.{Direction}
-use Rattle.canonical.specs.declared.stride.Direction.TheVariants.{Rising, Falling}
-use Rattle.canonical.specs.Sides.{moved, walked}
+use Rattle.affine_expr.specs.Forms.{is_counter}
+use Rattle.nest_loop.specs.declared.stride.Direction.{Direction}
+use Rattle.nest_loop.specs.declared.stride.Direction.TheVariants.{Rising, Falling}
+use Rattle.nest_loop.specs.Sides.{moved, walked}
 use Rattle.nest.specs.Nests.{StaysBelow}
 use Rattle.nest.specs.Turns.{ConstantLoop, variable_of, numbers_of, box_of, AreApart, IsTaken, AreTaken, IsIndex, StaysAtTurns, LeavesAtTurn, RangesAreExact, RefusalsHaveTurns}
 

@@ -10,10 +10,10 @@ use Rattle.ktree.specs.View.{stmt_of, items_of, with_item, source_of, cond_of, i
 use Rattle.ktree.specs.declared.statement.Head.{Head}
 use Rattle.ktree.specs.declared.statement.Item.{Item, Directive, Local, Statement'}
 use Rattle.affine.specs.declared.interval.Side.{Side}
-use Rattle.canonical.specs.Loops.{inside}
-use Rattle.canonical.proofs.Laws.{loop_is_unique}
-use Rattle.forms.specs.declared.faults.Fault.{Fault}
-use Rattle.forms.specs.declared.faults.Fault.TheVariants.{OutOfMemory}
+use Rattle.nest_loop.specs.Loops.{inside}
+use Rattle.nest_loop.proofs.Laws.{loop_is_unique}
+use Rattle.affine_expr.specs.declared.faults.Fault.{Fault}
+use Rattle.affine_expr.specs.declared.faults.Fault.TheVariants.{OutOfMemory}
 use Rattle.pragma.specs.Clauses.{ReadsLoop}
 use Rattle.pragma.specs.Parallel.{associated}
 use Rattle.pragma.proofs.LoopLaw.{read_once}

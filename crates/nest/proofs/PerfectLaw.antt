@@ -13,16 +13,16 @@ use Rattle.ktree.specs.declared.statement.Item.{Item, Directive, Local, Statemen
 use Rattle.affine.specs.declared.interval.Interval.{Interval}
 use Rattle.affine.specs.declared.interval.Side.{Side}
 use Rattle.affine.specs.Box.{IsInside, IsEmpty}
-use Rattle.forms.specs.Forms.{is_counter}
-use Rattle.forms.specs.declared.faults.Fault.{Fault}
-use Rattle.forms.specs.declared.faults.Fault.TheVariants.{OutOfMemory}
-use Rattle.forms.proofs.Trees.{is_counter-any}
-use Rattle.canonical.specs.declared.head.Canonical.{Canonical}
-use Rattle.canonical.specs.Canonical.{canonical}
-use Rattle.canonical.specs.Sides.{CannotWrap, IsSide}
-use Rattle.canonical.specs.Loops.{inside}
-use Rattle.canonical.specs.Most.{IsMost, somewhere, nowhere}
-use Rattle.canonical.proofs.Unique.{side_is_unique}
+use Rattle.affine_expr.specs.Forms.{is_counter}
+use Rattle.affine_expr.specs.declared.faults.Fault.{Fault}
+use Rattle.affine_expr.specs.declared.faults.Fault.TheVariants.{OutOfMemory}
+use Rattle.affine_expr.proofs.Trees.{is_counter-any}
+use Rattle.nest_loop.specs.declared.head.Canonical.{Canonical}
+use Rattle.nest_loop.specs.Canonical.{canonical}
+use Rattle.nest_loop.specs.Sides.{CannotWrap, IsSide}
+use Rattle.nest_loop.specs.Loops.{inside}
+use Rattle.nest_loop.specs.Most.{IsMost, somewhere, nowhere}
+use Rattle.nest_loop.proofs.Unique.{side_is_unique}
 use Rattle.nest.specs.Perfect.{NestHas, AreRectangular, TurnsMost, HasProduct, IsRightNest}
 
 pub pred_is : (n : ℕ) → (n ≡ 0 → ⊥) → n ≡ suc (n - 1)

@@ -8,11 +8,11 @@ use Rattle.ktree.specs.declared.statement.Stmt.{Stmt}
 use Rattle.ktree.specs.declared.statement.Item.{Item, Directive, Local, Statement'}
 use Rattle.affine.specs.declared.interval.Interval.{Interval}
 use Rattle.affine.specs.declared.interval.Side.{Side}
-use Rattle.canonical.specs.declared.head.Canonical.{Canonical}
-use Rattle.canonical.specs.Loops.{IsLoop, inside}
-use Rattle.canonical.proofs.Laws.{loop_is_unique}
-use Rattle.forms.specs.declared.faults.Fault.{Fault}
-use Rattle.forms.specs.declared.faults.Fault.TheVariants.{OutOfMemory}
+use Rattle.nest_loop.specs.declared.head.Canonical.{Canonical}
+use Rattle.nest_loop.specs.Loops.{IsLoop, inside}
+use Rattle.nest_loop.proofs.Laws.{loop_is_unique}
+use Rattle.affine_expr.specs.declared.faults.Fault.{Fault}
+use Rattle.affine_expr.specs.declared.faults.Fault.TheVariants.{OutOfMemory}
 use Rattle.nest.specs.Nests.{Asked, Has, Have}
 use Rattle.nest.specs.Judged.{Entered}
 

@@ -6,10 +6,10 @@ use Rattle.ktree.specs.View.{source_of, cond_of, increment_of, declaration_of}
 use Rattle.ktree.specs.declared.statement.Head.{Head}
 use Rattle.affine.specs.declared.interval.Interval.{Interval}
 use Rattle.affine.specs.declared.interval.Side.{Side}
-use Rattle.canonical.specs.declared.head.Canonical.{Canonical}
-use Rattle.canonical.specs.Loops.{IsLoop, inside}
-use Rattle.forms.specs.declared.faults.Fault.{Fault}
-use Rattle.forms.specs.declared.faults.Fault.TheVariants.{OutOfMemory}
+use Rattle.nest_loop.specs.declared.head.Canonical.{Canonical}
+use Rattle.nest_loop.specs.Loops.{IsLoop, inside}
+use Rattle.affine_expr.specs.declared.faults.Fault.{Fault}
+use Rattle.affine_expr.specs.declared.faults.Fault.TheVariants.{OutOfMemory}
 use Rattle.nest.specs.Nests.{Asked, IsAffine, StaysInside}
 use Rattle.nest.specs.declared.question.Question.{Question}
 use Rattle.nest.specs.declared.question.Question.TheVariants.{Affine, InRange}

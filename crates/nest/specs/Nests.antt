@@ -5,9 +5,9 @@ use Rattle.affine.specs.declared.interval.Interval.{Interval}
 use Rattle.affine.specs.declared.interval.Side.{Side}
 use Rattle.affine.specs.Affine.{Affine, value}
 use Rattle.affine.specs.Box.{IsInside}
-use Rattle.forms.specs.Forms.{form_of, are_affine}
-use Rattle.canonical.specs.declared.head.Canonical.{Canonical}
-use Rattle.canonical.specs.Loops.{IsLoop, inside}
+use Rattle.affine_expr.specs.Forms.{form_of, are_affine}
+use Rattle.nest_loop.specs.declared.head.Canonical.{Canonical}
+use Rattle.nest_loop.specs.Loops.{IsLoop, inside}
 
 -- what is asked of the objects that are named inside the loops of a box
 abbrev pub Asked : Type 1

@@ -5,12 +5,12 @@ use Rattle.semantics.specs.Source.Text.{line_at}
 use Rattle.semantics.specs.Loops.Nest.{Loop, nest_of}
 use Rattle.affine.specs.declared.interval.Interval.{Interval}
 use Rattle.affine.specs.declared.interval.Side.{Side}
-use Rattle.forms.specs.Forms.{is_counter}
-use Rattle.canonical.specs.declared.head.Canonical.{Canonical}
-use Rattle.canonical.specs.Canonical.{canonical}
-use Rattle.canonical.specs.Sides.{CannotWrap, IsSide}
-use Rattle.canonical.specs.Loops.{IsLoop, inside}
-use Rattle.canonical.specs.Most.{IsMost}
+use Rattle.affine_expr.specs.Forms.{is_counter}
+use Rattle.nest_loop.specs.declared.head.Canonical.{Canonical}
+use Rattle.nest_loop.specs.Canonical.{canonical}
+use Rattle.nest_loop.specs.Sides.{CannotWrap, IsSide}
+use Rattle.nest_loop.specs.Loops.{IsLoop, inside}
+use Rattle.nest_loop.specs.Most.{IsMost}
 use Rattle.pragma.specs.Clauses.{ReadsLoop}
 use Rattle.pragma.specs.Parallel.{associated}
 

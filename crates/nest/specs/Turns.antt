@@ -4,10 +4,10 @@ use Rattle.semantics.specs.Tree.{Variable, Source, Cond, Increment, Stmt}
 use Rattle.affine.specs.declared.interval.Interval.{Interval}
 use Rattle.affine.specs.declared.interval.Side.{Side}
 use Rattle.affine.specs.Affine.{Affine, value}
-use Rattle.forms.specs.Forms.{is_counter}
-use Rattle.canonical.specs.declared.head.Canonical.{Canonical}
-use Rattle.canonical.specs.Sides.{HasNumbers, IsCount, after_steps, end_of, walked}
-use Rattle.canonical.specs.Loops.{IsLoop, inside}
+use Rattle.affine_expr.specs.Forms.{is_counter}
+use Rattle.nest_loop.specs.declared.head.Canonical.{Canonical}
+use Rattle.nest_loop.specs.Sides.{HasNumbers, IsCount, after_steps, end_of, walked}
+use Rattle.nest_loop.specs.Loops.{IsLoop, inside}
 use Rattle.nest.specs.Nests.{StaysBelow}
 
 -- a loop whose bounds are numbers and whose step is 1 at least, and how often it turns

@@ -11,7 +11,7 @@ ghost use Rattle.nest.specs.Perfect.{RightNestFirst, LineNests, Nests, ItemsNest
 use crate::perfect::right_nest;
 use crate::statements::entered;
 use affine::VarBox;
-use forms::Fault;
+use affine_expr::Fault;
 use ktree::{Item, Place, Stmt};
 use pragma::{Collapse, Directives};
 use std::alloc::Global;

@@ -3,7 +3,7 @@
 ghost use Rattle.std.specs.Prelude.{◌≡◌, ◌⊎◌, IsOk, MatchResult, ⊤};
 ghost use Rattle.std.specs.declared.result.Result.TheVariants.{Err};
 
-use forms::Fault;
+use affine_expr::Fault;
 use ktree::Place;
 
 /// Where a fault stands; want of memory stands nowhere.

@@ -8,7 +8,7 @@ ghost use Rattle.nest.specs.Judged.{asked, Decides};
 use crate::objects::object;
 use crate::question::Question;
 use affine::VarBox;
-use forms::Fault;
+use affine_expr::Fault;
 use ktree::{Cond, Expr, PrintPart, Source, Target};
 use std::alloc::Global;
 

@@ -7,8 +7,8 @@ ghost use Rattle.ktree.specs.View.{stmt_of, items_of, with_item};
 ghost use Rattle.nest.specs.Heads.{head_of};
 ghost use Rattle.nest.specs.Perfect.{NestHas};
 
-use canonical::{mentions, source_mentions};
 use ktree::{Cond, Head, Item, Stmt};
+use nest_loop::{mentions, source_mentions};
 
 /// A loop's head, and what the loop runs.
 #[derive(Clone, Copy)]

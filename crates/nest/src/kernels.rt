@@ -11,7 +11,7 @@ use crate::earlier::both;
 use crate::question::Question;
 use crate::statements::block;
 use affine::VarBox;
-use forms::Fault;
+use affine_expr::Fault;
 use ktree::Kernel;
 use pragma::Directives;
 use std::alloc::Global;

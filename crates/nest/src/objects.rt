@@ -2,13 +2,13 @@
 
 ghost use Rattle.std.specs.Prelude.{◌≡◌, ℤ, pos, ◌≤ℤ◌, ◌<ℤ◌, ◌↔◌, map, length, slice_get, IsTrue, MatchOption};
 ghost use Rattle.ktree.specs.View.{expr_of, exprs_of, declaration_of};
-ghost use Rattle.forms.specs.Forms.{form_of};
+ghost use Rattle.affine_expr.specs.Forms.{form_of};
 ghost use Rattle.nest.specs.Nests.{StaysBelow, AllStay, lengths_of, StaysInside};
 ghost use Rattle.nest.specs.Judged.{asked, Decides};
 
 use crate::question::Question;
 use affine::VarBox;
-use forms::{Fault, are_affine, form_of, subscript_place};
+use affine_expr::{Fault, are_affine, form_of, subscript_place};
 use ktree::{Declaration, Expr, Mention, Place, VarId};
 use std::alloc::Global;
 

@@ -5,25 +5,25 @@ ghost use Rattle.std.specs.Option.{SomeIff};
 ghost use Rattle.ktree.specs.View.{stmt_of};
 ghost use Rattle.affine.specs.Box.{EndsFit};
 ghost use Rattle.affine.specs.declared.interval.Interval as intervals;
-ghost use Rattle.forms.specs.Forms.{is_counter};
-ghost use Rattle.forms.specs.declared.faults.Fault.TheVariants.{OutOfMemory};
-ghost use Rattle.canonical.specs.Canonical.{canonical};
-ghost use Rattle.canonical.specs.declared.head.Canonical as canonicals;
-ghost use Rattle.canonical.specs.Loops.{inside};
+ghost use Rattle.affine_expr.specs.Forms.{is_counter};
+ghost use Rattle.affine_expr.specs.declared.faults.Fault.TheVariants.{OutOfMemory};
+ghost use Rattle.nest_loop.specs.Canonical.{canonical};
+ghost use Rattle.nest_loop.specs.declared.head.Canonical as canonicals;
+ghost use Rattle.nest_loop.specs.Loops.{inside};
 ghost use Rattle.nest.specs.Heads.{head_of};
 ghost use Rattle.nest.specs.Judged.{Decides};
-ghost use Rattle.space.specs.Space.{Turns, IsSpace};
-ghost use Rattle.space.specs.Nests.{given, AreModest, AreRunsOf};
-ghost use Rattle.space.specs.Heads.{HasIterations};
+ghost use Rattle.nest_space.specs.Space.{Turns, IsSpace};
+ghost use Rattle.nest_space.specs.Nests.{given, AreModest, AreRunsOf};
+ghost use Rattle.nest_space.specs.Heads.{HasIterations};
 ghost use Rattle.nest.specs.Perfect.{NestHas, AreRectangular, TurnsMost, HasProduct, IsRightNest};
 
 use crate::earlier::both;
 use crate::heads::{as_loop, depends_on_nest, is_perfect};
 use affine::{Interval, VarBox};
-use canonical::{Canonical, canonical_of, most_turns, side, wraps};
-use forms::Fault;
+use affine_expr::Fault;
 use ktree::{Head, Place, Stmt};
-use space::{Space, Value};
+use nest_loop::{Canonical, canonical_of, most_turns, side, wraps};
+use nest_space::{Space, Value};
 use std::alloc::Global;
 
 /// A loop's form in the box of the loops round its nest, of which none has its variable.

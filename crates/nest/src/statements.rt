@@ -5,15 +5,15 @@ ghost use Rattle.semantics.specs.Tree.{no_items};
 ghost use Rattle.ktree.specs.View.{stmt_of, items_of, with_item};
 ghost use Rattle.nest.specs.Nests.{Has, Have};
 ghost use Rattle.affine.specs.declared.interval.Side.{Side};
-ghost use Rattle.forms.specs.declared.faults.Fault.TheVariants.{OutOfMemory};
+ghost use Rattle.affine_expr.specs.declared.faults.Fault.TheVariants.{OutOfMemory};
 ghost use Rattle.nest.specs.Judged.{asked, Decides, Entered};
 
 use crate::expressions::{cond, expr, parts, source, start, target};
 use crate::question::Question;
 use affine::VarBox;
-use canonical::enter;
-use forms::Fault;
+use affine_expr::Fault;
 use ktree::{Head, Item, Stmt};
+use nest_loop::enter;
 use std::alloc::Global;
 
 /// Goes into a loop, if it is canonical, never wraps and is one of eight at most.

@@ -10,8 +10,8 @@ use Rattle.cparse.specs.Parsed.{RefusesTree}
 use Rattle.pragma.specs.Plain.{IsDirected}
 use Rattle.pragma.specs.Faults as lines
 use Rattle.pragma.specs.declared.faults.Fault as line_faults
-use Rattle.forms.specs.Faults as loops
-use Rattle.forms.specs.declared.faults.Fault as loop_faults
+use Rattle.affine_expr.specs.Faults as loops
+use Rattle.affine_expr.specs.declared.faults.Fault as loop_faults
 use Rattle.nest.specs.Nests.{IsNested, IsInRange}
 use Rattle.nest.specs.Perfect.{AreRightNests}
 use Rattle.pragma.specs.Parallel.{ItemsHave}

@@ -10,7 +10,7 @@ use fault::Fault;
 use ktree::{Refusal, Workers};
 use ompk::{Checked, check, run, seq, status, tell};
 use ompk_command::{Task, read_task};
-use seqrun::{Sink, Writer, put_all};
+use seqrun_io::{Sink, Writer, put_all};
 use std::io::ErrorKind;
 use std::process::ExitCode;
 use std::rt::Files;

@@ -2,8 +2,8 @@
 use Rattle.std.specs.Prelude.{ℕ, zero, suc, ◌≡◌, ◌<◌, List, [], ◌∷◌, ◌++◌, length, take, drop, map, Result, Ok, Err, OnOk}
 use Rattle.std.proofs.Common.{refl, sym, ap, ◌∙◌, subst, arith, append_assoc, get_or}
 use Rattle.std.proofs.lemmas.Grind.{flat_map-append}
-use Rattle.seqrun.specs.Told.{AddsBeginning}
-use Rattle.seqrun.proofs.Beginnings.{of_front, of_rest}
+use Rattle.seqrun_io.specs.Told.{AddsBeginning}
+use Rattle.seqrun_io.proofs.Beginnings.{of_front, of_rest}
 use Rattle.ompk_message.specs.Message.{joined}
 
 -- a list of texts, each that of one thing

@@ -2,6 +2,7 @@
 use Rattle.std.specs.Prelude.{ℕ, ◌+◌, ◌/◌, ◌%◌, ◌==◌, ◌||◌, if◌then◌else◌, List, [], ◌∷◌, ◌++◌, map, flat_map, codes, Option, Some, None, string_bytes}
 use Rattle.std.specs.Fmt.{decimal}
 use Rattle.ktree.specs.Numbers.{number_of}
+use Rattle.ktree.specs.Places.{place_of}
 use Rattle.ktree.specs.declared.place.Place.{Place}
 use Rattle.ktree.specs.declared.refusal.Cause.{Cause}
 use Rattle.ktree.specs.declared.refusal.Cause.TheVariants.{Form, Name, Twice, Count, Number}
@@ -21,33 +22,6 @@ head_text number = 75 ∷ (48 + number / 10) ∷ (48 + number % 10) ∷ 32 ∷ [
 -- `line:column`
 abbrev pub place_parts : Place → List (List ℕ)
 place_parts p = decimal p.line ∷ codes ":" ∷ decimal p.column ∷ []
-
--- where something is wrong in a text, the first of two accesses
-abbrev pub place_of : Refusal → Option Place
-place_of (Syntax p) = Some p
-place_of (NumberOutOfRange p) = Some p
-place_of (UnknownName p) = Some p
-place_of (NameTwice p) = Some p
-place_of (Operands p) = Some p
-place_of (LoopNotCanonical p) = Some p
-place_of (LoopMayWrap p) = Some p
-place_of (NotAffine p) = Some p
-place_of (SubscriptOutOfRange p) = Some p
-place_of (MayBeUnassigned p) = Some p
-place_of (Directive p) = Some p
-place_of (NestNotPerfect p) = Some p
-place_of (ClauseForVariable p) = Some p
-place_of (SharedScalarWritten p) = Some p
-place_of (PrivateVariable p) = Some p
-place_of (Reduction p) = Some p
-place_of (Scan p) = Some p
-place_of (Ordered p) = Some p
-place_of (Conflict c) = Some c.accesses.first
-place_of (NotShown a) = Some a.first
-place_of (Limit p) = Some p
-place_of (Input f) = None
-place_of OutOfMemory = None
-place_of OutputFailed = None
 
 -- the place with a space behind it, if there is one
 abbrev pub start_parts : Option Place → List (List ℕ)

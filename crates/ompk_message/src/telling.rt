@@ -2,13 +2,14 @@
 
 ghost use Rattle.std.specs.Prelude.{◌≡◌, ◌+◌, ◌<◌, ◌^◌, ◌++◌, ◌∷◌, [], map, codes, decimal, IfErr, OnErr, OnOk};
 ghost use Rattle.ktree.specs.Numbers.{number_of};
-ghost use Rattle.seqrun.specs.Told.{AddsBeginning};
+ghost use Rattle.ktree.specs.Places.{place_of};
+ghost use Rattle.seqrun_io.specs.Told.{AddsBeginning};
 ghost use Rattle.ompk_message.specs.Message as message;
 ghost use Rattle.ompk_message.specs.Message.{joined, head_text, start_parts, access_parts, iteration_parts, index_text, cause_text, detail_parts, message_of, status_of};
 
 use itoa::Buffer;
 use ktree::{Cause, Conflict, NotShown, Place, Refusal};
-use seqrun::{Sink, put_all};
+use seqrun_io::{Sink, put_all};
 
 // `K`, two digits and a space.
 fn head_of(number: u8) -> [u8; 4]
@@ -16,36 +17,6 @@ fn head_of(number: u8) -> [u8; 4]
     ensures { result ≡ head_text number }
 {
     [b'K', b'0' + number / 10, b'0' + number % 10, b' ']
-}
-
-// Where something is wrong in a text.
-fn place_of(refusal: &Refusal) -> Option<Place>
-    ensures { result ≡ message.place_of refusal.now }
-{
-    match refusal {
-        Refusal::Syntax(place) => Some(*place),
-        Refusal::NumberOutOfRange(place) => Some(*place),
-        Refusal::UnknownName(place) => Some(*place),
-        Refusal::NameTwice(place) => Some(*place),
-        Refusal::Operands(place) => Some(*place),
-        Refusal::LoopNotCanonical(place) => Some(*place),
-        Refusal::LoopMayWrap(place) => Some(*place),
-        Refusal::NotAffine(place) => Some(*place),
-        Refusal::SubscriptOutOfRange(place) => Some(*place),
-        Refusal::MayBeUnassigned(place) => Some(*place),
-        Refusal::Directive(place) => Some(*place),
-        Refusal::NestNotPerfect(place) => Some(*place),
-        Refusal::ClauseForVariable(place) => Some(*place),
-        Refusal::SharedScalarWritten(place) => Some(*place),
-        Refusal::PrivateVariable(place) => Some(*place),
-        Refusal::Reduction(place) => Some(*place),
-        Refusal::Scan(place) => Some(*place),
-        Refusal::Ordered(place) => Some(*place),
-        Refusal::Conflict(conflict) => Some(conflict.accesses.first),
-        Refusal::NotShown(accesses) => Some(accesses.first),
-        Refusal::Limit(place) => Some(*place),
-        Refusal::Input(_) | Refusal::OutOfMemory | Refusal::OutputFailed => None,
-    }
 }
 
 // What is wrong.
@@ -138,13 +109,13 @@ fn put_start_at<S: Sink>(sink: &mut S, number: u8, place: Option<Place>) -> Resu
 // Those of a refusal.
 fn put_start<S: Sink>(sink: &mut S, refusal: &Refusal) -> Result<(), Refusal>
     requires { S.failed sink.old + 1 < 2 ^ 64 }
-    ensures all { OnOk result (S.told sink.new ≡ S.told sink.old ++ joined (head_text (number_of refusal.now) ∷ start_parts (message.place_of refusal.now))) }
-    ensures beginning { AddsBeginning (S.told sink.old) (S.told sink.new) (joined (head_text (number_of refusal.now) ∷ start_parts (message.place_of refusal.now))) }
+    ensures all { OnOk result (S.told sink.new ≡ S.told sink.old ++ joined (head_text (number_of refusal.now) ∷ start_parts (place_of refusal.now))) }
+    ensures beginning { AddsBeginning (S.told sink.old) (S.told sink.new) (joined (head_text (number_of refusal.now) ∷ start_parts (place_of refusal.now))) }
     ensures sound { OnOk result (S.failed sink.new ≡ S.failed sink.old) }
     ensures counted { OnErr result (S.failed sink.new ≡ S.failed sink.old + 1) }
     ensures refusal { IfErr result (λ refusal. refusal ≡ Refusal.OutputFailed) }
 {
-    put_start_at(sink, refusal.number(), place_of(refusal))
+    put_start_at(sink, refusal.number(), refusal.place())
 }
 
 // An array, and where its two accesses stand.

@@ -6,8 +6,8 @@ use Rattle.semantics.specs.Source.Token.{Token, Word, Digits, Quoted, Sign, Head
 use Rattle.semantics.specs.Source.Cuts.{is_name, Stands, word, number, text, symbol, Cuts, end, blank, line_end, comment_line, comment, directive, header, token}
 use Rattle.semantics.specs.Source.Scope.{Scope, Entity, AVariable, AConstant, same_name, find, with_constants}
 use Rattle.semantics.specs.Source.Grammar.{ReadsLengths, no_lengths, dimension, ReadsDecls, no_decls, enum, object, headers, ReadsText}
-use Rattle.seqrun.specs.Reading.{IsOther, ArePositive, AreVariables}
-use Rattle.seqrun.proofs.InputLaw.{itself}
+use Rattle.seqrun_io.specs.Reading.{IsOther, ArePositive, AreVariables}
+use Rattle.seqrun_io.proofs.InputLaw.{itself}
 
 -- each word is a name
 abbrev IsNamed : Token → Type 0

@@ -9,9 +9,9 @@ use Rattle.semantics.specs.Meaning.Runs.{Effect, run_items}
 use Rattle.semantics.specs.Meaning.Places.{all_indexes}
 use Rattle.semantics.specs.Meaning.Output.{Given, IsInput, AreGiven, start, cell_text, dump_from, dump, output, Outputs}
 use Rattle.ktree.specs.View.{kernel_of}
-use Rattle.seqrun.specs.Reading.{AreVariables}
-use Rattle.total.proofs.Nested.{nested_kernels_run}
-use Rattle.total.proofs.StripRun.{strip_keeps_runs}
+use Rattle.seqrun_io.specs.Reading.{AreVariables}
+use Rattle.law_runs.proofs.Nested.{nested_kernels_run}
+use Rattle.law_runs.proofs.StripRun.{strip_keeps_runs}
 use Rattle.deptest.specs.Accepted.{Program, tree_of, IsAccepted}
 use Rattle.ompk_run.specs.Outcome.{RunsOfAccepted}
 use Rattle.ompk_run.proofs.Declared.{variables_of}

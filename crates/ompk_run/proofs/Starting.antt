@@ -8,7 +8,7 @@ use Rattle.semantics.specs.Meaning.State.{is_there}
 use Rattle.semantics.specs.Meaning.Places.{within, place, size}
 use Rattle.semantics.specs.Meaning.Output.{Given, AreGiven, values_at, first_value, first_cell, start}
 use Rattle.semantics.specs.Theorems.{IsStateOf, is_declared}
-use Rattle.seqrun.proofs.InputStore.{place_below}
+use Rattle.seqrun_io.proofs.InputStore.{place_below}
 
 -- the values of a variable that has a line: as many as its elements, each below 2^64
 record AreValues (d : Declaration) (o : Option (List ℕ)) : Type 0 where

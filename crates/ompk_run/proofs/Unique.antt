@@ -9,10 +9,10 @@ use Rattle.semantics.specs.Tree.{Declaration, Name}
 use Rattle.semantics.specs.Source.Cuts.{is_digit, is_letter, is_word_byte, is_name, decimal_from}
 use Rattle.semantics.specs.Meaning.Output.{Given, IsInput, AreGiven, input_text, name_of}
 use Rattle.semantics.proofs.EraseTokenLaw.{first_of, second_of}
-use Rattle.seqrun.specs.Lines.{value_text}
-use Rattle.seqrun.specs.Reading.{IsOther, AreVariables}
-use Rattle.seqrun.proofs.InputWords.{numerals}
-use Rattle.seqrun.proofs.InputLaw.{Smalls, smalls}
+use Rattle.seqrun_io.specs.Lines.{value_text}
+use Rattle.seqrun_io.specs.Reading.{IsOther, AreVariables}
+use Rattle.seqrun_io.proofs.InputWords.{numerals}
+use Rattle.seqrun_io.proofs.InputLaw.{Smalls, smalls}
 
 -- no byte of a word is a space or a line end
 abbrev IsSolid : List ℕ → Type 0

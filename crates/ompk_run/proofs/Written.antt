@@ -6,13 +6,13 @@ use Rattle.semantics.specs.Meaning.Runs.{Effect, run_items}
 use Rattle.semantics.specs.Meaning.Output.{dump, output}
 use Rattle.semantics.specs.Theorems.{WritesABeginning, WritesAll}
 use Rattle.ktree.specs.View.{items_of}
-use Rattle.overlay.specs.Kept.{Kept, state_of}
-use Rattle.evaluate.specs.declared.frame.Slot.{Slot}
-use Rattle.evaluate.specs.Standing.{standing}
-use Rattle.execute.specs.Ran.{Ran, text_of}
-use Rattle.seqrun.specs.Told.{AddsBeginning}
-use Rattle.seqrun.specs.Reading.{IsStart}
-use Rattle.seqrun.proofs.Beginnings.{of_front, of_rest}
+use Rattle.store.specs.Kept.{Kept, state_of}
+use Rattle.seqrun_value.specs.declared.frame.Slot.{Slot}
+use Rattle.seqrun_value.specs.Standing.{standing}
+use Rattle.seqrun.specs.Ran.{Ran, text_of}
+use Rattle.seqrun_io.specs.Told.{AddsBeginning}
+use Rattle.seqrun_io.specs.Reading.{IsStart}
+use Rattle.seqrun_io.proofs.Beginnings.{of_front, of_rest}
 use Rattle.deptest.specs.Accepted.{Program, tree_of, IsAccepted}
 use Rattle.ompk_run.proofs.Output.{body_run, first_state, named, body_runs, output_is, output_there, same_dump}
 use Rattle.ompk_run.proofs.Unique.{one_given}

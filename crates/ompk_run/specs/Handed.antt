@@ -2,7 +2,7 @@
 use Rattle.std.specs.Prelude.{ℕ, ◌≡◌, ◌≤◌, ◌^◌, ◌⊎◌, List, Option, Some, None, All, Contains}
 use Rattle.semantics.specs.Tree.{Name, Stmt}
 use Rattle.ktree.specs.declared.place.Place.{Place}
-use Rattle.overlay.specs.Kept.{Kept, Locals}
+use Rattle.store.specs.Kept.{Kept, Locals}
 use Rattle.overlay.specs.Loop.{Fits, Shows, statement_of}
 use Rattle.overlay.specs.declared.lowered.LoweredLoop.{LoweredLoop}
 use Rattle.flow.specs.declared.environment.ParallelLoop.{ParallelLoop}

@@ -5,7 +5,7 @@ use Rattle.semantics.specs.Meaning.Output.{Given, IsInput, Outputs}
 use Rattle.ktree.specs.Numbers.{number_of}
 use Rattle.ktree.specs.declared.refusal.Refusal.{Refusal}
 use Rattle.ktree.specs.declared.refusal.Refusal.TheVariants.{Input}
-use Rattle.seqrun.specs.Reading.{IsFirstFault}
+use Rattle.seqrun_io.specs.Reading.{IsFirstFault}
 use Rattle.deptest.specs.Accepted.{Program, tree_of, IsAccepted}
 
 -- a faulty input is named by its first faulty line, and that line's first cause

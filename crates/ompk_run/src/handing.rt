@@ -4,14 +4,15 @@ ghost use Rattle.std.specs.Prelude.{◌≡◌, IsTrue, ◌↔◌, Some, MatchOpt
 ghost use Rattle.semantics.specs.Meaning.State.{Outside};
 ghost use Rattle.ktree.specs.View.{stmt_of};
 ghost use Rattle.overlay.specs.Loop.{OperandShows, FormulaShows, Shows};
-ghost use Rattle.evaluate.specs.Standing.{locals_of};
+ghost use Rattle.seqrun_value.specs.Standing.{locals_of};
 ghost use Rattle.ompk_run.specs.Handed.{Schedules, SchedulesNone, IsHanded, IsRunByOne};
 
-use evaluate::{Frame, Slot};
 use flow::ParallelLoop;
 use ktree::{ChunkSize, Place, Stmt, VarId};
 use lower::{fits, lowered_loop};
-use overlay::{Formula, LoweredLoop, Operand, Store};
+use overlay::{Formula, LoweredLoop, Operand};
+use seqrun_value::{Frame, Slot};
+use store::Store;
 
 // Whether no local hides a file-scope variable.
 fn is_shown(variable: VarId, frame: &Frame) -> bool

@@ -8,10 +8,10 @@ ghost use Rattle.ompk_run.specs.Outcome.{NamesTheFault, NamesTheOutput, RunsOfAc
 
 use crate::teaming::{Teaming, team_block};
 use deptest::Checked;
-use evaluate::Frame;
-use execute::block;
 use ktree::{Refusal, Workers};
-use seqrun::{Sink, dump, input as read_input};
+use seqrun::block;
+use seqrun_io::{Sink, dump, input as read_input};
+use seqrun_value::Frame;
 use std::alloc::Global;
 use std::sync::Wait;
 use std::thread::Threads;

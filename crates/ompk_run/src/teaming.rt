@@ -9,20 +9,20 @@ ghost use Rattle.ktree.specs.declared.place.Place.{Place as Places};
 ghost use Rattle.ktree.specs.declared.statement.Item.TheVariants.{Directive};
 ghost use Rattle.overlay.specs.declared.lowered.LoweredLoop.{LoweredLoop};
 ghost use Rattle.ompk_run.specs.Handed.{IsHanded, IsRunByOne};
-ghost use Rattle.evaluate.specs.Standing.{locals_of, standing};
-ghost use Rattle.seqrun.specs.Told.{AddsBeginning, Refuses};
-ghost use Rattle.execute.specs.Ran.{Ran, Ended, text_of, lengths_of};
+ghost use Rattle.seqrun_value.specs.Standing.{locals_of, standing};
+ghost use Rattle.seqrun_io.specs.Told.{AddsBeginning, Refuses};
+ghost use Rattle.seqrun.specs.Ran.{Ran, Ended, text_of, lengths_of};
 
 use crate::handing::handed;
-use evaluate::{Frame, Slot, holds, source_value};
-use execute::{increment, run_item, statement};
 use flow::ParallelLoop;
 use ktree::{Item, Place, Refusal, Stmt, Workers};
-use overlay::Store;
-use seqrun::Sink;
+use seqrun::{increment, run_item, statement};
+use seqrun_io::Sink;
+use seqrun_value::{Frame, Slot, holds, source_value};
 use std::alloc::Global;
 use std::sync::Wait;
 use std::thread::Threads;
+use store::Store;
 use team::{Gate, run_loop};
 
 // A team of so many workers for each loop that is handed to it; the gate is told of the chunks that they take.

@@ -18,7 +18,7 @@ use Rattle.std.specs.Cmp.Lexicographic.{same_text}
 use Rattle.semantics.proofs.EraseTokenLaw.{first_of, second_of}
 use Rattle.semantics.specs.Meaning.Places.{within, place}
 use Rattle.semantics.proofs.NestLaw.{local_same, local_twice}
-use Rattle.overlay.specs.Kept.{Kept, Locals, Covers, cell_of, state_of, state_with}
+use Rattle.store.specs.Kept.{Kept, Locals, Covers, cell_of, state_of, state_with}
 use Rattle.overlay.specs.Loop.{Fits, Shows, OperandShows, FormulaShows, RunsTo, IsWorth, OperandCovers, FormulaCovers, counter_of, at_counter, operand_of, formula_of, operation_of, assignment_of, body_of, statement_of}
 use Rattle.overlay.specs.declared.lowered.LoweredLoop.{LoweredLoop}
 use Rattle.overlay.specs.declared.lowered.Operand.{Operand}

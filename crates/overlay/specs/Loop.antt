@@ -5,7 +5,7 @@ use Rattle.semantics.specs.Meaning.State.{State, Outside, Write, overwritten}
 use Rattle.semantics.specs.Meaning.Value.{value}
 use Rattle.semantics.specs.Meaning.Runs.{run}
 use Rattle.semantics.specs.Loops.Nest.{at_value}
-use Rattle.overlay.specs.Kept.{Kept, Locals, Covers, state_of}
+use Rattle.store.specs.Kept.{Kept, Locals, Covers, state_of}
 use Rattle.overlay.specs.declared.lowered.Operand.{Operand}
 use Rattle.overlay.specs.declared.lowered.Operand.TheVariants.{Element, Counter, Literal}
 use Rattle.overlay.specs.declared.lowered.Operation.{Operation}

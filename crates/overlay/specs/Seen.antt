@@ -1,6 +1,6 @@
 -- What contracts see of a piece, which borrows its store.
 use Rattle.std.specs.Prelude.{ℕ, ◌≡◌, ◌+◌, ◌<◌, ◌≤◌, List, length, slice_index}
-use Rattle.overlay.specs.Kept.{Kept}
+use Rattle.store.specs.Kept.{Kept}
 use Rattle.overlay.specs.Loop.{IsWorth}
 use Rattle.overlay.specs.declared.lowered.LoweredLoop.{LoweredLoop}
 use Rattle.overlay.specs.declared.lowered.Work.{Work}

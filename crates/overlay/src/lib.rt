@@ -3,8 +3,6 @@
 
 mod lowered;
 mod piece;
-mod store;
 
 pub use lowered::{Formula, LoweredLoop, Operand, Operation, Work};
 pub use piece::{Changes, Piece, run_chunk};
-pub use store::{Array, Store};

@@ -2,17 +2,17 @@
 
 ghost use Rattle.std.specs.Prelude.{◌≡◌, ◌+◌, ◌<◌, ◌≤◌, length, slice_get, IfOk, IfErr};
 ghost use Rattle.overlay.specs.Loop.{Fits, OperandCovers, FormulaCovers, IsWorth, operand_of, formula_of};
-ghost use Rattle.overlay.specs.Kept.{state_of, Covers, writes_from, rewritten_at};
+ghost use Rattle.store.specs.Kept.{state_of, Covers, writes_from, rewritten_at};
 ghost use Rattle.overlay.specs.Seen.{IsRight};
 ghost use Rattle.semantics.specs.Meaning.Value.{value};
 ghost use Rattle.semantics.specs.Meaning.State.{overwritten};
 ghost use Rattle.semantics.specs.Loops.Nest.{at_value};
 
 use crate::lowered::{Formula, LoweredLoop, Operand, Operation, Work};
-use crate::store::{Array, Store};
 use ktree::{Refusal, VarId};
 use std::alloc::Global;
 use std::marker::Model;
+use store::{Array, Store};
 
 // What an operand reads at an iteration.
 fn operand_value(

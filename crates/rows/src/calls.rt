@@ -4,7 +4,7 @@ ghost use Rattle.std.specs.Prelude.{◌≡◌, ◌+◌, ◌<◌, ◌≤◌, ◌^
 
 use ktree::{Cause, Conflict, InputFault, NotShown, Place, Refusal, Workers};
 use ompk::{check, run, seq, status, tell};
-use seqrun::{Memory, Sink, SinkFault};
+use seqrun_io::{Memory, Sink, SinkFault};
 use std::alloc::{AllocError, Global};
 use std::process::Abort;
 use std::sync::Wait;

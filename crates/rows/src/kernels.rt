@@ -4,7 +4,7 @@ ghost use Rattle.std.specs.Prelude.{◌≤◌, length};
 
 use ktree::{Refusal, Workers};
 use ompk::{check, run, seq};
-use seqrun::Memory;
+use seqrun_io::Memory;
 use std::alloc::{AllocError, Global};
 use std::process::Abort;
 use std::sync::Wait;

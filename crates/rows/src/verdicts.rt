@@ -2,7 +2,7 @@
 
 use ktree::Refusal;
 use ompk::{check, tell};
-use seqrun::Memory;
+use seqrun_io::Memory;
 use std::alloc::{AllocError, Global};
 use std::process::Abort;
 use std::test::Fail;

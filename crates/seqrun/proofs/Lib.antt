@@ -1,8 +1,6 @@
-pub mod Beginnings
-pub mod Rows
-pub mod Puts
-pub mod InputWords
-pub mod InputLaw
-pub mod LineSteps
-pub mod InputStore
-pub mod InputRun
+pub mod StateLemmas
+pub mod WriteLemmas
+pub mod PrintLemmas
+pub mod RunLemmas
+pub mod BlockLemmas
+pub mod Counting

@@ -1,3 +1,1 @@
-pub mod Told
-pub mod Lines
-pub mod Reading
+pub mod Ran

@@ -1,11 +1,9 @@
-//! What a run reads and writes: its input, its sinks, and the dump of its variables.
+//! The statements of a running program, one after another.
 #![tactic(auto)]
 
-mod account;
-mod lines;
-mod reading;
-mod sink;
+mod printing;
+mod running;
+mod writing;
 
-pub use lines::dump;
-pub use reading::input;
-pub use sink::{Memory, Sink, SinkFault, Writer, put_all};
+pub use running::{block, run_item, statement};
+pub use writing::increment;

@@ -10,13 +10,13 @@ use Rattle.semantics.specs.Theorems.{RunsAsTheLoop}
 use Rattle.std.proofs.lemmas.List.Elements.{All-nil, All-cons, All-head, All-tail}
 use Rattle.semantics.specs.Meaning.State.{State, overwritten}
 use Rattle.semantics.specs.Loops.Chunk.{Chunk}
-use Rattle.overlay.specs.Kept.{Kept, Locals, Covers, state_of, state_with, rewritten_at, writes_from}
+use Rattle.store.specs.Kept.{Kept, Locals, Covers, state_of, state_with, rewritten_at, writes_from}
 use Rattle.overlay.specs.Loop.{Fits, Shows, RunsTo, IsWorth, statement_of}
 use Rattle.overlay.specs.Seen.{Seen, IsRight}
 use Rattle.overlay.specs.declared.lowered.LoweredLoop.{LoweredLoop}
 use Rattle.overlay.specs.declared.lowered.Work.{Work}
 use Rattle.overlay.specs.declared.piece.Changes.{Changes}
-use Rattle.overlay.proofs.Writing.{writes_other, writes_there, covers_kept, same_lengths}
+use Rattle.store.proofs.Writing.{writes_other, writes_there, covers_kept, same_lengths}
 use Rattle.overlay.proofs.LoopRun.{covered, same_element, IsFilled, runs_as_the_loop, runs_to}
 use Rattle.team.proofs.Cutting.{chunk_of}
 use Rattle.team.specs.Ends.{IsWork, IsPieceOf, IsChange, AreAll, worth_at, IsWritten, KeepsOthers}

@@ -7,7 +7,7 @@ use Rattle.std.proofs.lemmas.List.Elements.{All-nil, All-cons, All-head, All-tai
 use Rattle.std.specs.declared.thread.PromisedHandle.{PromisedHandle}
 use Rattle.semantics.specs.Loops.Chunk.{Chunk}
 use Rattle.draw.specs.Tickets.{DrawingName, SeatState, all_tickets}
-use Rattle.overlay.specs.Kept.{Kept}
+use Rattle.store.specs.Kept.{Kept}
 use Rattle.overlay.specs.Seen.{Seen}
 use Rattle.overlay.specs.declared.lowered.LoweredLoop.{LoweredLoop}
 use Rattle.ktree.specs.declared.refusal.Refusal.{Refusal}

@@ -6,7 +6,7 @@ use Rattle.semantics.specs.Loops.Arrangement.{times}
 use Rattle.draw.specs.Tickets.{DrawingName, SeatState}
 use Rattle.semantics.specs.Meaning.Value.{value}
 use Rattle.semantics.specs.Loops.Nest.{at_value}
-use Rattle.overlay.specs.Kept.{Kept, Covers, state_of}
+use Rattle.store.specs.Kept.{Kept, Covers, state_of}
 use Rattle.overlay.specs.Loop.{IsWorth, formula_of}
 use Rattle.overlay.specs.declared.piece.Changes.{Changes}
 use Rattle.overlay.specs.Seen.{Seen}

@@ -3,7 +3,7 @@
 ghost use Rattle.std.specs.Prelude.{◌≡◌, ℕ, [], ◌≤◌, ◌^◌, length, vec_len, List, map, All, IfOk, IfErr, OnOk};
 ghost use Rattle.draw.specs.Tickets.{fresh};
 ghost use Rattle.overlay.specs.Loop.{Fits, Shows, RunsTo, statement_of};
-ghost use Rattle.overlay.specs.Kept.{Kept, Locals, state_with};
+ghost use Rattle.store.specs.Kept.{Kept, Locals, state_with};
 ghost use Rattle.overlay.specs.declared.lowered.LoweredLoop.{LoweredLoop};
 ghost use Rattle.semantics.specs.Loops.Chunk.{Chunk};
 ghost use Rattle.team.specs.Ends.{chunks_of_loop, IsCut, IsPieceOf, IsFinished, AreFinished, CameFrom, IsChange, AreAll, IsWritten, KeepsOthers};
@@ -14,12 +14,13 @@ use crate::gate::Gate;
 use crate::worker::{Finished, Job, Member, work};
 use draw::{DrawSeat, Drawing};
 use ktree::{Refusal, Workers};
-use overlay::{Changes, LoweredLoop, Piece, Store};
+use overlay::{Changes, LoweredLoop, Piece};
 use schedule::{Chunks, Sched, chunk_list};
 use std::alloc::Global;
 use std::sync::Wait;
 use std::thread;
 use std::thread::Threads;
+use store::Store;
 
 /// The members of a team, one for each seat, by their numbers.
 fn members(alloc: Global, drawing: &Drawing, seats: Vec<DrawSeat>) -> Result<Vec<Member>, Refusal>

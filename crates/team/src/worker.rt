@@ -8,10 +8,11 @@ ghost use Rattle.team.specs.Ends.{IsCut, IsFinished};
 use crate::gate::{Gate, Taken};
 use draw::{DrawSeat, Drawing};
 use ktree::{ChunkNo, Refusal};
-use overlay::{LoweredLoop, Piece, Store, Work, run_chunk};
+use overlay::{LoweredLoop, Piece, Work, run_chunk};
 use schedule::Chunks;
 use std::alloc::Global;
 use std::thread::Promise;
+use store::Store;
 
 /// A member of a team before it starts: its number among them, and its right to draw.
 #[derive(Drop)]

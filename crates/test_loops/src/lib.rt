@@ -2,14 +2,14 @@
 #![tactic(auto)]
 
 #[cfg(test)]
-mod canonical_rows;
+mod affine_expr_rows;
 #[cfg(test)]
 mod flow_rows;
 #[cfg(test)]
-mod forms_rows;
+mod nest_loop_rows;
 #[cfg(test)]
 mod nest_rows;
 #[cfg(test)]
-mod space_rows;
+mod nest_space_rows;
 #[cfg(test)]
 mod texts;

@@ -4,11 +4,11 @@ use crate::texts::{
     A, I, OUT_OF_MEMORY, X, at, kernel, kernel_with, last_statement, name, nest_of, parsed, text,
 };
 use affine::VarBox;
-use forms::Fault;
+use affine_expr::Fault;
 use ktree::{Expr, Kernel, Mention, Source, Stmt, Suffix, Target};
 use nest::*;
+use nest_space::{Space, Value};
 use pragma::Directives;
-use space::{Space, Value};
 use std::alloc::{AllocError, Global};
 
 /// The first faults of a kernel, in the sense of [`nests`] and of [`in_range`].

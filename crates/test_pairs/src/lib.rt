@@ -2,8 +2,8 @@
 #![tactic(auto)]
 
 #[cfg(test)]
-mod accesses_rows;
+mod deptest_witness_rows;
 #[cfg(test)]
-mod conflict_rows;
+mod pairtest_access_rows;
 #[cfg(test)]
 mod pairtest_rows;

@@ -4,14 +4,14 @@
 #[cfg(test)]
 mod draw_rows;
 #[cfg(test)]
-mod evaluate_rows;
-#[cfg(test)]
-mod execute_rows;
-#[cfg(test)]
 mod lower_rows;
 #[cfg(test)]
 mod overlay_rows;
 #[cfg(test)]
+mod seqrun_io_rows;
+#[cfg(test)]
 mod seqrun_rows;
+#[cfg(test)]
+mod seqrun_value_rows;
 #[cfg(test)]
 mod team_rows;

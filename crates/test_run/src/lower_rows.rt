@@ -3,9 +3,10 @@
 use cparse::parse;
 use ktree::{ChunkSize, Item, Kernel, Stmt, VarId};
 use lower::*;
-use overlay::{Array, Formula, LoweredLoop, Operand, Operation, Store};
+use overlay::{Formula, LoweredLoop, Operand, Operation};
 use std::alloc::{AllocError, Global};
 use std::test::Fail;
+use store::{Array, Store};
 
 /// An array.
 const A: VarId = VarId(0);

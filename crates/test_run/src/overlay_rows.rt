@@ -6,6 +6,7 @@ use ktree::{ChunkNo, ChunkSize, VarId};
 use overlay::*;
 use std::alloc::{AllocError, Global};
 use std::test::Fail;
+use store::{Array, Store};
 
 /// A store of one array that holds these values.
 fn one_array(alloc: Global, values: Vec<u64>) -> Result<Store, AllocError>

@@ -1,24 +1,232 @@
-ghost use Rattle.std.specs.Prelude.{◌≡◌, ◌≤◌, [], ◌∷◌, codes, map, IfOk};
-ghost use Rattle.ktree.specs.View.{declaration_of};
+//! Statements over a store with one array, the variable 0, and the local 1.
 
-use ktree::{Cause, Declaration, InputFault, Place, Refusal};
-use overlay::{Array, Store};
-use seqrun::{Memory, Sink, Writer, dump, input, put_all};
+ghost use Rattle.std.specs.Prelude.{◌≡◌, List, [], ◌∷◌, codes, Some, IsSome, IfOk};
+ghost use Rattle.semantics.specs.Tree;
+ghost use Rattle.ktree.specs.View.{expr_of, cond_of, binary_of, stmt_of, with_item, items_of};
+ghost use Rattle.semantics.specs.Meaning.Runs.{run};
+ghost use Rattle.store.specs.Kept.{Kept};
+ghost use Rattle.seqrun_value.specs.Standing.{standing};
+ghost use Rattle.seqrun_value.specs.declared.frame.Slot.{Slot};
+
+use ktree::{
+    BinaryOp, CompareOp, Cond, Expr, Head, Increment, Item, Local, Mention, Place, PrintPart,
+    Refusal, Source, Stmt, Suffix, Target, VarId,
+};
+use seqrun::*;
+use seqrun_io::{Memory, Sink, Writer};
+use seqrun_value::Frame;
 use std::alloc::{AllocError, Global};
 use std::io::{Error, ErrorKind, Write};
 use std::test::Fail;
+use store::{Array, Store};
 
-// A writer that takes one byte a call, and fails at a call.
+const HERE: Place = Place { line: 1, column: 1 };
+
+/// A literal.
+fn number(n: u64) -> Expr
+    ensures { expr_of result ≡ Tree.Literal n Tree.Ull }
+{
+    Expr::Literal(n, Suffix::Ull)
+}
+
+fn mention(alloc: Global) -> Mention {
+    Mention {
+        name: HERE,
+        subscripts: Vec::new(alloc),
+    }
+}
+
+/// The local.
+fn local(alloc: Global) -> Expr
+    ensures { expr_of result ≡ Tree.Object 1 Tree.no_exprs }
+{
+    Expr::Object(VarId(1), Vec::new(alloc), mention(alloc))
+}
+
+/// `local < n`
+fn below(alloc: Global, n: u64) -> Result<Cond, AllocError>
+    ensures { IfOk result (λ c. cond_of c ≡ Tree.Compare Tree.Less (Tree.Object 1 Tree.no_exprs) (Tree.Literal n Tree.Ull)) }
+{
+    let left = Box::new(alloc, local(alloc))?;
+    let right = Box::new(alloc, number(n))?;
+    Ok(Cond::Compare(CompareOp::Less, left, right, HERE))
+}
+
+/// `A[at]`
+fn element(alloc: Global, at: u64) -> Result<Target, AllocError>
+    ensures { IfOk result (λ t. (e : _) × (t.variable.0 ≡ 0) × (t.subscripts.items ≡ e ∷ []) × (expr_of e ≡ Tree.Literal at Tree.Ull)) }
+{
+    let mut subscripts = Vec::new(alloc);
+    subscripts.push(number(at))?;
+    Ok(Target {
+        variable: VarId(0),
+        subscripts,
+        mention: mention(alloc),
+    })
+}
+
+/// `A[at] = n;`
+fn assignment(alloc: Global, at: u64, n: u64) -> Result<Box<Stmt>, AllocError>
+    ensures { IfOk result (λ s. stmt_of s.value ≡ Tree.Assign 0 (Tree.more_exprs (Tree.Literal at Tree.Ull) Tree.no_exprs) (Tree.Number (Tree.Literal n Tree.Ull))) }
+{
+    let target = element(alloc, at)?;
+    Ok(Box::new(alloc, Stmt::Assign(target, Source::Number(number(n))))?)
+}
+
+/// `A[at] op= n;`
+fn update(alloc: Global, at: u64, op: BinaryOp, n: u64) -> Result<Box<Stmt>, AllocError>
+    ensures { IfOk result (λ s. stmt_of s.value ≡ Tree.Update 0 (Tree.more_exprs (Tree.Literal at Tree.Ull) Tree.no_exprs) (binary_of op) (Tree.Literal n Tree.Ull)) }
+{
+    let target = element(alloc, at)?;
+    Ok(Box::new(alloc, Stmt::Update(target, op, number(n)))?)
+}
+
+/// `if (local < n) then else other`
+fn choice(alloc: Global, n: u64, then: Box<Stmt>, other: Box<Stmt>) -> Result<Box<Stmt>, AllocError>
+    ensures { IfOk result (λ s. stmt_of s.value ≡ Tree.IfElse (Tree.Compare Tree.Less (Tree.Object 1 Tree.no_exprs) (Tree.Literal n Tree.Ull)) (stmt_of then.value) (stmt_of other.value)) }
+{
+    let cond = below(alloc, n)?;
+    Ok(Box::new(alloc, Stmt::If(cond, then, Some(other)))?)
+}
+
+/// `printf("%llu\n", local);`
+fn line(alloc: Global) -> Result<Box<Stmt>, AllocError>
+    ensures { IfOk result (λ s. stmt_of s.value ≡ Tree.Print (Tree.Decimal (Tree.Object 1 Tree.no_exprs) ∷ Tree.Characters (codes "\n") ∷ [])) }
+{
+    let mut parts = Vec::new(alloc);
+    parts.push(PrintPart::Decimal(local(alloc)))?;
+    parts.push(PrintPart::Characters(Vec::from_slice(alloc, b"\n")?))?;
+    Ok(Box::new(alloc, Stmt::Print(parts, HERE))?)
+}
+
+/// `for (local = 9; local < 12; local++) body`
+fn turns(alloc: Global, body: Box<Stmt>) -> Result<Box<Stmt>, AllocError>
+    ensures { IfOk result (λ s. stmt_of s.value ≡ Tree.For 1 (codes "i") (Tree.Number (Tree.Literal 9 Tree.Ull)) (Tree.Compare Tree.Less (Tree.Object 1 Tree.no_exprs) (Tree.Literal 12 Tree.Ull)) (Tree.Up 1) (stmt_of body.value)) }
+{
+    let test = below(alloc, 12)?;
+    let name = String::from_str(alloc, "i")?;
+    let head = Head {
+        variable: VarId(1),
+        name,
+        start: Source::Number(number(9)),
+        test,
+        step: Increment::Up(VarId(1)),
+        place: HERE,
+        start_place: HERE,
+    };
+    Ok(Box::new(alloc, Stmt::For(head, body))?)
+}
+
+/// The loop that prints, which has a run wherever it stands.
+fn counting(alloc: Global) -> Result<Box<Stmt>, AllocError>
+    ensures { IfOk result (λ s. (frame : List Slot) (ks : List Kept) → IsSome (run (stmt_of s.value) (standing frame ks))) }
+{
+    let body = line(alloc)?;
+    let stmt = turns(alloc, body)?;
+    Ok(stmt)
+}
+
+/// `unsigned long long i = n;`
+fn declaration(alloc: Global, n: u64) -> Result<Item, AllocError>
+    ensures { IfOk result (λ i. (rest : Tree.Items) → with_item i rest ≡ Tree.local 1 (codes "i") (Some (Tree.Number (Tree.Literal n Tree.Ull))) rest) }
+{
+    Ok(Item::Local(Local {
+        variable: VarId(1),
+        name: String::from_str(alloc, "i")?,
+        start: Some(Source::Number(number(n))),
+        place: HERE,
+    }))
+}
+
+/// The store of an array of three elements, 7 each.
+fn store(alloc: Global) -> Result<Store, AllocError>
+    ensures { IfOk result (λ s. s ≡ record { lengths = 3 ∷ []; values = 7 ∷ 7 ∷ 7 ∷ [] } ∷ []) }
+{
+    let mut lengths = Vec::new(alloc);
+    lengths.push(3)?;
+    let mut arrays = Vec::new(alloc);
+    arrays.push(Array::new(lengths, vec![in alloc; 7u64; 3]?))?;
+    Ok(Store::new(arrays))
+}
+
+#[test]
+fn assignments_write_elements(rt: HostRuntime) -> Result<(), Fail> {
+    let alloc = rt.alloc();
+    let stmt = assignment(alloc, 2, 9)?;
+    let mut store = store(alloc)?;
+    let mut frame = Frame::new(Vec::new(alloc));
+    let mut sink = Memory::new(alloc);
+    assert!(rt; statement(&*stmt, &mut frame, &mut store, &mut sink).is_ok());
+    assert_eq!(rt; store.arrays()[0].values(), [7u64, 7, 9].as_slice());
+    Ok(())
+}
+
+#[test]
+fn updates_take_the_old_value(rt: HostRuntime) -> Result<(), Fail> {
+    let alloc = rt.alloc();
+    let stmt = update(alloc, 1, BinaryOp::Minus, 8)?;
+    let mut store = store(alloc)?;
+    let mut frame = Frame::new(Vec::new(alloc));
+    let mut sink = Memory::new(alloc);
+    assert!(rt; statement(&*stmt, &mut frame, &mut store, &mut sink).is_ok());
+    assert_eq!(rt; store.arrays()[0].values(), [7, u64::MAX, 7].as_slice());
+    Ok(())
+}
+
+/// A choice by the local: the first element is 1 or 2.
+fn chosen(alloc: Global) -> Result<Box<Stmt>, AllocError>
+    ensures { IfOk result (λ s. stmt_of s.value ≡ Tree.IfElse (Tree.Compare Tree.Less (Tree.Object 1 Tree.no_exprs) (Tree.Literal 4 Tree.Ull)) (Tree.Assign 0 (Tree.more_exprs (Tree.Literal 0 Tree.Ull) Tree.no_exprs) (Tree.Number (Tree.Literal 1 Tree.Ull))) (Tree.Assign 0 (Tree.more_exprs (Tree.Literal 0 Tree.Ull) Tree.no_exprs) (Tree.Number (Tree.Literal 2 Tree.Ull)))) }
+{
+    let then = assignment(alloc, 0, 1)?;
+    let other = assignment(alloc, 0, 2)?;
+    choice(alloc, 4, then, other)
+}
+
+/// A declaration of the local and a choice by it.
+fn body(alloc: Global) -> Result<Vec<Item>, AllocError>
+    ensures { IfOk result (λ is. items_of is.items ≡ Tree.local 1 (codes "i") (Some (Tree.Number (Tree.Literal 4 Tree.Ull))) (Tree.stmt (Tree.IfElse (Tree.Compare Tree.Less (Tree.Object 1 Tree.no_exprs) (Tree.Literal 4 Tree.Ull)) (Tree.Assign 0 (Tree.more_exprs (Tree.Literal 0 Tree.Ull) Tree.no_exprs) (Tree.Number (Tree.Literal 1 Tree.Ull))) (Tree.Assign 0 (Tree.more_exprs (Tree.Literal 0 Tree.Ull) Tree.no_exprs) (Tree.Number (Tree.Literal 2 Tree.Ull)))) Tree.no_items)) }
+{
+    let choice = chosen(alloc)?;
+    let mut items = Vec::new(alloc);
+    items.push(declaration(alloc, 4)?)?;
+    items.push(Item::Statement(choice))?;
+    Ok(items)
+}
+
+#[test]
+fn blocks_run_their_items_in_order(rt: HostRuntime) -> Result<(), Fail> {
+    let alloc = rt.alloc();
+    let items = body(alloc)?;
+    let mut store = store(alloc)?;
+    let mut frame = Frame::new(Vec::new(alloc));
+    let mut sink = Memory::new(alloc);
+    assert!(rt; block(items.as_slice(), &mut frame, &mut store, &mut sink).is_ok());
+    assert_eq!(rt; store.arrays()[0].values(), [2u64, 7, 7].as_slice());
+    Ok(())
+}
+
+#[test]
+fn loops_print_in_each_turn(rt: HostRuntime) -> Result<(), Fail> {
+    let alloc = rt.alloc();
+    let stmt = counting(alloc)?;
+    let mut store = store(alloc)?;
+    let mut frame = Frame::new(Vec::new(alloc));
+    let mut sink = Memory::new(alloc);
+    assert!(rt; statement(&*stmt, &mut frame, &mut store, &mut sink).is_ok());
+    assert_eq!(rt; sink.bytes(), b"9\n10\n11\n".as_slice());
+    Ok(())
+}
+
+// A writer that takes one byte a call, and fails at its fourth.
 #[derive(Drop)]
 struct OneByte {
     calls: usize,
-    failing: usize,
 }
 
 impl Write for OneByte {
     fn write(&mut self, buf: &[u8]) -> std::io::Result<usize> {
         self.calls = self.calls.wrapping_add(1);
-        if self.calls == self.failing {
+        if self.calls == 4 {
             return Err(Error::from(ErrorKind::Other));
         }
         Ok(buf.len().min(1))
@@ -30,106 +238,14 @@ impl Write for OneByte {
 }
 
 #[test]
-fn puts_all_bytes_one_by_one(rt: HostRuntime) -> Result<(), Fail> {
-    let mut sink = Writer::new(OneByte {
-        calls: 0,
-        failing: 9,
-    });
-    assert!(rt; put_all(&mut sink, b"A = 1 2\n").is_ok());
-    assert_eq!(rt; sink.failures(), 0);
-    assert!(rt; matches!(put_all(&mut sink, b"A"), Err(Refusal::OutputFailed)));
+fn a_failing_sink_ends_the_run(rt: HostRuntime) -> Result<(), Fail> {
+    let alloc = rt.alloc();
+    let stmt = counting(alloc)?;
+    let mut store = store(alloc)?;
+    let mut frame = Frame::new(Vec::new(alloc));
+    let mut sink = Writer::new(OneByte { calls: 0 });
+    let answer = statement(&*stmt, &mut frame, &mut store, &mut sink);
+    assert!(rt; matches!(answer, Err(Refusal::OutputFailed)));
     assert_eq!(rt; sink.failures(), 1);
-    Ok(())
-}
-
-#[test]
-fn keeps_what_it_took(rt: HostRuntime) -> Result<(), Fail> {
-    let mut sink = Memory::new(rt.alloc());
-    assert!(rt; put_all(&mut sink, b"A = ").is_ok());
-    assert!(rt; put_all(&mut sink, b"1\n").is_ok());
-    assert_eq!(rt; sink.bytes(), b"A = 1\n".as_slice());
-    assert_eq!(rt; sink.failures(), 0);
-    Ok(())
-}
-
-// `A`, of so many elements.
-fn one_array(alloc: Global, length: u64) -> Result<Vec<Declaration>, AllocError>
-    ensures { IfOk result (λ ds. map declaration_of ds.items ≡ record { name = codes "A"; lengths = length ∷ [] } ∷ []) }
-{
-    let mut declarations = Vec::new(alloc);
-    declarations.push(Declaration {
-        name: String::from_str(alloc, "A")?,
-        lengths: Vec::from_slice(alloc, &[length])?,
-        place: Place { line: 1, column: 1 },
-    })?;
-    Ok(declarations)
-}
-
-// The fault of an input for it, if there is one; None where it is refused for another reason.
-fn fault(alloc: Global, length: u64, bytes: &[u8]) -> Option<Option<InputFault>>
-    requires least { 1 ≤ length }
-    requires most { length ≤ 8 }
-{
-    let declarations = one_array(alloc, length).ok()?;
-    match input(alloc, declarations.as_slice(), bytes) {
-        Ok(_) => Some(None),
-        Err(Refusal::Input(fault)) => Some(Some(fault)),
-        Err(_) => None,
-    }
-}
-
-fn at(line: u64, cause: Cause) -> Option<Option<InputFault>> {
-    Some(Some(InputFault { line, cause }))
-}
-
-#[test]
-fn names_the_first_fault(rt: HostRuntime) {
-    let heap = rt.alloc();
-    assert_eq!(rt; fault(heap, 3, b"A 1 2\n"), at(1, Cause::Count));
-    let large = b"A 1 2 18446744073709551616\n";
-    assert_eq!(rt; fault(heap, 3, large), at(1, Cause::Number));
-    let twice = b"A 1 2 18446744073709551615\nA 1 2 3\n";
-    assert_eq!(rt; fault(heap, 3, twice), at(2, Cause::Twice));
-    let rows: [(&[u8], Option<Option<InputFault>>); 8] = [
-        (b"A 1  2\n", at(1, Cause::Form)),
-        (b"A 1 2", at(1, Cause::Form)),
-        (b"B 1 2\n", at(1, Cause::Name)),
-        (b"A\n", at(1, Cause::Count)),
-        (b"A 1 02\n", at(1, Cause::Number)),
-        (b"A 1 02 3\n", at(1, Cause::Count)),
-        (b"A 1 0\n", Some(None)),
-        (b"", Some(None)),
-    ];
-    for (bytes, wanted) in rows {
-        assert_eq!(rt; fault(heap, 2, bytes), wanted);
-    }
-}
-
-// The store of eight elements.
-fn store(alloc: Global) -> Result<Store, AllocError>
-    ensures { IfOk result (λ s. s ≡ record { lengths = 8 ∷ []; values = 1 ∷ 2 ∷ 3 ∷ 4 ∷ 5 ∷ 6 ∷ 7 ∷ 8 ∷ [] } ∷ []) }
-{
-    let lengths = Vec::from_slice(alloc, &[8])?;
-    let values = Vec::from_slice(alloc, &[1, 2, 3, 4, 5, 6, 7, 8])?;
-    let mut arrays = Vec::new(alloc);
-    arrays.push(Array::new(lengths, values))?;
-    Ok(Store::new(arrays))
-}
-
-// Whether the dump of `A = 1 2 3 4 5 6 7 8` over a writer that takes one byte a call and fails at a call succeeds, or is refused as
-// an output that failed, and how many failures the sink counts.
-fn dumped(alloc: Global, failing: usize) -> Result<(bool, bool, u64), AllocError> {
-    let declarations = one_array(alloc, 8)?;
-    let store = store(alloc)?;
-    let mut sink = Writer::new(OneByte { calls: 0, failing });
-    let answer = dump(alloc, declarations.as_slice(), &store, &mut sink);
-    let failed = matches!(answer, Err(Refusal::OutputFailed));
-    Ok((answer.is_ok(), failed, sink.failures()))
-}
-
-#[test]
-fn dumps_to_a_slow_sink(rt: HostRuntime) -> Result<(), Fail> {
-    assert_eq!(rt; dumped(rt.alloc(), 21)?, (true, false, 0));
-    assert_eq!(rt; dumped(rt.alloc(), 8)?, (false, true, 1));
     Ok(())
 }

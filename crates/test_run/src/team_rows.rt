@@ -3,7 +3,7 @@
 ghost use Rattle.std.specs.Prelude.{◌≡◌, ◌≤◌, [], ◌∷◌, length, IfOk};
 
 use ktree::{ChunkSize, VarId, Workers};
-use overlay::{Array, Formula, LoweredLoop, Operand, Operation, Store};
+use overlay::{Formula, LoweredLoop, Operand, Operation};
 use std::alloc::{AllocError, Global};
 use std::process::Abort;
 use std::sync::Wait;
@@ -11,6 +11,7 @@ use std::sync::atomic::{AtomicU64, Ordering};
 use std::test::Fail;
 use std::thread;
 use std::thread::Threads;
+use store::{Array, Store};
 use team::{Gate, OpenGate, Taken, run_loop};
 
 const A: VarId = VarId(0);

@@ -2,13 +2,13 @@
 #![tactic(auto)]
 
 #[cfg(test)]
-mod cexpr_rows;
+mod cparse_expr_rows;
+#[cfg(test)]
+mod cparse_printf_rows;
 #[cfg(test)]
 mod cparse_rows;
 #[cfg(test)]
-mod cprintf_rows;
-#[cfg(test)]
-mod cstmt_rows;
+mod cparse_stmt_rows;
 #[cfg(test)]
 mod ctoken_rows;
 #[cfg(test)]

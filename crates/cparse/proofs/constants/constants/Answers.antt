@@ -2,15 +2,15 @@ use Rattle.std.proofs.Common.{ℕ, ◌≡◌, ◌+◌, ◌-◌, ◌<◌, ◌≤�
 use Rattle.std.proofs.lemmas.Result.{err_from_is_err_and}
 use Rattle.std.proofs.lemmas.List.{length-map}
 use Rattle.semantics.specs.Source.Scope.{with_constants}
-use Rattle.creader.specs.NextTokens.{comma}
+use Rattle.cparse_cursor.specs.NextTokens.{comma}
 use Rattle.cparse.specs.DeclarationSteps.{and_then, visible}
 use Rattle.cparse.specs.DeclarationViews.{enumerator_of, enumerators_of, valued_of}
-use Rattle.creader.specs.Names.{names_of}
-use Rattle.creader.specs.Lexemes.{token_of, tokens_of}
-use Rattle.creader.specs.Outcome.{got_of}
-use Rattle.cexpr.proofs.LoopLemmas.{same_some}
+use Rattle.cparse_cursor.specs.Names.{names_of}
+use Rattle.cparse_cursor.specs.Lexemes.{token_of, tokens_of}
+use Rattle.cparse_cursor.specs.Outcome.{got_of}
+use Rattle.cparse_expr.proofs.LoopLemmas.{same_some}
 use Rattle.cparse.proofs.ConstantLemmas.{constants_run, constants_begin, constants_fail, constants_last, constants_more, with_last}
-use Rattle.creader.proofs.Turns.{goes, fails, closes, is_over}
+use Rattle.cparse_cursor.proofs.Turns.{goes, fails, closes, is_over}
 use Rattle.cparse.proofs.constants.constants.Goals as goal
 
 pub loop-turn-init : goal.loop-turn-init

@@ -2,9 +2,9 @@ use Rattle.std.proofs.Common.{◌≡◌, ◌-◌, length}
 use Rattle.semantics.specs.Source.Scope.{with_constants}
 use Rattle.cparse.specs.TextReader.{constants}
 use Rattle.cparse.specs.DeclarationViews.{enumerators_of}
-use Rattle.creader.specs.Names.{names_of}
-use Rattle.creader.specs.Lexemes.{tokens_of}
-use Rattle.creader.specs.Outcome.{got_of}
+use Rattle.cparse_cursor.specs.Names.{names_of}
+use Rattle.cparse_cursor.specs.Lexemes.{tokens_of}
+use Rattle.cparse_cursor.specs.Outcome.{got_of}
 use Rattle.cparse.proofs.ConstantLemmas.{constants_run}
 use Rattle.cparse.proofs.constants.constants.Given as goal
 

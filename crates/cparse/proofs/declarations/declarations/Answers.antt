@@ -3,10 +3,10 @@ use Rattle.std.proofs.lemmas.Result.{err_from_is_err_and}
 use Rattle.std.proofs.lemmas.List.{length-map}
 use Rattle.ktree.specs.View.{declaration_of}
 use Rattle.cparse.specs.DeclarationViews.{enumerator_of, decls_of}
-use Rattle.creader.specs.Names.{names_of}
-use Rattle.creader.specs.Lexemes.{token_of, tokens_of}
+use Rattle.cparse_cursor.specs.Names.{names_of}
+use Rattle.cparse_cursor.specs.Lexemes.{token_of, tokens_of}
 use Rattle.cparse.proofs.DeclarationTurns.{decls_run, decls_begin, decls_end, decls_over, enum_goes, enum_fails, variable_goes, variable_fails}
-use Rattle.creader.proofs.Turns.{goes, fails, ends, is_over}
+use Rattle.cparse_cursor.proofs.Turns.{goes, fails, ends, is_over}
 use Rattle.cparse.proofs.declarations.declarations.Goals as goal
 
 pub loop-turn-init : goal.loop-turn-init

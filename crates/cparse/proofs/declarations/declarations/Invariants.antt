@@ -1,8 +1,8 @@
 use Rattle.std.proofs.Common.{◌≡◌, ◌-◌, length}
 use Rattle.cparse.specs.TextReader.{declarations}
 use Rattle.cparse.specs.DeclarationViews.{decls_of}
-use Rattle.creader.specs.Names.{names_of}
-use Rattle.creader.specs.Lexemes.{tokens_of}
+use Rattle.cparse_cursor.specs.Names.{names_of}
+use Rattle.cparse_cursor.specs.Lexemes.{tokens_of}
 use Rattle.cparse.proofs.DeclarationTurns.{decls_run}
 use Rattle.cparse.proofs.declarations.declarations.Given as goal
 

@@ -5,10 +5,10 @@ use Rattle.std.proofs.lemmas.Result.{err_from_is_err_and}
 use Rattle.std.proofs.lemmas.List.{length-map}
 use Rattle.ktree.specs.View.{declaration_of}
 use Rattle.cparse.specs.DeclarationViews.{decls_of}
-use Rattle.creader.specs.Names.{names_of, seen}
-use Rattle.creader.specs.Lexemes.{tokens_of}
-use Rattle.cstmt.specs.Rows.{items_in}
-use Rattle.cstmt.specs.Tallies.{told_of}
+use Rattle.cparse_cursor.specs.Names.{names_of, seen}
+use Rattle.cparse_cursor.specs.Lexemes.{tokens_of}
+use Rattle.cparse_stmt.specs.Rows.{items_in}
+use Rattle.cparse_stmt.specs.Tallies.{told_of}
 use Rattle.cparse.proofs.KernelLemmas.{whole, kernel_items, body_fails, brace_fails, end_fails, kernel_done}
 use Rattle.cparse.proofs.kernel.kernel.Goals as goal
 

@@ -2,11 +2,11 @@ use Rattle.std.proofs.Common.{ℕ, ◌<◌, ◌≤◌, length, option_map, sym, 
 use Rattle.std.proofs.lemmas.Result.{err_from_is_err_and}
 use Rattle.std.proofs.lemmas.List.{length-map}
 use Rattle.cparse.specs.DeclarationSteps.{and_then}
-use Rattle.creader.specs.Names.{names_of}
-use Rattle.creader.specs.Lexemes.{token_of, tokens_of}
-use Rattle.creader.specs.Outcome.{got_of}
+use Rattle.cparse_cursor.specs.Names.{names_of}
+use Rattle.cparse_cursor.specs.Lexemes.{token_of, tokens_of}
+use Rattle.cparse_cursor.specs.Outcome.{got_of}
 use Rattle.cparse.proofs.DeclarationLemmas.{lengths_run, lengths_begin, lengths_end, lengths_fail, lengths_step, lengths_over, same_got}
-use Rattle.creader.proofs.Turns.{goes, fails, ends, is_over}
+use Rattle.cparse_cursor.proofs.Turns.{goes, fails, ends, is_over}
 use Rattle.cparse.proofs.lengths.lengths.Goals as goal
 
 pub loop-turn-init : goal.loop-turn-init

@@ -1,8 +1,8 @@
 use Rattle.std.proofs.Common.{◌≡◌, ◌-◌, length}
 use Rattle.cparse.specs.TextReader.{lengths}
-use Rattle.creader.specs.Names.{names_of}
-use Rattle.creader.specs.Lexemes.{tokens_of}
-use Rattle.creader.specs.Outcome.{got_of}
+use Rattle.cparse_cursor.specs.Names.{names_of}
+use Rattle.cparse_cursor.specs.Lexemes.{tokens_of}
+use Rattle.cparse_cursor.specs.Outcome.{got_of}
 use Rattle.cparse.proofs.DeclarationLemmas.{lengths_run}
 use Rattle.cparse.proofs.lengths.lengths.Given as goal
 

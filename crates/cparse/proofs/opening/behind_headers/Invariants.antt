@@ -1,6 +1,6 @@
 use Rattle.std.proofs.Common.{◌≡◌, drop}
 use Rattle.cparse.specs.TextReader.{behind_headers}
-use Rattle.creader.specs.Lexemes.{tokens_of}
+use Rattle.cparse_cursor.specs.Lexemes.{tokens_of}
 use Rattle.cparse.proofs.opening.behind_headers.Given as goal
 
 -- only include lines were passed

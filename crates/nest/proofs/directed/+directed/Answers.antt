@@ -4,8 +4,8 @@ use Rattle.semantics.specs.Tree.{Stmt, no_items}
 use Rattle.ktree.specs.View.{stmt_of, items_of, with_item}
 use Rattle.ktree.specs.declared.statement.Head.{Head}
 use Rattle.ktree.specs.declared.statement.Stmt as code
-use Rattle.forms.specs.declared.faults.Fault.TheVariants.{OutOfMemory}
-use Rattle.canonical.proofs.Trees.{block_is}
+use Rattle.affine_expr.specs.declared.faults.Fault.TheVariants.{OutOfMemory}
+use Rattle.nest_loop.proofs.Trees.{block_is}
 use Rattle.nest.specs.Judged.{Decides, Entered}
 use Rattle.nest.specs.Perfect.{Nests, FirstLineNests, FirstNests}
 use Rattle.nest.proofs.Walks.{loop_of}

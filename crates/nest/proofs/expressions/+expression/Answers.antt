@@ -1,6 +1,6 @@
 use Rattle.std.proofs.Common.{sym, subst}
 use Rattle.semantics.specs.Tree.{Expr}
-use Rattle.forms.proofs.Trees.{object_is}
+use Rattle.affine_expr.proofs.Trees.{object_is}
 use Rattle.nest.specs.Nests.{ExprHas}
 use Rattle.nest.specs.Judged.{asked, Decides}
 use Rattle.nest.proofs.expressions.+expression.Goals as goal

@@ -1,5 +1,5 @@
 use Rattle.ktree.specs.View.{expr_of}
-use Rattle.forms.specs.Forms.{form_of}
+use Rattle.affine_expr.specs.Forms.{form_of}
 use Rattle.nest.proofs.Stays.{decided}
 use Rattle.nest.proofs.objects.stays_below.Goals as goal
 

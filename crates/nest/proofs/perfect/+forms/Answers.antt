@@ -1,7 +1,7 @@
 use Rattle.std.specs.Prelude.{◌-◌, List, []}
 use Rattle.std.proofs.Common.{inr, sym, subst, ◌∙◌}
 use Rattle.ktree.specs.View.{stmt_of}
-use Rattle.canonical.specs.declared.head.Canonical.{Canonical}
+use Rattle.nest_loop.specs.declared.head.Canonical.{Canonical}
 use Rattle.nest.specs.Heads.{head_of}
 use Rattle.nest.specs.Perfect.{AreRectangular}
 use Rattle.nest.proofs.PerfectLaw.{pred_is, no_loops, nest_down, nest_up, no_level, passed_on, told_so, no_head, rectangular_head, rectangular_rest, rectangular_more, insert_first}

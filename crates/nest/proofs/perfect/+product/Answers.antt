@@ -2,7 +2,7 @@ use Rattle.std.specs.Prelude.{◌-◌, ◌≡◌, ◌⊎◌, List, Some}
 use Rattle.std.proofs.Common.{inr, refl, arith, subst}
 use Rattle.ktree.specs.View.{stmt_of}
 use Rattle.affine.specs.declared.interval.Side.{Side}
-use Rattle.forms.specs.declared.faults.Fault.TheVariants.{OutOfMemory}
+use Rattle.affine_expr.specs.declared.faults.Fault.TheVariants.{OutOfMemory}
 use Rattle.nest.specs.Perfect.{NestHas}
 use Rattle.nest.specs.Heads.{head_of}
 use Rattle.nest.proofs.PerfectLaw.{AnyProduct, Known, pred_is, no_loops, nest_down, nest_up, no_level, passed_on, no_turns, product_head, product_rest, one_more}

@@ -1,6 +1,6 @@
 use Rattle.std.proofs.Common.{inr}
 use Rattle.ktree.specs.View.{source_of, cond_of, increment_of}
-use Rattle.canonical.proofs.Laws.{canonical_well}
+use Rattle.nest_loop.proofs.Laws.{canonical_well}
 use Rattle.nest.specs.Heads.{head_of}
 use Rattle.nest.proofs.PerfectLaw.{wraps_not}
 use Rattle.nest.proofs.perfect.turns_of.Goals as goal

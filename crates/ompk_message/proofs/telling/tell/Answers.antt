@@ -1,6 +1,7 @@
 use Rattle.std.specs.Prelude.{[], ◌∷◌, ◌++◌, codes}
-use Rattle.ompk_message.specs.Message.{head_text, start_parts, place_of, words_of, detail_parts}
+use Rattle.ompk_message.specs.Message.{head_text, start_parts, words_of, detail_parts}
 use Rattle.ktree.specs.Numbers.{number_of}
+use Rattle.ktree.specs.Places.{place_of}
 use Rattle.ompk_message.proofs.Parts.{front_begun, rest_begun, both_put_ok}
 use Rattle.ompk_message.proofs.telling.tell.Goals as goal
 

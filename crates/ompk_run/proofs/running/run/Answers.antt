@@ -4,12 +4,12 @@ use Rattle.semantics.specs.Meaning.Output.{dump}
 use Rattle.semantics.specs.Meaning.Runs.{run_items}
 use Rattle.ktree.specs.View.{items_of}
 use Rattle.ktree.specs.declared.statement.Item.{Item}
-use Rattle.overlay.specs.Kept.{state_of}
-use Rattle.evaluate.specs.declared.frame.Slot.{Slot}
-use Rattle.evaluate.specs.Standing.{standing}
-use Rattle.execute.specs.Ran.{Ran, text_of}
-use Rattle.seqrun.specs.Told.{AddsBeginning}
-use Rattle.seqrun.specs.Reading.{AreVariables, IsStart}
+use Rattle.store.specs.Kept.{state_of}
+use Rattle.seqrun_value.specs.declared.frame.Slot.{Slot}
+use Rattle.seqrun_value.specs.Standing.{standing}
+use Rattle.seqrun.specs.Ran.{Ran, text_of}
+use Rattle.seqrun_io.specs.Told.{AddsBeginning}
+use Rattle.seqrun_io.specs.Reading.{AreVariables, IsStart}
 use Rattle.ompk_run.proofs.Output.{named}
 use Rattle.ompk_run.proofs.Written.{nothing_written, runs, body_written, dump_written, all_written}
 use Rattle.ompk_run.proofs.running.run.Goals as goal

@@ -7,12 +7,12 @@ use Rattle.ktree.specs.declared.expression.Cond.{Cond}
 use Rattle.ktree.specs.declared.statement.Increment.{Increment}
 use Rattle.ktree.specs.View.{cond_of, increment_of, source_of, stmt_of, items_of, with_item}
 use Rattle.semantics.specs.Tree.{no_items}
-use Rattle.evaluate.specs.Standing.{standing}
-use Rattle.seqrun.specs.Told.{AddsBeginning}
-use Rattle.seqrun.proofs.Beginnings.{none}
-use Rattle.execute.specs.Ran.{Ran, text_of}
-use Rattle.execute.proofs.BlockLemmas.{block_of, items_on, item_on}
-use Rattle.execute.proofs.RunLemmas.{going_from, going_same, going_on, going_over, going_stops, going_begun, ran_from_ended, rest_some, first_some, loop_begun, test_some, after_body, body_begun, turns_over, turns_last}
+use Rattle.seqrun_value.specs.Standing.{standing}
+use Rattle.seqrun_io.specs.Told.{AddsBeginning}
+use Rattle.seqrun_io.proofs.Beginnings.{none}
+use Rattle.seqrun.specs.Ran.{Ran, text_of}
+use Rattle.seqrun.proofs.BlockLemmas.{block_of, items_on, item_on}
+use Rattle.seqrun.proofs.RunLemmas.{going_from, going_same, going_on, going_over, going_stops, going_begun, ran_from_ended, rest_some, first_some, loop_begun, test_some, after_body, body_begun, turns_over, turns_last}
 use Rattle.ompk_run.proofs.teaming.+teaming.Goals as goal
 
 abbrev test_of : Cond → State → Option Bool

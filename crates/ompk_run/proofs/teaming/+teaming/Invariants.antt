@@ -2,9 +2,9 @@ use Rattle.std.proofs.Common.{◌≡◌, ◌-◌, drop}
 use Rattle.semantics.specs.Meaning.Value.{holds}
 use Rattle.semantics.specs.Meaning.Runs.{run, run_items, turns, most_turns, incremented}
 use Rattle.ktree.specs.View.{cond_of, increment_of, stmt_of, items_of}
-use Rattle.evaluate.specs.Standing.{standing}
-use Rattle.execute.specs.Ran.{lengths_of}
-use Rattle.execute.proofs.RunLemmas.{Going}
+use Rattle.seqrun_value.specs.Standing.{standing}
+use Rattle.seqrun.specs.Ran.{lengths_of}
+use Rattle.seqrun.proofs.RunLemmas.{Going}
 use Rattle.ompk_run.proofs.teaming.+teaming.Given as goal
 
 -- the turns so far, and those that are left

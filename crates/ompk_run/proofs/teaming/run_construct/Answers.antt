@@ -1,6 +1,6 @@
 use Rattle.std.proofs.Common.{ap, sym, ◌∙◌}
 use Rattle.semantics.specs.Meaning.Runs.{run}
-use Rattle.evaluate.specs.Standing.{locals_of, standing}
+use Rattle.seqrun_value.specs.Standing.{locals_of, standing}
 use Rattle.ompk_run.proofs.teaming.run_construct.Goals as goal
 
 pub returns-clause-ran : goal.returns-clause-ran

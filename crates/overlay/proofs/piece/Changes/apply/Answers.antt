@@ -1,6 +1,6 @@
 use Rattle.std.proofs.Common.{ap, ◌∙◌}
-use Rattle.overlay.specs.Kept.{state_of, rewritten_at}
-use Rattle.overlay.proofs.Writing.{written_state}
+use Rattle.store.specs.Kept.{state_of, rewritten_at}
+use Rattle.store.proofs.Writing.{written_state}
 use Rattle.overlay.proofs.piece.Changes.apply.Goals as goal
 
 pub returns-clause-state : goal.returns-clause-state

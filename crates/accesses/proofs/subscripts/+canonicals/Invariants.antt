@@ -1,5 +1,0 @@
-use Rattle.std.proofs.Common.{length}
-use Rattle.accesses.proofs.subscripts.+canonicals.Given as goal
-
-abbrev pub decreases-canonicals : goal.decreases-canonicals
-decreases-canonicals l = length l.levels.now

@@ -1,5 +1,0 @@
-use Rattle.std.proofs.Common.{length}
-use Rattle.accesses.proofs.subscripts.+coefficient.Given as goal
-
-abbrev pub decreases-coefficient : goal.decreases-coefficient
-decreases-coefficient l = length l.terms.now

@@ -1,5 +1,0 @@
-use Rattle.std.proofs.Common.{length}
-use Rattle.accesses.proofs.subscripts.+counts.Given as goal
-
-abbrev pub decreases-counts : goal.decreases-counts
-decreases-counts l = length l.levels.now

@@ -1,7 +1,0 @@
-use Rattle.std.proofs.Common.{◌≡◌}
-use Rattle.accesses.specs.Found.{coefficients}
-use Rattle.accesses.proofs.subscripts.coefficients.Given as goal
-
--- the coefficients so far
-abbrev pub invariant-loop-level : goal.invariant-loop-level
-invariant-loop-level l = l.found.items ≡ coefficients l.level l.form

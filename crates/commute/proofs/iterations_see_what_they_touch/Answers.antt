@@ -1,5 +1,0 @@
-use Rattle.commute.proofs.Iterations.{iterations_see as the_law}
-use Rattle.commute.proofs.iterations_see_what_they_touch.Goals as goal
-
-pub returns : goal.returns
-returns c = the_law

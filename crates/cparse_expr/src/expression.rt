@@ -1,0 +1,267 @@
+//! Expressions (C11 6.5).
+
+ghost use Rattle.std.specs.Prelude.{◌≡◌, ◌≤◌, length, suc};
+ghost use Rattle.cparse_expr.specs.ExpressionReader.{subscripts, primary, unary, further, binary, whole, inside};
+ghost use Rattle.cparse_expr.specs.Steps.{at_name, second_arm, arms_behind};
+ghost use Rattle.cparse_cursor.specs.Names.{names_of};
+ghost use Rattle.cparse_cursor.specs.Lexemes.{tokens_of};
+ghost use Rattle.cparse_cursor.specs.Outcome.{Gives, got_of, subscripts_of};
+ghost use Rattle.cparse_expr.specs.OperandViews.{operand_of};
+
+use crate::combining::{changed, choice, join, no_subscripts, opposite, with_subscript};
+use crate::leaf::{literal, named};
+use crate::operand::Operand;
+use crate::operator::next_infix;
+use cparse_cursor::context::{Context, Outcome, opened, tighter};
+use cparse_cursor::lexeme::{Kind, Lexeme};
+use cparse_cursor::parsed::{Parsed, Subscripts};
+use cparse_cursor::punctuation::{
+    close_bracket, close_paren, colon, first_place, open_bracket, question_mark,
+};
+use cparse_cursor::scope::{find, is_reserved};
+use cparse_cursor::stop::Stop;
+use ctoken::Symbol;
+use ktree::{Place, UnaryOp};
+
+/// A whole expression inside of what is opened at a place.
+#[cycle(expression)]
+fn whole_inside<'s, 't>(
+    context: Context<'_, 't>,
+    room: u32,
+    place: Place,
+    tokens: &'s [Lexeme<'t>],
+) -> Outcome<'s, 't, Operand>
+    ensures { Gives (got_of operand_of) result ((inside room (names_of context.entry.scope.now)).whole (tokens_of tokens.now)) }
+{
+    let room = opened(room, place)?;
+    whole(context, room, tokens)
+}
+
+/// The operand of a unary operator at a place.
+#[cycle(expression)]
+fn operand_inside<'s, 't>(
+    context: Context<'_, 't>,
+    room: u32,
+    place: Place,
+    tokens: &'s [Lexeme<'t>],
+) -> Outcome<'s, 't, Operand>
+    ensures { Gives (got_of operand_of) result ((inside room (names_of context.entry.scope.now)).operand (tokens_of tokens.now)) }
+{
+    let room = opened(room, place)?;
+    unary(context, room, tokens)
+}
+
+/// The subscripts behind an array's name at a place (C11 6.5.2.1).
+#[cycle(expression)]
+pub fn subscripts<'s, 't>(
+    context: Context<'_, 't>,
+    room: u32,
+    place: Place,
+    tokens: &'s [Lexeme<'t>],
+) -> Outcome<'s, 't, Subscripts>
+    ensures { Gives (got_of subscripts_of) result (subscripts (length (tokens_of tokens.now)) (inside room (names_of context.entry.scope.now)) (tokens_of tokens.now)) }
+{
+    let mut row = no_subscripts(context.alloc, tokens);
+    for _turn in 0..tokens.len() {
+        let Some((bracket, inner)) = open_bracket(row.rest) else {
+            return Ok(row);
+        };
+        let begin = first_place(inner, context.end);
+        let subscript = whole_inside(context, room, bracket, inner)?;
+        let behind = close_bracket(subscript.rest, context.end)?;
+        row = with_subscript(row, subscript, place, begin, behind)?;
+    }
+    Ok(row)
+}
+
+/// A name at a place, with its subscripts.
+#[cycle(expression)]
+fn name<'s, 't>(
+    context: Context<'_, 't>,
+    room: u32,
+    word: &str,
+    place: Place,
+    tokens: &'s [Lexeme<'t>],
+) -> Outcome<'s, 't, Operand>
+    ensures { Gives (got_of operand_of) result (at_name (names_of context.entry.scope.now) (inside room (names_of context.entry.scope.now)) word.now (tokens_of tokens.now)) }
+{
+    let entity = find(context.scope, word);
+    if entity.is_none() && is_reserved(word) {
+        return Err(Stop::Syntax(place));
+    }
+    let subscripts = subscripts(context, room, place, tokens)?;
+    named(context.alloc, entity, word, place, subscripts)
+}
+
+/// A literal, a name, or an expression in parentheses (C11 6.5.1).
+#[cycle(expression)]
+#[tactic(auto, unfolding(crate::specs::ExpressionReader::primary))]
+fn primary<'s, 't>(
+    context: Context<'_, 't>,
+    room: u32,
+    tokens: &'s [Lexeme<'t>],
+) -> Outcome<'s, 't, Operand>
+    ensures { Gives (got_of operand_of) result (primary (names_of context.entry.scope.now) (inside room (names_of context.entry.scope.now)) (tokens_of tokens.now)) }
+{
+    let Some((first, rest)) = tokens.split_first() else {
+        return Err(Stop::Syntax(context.end));
+    };
+    match first.kind {
+        Kind::Digits(value, suffix) => Ok(literal(value, suffix, first.place, rest)),
+        Kind::Word(word) => name(context, room, word, first.place, rest),
+        Kind::Sign(Symbol::OpenParen) => {
+            let inner = whole_inside(context, room, first.place, rest)?;
+            let rest = close_paren(inner.rest, context.end)?;
+            Ok(Parsed {
+                tree: inner.tree,
+                fault: inner.fault,
+                rest,
+            })
+        }
+        _ => Err(Stop::Syntax(first.place)),
+    }
+}
+
+/// An operand with the unary operators in front of it (C11 6.5.3.3).
+#[cycle(expression)]
+#[tactic(auto, unfolding(crate::specs::ExpressionReader::unary))]
+fn unary<'s, 't>(
+    context: Context<'_, 't>,
+    room: u32,
+    tokens: &'s [Lexeme<'t>],
+) -> Outcome<'s, 't, Operand>
+    ensures { Gives (got_of operand_of) result (unary (names_of context.entry.scope.now) (inside room (names_of context.entry.scope.now)) (tokens_of tokens.now)) }
+{
+    let alloc = context.alloc;
+    match tokens {
+        [
+            Lexeme {
+                kind: Kind::Sign(Symbol::MinusSign),
+                place,
+            },
+            rest @ ..,
+        ] => {
+            let operand = operand_inside(context, room, *place, rest)?;
+            changed(alloc, UnaryOp::Negate, *place, operand)
+        }
+        [
+            Lexeme {
+                kind: Kind::Sign(Symbol::Tilde),
+                place,
+            },
+            rest @ ..,
+        ] => {
+            let operand = operand_inside(context, room, *place, rest)?;
+            changed(alloc, UnaryOp::Complement, *place, operand)
+        }
+        [
+            Lexeme {
+                kind: Kind::Sign(Symbol::Bang),
+                place,
+            },
+            rest @ ..,
+        ] => {
+            let operand = operand_inside(context, room, *place, rest)?;
+            opposite(alloc, *place, operand)
+        }
+        _ => primary(context, room, tokens),
+    }
+}
+
+/// Operands joined by operators up to a reach (C11 6.5.5 to 6.5.14).
+#[cycle(expression)]
+fn binary<'s, 't>(
+    context: Context<'_, 't>,
+    room: u32,
+    reach: u32,
+    tokens: &'s [Lexeme<'t>],
+) -> Outcome<'s, 't, Operand>
+    requires { reach ≤ 10 }
+    ensures { Gives (got_of operand_of) result (binary reach (names_of context.entry.scope.now) (inside room (names_of context.entry.scope.now)) (tokens_of tokens.now)) }
+{
+    match tighter(reach) {
+        None => unary(context, room, tokens),
+        Some(tighter) => {
+            let left = binary(context, room, tighter, tokens)?;
+            further(context, room, tighter, left)
+        }
+    }
+}
+
+/// More operators of the reach behind this one, after a left operand; they group to the left.
+#[cycle(expression)]
+fn further<'s, 't>(
+    context: Context<'_, 't>,
+    room: u32,
+    tighter: u32,
+    left: Parsed<'s, 't, Operand>,
+) -> Outcome<'s, 't, Operand>
+    requires { suc tighter ≤ 10 }
+    ensures { Gives (got_of operand_of) result
+        (further (length (tokens_of left.entry.rest.now)) (suc tighter) (binary tighter (names_of context.entry.scope.now) (inside room (names_of context.entry.scope.now))) (got_of operand_of left.entry)) }
+{
+    let mut left = left;
+    for _turn in 0..left.rest.len() {
+        let Some(found) = next_infix(tighter + 1, left.rest) else {
+            return Ok(left);
+        };
+        let begin = first_place(found.rest, context.end);
+        let right = binary(context, room, tighter, found.rest)?;
+        left = join(
+            context.alloc,
+            found.operator,
+            found.place,
+            begin,
+            left,
+            right,
+        )?;
+    }
+    Ok(left)
+}
+
+/// The second arm of `?:`, with the colon in front of it (C11 6.5.15).
+#[cycle(expression)]
+fn second_arm<'s, 't>(
+    context: Context<'_, 't>,
+    room: u32,
+    place: Place,
+    tokens: &'s [Lexeme<'t>],
+) -> Outcome<'s, 't, Operand>
+    ensures { Gives (got_of operand_of) result (second_arm (inside room (names_of context.entry.scope.now)) (tokens_of tokens.now)) }
+{
+    let behind = colon(tokens, context.end)?;
+    whole_inside(context, room, place, behind)
+}
+
+/// Both arms of `?:` behind its condition (C11 6.5.15).
+#[cycle(expression)]
+fn arms<'s, 't>(
+    context: Context<'_, 't>,
+    room: u32,
+    place: Place,
+    condition: Parsed<'s, 't, Operand>,
+    tokens: &'s [Lexeme<'t>],
+) -> Outcome<'s, 't, Operand>
+    ensures { Gives (got_of operand_of) result (arms_behind (inside room (names_of context.entry.scope.now)) (got_of operand_of condition.entry) (tokens_of tokens.now)) }
+{
+    let first = whole_inside(context, room, place, tokens)?;
+    let second = second_arm(context, room, place, first.rest)?;
+    choice(context.alloc, place, condition, first, second)
+}
+
+/// A whole expression, of which `?:` reaches furthest (C11 6.5.15).
+#[cycle(expression)]
+#[tactic(auto, unfolding(crate::specs::ExpressionReader::whole))]
+pub fn whole<'s, 't>(
+    context: Context<'_, 't>,
+    room: u32,
+    tokens: &'s [Lexeme<'t>],
+) -> Outcome<'s, 't, Operand>
+    ensures { Gives (got_of operand_of) result (whole (names_of context.entry.scope.now) (inside room (names_of context.entry.scope.now)) (tokens_of tokens.now)) }
+{
+    let condition = binary(context, room, 10, tokens)?;
+    match question_mark(condition.rest) {
+        None => Ok(condition),
+        Some((place, behind)) => arms(context, room, place, condition, behind),
+    }
+}

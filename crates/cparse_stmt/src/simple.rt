@@ -1,0 +1,58 @@
+//! Statements in which no other stands.
+
+ghost use Rattle.std.specs.Prelude.{◌≡◌};
+ghost use Rattle.ktree.specs.View.{stmt_of};
+ghost use Rattle.cparse_stmt.specs.StatementReader.{ended};
+ghost use Rattle.cparse_stmt.specs.Bodies.{simple};
+ghost use Rattle.cparse_stmt.specs.Tallies.{tally_of, told_of};
+ghost use Rattle.cparse_cursor.specs.Names.{names_of};
+ghost use Rattle.cparse_cursor.specs.Lexemes.{tokens_of};
+ghost use Rattle.cparse_cursor.specs.Outcome.{Gives, got_of};
+
+use crate::assignment::assignment;
+use crate::tally::Tally;
+use crate::told::Told;
+use cparse_cursor::context::Context;
+use cparse_cursor::lexeme::Lexeme;
+use cparse_cursor::parsed::Parsed;
+use cparse_cursor::punctuation::semicolon;
+use cparse_cursor::stop::Stop;
+use cparse_printf::printing::printed;
+use ktree::{Place, Stmt};
+
+/// A statement that ends in a semicolon.
+fn ended<'s, 't>(
+    tally: Tally,
+    statement: Parsed<'s, 't, Stmt>,
+    end: Place,
+) -> Result<Told<'s, 't, Stmt>, Stop>
+    ensures { Gives (told_of stmt_of) result (ended (tally_of tally) (got_of stmt_of statement.entry)) }
+{
+    let rest = semicolon(statement.rest, end)?;
+    Ok(Told {
+        tree: statement.tree,
+        fault: statement.fault,
+        tally,
+        rest,
+    })
+}
+
+/// What stands behind a word at a place: printf, or an assignment to that name.
+pub fn simple<'s, 't>(
+    context: Context<'_, 't>,
+    room: u32,
+    tally: Tally,
+    word: &str,
+    place: Place,
+    tokens: &'s [Lexeme<'t>],
+) -> Result<Told<'s, 't, Stmt>, Stop>
+    ensures { Gives (told_of stmt_of) result (simple room (names_of context.entry.scope.now) (tally_of tally) word.now (tokens_of tokens.now)) }
+{
+    if word == "printf" {
+        let statement = printed(context, room, place, tokens)?;
+        ended(tally, statement, context.end)
+    } else {
+        let statement = assignment(context, room, word, place, tokens)?;
+        ended(tally, statement, context.end)
+    }
+}

@@ -1,7 +1,0 @@
-use Rattle.std.proofs.Common.{◌≡◌, ◌++◌, drop}
-use Rattle.ctoken.specs.Front.{spelled}
-use Rattle.cprintf.proofs.characters.characters.Given as goal
-
--- what was spelled, and what the rest spells
-abbrev pub invariant-loop-byte : goal.invariant-loop-byte
-invariant-loop-byte l = l.characters.items ++ spelled l.escaped (drop l.byte-index l.bytes) ≡ spelled l.initial.escaped l.bytes

@@ -1,0 +1,76 @@
+-- A walk over parallel loops up to the first that is refused.
+use Rattle.std.specs.Prelude.{ℕ, ◌+◌, ◌-◌, ◌≡◌, ◌<◌, List, length, get_or, drop, take}
+use Rattle.std.proofs.Common.{Box, Global, inl, inr, sym, ap, ◌∙◌, subst}
+use Rattle.semantics.specs.Tree
+use Rattle.ktree.specs.View.{stmt_of, items_of, with_item}
+use Rattle.ktree.specs.declared.statement.Head.{Head}
+use Rattle.ktree.specs.declared.statement.Stmt as code
+use Rattle.ktree.specs.declared.statement.Item.{Item, Directive, Local, Statement'}
+use Rattle.ktree.specs.declared.refusal.Refusal.{Refusal}
+use Rattle.pairtest_counter.specs.Levels.{Nesting}
+use Rattle.nest.specs.Heads.{head_of}
+use Rattle.nest.proofs.Walks.{next_item, loop_of}
+use Rattle.nest.proofs.NestedLaw.{all_behind}
+use Rattle.deptest_verdict.specs.Shown.{FirstLineShown, FirstLoopsShown}
+use Rattle.deptest_verdict.specs.Refused.{EntryRefused, LoopsRefused, ItemsRefused}
+use Rattle.deptest_verdict.specs.Telling.{FirstLineRefused, FirstLoopsRefused, OrMemory}
+
+-- ---- items
+
+-- the line that an item is
+line_refused : (text : List ℕ) (ds : List Tree.Declaration) (n : Nesting) (i : Item) (rest : Tree.Items) (r : Refusal) → FirstLineRefused text ds n (with_item i Tree.no_items) rest r
+    → ItemsRefused text ds n (with_item i rest) r
+line_refused text ds n (Directive place) rest r h = inl h
+line_refused text ds n (Local l) rest r h = absurd h
+line_refused text ds n (Statement' p s) rest r h = absurd h
+
+-- the statement that an item is
+statement_refused : (text : List ℕ) (ds : List Tree.Declaration) (n : Nesting) (i : Item) (rest : Tree.Items) (r : Refusal) → FirstLoopsRefused text ds n (with_item i Tree.no_items) r
+    → ItemsRefused text ds n (with_item i rest) r
+statement_refused text ds n (Directive place) rest r h = absurd h
+statement_refused text ds n (Local l) rest r h = absurd h
+statement_refused text ds n (Statement' p s) rest r h = inl h
+
+-- an item behind one that is shown
+later_refused : (text : List ℕ) (ds : List Tree.Declaration) (n : Nesting) (i : Item) (rest : Tree.Items) (r : Refusal) → FirstLineShown text n (with_item i Tree.no_items) rest
+    → FirstLoopsShown text n (with_item i Tree.no_items) → ItemsRefused text ds n rest r → ItemsRefused text ds n (with_item i rest) r
+later_refused text ds n (Directive place) rest r line loops h = inr (line, h)
+later_refused text ds n (Local l) rest r line loops h = h
+later_refused text ds n (Statement' p s) rest r line loops h = inr (loops, h)
+
+-- where the items that are left are refused, all are
+abbrev pub LeftRefused : List ℕ → List Tree.Declaration → Nesting → List Item → ℕ → Type 0
+LeftRefused text ds n is i = (r : Refusal) → ItemsRefused text ds n (items_of (drop i is)) r → ItemsRefused text ds n (items_of is) r
+
+-- an item that is shown
+pub refused_more : (text : List ℕ) (ds : List Tree.Declaration) (n : Nesting) (is : List Item) (i : ℕ) (e : Item) → i < length is → e ≡ get_or is i e → LeftRefused text ds n is i
+    → FirstLineShown text n (with_item e Tree.no_items) (items_of (take (length is - (i + 1)) (drop (i + 1) is))) → FirstLoopsShown text n (with_item e Tree.no_items) → LeftRefused text ds n is (i + 1)
+refused_more text ds n is i e lt p left line loops r h =
+    let here = subst (λ xs. FirstLineShown text n (with_item e Tree.no_items) (items_of xs)) (all_behind is (i + 1)) line in
+    left r (subst (λ xs. ItemsRefused text ds n xs r) (sym (next_item is i e lt p)) (later_refused text ds n e (items_of (drop (i + 1) is)) r here loops h))
+
+-- an item that is refused for its line
+pub refused_by_line : (text : List ℕ) (ds : List Tree.Declaration) (n : Nesting) (is : List Item) (i : ℕ) (e : Item) (r : Refusal) → i < length is → e ≡ get_or is i e → LeftRefused text ds n is i
+    → OrMemory (FirstLineRefused text ds n (with_item e Tree.no_items) (items_of (take (length is - (i + 1)) (drop (i + 1) is)))) r → OrMemory (ItemsRefused text ds n (items_of is)) r
+refused_by_line text ds n is i e r lt p left (inl m) = inl m
+refused_by_line text ds n is i e r lt p left (inr h) =
+    let here = subst (λ xs. FirstLineRefused text ds n (with_item e Tree.no_items) (items_of xs) r) (all_behind is (i + 1)) h in
+    inr (left r (subst (λ xs. ItemsRefused text ds n xs r) (sym (next_item is i e lt p)) (line_refused text ds n e (items_of (drop (i + 1) is)) r here)))
+
+-- an item that is refused for its statement
+pub refused_by_statement : (text : List ℕ) (ds : List Tree.Declaration) (n : Nesting) (is : List Item) (i : ℕ) (e : Item) (r : Refusal) → i < length is → e ≡ get_or is i e → LeftRefused text ds n is i
+    → OrMemory (FirstLoopsRefused text ds n (with_item e Tree.no_items)) r → OrMemory (ItemsRefused text ds n (items_of is)) r
+refused_by_statement text ds n is i e r lt p left (inl m) = inl m
+refused_by_statement text ds n is i e r lt p left (inr h) =
+    inr (left r (subst (λ xs. ItemsRefused text ds n xs r) (sym (next_item is i e lt p)) (statement_refused text ds n e (items_of (drop (i + 1) is)) r h)))
+
+-- ---- statements
+
+-- the loop that a statement is
+for_is : (s : code.Stmt) (head : Head) (body : Box code.Stmt Global) (inner : code.Stmt) → s ≡ code.For head body → inner ≡ body.value → loop_of head (stmt_of inner) ≡ stmt_of s
+for_is s head body inner e f = ap (λ b. loop_of head (stmt_of b)) f ∙ sym (ap stmt_of e)
+
+pub head_refused : (text : List ℕ) (ds : List Tree.Declaration) (n : Nesting) (s : code.Stmt) (head : Head) (body : Box code.Stmt Global) (inner : code.Stmt) (r : Refusal) → s ≡ code.For head body
+    → inner ≡ body.value → OrMemory (EntryRefused n (head_of head) (stmt_of inner)) r → OrMemory (LoopsRefused text ds n (stmt_of s)) r
+head_refused text ds n s head body inner r e f (inl m) = inl m
+head_refused text ds n s head body inner r e f (inr h) = inr (subst (λ t. LoopsRefused text ds n t r) (for_is s head body inner e f) (inl h))

@@ -1,0 +1,36 @@
+use Rattle.std.proofs.Common.{◌≡◌, IsTrue, length, Some, slice_get, arith, rules}
+use Rattle.std.proofs.lemmas.Option.{slice_get_read}
+use Rattle.std.proofs.Common.{refl}
+use Rattle.deptest_verdict.specs.Pairs.{IsShown}
+use Rattle.deptest_verdict.proofs.Showing.{one_more, all_behind, found_behind, large_behind}
+use Rattle.deptest_verdict.proofs.pairs.first_behind.Goals as goal
+
+pub returns-in-Err-clause-err : goal.returns-in-Err-clause-err
+returns-in-Err-clause-err c =
+    let y = c.index-others-j.result in
+    let there : slice_get c.args.others.now c.loop-j.j ≡ Some y = search (rules, slice_get_read) in
+    large_behind c.args.nest.now c.args.x.now y c.args.others.now c.loop-j.j there c.loop-j.invariant c.in-Err.ensures.pair c.in-Err.ensures.large
+
+pub returns-then-not-shown-clause-ok : goal.returns-then-not-shown-clause-ok
+returns-then-not-shown-clause-ok c =
+    let y = c.index-others-j.result in
+    let there : slice_get c.args.others.now c.loop-j.j ≡ Some y = search (rules, slice_get_read) in
+    found_behind c.args.nest.now c.args.x.now y c.args.others.now c.loop-j.j there c.loop-j.invariant (λ (s : IsShown c.args.nest.now c.args.x.now y). let t = c.in-Ok.ensures.ok.1 s in let f = c.if-not-shown.true in absurd cc)
+
+pub returns-then-not-shown-clause-there : goal.returns-then-not-shown-clause-there
+returns-then-not-shown-clause-there c =
+    let y = c.index-others-j.result in
+    let there : slice_get c.args.others.now c.loop-j.j ≡ Some y = search (rules, slice_get_read) in
+    (y, there, refl)
+
+pub loop-j-preserved : goal.loop-j-preserved
+loop-j-preserved c =
+    let y = c.index-others-j.result in
+    let there : slice_get c.args.others.now c.loop-j.j ≡ Some y = search (rules, slice_get_read) in
+    let shown : IsTrue c.in-Ok.shown = search rules in
+    one_more c.args.nest.now c.args.x.now y c.args.others.now c.loop-j.j there c.loop-j.invariant (c.in-Ok.ensures.ok.0 shown)
+
+pub returns-clause-ok : goal.returns-clause-ok
+returns-clause-ok c =
+    let end : c.loop-j.j ≡ length c.args.others.now = search (rules, arith) in
+    all_behind c.args.nest.now c.args.x.now c.args.others.now c.loop-j.j end c.loop-j.invariant

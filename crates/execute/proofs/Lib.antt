@@ -1,6 +1,0 @@
-pub mod StateLemmas
-pub mod WriteLemmas
-pub mod PrintLemmas
-pub mod RunLemmas
-pub mod BlockLemmas
-pub mod Counting

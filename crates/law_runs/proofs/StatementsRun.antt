@@ -1,0 +1,184 @@
+-- Statements whose loops are canonical, whose accesses stay inside, and which read what is known, have runs.
+use Rattle.std.specs.Prelude.{ℕ, suc, Bool, true, false, ◌≡◌, ◌==◌, ◌<◌, ◌&&◌, ℤ, List, [], ◌∷◌, Option, Some, None}
+use Rattle.std.proofs.Common.{refl, sym, ap, ◌∙◌, subst, cond, arith}
+use Rattle.std.proofs.lemmas.Bool.{eqb-true, or_parts}
+use Rattle.std.proofs.lemmas.Option.{same_Some}
+use Rattle.semantics.specs.Tree.{Variable, BinaryOp, Expr, Object, Exprs, Source, Stmt, For, Items, Declaration}
+use Rattle.semantics.specs.Source.Token.{Token}
+use Rattle.semantics.specs.Source.Scope.{Scope, AVariable}
+use Rattle.semantics.specs.Source.Expressions.{ReadsExpr}
+use Rattle.semantics.specs.Source.Statements.{ReadsSource, ReadsTarget, ReadsStmt, assign, update, if_only, if_else, for_loop, block, print, ReadsItems, no_more, line, empty_local, first_local, statement}
+use Rattle.semantics.specs.Meaning.State.{State, Slot, Empty, Holds, Declared, with_local}
+use Rattle.semantics.specs.Meaning.Value.{value, values, holds, source_value, both_then, map_option, operate}
+use Rattle.semantics.specs.Meaning.Runs.{Effect, nothing, declares, declared, assigned, updated, print_text, run, run_items}
+use Rattle.semantics.specs.Meaning.Definite.{Known, known_with, may_read, may_read_all, may_test, may_take, may_print, no_privates, after_both, declared_known, definite, definite_items}
+use Rattle.semantics.proofs.EraseTokenLaw.{first_of, second_of}
+use Rattle.semantics.proofs.NestLaw.{local_same}
+use Rattle.affine.specs.declared.interval.Interval.{Interval}
+use Rattle.affine.specs.declared.interval.Side.{Side}
+use Rattle.affine_expr.specs.Forms.{is_counter}
+use Rattle.nest_loop.specs.Canonical.{stepped, assigns, assigns_among}
+use Rattle.nest_loop.specs.Loops.{inside}
+use Rattle.nest.specs.Nests.{ExprHas, SourceHas, Has, Have, StaysInside}
+use Rattle.law_runs.proofs.Going.{stands, is_held, Ran, later_self, ran_nothing, ran_weaker, ran_same, ran_then, ran_either, ran_write, known_less, local_later, local_known, assigned_known}
+use Rattle.nest_loop.proofs.FormValues.{operation_is}
+use Rattle.law_runs.proofs.There.{There}
+use Rattle.law_runs.proofs.Values.{HaveShort, target_there, object_there, expr_there, cond_there, source_there, print_there}
+use Rattle.nest_loop.proofs.Heads.{head_of}
+use Rattle.law_runs.proofs.Assigning.{assigned_ran, still_known}
+use Rattle.law_runs.proofs.Points.{rises, IsBehind, IsPoint, point_later, point_behind, turn_declared, turn_assigned, target_usable, updates_there, allowed, tested_known, branches, and_then}
+use Rattle.law_runs.proofs.Growing.{loop_known_is, grows, known_below, visible_behind}
+use Rattle.law_runs.proofs.Loops.{loop_ran}
+
+-- the variables of the loops round a statement are not assigned in it
+abbrev pub Keeps : List Side → Stmt → Type 0
+Keeps box a = (y : Variable) → is_counter box y ≡ true → assigns y a ≡ false
+
+abbrev pub AllKeep : List Side → Items → Type 0
+AllKeep box items = (y : Variable) → is_counter box y ≡ true → assigns_among y items ≡ false
+
+-- nor those of one loop more
+keeps_inside : (box : List Side) (x : Variable) (i : Interval) (body : Stmt) → Keeps box body → assigns x body ≡ false → Keeps (inside box x i) body
+keeps_inside box x i body kept own y c = go (x == y) refl c
+  where
+    go : (b : Bool) → (x == y) ≡ b → cond b true (is_counter box y) ≡ true → assigns y body ≡ false
+    go true e h = ap (λ z. assigns z body) (sym (eqb-true x y e)) ∙ own
+    go false e h = kept y h
+
+module _ (ds : List Declaration) (short : HaveShort ds) where
+  -- a run behind which this is known, at the same turn
+  abbrev Goes : List Side → (Variable → ℤ) → Known → State → Option Effect → Type 0
+  Goes box w k s o = Ran ds (IsBehind ds box w k) s o
+
+  assign_goes : (box : List Side) (w : Variable → ℤ) {scope : Scope} {o p next : ℕ} {ts us : List Token} {x : Variable} {is : Exprs} {e : Source} (k k' : Known) (s : State)
+      → ReadsTarget scope o ts x is → ReadsSource scope p us e → StaysInside ds box x is → SourceHas (StaysInside ds) box e → ((y : Variable) → is_counter box y ≡ true → (x == y) ≡ false)
+      → IsPoint ds box w scope next k s → ((may_read_all k is && may_take k e) ≡ true) × (known_with k x true ≡ k') → Goes box w k' s (assigned s x (values s is) (source_value s e))
+  assign_goes box w {scope} {x = x} {is = is} {e = e} k k' s t r stays has kept at d =
+      let usable = target_usable ds s t at.usable in
+      let js = target_there ds short scope at.small s at.good box w at.here.turn x is usable stays in
+      let v = source_there ds short scope at.small s at.good box w at.here.turn k at.here.known r (second_of (may_read_all k is) (may_take k e) d.0) has in
+      subst (λ q. Goes box w q s (assigned s x (values s is) (source_value s e))) d.1
+      (assigned_ran ds (IsBehind ds box w (known_with k x true)) s x (values s is) (source_value s e) js.0 v.0 js.1 v.1 js.2
+      (record { known = assigned_known ds s x js.0 v.0 k usable at.here.known; turn = turn_assigned box w s x js.0 v.0 kept at.here.turn }))
+
+  update_goes : (box : List Side) (w : Variable → ℤ) {scope : Scope} {o p l next : ℕ} {ts us : List Token} {x : Variable} {is : Exprs} {e : Expr} (op : BinaryOp) (k k' : Known) (s : State)
+      → ReadsTarget scope o ts x is → ((v w : ℕ) → There (operate op v w)) → ReadsExpr scope p l us e → StaysInside ds box x is → ExprHas (StaysInside ds) box e → ((y : Variable) → is_counter box y ≡ true → (x == y) ≡ false)
+      → IsPoint ds box w scope next k s → ((k x && may_read_all k is && may_read k e) ≡ true) × (k ≡ k') → Goes box w k' s (updated s x is op e)
+  update_goes box w {scope} {x = x} {is = is} {e = e} op k k' s t all r stays has kept at d =
+      let usable = target_usable ds s t at.usable in
+      let have = first_of (k x && may_read_all k is) (may_read k e) d.0 in
+      let js = target_there ds short scope at.small s at.good box w at.here.turn x is usable stays in
+      let v = object_there ds short scope at.small s at.good box w at.here.turn k at.here.known x is (first_of (k x) (may_read_all k is) have) stays in
+      let m = expr_there ds short scope at.small s at.good box w at.here.turn k at.here.known r (second_of (k x && may_read_all k is) (may_read k e) d.0) has in
+      let u = all v.0 m.0 in
+      let result = operation_is op (value s (Object x is)) (value s e) v.0 m.0 u.0 v.1 m.1 u.1 in
+      subst (λ q. Goes box w q s (updated s x is op e)) d.1
+      (assigned_ran ds (IsBehind ds box w k) s x (values s is) (both_then (operate op) (value s (Object x is)) (value s e)) js.0 u.0 js.1 result js.2
+      (record { known = still_known ds s x js.0 u.0 k usable at.here.known; turn = turn_assigned box w s x js.0 u.0 kept at.here.turn }))
+
+  -- less is known behind both branches
+  left_goes : {box : List Side} {w : Variable → ℤ} {s : State} {o : Option Effect} (a b k' : Known) → (λ y. a y && b y) ≡ k' → Goes box w a s o → Goes box w k' s o
+  left_goes {box} {w} {s} {o} a b k' e r =
+      subst (λ q. Goes box w q s o) e (ran_weaker (λ t l h. record { known = known_less ds a (λ y. a y && b y) t (λ y q. first_of (a y) (b y) q) h.known; turn = h.turn }) r)
+
+  right_goes : {box : List Side} {w : Variable → ℤ} {s : State} {o : Option Effect} (a b k' : Known) → (λ y. a y && b y) ≡ k' → Goes box w b s o → Goes box w k' s o
+  right_goes {box} {w} {s} {o} a b k' e r =
+      subst (λ q. Goes box w q s o) e (ran_weaker (λ t l h. record { known = known_less ds b (λ y. a y && b y) t (λ y q. second_of (a y) (b y) q) h.known; turn = h.turn }) r)
+
+  -- a local's declaration
+  record IsDeclared (box : List Side) (w : Variable → ℤ) (k : Known) (x : Variable) (s : State) : Type 0 where
+    behind : IsBehind ds box w k s
+    up : stands (s.locals x) ≡ true
+
+  declared_here : (box : List Side) (w : Variable → ℤ) {scope : Scope} {next : ℕ} (slot : Slot) (k : Known) (s : State) → stands slot ≡ true → IsPoint ds box w scope next k s
+      → IsDeclared box w (known_with k next (is_held slot)) next (with_local s next slot)
+  declared_here box w {next = next} slot k s up at =
+      record {
+        behind = record { known = local_known ds s next slot up k at.here.known; turn = turn_declared box w s next slot at.below.counters at.here.turn };
+        up = ap stands (local_same s next slot) ∙ up;
+      }
+
+  empty_goes : (box : List Side) (w : Variable → ℤ) {scope : Scope} {next : ℕ} (k : Known) (s : State) → IsPoint ds box w scope next k s → Ran ds (IsDeclared box w (known_with k next false) next) s (declared s next None)
+  empty_goes box w {next = next} k s at =
+      let room = at.room in
+      ran_write ds (IsDeclared box w (known_with k next false) next) s (Declared next None)
+      (local_later ds s next Empty refl (λ lt e. omega arith)) (declared_here box w Empty k s refl at)
+
+  value_goes : (box : List Side) (w : Variable → ℤ) {scope : Scope} {next : ℕ} (e : Source) (k : Known) (s : State) → IsPoint ds box w scope next k s → There (source_value s e)
+      → Ran ds (IsDeclared box w (known_with k next true) next) s (declared s next (Some e))
+  value_goes box w {next = next} e k s at v =
+      let room = at.room in
+      ran_same (ap (declares next) v.1)
+      (ran_write ds (IsDeclared box w (known_with k next true) next) s (Declared next (Some v.0))
+      (local_later ds s next (Holds v.0) refl (λ lt e. omega arith)) (declared_here box w (Holds v.0) k s refl at))
+
+  -- what is known of a local that is declared has a number below the one behind it
+  declared_below : {box : List Side} {w : Variable → ℤ} {scope : Scope} {next : ℕ} (b : Bool) (k : Known) (s : State) → IsPoint ds box w scope next k s → (y : Variable) → known_with k next b y ≡ true → y < suc next
+  declared_below {next = next} b k s at y h = go (y == next) refl h
+    where
+      go : (t : Bool) → (y == next) ≡ t → cond t b (k y) ≡ true → y < suc next
+      go true e h = let same = eqb-true y next e in omega arith
+      go false e h = let lt = at.below.known y h in omega arith
+
+  mutual
+    stmt_goes : (box : List Side) (w : Variable → ℤ) {scope : Scope} {o next next' : ℕ} {ts : List Token} {a : Stmt} → ReadsStmt scope o next ts a next' → (k k' : Known) (s : State)
+        → Has (StaysInside ds) box a → Keeps box a → IsPoint ds box w scope next k s → definite no_privates a k ≡ Some k' → Goes box w k' s (run a s)
+    stmt_goes box w (assign {x = x} {is = is} {e = e} t r) k k' s h kept at d =
+        assign_goes box w k k' s t r h.0 h.1 kept at (allowed (may_read_all k is && may_take k e) (known_with k x true) k' d)
+    stmt_goes box w (update {x = x} {is = is} {e = e} {op = op} t sign r) k k' s h kept at d =
+        update_goes box w op k k' s t (updates_there sign) r h.0 h.1 kept at (allowed (k x && may_read_all k is && may_read k e) k k' d)
+    stmt_goes box w {scope} (if_only {c = c} {a = a} less rc ra) k k' s h kept at d =
+        let both = tested_known (may_test k c) (after_both (definite no_privates a k) (Some k)) k' d in
+        let parts = branches (definite no_privates a k) (Some k) k' both.1 in
+        let test = cond_there ds short scope at.small s at.good box w at.here.turn k at.here.known rc both.0 h.0 in
+        let same = same_Some k parts.right parts.second in
+        ran_either (holds s c) test.0 test.1
+        (left_goes parts.left parts.right k' parts.is (stmt_goes box w ra k parts.left s h.1 kept at parts.first))
+        (right_goes parts.left parts.right k' parts.is (subst (λ q. Goes box w q s (Some nothing)) same (ran_nothing ds (IsBehind ds box w k) s at.here)))
+    stmt_goes box w {scope} (if_else {next = next} {next' = middle} {c = c} {a = a} {b = b} less rc closed ra rb) k k' s h kept at d =
+        let both = tested_known (may_test k c) (after_both (definite no_privates a k) (definite no_privates b k)) k' d in
+        let parts = branches (definite no_privates a k) (definite no_privates b k) k' both.1 in
+        let test = cond_there ds short scope at.small s at.good box w at.here.turn k at.here.known rc both.0 h.0 in
+        let up = rises ra in
+        let later = point_later ds box w scope next middle k k s s at up (later_self ds s) (λ y q. let lt = at.below.known y q in omega arith) at.here in
+        ran_either (holds s c) test.0 test.1
+        (left_goes parts.left parts.right k' parts.is (stmt_goes box w ra k parts.left s h.1 (λ y q. (or_parts (assigns y a) (assigns y b) (kept y q)).0) at parts.first))
+        (right_goes parts.left parts.right k' parts.is (stmt_goes box w rb k parts.right s h.2 (λ y q. (or_parts (assigns y a) (assigns y b) (kept y q)).1) later parts.second))
+    stmt_goes box w {scope} (for_loop {next = next} {name = name} {start = start} {test = test} {step = step} {body = body} less free rs rt ru r) k k' s h kept at d =
+        let known = loop_known_is next name start test step body k k' d in
+        let l = h.0 in
+        let i = h.1 in
+        let loop = h.2 in
+        let growing = grows r (known_with k next true) known.after (visible_behind scope name next at.below.visible) known.inside in
+        subst (λ q. Goes box w q s (run (For next name start test step body) s)) known.same
+        (loop_ran ds box w scope name next start test step body l i loop (head_of box next start test step l loop.form) k known.after s at ru growing.more
+        (λ v t at'. stmt_goes (inside box next i) v r (known_with k next true) known.after t h.3 (keeps_inside box next i body (λ y q. (or_parts (stepped step == y) (assigns y body) (kept y q)).1) loop.kept) at' known.inside))
+    stmt_goes box w (block less items) k k' s h kept at d = items_go box w items k k' s h kept at d
+    stmt_goes box w {scope} (print {spots = spots} {es = es} {parts = parts} less f r fill) k k' s h kept at d =
+        let ok = allowed (may_print k parts) k k' d in
+        let t = print_there ds short scope at.small s at.good box w at.here.turn k at.here.known spots es parts r fill ok.0 h in
+        subst (λ q. Goes box w q s (map_option (λ t. record { writes = []; text = t }) (print_text s parts))) ok.1
+        (record { effect = record { writes = []; text = t.0 }; is = ap (map_option (λ t. record { writes = []; text = t })) t.1; later = later_self ds s; left = at.here })
+
+    pub items_go : (box : List Side) (w : Variable → ℤ) {scope : Scope} {o next next' : ℕ} {ts : List Token} {items : Items} → ReadsItems scope o next ts items next' → (k k' : Known) (s : State)
+        → Have (StaysInside ds) box items → AllKeep box items → IsPoint ds box w scope next k s → definite_items no_privates [] items k ≡ Some k' → Goes box w k' s (run_items items s)
+    items_go box w no_more k k' s h kept at d = subst (λ q. Goes box w q s (Some nothing)) (same_Some k k' d) (ran_nothing ds (IsBehind ds box w k) s at.here)
+    items_go box w (line r) k k' s h kept at d = items_go box w r k k' s h kept at d
+    items_go box w {scope} (empty_local {next = next} {name = name} {items = items} free r) k k' s h kept at d =
+        ran_then (run_items items) (empty_goes box w k s at)
+        (λ t l q. items_go box w r (known_with k next false) k' t h.1 kept
+        (point_behind ds box w scope name next k (known_with k next false) s t at l (declared_below false k s at) q.behind q.up) d)
+    items_go box w {scope} (first_local {next = next} {name = name} {e = e} {items = items} free re r) k k' s h kept at d =
+        let first = and_then (definite_items no_privates [] items) (declared_known k next (Some e)) k' d in
+        let ok = allowed (may_take k e) (known_with k next true) first.0 first.1 in
+        let d' = ap (definite_items no_privates [] items) ok.1 ∙ first.2 in
+        let v = source_there ds short ((name, AVariable next 0) ∷ scope) (tt, at.small) s at.good box w at.here.turn k at.here.known re ok.0 h.0 in
+        ran_then (run_items items) (value_goes box w e k s at v)
+        (λ t l q. items_go box w r (known_with k next true) k' t h.1 kept
+        (point_behind ds box w scope name next k (known_with k next true) s t at l (declared_below true k s at) q.behind q.up) d')
+    items_go box w {scope} (statement {next = next} {next' = middle} {s = a} {items = items} ra r) k k' s h kept at d =
+        let first = and_then (definite_items no_privates [] items) (definite no_privates a k) k' d in
+        let up = rises ra in
+        let below = known_below next middle k first.0 up at.below.known (grows ra k first.0 at.below.visible first.1) in
+        ran_then (run_items items) (stmt_goes box w ra k first.0 s h.0 (λ y q. (or_parts (assigns y a) (assigns_among y items) (kept y q)).0) at first.1)
+        (λ t l q. items_go box w r first.0 k' t h.1 (λ y q. (or_parts (assigns y a) (assigns_among y items) (kept y q)).1) (point_later ds box w scope next middle k first.0 s t at up l below q) first.2)

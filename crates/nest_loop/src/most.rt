@@ -1,0 +1,102 @@
+//! How often a loop turns.
+
+ghost use Rattle.std.specs.Prelude.{◌≡◌, ◌≤◌, ◌^◌, ◌+◌, ℤ, ◌+ℤ◌, ◌-ℤ◌, ◌≤ℤ◌, pos, IfOk, IfErr};
+ghost use Rattle.semantics.specs.Tree.{Variable};
+ghost use Rattle.affine.specs.Affine.{value};
+ghost use Rattle.affine.specs.Limits.{Fits, IsWithin};
+ghost use Rattle.affine_expr.specs.declared.faults.Fault.TheVariants.{OutOfMemory};
+ghost use Rattle.nest_loop.specs.declared.stride.Direction.{Direction as Directions};
+ghost use Rattle.nest_loop.specs.Sides.{CannotWrap, end_shift};
+ghost use Rattle.nest_loop.specs.Whole.{IsWell};
+ghost use Rattle.nest_loop.specs.Most.{way, distance, AreWithin, IsMost};
+
+use crate::difference::difference;
+use crate::head::Canonical;
+use crate::stride::{Bound, Direction};
+use affine::{Form, VarBox};
+use affine_expr::{Fault, refused};
+use ktree::Place;
+use std::alloc::Global;
+
+/// How much further than the end the number lies that the variable is compared with, below 0.
+fn short(bound: Bound) -> i128
+    ensures way { (d : Directions) → result ≡ way d (pos 0) (end_shift d bound) }
+    ensures within { IsWithin 1 result }
+{
+    match bound {
+        Bound::Inclusive => 0,
+        Bound::Strict => -1,
+        Bound::Unequal => -1,
+    }
+}
+
+/// How far the number that the variable is compared with lies behind its start.
+fn apart(canonical: &Canonical, place: Place) -> Result<Form, Fault>
+    requires { IsWell canonical.now }
+    ensures ok { IfOk result (λ form. (values : Variable → ℤ) → value form values ≡ way canonical.now.stride.direction (value canonical.now.start values) (value canonical.now.limit values)) }
+    ensures near { IfOk result (λ form. IsWithin (2 ^ 33) form.constant) }
+    ensures fits { IfOk result Fits }
+    ensures err { IfErr result (λ fault. fault ≡ OutOfMemory) }
+{
+    match canonical.stride.direction {
+        Direction::Rising => difference(&canonical.limit, &canonical.start, place),
+        Direction::Falling => difference(&canonical.start, &canonical.limit, place),
+    }
+}
+
+/// How far the end of a loop lies behind its start, as a form in the variables round it (OpenMP 5.2, 4.4.2): below 0, there is
+/// no turn, and else as many as the steps that stay within.
+///
+/// # Errors
+///
+/// `OutOfMemory`.
+pub fn distance(alloc: Global, canonical: &Canonical, place: Place) -> Result<Form, Fault>
+    requires { IsWell canonical.now }
+    ensures ok { IfOk result (λ form. (values : Variable → ℤ) → value form values ≡ distance canonical.now values) }
+    ensures err { IfErr result (λ fault. fault ≡ OutOfMemory) }
+{
+    let apart = apart(canonical, place)?;
+    let Ok(short) = Form::constant(alloc, short(canonical.bound), place) else {
+        unreachable!()
+    };
+    match apart.add(&short, place) {
+        Ok(form) => Ok(form),
+        Err(refusal) => Err(refused(refusal, place)),
+    }
+}
+
+/// How many turns stay within a distance.
+pub fn turns_within(distance: i128, by: u32) -> u64
+    requires by_one { 1 ≤ by }
+    requires near { distance ≤ℤ pos (2 ^ 33) }
+    ensures turns { AreWithin by distance result }
+{
+    if distance < 0 {
+        0
+    } else {
+        distance as u64 / u64::from(by) + 1
+    }
+}
+
+/// How often a loop inside those of a box turns at most (OpenMP 5.2, 4.4.2); never, where the box is empty.
+///
+/// # Errors
+///
+/// `OutOfMemory`.
+pub fn most_turns(
+    alloc: Global,
+    canonical: &Canonical,
+    bounds: &VarBox,
+    place: Place,
+) -> Result<u64, Fault>
+    requires well { IsWell canonical.now }
+    requires stays { CannotWrap bounds.now canonical.now }
+    ensures most { IfOk result (IsMost bounds.now canonical.now) }
+    ensures err { IfErr result (λ fault. fault ≡ OutOfMemory) }
+{
+    let distance = distance(alloc, canonical, place)?;
+    match distance.range(bounds) {
+        None => Ok(0),
+        Some(range) => Ok(turns_within(range.1, canonical.stride.by)),
+    }
+}

@@ -1,0 +1,65 @@
+//! The bodies of loops.
+
+ghost use Rattle.std.specs.Prelude.{◌≡◌, List, length, slice_get, OnOk, IfOk, IfErr};
+ghost use Rattle.ktree.specs.View.{stmt_of};
+ghost use Rattle.pairtest_access.specs.Sites.{Site, Sites};
+ghost use Rattle.pairtest_access.specs.Found.{AreFound, IsTold};
+ghost use Rattle.pairtest_access.specs.Refused.{Because, IsStuck};
+
+use crate::finder::{Finder, Wanted};
+use crate::statements::statement;
+use crate::told::Touched;
+use affine_expr::Fault;
+use ktree::Stmt;
+use pairtest::Access;
+use pairtest_counter::Chain;
+use std::alloc::Global;
+
+/// Every element access of a body, in order of place, where the loops of the chain stand round the body; the target of an
+/// assignment stands first, and writes. Of the loops inside the body each has its greatest count in the accesses inside it.
+/// The chain has the same loops behind it.
+///
+/// # Errors
+///
+/// `Limit` at the access where a number of a subscript's form in the counters is above 2^62 in absolute value; the fault of
+/// a loop that is not canonical, may wrap or is one too many, and of a subscript without a form; `OutOfMemory`.
+pub fn accesses(alloc: Global, chain: &mut Chain, body: &Stmt) -> Result<Vec<Access>, Fault>
+    ensures ok { IfOk result (λ found. (ss : List Site) × Sites chain.old (stmt_of body.now) ss × AreFound (length chain.old.levels) ss found.items) }
+    ensures err { IfErr result (Because (IsStuck chain.old (stmt_of body.now))) }
+    ensures back { OnOk result (chain.new ≡ chain.old) }
+{
+    let mut finder = Finder {
+        outer: chain.levels().len(),
+        wanted: Wanted::Every,
+        accesses: Vec::new(alloc),
+        touched: None,
+    };
+    statement(alloc, chain, &mut finder, body)?;
+    Ok(finder.accesses)
+}
+
+/// What is told of one of these accesses, that with so many before it; none, where there is none. The chain has the same
+/// loops behind it.
+///
+/// # Errors
+///
+/// The fault of a loop that is not canonical, may wrap or is one too many, and of a subscript without a form; `OutOfMemory`.
+pub fn touched(
+    alloc: Global,
+    chain: &mut Chain,
+    body: &Stmt,
+    number: usize,
+) -> Result<Option<Touched>, Fault>
+    ensures ok { IfOk result (λ told. (ss : List Site) × Sites chain.old (stmt_of body.now) ss × IsTold (length chain.old.levels) (slice_get ss number) told) }
+    ensures err { IfErr result (Because (IsStuck chain.old (stmt_of body.now))) }
+    ensures back { OnOk result (chain.new ≡ chain.old) }
+{
+    let mut finder = Finder {
+        outer: chain.levels().len(),
+        wanted: Wanted::Only(number),
+        accesses: Vec::new(alloc),
+        touched: None,
+    };
+    statement(alloc, chain, &mut finder, body)?;
+    Ok(finder.touched)
+}

@@ -1,0 +1,18 @@
+use Rattle.std.specs.Prelude.{◌≡◌}
+use Rattle.std.proofs.Common.{◌∙◌, ap, to_z, of_z, w64, rules}
+use Rattle.std.proofs.lemmas.Int.{ints}
+use Rattle.std.proofs.lemmas.Result.{err_from_is_err_and}
+use Rattle.affine.specs.Arithmetic.{constant_form}
+use Rattle.pairtest_counter.proofs.Converted.{way_stops, reached_made}
+use Rattle.pairtest_counter.proofs.convert.reach_of.Goals as goal
+
+pub returns-in_err-apart : goal.returns-in_err-apart
+returns-in_err-apart c =
+    let p = err_from_is_err_and c.from_residual.result c.from_residual.ensures.1 in
+    rw (p.1, p.2) (way_stops c.args.canonical.now c.args.start.now c.args.limit.now c.args.place c.in_err-apart.field-0.0 c.in_err-apart.ensures)
+
+pub returns : goal.returns
+returns c =
+    let read : to_z w64 (of_z w64 c.short.result) ≡ c.short.result = search (rules, ints) in
+    reached_made c.args.canonical.now c.args.start.now c.args.limit.now c.in_ok-apart.apart c.in_ok-short.short c.args.place c.add.result c.in_ok-apart.ensures
+    (c.in_ok-short.ensures.ok ∙ ap constant_form (read ∙ c.short.ensures)) c.add.ensures.ok c.add.ensures.fits c.add.ensures.refusal

@@ -1,0 +1,230 @@
+//! Loops inside each other.
+
+ghost use Rattle.std.specs.Prelude.{◌≡◌, ◌⊎◌, ◌<◌, ◌≤◌, [], ◌∷◌, drop, length, true, false, IfOk, IfErr, OnOk, OnErr};
+ghost use Rattle.ktree.specs.View.{source_of, cond_of, increment_of, stmt_of};
+ghost use Rattle.ktree.specs.declared.refusal.Refusal.TheVariants as refusals;
+ghost use Rattle.affine.specs.Affine.{Affine};
+ghost use Rattle.affine.specs.Box.{side};
+ghost use Rattle.affine.specs.declared.interval.Interval as intervals;
+ghost use Rattle.affine_expr.specs.declared.faults.Fault.TheVariants.{OutOfMemory, Limit};
+ghost use Rattle.nest_loop.specs.declared.head.Canonical as canonicals;
+ghost use Rattle.nest_loop.specs.Loops.{IsLoop, inside};
+ghost use Rattle.nest_loop.specs.Sides.{CannotWrap};
+ghost use Rattle.nest_loop.specs.Whole.{IsWell};
+ghost use Rattle.nest_loop.specs.Most.{IsMost};
+ghost use Rattle.pairtest_counter.specs.Counters.{InCounters, AreForms, Given};
+ghost use Rattle.pairtest_counter.specs.Levels.{IsLevel, IsInner, with_inner, Enters, AreLevels};
+
+use crate::convert::{forms_of, in_counters};
+use crate::level::{Forms, Inner, Level};
+use affine::{Form, Interval, VarBox};
+use affine_expr::Fault;
+use ktree::{Head, Place, Refusal, Stmt, VarId};
+use nest_loop::{Canonical, loop_of, most_turns};
+use std::alloc::Global;
+use std::marker::Model;
+
+/// Loops inside each other. Contracts see the numbers that their variables may have and the loops, the innermost first.
+#[derive(Drop)]
+pub struct Chain {
+    bounds: VarBox,
+    levels: Vec<Level>,
+}
+
+impl Model for Chain {
+    ghost use Rattle.pairtest_counter.specs.Levels.{Nesting, AreLevels};
+
+    ghost Value = { Nesting };
+
+    ghost view = { λ c. record { box = c.bounds; levels = c.levels.items } };
+
+    ghost invariant = { λ c. AreLevels c.bounds c.levels.items };
+}
+
+/// Whether a form passes the limits.
+fn is_limit(refusal: &Refusal) -> bool
+    ensures { refusal.now ≡ refusals.OutOfMemory → result ≡ false }
+{
+    matches!(refusal, Refusal::Limit(_))
+}
+
+/// The forms of a loop inside others, none where a number of these passes the limits.
+fn forms_within(
+    alloc: Global,
+    canonical: &Canonical,
+    outer: &[Level],
+    place: Place,
+) -> Result<Option<Forms>, Fault>
+    requires { length outer.now ≤ 8 }
+    ensures ok { IfOk result (Given (AreForms outer.now canonical.now)) }
+    ensures err { IfErr result (λ fault. fault ≡ OutOfMemory) }
+{
+    let counter = VarId(outer.len() as u32);
+    match forms_of(alloc, outer, canonical, counter, place) {
+        Ok(forms) => Ok(Some(forms)),
+        Err(refusal) => {
+            if is_limit(&refusal) {
+                Ok(None)
+            } else {
+                Err(Fault::OutOfMemory)
+            }
+        }
+    }
+}
+
+/// A loop inside others.
+fn level_of(
+    alloc: Global,
+    canonical: Canonical,
+    bounds: &VarBox,
+    outer: &[Level],
+    place: Place,
+) -> Result<Level, Fault>
+    requires few { length outer.now ≤ 8 }
+    requires well { IsWell canonical }
+    requires stays { CannotWrap bounds.now canonical }
+    ensures canonical { IfOk result (λ level. level.canonical ≡ canonical) }
+    ensures most { IfOk result (λ level. IsMost bounds.now canonical level.most) }
+    ensures forms { IfOk result (λ level. Given (AreForms outer.now canonical) level.forms) }
+    ensures err { IfErr result (λ fault. fault ≡ OutOfMemory) }
+{
+    let most = most_turns(alloc, &canonical, bounds, place)?;
+    let forms = forms_within(alloc, &canonical, outer, place)?;
+    Ok(Level {
+        canonical,
+        most,
+        forms,
+    })
+}
+
+/// Gives the variable of a loop its numbers, and says whether the box took them.
+fn bound(bounds: &mut VarBox, variable: VarId, numbers: Interval, place: Place) -> bool
+    ensures ok { result ≡ true → bounds.new ≡ inside bounds.old variable.0 numbers }
+    ensures err { result ≡ false → bounds.new ≡ bounds.old }
+{
+    let least = i128::from(numbers.least);
+    let greatest = i128::from(numbers.greatest);
+    bounds.bound(variable, least, greatest, place).is_ok()
+}
+
+/// Puts a loop and the numbers of its variable before those of others, which stay as they are where memory runs out.
+fn put_inside(
+    bounds: &mut VarBox,
+    levels: &mut Vec<Level>,
+    inner: Inner,
+    place: Place,
+) -> Result<(), Fault>
+    ensures numbers { OnOk result (bounds.new ≡ inside bounds.old inner.level.canonical.variable.0 inner.numbers) }
+    ensures levels { OnOk result (levels.new.items ≡ inner.level ∷ levels.old.items) }
+    ensures same_numbers { OnErr result (bounds.new ≡ bounds.old) }
+    ensures same_levels { OnErr result (levels.new.items ≡ levels.old.items) }
+    ensures fault { IfErr result (λ fault. fault ≡ OutOfMemory) }
+{
+    let variable = inner.level.canonical.variable;
+    if !bound(bounds, variable, inner.numbers, place) {
+        return Err(Fault::OutOfMemory);
+    }
+    if levels.insert(0, inner.level).is_err() {
+        bounds.unbound();
+        return Err(Fault::OutOfMemory);
+    }
+    Ok(())
+}
+
+impl Chain {
+    /// No loop at all.
+    pub fn new(alloc: Global) -> Chain
+        ensures numbers { result.box ≡ [] }
+        ensures levels { result.levels ≡ [] }
+    {
+        Chain {
+            bounds: VarBox::new(alloc),
+            levels: Vec::new(alloc),
+        }
+    }
+
+    /// The numbers that the variables of the loops may have.
+    pub fn bounds(&self) -> &VarBox
+        ensures { result.now ≡ self.now.box }
+    {
+        &self.bounds
+    }
+
+    /// The loops, the innermost first.
+    pub fn levels(&self) -> &[Level]
+        ensures all { result.now ≡ self.now.levels }
+        ensures sound { AreLevels self.now.box self.now.levels }
+    {
+        self.levels.as_slice()
+    }
+
+    /// The loop of a head inside those of the chain.
+    fn inner(&self, alloc: Global, head: &Head, body: &Stmt) -> Result<Inner, Fault>
+        ensures ok { IfOk result (IsInner self.now head.now (stmt_of body.now)) }
+        ensures fault { IfErr result (λ fault. (fault ≡ OutOfMemory) ⊎ ((l : canonicals.Canonical) (i : intervals.Interval)
+            → IsLoop self.now.box head.now.variable.0 (source_of head.now.start) (cond_of head.now.test) (increment_of head.now.step) (stmt_of body.now) l i → ⊥)) }
+    {
+        let made = loop_of(alloc, head, body, &self.bounds)?;
+        let numbers = made.numbers;
+        let outer = self.levels.as_slice();
+        let level = level_of(alloc, made.canonical, &self.bounds, outer, head.place)?;
+        Ok(Inner { level, numbers })
+    }
+
+    /// Puts a loop inside those of the chain, which stay as they are where memory runs out.
+    fn put(&mut self, inner: Inner, place: Place) -> Result<(), Fault>
+        requires { IsLevel self.old.box self.old.levels (side inner.level.canonical.variable.0 inner.numbers.least inner.numbers.greatest) inner.level }
+        ensures ok { OnOk result (self.new ≡ with_inner self.old inner) }
+        ensures err { OnErr result (self.new ≡ self.old) }
+        ensures fault { IfErr result (λ fault. fault ≡ OutOfMemory) }
+    {
+        put_inside(&mut self.bounds, &mut self.levels, inner, place)
+    }
+
+    /// Goes into a loop (OpenMP 5.2, 4.4.1 and 4.4.2).
+    ///
+    /// # Errors
+    ///
+    /// Those of a loop that is not canonical, may wrap or is one too many, as [`nest_loop::loop_of`]; `OutOfMemory`. The loops are
+    /// then those from before.
+    pub fn enter(&mut self, alloc: Global, head: &Head, body: &Stmt) -> Result<(), Fault>
+        ensures ok { OnOk result (Enters self.old self.new head.now (stmt_of body.now)) }
+        ensures err { OnErr result (self.new ≡ self.old) }
+        ensures fault { IfErr result (λ fault. (fault ≡ OutOfMemory) ⊎ ((l : canonicals.Canonical) (i : intervals.Interval)
+            → IsLoop self.old.box head.now.variable.0 (source_of head.now.start) (cond_of head.now.test) (increment_of head.now.step) (stmt_of body.now) l i → ⊥)) }
+    {
+        let inner = self.inner(alloc, head, body)?;
+        self.put(inner, head.place)
+    }
+
+    /// Leaves the innermost loop.
+    pub fn leave(&mut self)
+        requires { 0 < length self.old.levels }
+        ensures numbers { self.new.box ≡ drop 1 self.old.box }
+        ensures levels { self.new.levels ≡ drop 1 self.old.levels }
+    {
+        self.bounds.unbound();
+        self.levels.remove(0);
+    }
+
+    /// A form in the variables of the loops as one in their counters.
+    ///
+    /// # Errors
+    ///
+    /// `Limit` at the place, where a number of a form on the way is above 2^62 in absolute value; `OutOfMemory`.
+    pub fn in_counters(&self, alloc: Global, form: &Form, place: Place) -> Result<Form, Fault>
+        ensures ok { IfOk result (λ found. InCounters self.now.levels form.now found) }
+        ensures err { IfErr result (λ fault. (fault ≡ OutOfMemory) ⊎ ((fault ≡ Limit place) × ((g : Affine) → InCounters self.now.levels form.now g → ⊥))) }
+    {
+        match in_counters(alloc, self.levels.as_slice(), form, place) {
+            Ok(found) => Ok(found),
+            Err(refusal) => {
+                if is_limit(&refusal) {
+                    Err(Fault::Limit(place))
+                } else {
+                    Err(Fault::OutOfMemory)
+                }
+            }
+        }
+    }
+}

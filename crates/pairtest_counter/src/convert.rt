@@ -1,0 +1,180 @@
+//! Forms in the counters of loops.
+
+ghost use Rattle.std.specs.Prelude.{◌≡◌, ◌⊎◌, ◌<◌, ◌^◌, length, IfOk, IfErr, Some, pos};
+ghost use Rattle.ktree.specs.declared.refusal.Refusal.TheVariants as refusals;
+ghost use Rattle.affine.specs.Affine.{Affine};
+ghost use Rattle.affine.specs.Arithmetic.{sum_form, multiple_form, constant_form, variable_form};
+ghost use Rattle.affine.specs.Limits.{Fits};
+ghost use Rattle.nest_loop.specs.Most.{way};
+ghost use Rattle.nest_loop.specs.Sides.{end_shift};
+ghost use Rattle.pairtest_counter.specs.Counters.{step_by, Adds, InCounters, AreForms, IsProduct, IsWay, IsStepped, IsReached, AreFormsBetween, Makes};
+
+use crate::level::{Forms, Level};
+use affine::{Form, Term};
+use ktree::{Place, Refusal, VarId};
+use nest_loop::{Bound, Canonical, Direction, Stride};
+use std::alloc::Global;
+
+/// The form that is this number everywhere.
+fn constant(alloc: Global, number: i64, place: Place) -> Result<Form, Refusal>
+    ensures ok { IfOk result (λ form. form ≡ constant_form number) }
+    ensures err { IfErr result (λ refusal. refusal ≡ refusals.OutOfMemory) }
+{
+    match Form::constant(alloc, i128::from(number), place) {
+        Ok(form) => Ok(form),
+        Err(_) => Err(Refusal::OutOfMemory),
+    }
+}
+
+/// A term, its variable being a form in the counters.
+fn scaled(alloc: Global, levels: &[Level], term: &Term, place: Place) -> Result<Form, Refusal>
+    ensures { Makes result place (IsProduct levels.now term.now) }
+{
+    let Some((level, outer)) = levels.split_first() else {
+        return constant(alloc, 0, place)?.scale(term.coefficient, place);
+    };
+    if level.canonical.variable != term.variable {
+        return scaled(alloc, outer, term, place);
+    }
+    match &level.forms {
+        Some(forms) => forms.place.scale(term.coefficient, place),
+        None => Err(Refusal::Limit(place)),
+    }
+}
+
+/// A form in the counters, and further terms in the variables.
+fn added(
+    alloc: Global,
+    levels: &[Level],
+    sum: Form,
+    terms: &[Term],
+    place: Place,
+) -> Result<Form, Refusal>
+    ensures { Makes result place (Adds levels.now sum terms.now) }
+{
+    let Some((term, terms)) = terms.split_first() else {
+        return Ok(sum);
+    };
+    let product = scaled(alloc, levels, term, place)?;
+    let sum = sum.add(&product, place)?;
+    added(alloc, levels, sum, terms, place)
+}
+
+/// A form in the variables of loops as one in their counters.
+pub fn in_counters(
+    alloc: Global,
+    levels: &[Level],
+    form: &Form,
+    place: Place,
+) -> Result<Form, Refusal>
+    ensures { Makes result place (InCounters levels.now form.now) }
+{
+    let constant = constant(alloc, form.constant_term(), place)?;
+    added(alloc, levels, constant, form.terms(), place)
+}
+
+/// How far a variable goes with each step.
+fn step_by(stride: Stride) -> i64
+    ensures { result ≡ step_by stride.direction stride.by }
+{
+    match stride.direction {
+        Direction::Rising => i64::from(stride.by),
+        Direction::Falling => -i64::from(stride.by),
+    }
+}
+
+/// The steps of a loop, as a form in its counter.
+fn steps(alloc: Global, counter: VarId, stride: Stride, place: Place) -> Result<Form, Refusal>
+    ensures ok { IfOk result (λ form. form ≡ multiple_form (variable_form counter.0) (step_by stride.direction stride.by)) }
+    ensures err { IfErr result (λ refusal. refusal ≡ refusals.OutOfMemory) }
+{
+    match Form::variable(alloc, counter).scale(step_by(stride), place) {
+        Ok(form) => Ok(form),
+        Err(_) => Err(Refusal::OutOfMemory),
+    }
+}
+
+/// How far the end of a loop lies behind what its variable is compared with, on its way.
+fn short(direction: Direction, bound: Bound) -> i64
+    ensures { result ≡ way direction (pos 0) (end_shift direction bound) }
+{
+    match (direction, bound) {
+        (_, Bound::Inclusive) => 0,
+        (Direction::Rising, _) => -1,
+        (Direction::Falling, _) => -1,
+    }
+}
+
+/// How far one form lies behind another, on the way of a loop.
+fn way(direction: Direction, first: &Form, end: &Form, place: Place) -> Result<Form, Refusal>
+    ensures { Makes result place (IsWay direction first.now end.now) }
+{
+    match direction {
+        Direction::Rising => end.subtract(first, place),
+        Direction::Falling => first.subtract(end, place),
+    }
+}
+
+/// The variable of a loop from its start, as a form in the counters.
+fn place_of(
+    alloc: Global,
+    counter: VarId,
+    stride: Stride,
+    start: &Form,
+    place: Place,
+) -> Result<Form, Refusal>
+    ensures { Makes result place (IsStepped counter.0 stride start.now) }
+{
+    let steps = steps(alloc, counter, stride, place)?;
+    start.add(&steps, place)
+}
+
+/// How far the end of a loop lies behind its start, as a form in the counters.
+fn reach_of(
+    alloc: Global,
+    canonical: &Canonical,
+    start: &Form,
+    limit: &Form,
+    place: Place,
+) -> Result<Form, Refusal>
+    ensures { Makes result place (IsReached canonical.now start.now limit.now) }
+{
+    let direction = canonical.stride.direction;
+    let apart = way(direction, start, limit, place)?;
+    let short = constant(alloc, short(direction, canonical.bound), place)?;
+    apart.add(&short, place)
+}
+
+/// The forms of a loop from its start and what its variable is compared with.
+fn forms_between(
+    alloc: Global,
+    canonical: &Canonical,
+    counter: VarId,
+    start: &Form,
+    limit: &Form,
+    place: Place,
+) -> Result<Forms, Refusal>
+    ensures { Makes result place (AreFormsBetween counter.0 canonical.now start.now limit.now) }
+{
+    let stepped = place_of(alloc, counter, canonical.stride, start, place)?;
+    Ok(Forms {
+        place: stepped,
+        reach: reach_of(alloc, canonical, start, limit, place)?,
+    })
+}
+
+/// The forms of a loop inside others, in the counters of these and its own.
+pub fn forms_of(
+    alloc: Global,
+    outer: &[Level],
+    canonical: &Canonical,
+    counter: VarId,
+    place: Place,
+) -> Result<Forms, Refusal>
+    requires { counter.0 ≡ length outer.now }
+    ensures { Makes result place (AreForms outer.now canonical.now) }
+{
+    let start = in_counters(alloc, outer, &canonical.start, place)?;
+    let limit = in_counters(alloc, outer, &canonical.limit, place)?;
+    forms_between(alloc, canonical, counter, &start, &limit, place)
+}

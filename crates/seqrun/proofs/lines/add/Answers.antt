@@ -1,8 +1,0 @@
-use Rattle.std.proofs.Common.{subst}
-use Rattle.seqrun.specs.Told.{AddsBeginning}
-use Rattle.seqrun.proofs.Beginnings.{of_front}
-use Rattle.seqrun.proofs.lines.add.Goals as goal
-
-pub returns-in_err-put_all-clause-beginning : goal.returns-in_err-put_all-clause-beginning
-returns-in_err-put_all-clause-beginning g c =
-    of_front _ _ _ _ (subst (AddsBeginning (g.S.Sink.told c.args.sink.now) (g.S.Sink.told c.put_all.new.sink)) c.as_slice.ensures.value c.put_all.ensures.beginning)

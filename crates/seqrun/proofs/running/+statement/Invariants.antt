@@ -1,0 +1,34 @@
+use Rattle.std.proofs.Common.{◌≡◌, ◌-◌, drop}
+use Rattle.semantics.specs.Meaning.Value.{holds}
+use Rattle.semantics.specs.Meaning.Runs.{run, run_items, turns, most_turns, incremented}
+use Rattle.ktree.specs.View.{cond_of, increment_of, stmt_of, items_of}
+use Rattle.seqrun_value.specs.Standing.{standing}
+use Rattle.seqrun.specs.Ran.{lengths_of}
+use Rattle.seqrun.proofs.RunLemmas.{Going}
+use Rattle.seqrun.proofs.running.+statement.Given as goal
+
+-- the turns so far, and those that are left
+abbrev pub invariant-statement-loop-turn : goal.invariant-statement-loop-turn
+invariant-statement-loop-turn g l =
+    Going
+    (run (stmt_of l.fn.stmt) (standing l.fn.frame l.fn.store))
+    (turns (most_turns - l._turn) (λ t. holds t (cond_of l.head.test)) (run (stmt_of l.body.value)) (λ t. incremented t (increment_of l.head.step)) (standing l.frame l.store))
+    (standing l.fn.frame l.fn.store)
+    (standing l.frame l.store)
+    (g.S.Sink.told l.fn.sink)
+    (g.S.Sink.told l.sink)
+    × (g.S.Sink.failed l.sink ≡ g.S.Sink.failed l.fn.sink)
+    × (lengths_of l.store ≡ lengths_of l.fn.store)
+
+-- the items so far, and those that are left
+abbrev pub invariant-block-loop-item : goal.invariant-block-loop-item
+invariant-block-loop-item g l =
+    Going
+    (run_items (items_of l.items) (standing l.fn.frame l.fn.store))
+    (run_items (items_of (drop l.item-index l.items)) (standing l.frame l.store))
+    (standing l.fn.frame l.fn.store)
+    (standing l.frame l.store)
+    (g.S.Sink.told l.fn.sink)
+    (g.S.Sink.told l.sink)
+    × (g.S.Sink.failed l.sink ≡ g.S.Sink.failed l.fn.sink)
+    × (lengths_of l.store ≡ lengths_of l.fn.store)

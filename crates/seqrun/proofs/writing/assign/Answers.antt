@@ -1,0 +1,36 @@
+use Rattle.std.proofs.Common.{refl, ap, ◌∙◌, Some}
+use Rattle.std.proofs.lemmas.Result.{on_ok_weaker}
+use Rattle.semantics.specs.Meaning.State.{Empty, Holds}
+use Rattle.store.proofs.Writing.{same_lengths}
+use Rattle.seqrun_value.specs.Standing.{standing, slot_of}
+use Rattle.seqrun.specs.Ran.{lengths_of}
+use Rattle.seqrun.proofs.WriteLemmas.{local_written, cell_there, room_there, cell_written}
+use Rattle.seqrun.proofs.writing.assign.Goals as goal
+
+pub place-at-requires : goal.place-at-requires
+place-at-requires c =
+    cell_there c.args.frame.now c.args.store.now c.args.variable.0 _ c.index-arrays-variable.result c.in-Outside.ensures (rw c.arrays.ensures at c.index-arrays-variable.is) c.args.n c.requires
+
+pub write-requires : goal.write-requires
+write-requires c =
+    room_there c.args.frame.now c.args.store.now c.args.variable.0 _ c.index-arrays-variable.result c.in-Outside.ensures (rw c.arrays.ensures at c.index-arrays-variable.is) c.args.n c.requires c.place-at.result c.place-at.ensures
+
+pub returns-in-Outside-clause-done : goal.returns-in-Outside-clause-done
+returns-in-Outside-clause-done c =
+    rw c.write.ensures
+    (cell_written c.args.frame.now c.args.store.now c.args.variable.0 _ c.index-arrays-variable.result c.in-Outside.ensures (rw c.arrays.ensures at c.index-arrays-variable.is) c.args.n c.requires c.place-at.result c.place-at.ensures)
+
+pub returns-in-Outside-clause-shape : goal.returns-in-Outside-clause-shape
+returns-in-Outside-clause-shape c = ap lengths_of c.write.ensures ∙ same_lengths _ _ _ _
+
+pub returns-in-Empty-clause-done : goal.returns-in-Empty-clause-done
+returns-in-Empty-clause-done c =
+    on_ok_weaker c.set.result
+    (λ e. local_written (standing c.args.frame.now c.args.store.now) (standing c.set.new.self c.args.store.now) c.args.variable.0 _ c.args.n Empty (λ is. refl) (c.slot.ensures ∙ ap (λ s. slot_of (Some s)) c.in-Empty.is) c.requires (e c.args.store.now))
+    c.set.ensures.ok
+
+pub returns-in-Holds-clause-done : goal.returns-in-Holds-clause-done
+returns-in-Holds-clause-done c =
+    on_ok_weaker c.set-in-Holds.result
+    (λ e. local_written (standing c.args.frame.now c.args.store.now) (standing c.set-in-Holds.new.self c.args.store.now) c.args.variable.0 _ c.args.n (Holds c.in-Holds._old) (λ is. refl) (c.slot.ensures ∙ ap (λ s. slot_of (Some s)) c.in-Holds.is) c.requires (e c.args.store.now))
+    c.set-in-Holds.ensures.ok

@@ -1,0 +1,3 @@
+pub mod Told
+pub mod Lines
+pub mod Reading

@@ -1,0 +1,11 @@
+use Rattle.std.proofs.Common.{ap, ◌∙◌, arith}
+use Rattle.store.specs.Kept.{state_of}
+use Rattle.seqrun_value.specs.Standing.{locals_of}
+use Rattle.seqrun_value.proofs.FrameLemmas.{locals_pushed, state_set}
+use Rattle.seqrun_value.proofs.frame.Frame.set.Goals as goal
+
+pub loop-slots-preserved : goal.loop-slots-preserved
+loop-slots-preserved c = rw c.in_ok-push.ensures.items (locals_pushed _ ∙ c.loop-slots.invariant)
+
+pub returns-clause-ok : goal.returns-clause-ok
+returns-clause-ok c = λ ks. state_set (state_of ks).cells c.loop-slots.slots.items c.args.self.now c.args.variable.0 c.args.slot (omega arith) (c.loop-slots.invariant ∙ ap locals_of c.self.view_is)

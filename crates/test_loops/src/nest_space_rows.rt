@@ -1,0 +1,417 @@
+ghost use Rattle.std.specs.Prelude.{◌≡◌, length, IfSome};
+
+use affine::Form;
+use ktree::{Place, Refusal, VarId};
+use nest_loop::{Bound, Canonical, Direction, Stride};
+use nest_space::*;
+use std::alloc::Global;
+
+const HERE: Place = Place { line: 2, column: 3 };
+
+const N: VarId = VarId(2);
+
+const I: VarId = VarId(4);
+
+const J: VarId = VarId(7);
+
+/// A loop between two numbers.
+#[derive(Clone, Copy)]
+struct Shape {
+    variable: VarId,
+    stride: Stride,
+    bound: Bound,
+    start: i128,
+    limit: i128,
+}
+
+/// `for (v = start; v op limit; v += by)`.
+fn rising(variable: VarId, by: u32, bound: Bound, start: i128, limit: i128) -> Shape {
+    Shape {
+        variable,
+        stride: Stride {
+            direction: Direction::Rising,
+            by,
+        },
+        bound,
+        start,
+        limit,
+    }
+}
+
+/// `for (i = start; i op limit; i -= by)`.
+fn falling(by: u32, bound: Bound, start: i128, limit: i128) -> Shape {
+    Shape {
+        variable: I,
+        stride: Stride {
+            direction: Direction::Falling,
+            by,
+        },
+        bound,
+        start,
+        limit,
+    }
+}
+
+/// The head of such a loop.
+fn head(alloc: Global, shape: Shape) -> Result<Canonical, Refusal> {
+    let start = Form::constant(alloc, shape.start, HERE)?;
+    let limit = Form::constant(alloc, shape.limit, HERE)?;
+    Ok(Canonical {
+        variable: shape.variable,
+        stride: shape.stride,
+        bound: shape.bound,
+        start,
+        limit,
+    })
+}
+
+/// How the loop runs where no variable has a value; None where it does not stay.
+fn turns(alloc: Global, shape: Shape) -> Option<LoopTurns> {
+    match head(alloc, shape) {
+        Ok(head) => turns_at(&head, &[]),
+        Err(_refusal) => None,
+    }
+}
+
+/// How often it turns there.
+fn count(alloc: Global, shape: Shape) -> Option<u64> {
+    turns(alloc, shape).map(|turns| turns.count())
+}
+
+/// The value at a turn, where there is one.
+fn at(turns: LoopTurns, turn: u64) -> Option<u64> {
+    if turn < turns.count() {
+        Some(turns.value(turn))
+    } else {
+        None
+    }
+}
+
+/// The first five values of the loop's variable, where it has so many.
+fn values(alloc: Global, shape: Shape) -> Option<[Option<u64>; 5]> {
+    match turns(alloc, shape) {
+        Some(turns) => Some([
+            at(turns, 0),
+            at(turns, 1),
+            at(turns, 2),
+            at(turns, 3),
+            at(turns, 4),
+        ]),
+        None => None,
+    }
+}
+
+#[test]
+fn falling_loops(rt: HostRuntime) {
+    let by_three = falling(3, Bound::Strict, 10, 2);
+    assert_eq!(rt;
+        values(rt.alloc(), by_three),
+        Some([Some(10), Some(7), Some(4), None, None])
+    );
+    let unequal = falling(1, Bound::Unequal, 7, 3);
+    assert_eq!(rt;
+        values(rt.alloc(), unequal),
+        Some([Some(7), Some(6), Some(5), Some(4), None])
+    );
+    let to_the_end = falling(2, Bound::Inclusive, 6, 2);
+    assert_eq!(rt;
+        values(rt.alloc(), to_the_end),
+        Some([Some(6), Some(4), Some(2), None, None])
+    );
+}
+
+/// The first of some loops that does not turn so often.
+fn first_other(alloc: Global, rows: &[(Shape, Option<u64>)]) -> Option<usize> {
+    for (i, (shape, expected)) in rows.iter().enumerate() {
+        if count(alloc, *shape) != *expected {
+            return Some(i);
+        }
+    }
+    None
+}
+
+#[test]
+fn empty_loops(rt: HostRuntime) {
+    let rows = [
+        (rising(I, 1, Bound::Strict, 3, 3), Some(0)),
+        (rising(I, 1, Bound::Inclusive, 5, 4), Some(0)),
+        (rising(I, 1, Bound::Unequal, 5, 5), Some(0)),
+        (rising(I, 1, Bound::Strict, 0, 0), Some(0)),
+        (falling(1, Bound::Strict, 2, 5), Some(0)),
+    ];
+    assert_eq!(rt; first_other(rt.alloc(), &rows), None);
+}
+
+/// A loop whose variable would wrap, or whose bounds are too large, has no turns.
+#[test]
+fn loops_that_do_not_stay(rt: HostRuntime) {
+    let rows = [
+        (falling(1, Bound::Inclusive, 9, 0), None),
+        (falling(3, Bound::Strict, 5, 1), None),
+        (rising(I, 1, Bound::Unequal, 5, 4), None),
+        (rising(I, 1, Bound::Strict, -1, 4), None),
+        (rising(I, 1, Bound::Strict, 0, 1 << 32), Some(1 << 32)),
+        (rising(I, 1, Bound::Strict, 0, (1 << 32) + 1), None),
+    ];
+    assert_eq!(rt; first_other(rt.alloc(), &rows), None);
+}
+
+/// `2 * n`.
+fn twice(alloc: Global) -> Result<Form, Refusal> {
+    Form::variable(alloc, N).scale(2, HERE)
+}
+
+/// A form and 1.
+fn and_one(alloc: Global, form: &Form) -> Result<Form, Refusal> {
+    let one = Form::constant(alloc, 1, HERE)?;
+    form.add(&one, HERE)
+}
+
+/// `2 * n + 1`.
+fn twice_and_one(alloc: Global) -> Result<Form, Refusal> {
+    let twice = twice(alloc)?;
+    and_one(alloc, &twice)
+}
+
+/// `for (i = n; i < 2 * n + 1; i += 3)`.
+fn by_variable(alloc: Global) -> Result<Canonical, Refusal> {
+    let limit = twice_and_one(alloc)?;
+    Ok(Canonical {
+        variable: I,
+        stride: Stride {
+            direction: Direction::Rising,
+            by: 3,
+        },
+        bound: Bound::Strict,
+        start: Form::variable(alloc, N),
+        limit,
+    })
+}
+
+/// How it runs where n has a value, or none.
+fn turns_by_variable(alloc: Global, n: Option<u64>) -> Option<LoopTurns> {
+    let Ok(head) = by_variable(alloc) else {
+        return None;
+    };
+    match n {
+        Some(value) => turns_at(&head, &[Value { variable: N, value }]),
+        None => turns_at(&head, &[]),
+    }
+}
+
+/// The value of its variable at a turn there.
+fn value(alloc: Global, n: Option<u64>, turn: u64) -> Option<u64> {
+    match turns_by_variable(alloc, n) {
+        Some(turns) => at(turns, turn),
+        None => None,
+    }
+}
+
+/// The first of some rows of a value of n, a turn and what its variable is there that says something else.
+fn first_other_value(alloc: Global, rows: &[(Option<u64>, u64, Option<u64>)]) -> Option<usize> {
+    for (i, (n, turn, expected)) in rows.iter().enumerate() {
+        if value(alloc, *n, *turn) != *expected {
+            return Some(i);
+        }
+    }
+    None
+}
+
+#[test]
+fn bounds_with_variables(rt: HostRuntime) {
+    let rows = [
+        (Some(4), 1, Some(7)),
+        (Some(4), 2, None),
+        (Some(6), 2, Some(12)),
+        (None, 0, Some(0)),
+        (None, 1, None),
+    ];
+    assert_eq!(rt; first_other_value(rt.alloc(), &rows), None);
+    assert!(rt; turns_by_variable(rt.alloc(), Some(1 << 34)).is_none());
+}
+
+/// The heads of two loops.
+fn two_heads(alloc: Global, outer: Shape, inner: Shape) -> Result<[Canonical; 2], Refusal> {
+    let outer = head(alloc, outer)?;
+    let inner = head(alloc, inner)?;
+    Ok([outer, inner])
+}
+
+/// `for (i = 5; i > 1; i -= 2) for (j = 0; j <= 4; j += 2)`, collapsed.
+fn collapsed(alloc: Global) -> Option<Space>
+    ensures { IfSome result (λ ts. length ts ≡ 2) }
+{
+    let outer = falling(2, Bound::Strict, 5, 1);
+    let inner = rising(J, 2, Bound::Inclusive, 0, 4);
+    match two_heads(alloc, outer, inner) {
+        Ok(loops) => Space::at(alloc, &loops, &[]),
+        Err(_refusal) => None,
+    }
+}
+
+/// How many vectors there are.
+fn collapsed_count(alloc: Global) -> Option<u64> {
+    collapsed(alloc).map(|space| space.count())
+}
+
+/// The vector of a number, where there is one.
+fn vector_in(space: &Space, number: u64) -> Option<[u64; 2]>
+    requires { length space.now ≡ 2 }
+{
+    let mut values = [0; 2];
+    if number < space.count() {
+        space.vector(number, &mut values);
+        Some(values)
+    } else {
+        None
+    }
+}
+
+/// That of the collapsed loops.
+fn vector(alloc: Global, number: u64) -> Option<[u64; 2]> {
+    match collapsed(alloc) {
+        Some(space) => vector_in(&space, number),
+        None => None,
+    }
+}
+
+/// The number of a vector of the collapsed loops, where it has one.
+fn number(alloc: Global, values: &[u64]) -> Option<u64> {
+    match collapsed(alloc) {
+        Some(space) => space.number(values),
+        None => None,
+    }
+}
+
+/// The first number of some rows whose vector is another.
+fn first_other_vector(alloc: Global, rows: &[(u64, Option<[u64; 2]>)]) -> Option<u64> {
+    for (number, expected) in rows {
+        if vector(alloc, *number) != *expected {
+            return Some(*number);
+        }
+    }
+    None
+}
+
+/// The first vector of some rows whose number is another.
+fn first_other_number(alloc: Global, rows: &[([u64; 2], Option<u64>)]) -> Option<[u64; 2]> {
+    for (vector, expected) in rows {
+        if number(alloc, vector) != *expected {
+            return Some(*vector);
+        }
+    }
+    None
+}
+
+#[test]
+fn two_loops(rt: HostRuntime) {
+    let alloc = rt.alloc();
+    assert_eq!(rt; collapsed_count(alloc), Some(6));
+    let vectors = [
+        (0, Some([5, 0])),
+        (1, Some([5, 2])),
+        (3, Some([3, 0])),
+        (5, Some([3, 4])),
+        (6, None),
+    ];
+    assert_eq!(rt; first_other_vector(alloc, &vectors), None);
+    let numbers = [
+        ([5, 2], Some(1)),
+        ([3, 4], Some(5)),
+        ([4, 0], None),
+        ([5, 1], None),
+    ];
+    assert_eq!(rt; first_other_number(alloc, &numbers), None);
+    assert_eq!(rt; number(alloc, &[5]), None);
+}
+
+/// How many vectors a nest of two loops has that turn so often, or the number of a refusal.
+fn rectangle(alloc: Global, outer: i128, inner: i128) -> Result<Option<u64>, u8> {
+    let outer = rising(I, 1, Bound::Strict, 0, outer);
+    let inner = rising(J, 1, Bound::Strict, 0, inner);
+    match two_heads(alloc, outer, inner) {
+        Ok(loops) => Ok(Space::at(alloc, &loops, &[]).map(|space| space.count())),
+        Err(refusal) => Err(refusal.number()),
+    }
+}
+
+/// Puts a copy of a loop behind others.
+fn add_copy(loops: &mut Vec<Canonical>, head: &Canonical) -> Result<(), Refusal> {
+    loops.push(head.clone()?)?;
+    Ok(())
+}
+
+/// Five such loops.
+fn five_copies(alloc: Global, head: &Canonical) -> Result<Vec<Canonical>, Refusal> {
+    let mut loops = Vec::new(alloc);
+    for _turn in 0..5 {
+        add_copy(&mut loops, head)?;
+    }
+    Ok(loops)
+}
+
+/// Whether some loops have no space, which all of them but the last have.
+fn last_is_too_many(alloc: Global, loops: &[Canonical]) -> bool {
+    let [others @ .., _] = loops else {
+        return false;
+    };
+    Space::at(alloc, others, &[]).is_some() && Space::at(alloc, loops, &[]).is_none()
+}
+
+/// Whether it is so of five copies of a loop.
+fn fifth_is_too_many(alloc: Global, head: &Canonical) -> bool {
+    match five_copies(alloc, head) {
+        Ok(loops) => last_is_too_many(alloc, loops.as_slice()),
+        Err(_refusal) => false,
+    }
+}
+
+/// Whether it is so of five loops that turn once.
+fn five(alloc: Global) -> bool {
+    match head(alloc, rising(I, 1, Bound::Strict, 0, 1)) {
+        Ok(head) => fifth_is_too_many(alloc, &head),
+        Err(_refusal) => false,
+    }
+}
+
+#[test]
+fn limits(rt: HostRuntime) {
+    assert_eq!(rt; rectangle(rt.alloc(), 4096, 4096), Ok(Some(16_777_216)));
+    assert_eq!(rt; rectangle(rt.alloc(), 4096, 4097), Ok(None));
+    assert_eq!(rt; rectangle(rt.alloc(), 1 << 32, 0), Ok(Some(0)));
+    assert!(rt; five(rt.alloc()));
+}
+
+/// A loop that falls by four.
+fn by_four(first: u64, count: u64) -> Option<LoopTurns> {
+    let down = Stride {
+        direction: Direction::Falling,
+        by: 4,
+    };
+    LoopTurns::new(first, down, count)
+}
+
+/// The turn at which its variable has this value.
+fn turn_of(turns: Option<LoopTurns>, value: u64) -> Option<u64> {
+    match turns {
+        Some(turns) => turns.turn(value),
+        None => None,
+    }
+}
+
+/// How many vectors two such loops have.
+fn square(alloc: Global, turns: Option<LoopTurns>) -> Option<u64> {
+    match turns {
+        Some(turns) => Space::new(alloc, &[turns, turns]).map(|space| space.count()),
+        None => None,
+    }
+}
+
+#[test]
+fn turns_by_hand(rt: HostRuntime) {
+    assert!(rt; by_four(7, 3).is_none());
+    assert_eq!(rt; turn_of(by_four(8, 3), 0), Some(2));
+    assert_eq!(rt; turn_of(by_four(8, 3), 6), None);
+    assert_eq!(rt; turn_of(by_four(8, 2), 0), None);
+    assert_eq!(rt; square(rt.alloc(), by_four(8, 3)), Some(9));
+}

@@ -1,0 +1,293 @@
+//! The first two iterations of a nest at which two accesses touch one element.
+
+use affine::Form;
+use deptest_witness::*;
+use ktree::{Place, Refusal, VarId};
+use nest_loop::{Bound, Canonical, Direction, Stride};
+use std::alloc::Global;
+
+const HERE: Place = Place { line: 2, column: 3 };
+
+const N: VarId = VarId(2);
+
+const I: VarId = VarId(4);
+
+const J: VarId = VarId(7);
+
+/// The coefficients of `i`, `j` and `n`, and the constant of a form.
+type Numbers = (i64, i64, i64, i128);
+
+/// `for (variable = start; variable < limit; variable += by)`, or with `>` and `-=`.
+#[derive(Clone, Copy)]
+struct Round {
+    variable: VarId,
+    direction: Direction,
+    by: u32,
+    start: i128,
+    limit: Numbers,
+}
+
+/// What two accesses of a nest are asked for: the loops round the nest, those of the nest, and those of the body round the first
+/// access, which are round the second one too or not.
+#[derive(Clone, Copy)]
+struct Question<'a> {
+    serial: &'a [Round],
+    nest: &'a [Round],
+    inner: &'a [Round],
+    x: Numbers,
+    y: Numbers,
+    both_inside: bool,
+}
+
+/// The earlier iteration, the later one, and the first index of the element.
+type Met = Option<(u64, u64, Option<u64>)>;
+
+/// `by * variable`.
+fn multiple(alloc: Global, by: i64, variable: VarId) -> Result<Form, Refusal> {
+    Form::variable(alloc, variable).scale(by, HERE)
+}
+
+/// The form of these numbers.
+fn form(alloc: Global, numbers: Numbers) -> Result<Form, Refusal> {
+    let (i, j, n, constant) = numbers;
+    let mut form = Form::constant(alloc, constant, HERE)?;
+    for (by, variable) in [(i, I), (j, J), (n, N)] {
+        form = form.add(&multiple(alloc, by, variable)?, HERE)?;
+    }
+    Ok(form)
+}
+
+/// A loop.
+fn canonical(alloc: Global, round: Round) -> Result<Canonical, Refusal> {
+    let limit = form(alloc, round.limit)?;
+    Ok(Canonical {
+        variable: round.variable,
+        stride: Stride {
+            direction: round.direction,
+            by: round.by,
+        },
+        bound: Bound::Strict,
+        start: Form::constant(alloc, round.start, HERE)?,
+        limit,
+    })
+}
+
+/// Loops, the outermost first.
+fn loops_of(alloc: Global, rounds: &[Round]) -> Result<Vec<Canonical>, Refusal> {
+    let mut loops = Vec::new(alloc);
+    for round in rounds {
+        loops.push(canonical(alloc, *round)?)?;
+    }
+    Ok(loops)
+}
+
+/// What two accesses give in these loops; None where they are refused.
+fn between(
+    alloc: Global,
+    serial: &[Canonical],
+    nest: &[Canonical],
+    x: &Touch<'_>,
+    y: &Touch<'_>,
+) -> Option<Met> {
+    match first_meeting(alloc, serial, nest, x, y) {
+        Ok(Some(meeting)) => Some(Some((
+            meeting.earlier,
+            meeting.later,
+            meeting.indexes.first().copied(),
+        ))),
+        Ok(None) => Some(None),
+        Err(_) => None,
+    }
+}
+
+/// The same, with the accesses of the question.
+fn met_inside(
+    alloc: Global,
+    serial: &[Canonical],
+    nest: &[Canonical],
+    inner: &[Canonical],
+    question: Question<'_>,
+) -> Option<Met> {
+    let first = form(alloc, question.x).ok()?;
+    let second = form(alloc, question.y).ok()?;
+    let x = Touch {
+        subscripts: &[first],
+        inner,
+    };
+    let y = Touch {
+        subscripts: &[second],
+        inner: if question.both_inside { inner } else { &[] },
+    };
+    between(alloc, serial, nest, &x, &y)
+}
+
+/// The same, with the loops of the body.
+fn met_in_nest(
+    alloc: Global,
+    serial: &[Canonical],
+    nest: &[Canonical],
+    question: Question<'_>,
+) -> Option<Met> {
+    let inner = loops_of(alloc, question.inner).ok()?;
+    met_inside(alloc, serial, nest, inner.as_slice(), question)
+}
+
+/// The same, with the loops of the nest.
+fn met_in(alloc: Global, serial: &[Canonical], question: Question<'_>) -> Option<Met> {
+    let nest = loops_of(alloc, question.nest).ok()?;
+    met_in_nest(alloc, serial, nest.as_slice(), question)
+}
+
+/// What the accesses of a question give; None where they are refused.
+fn met(alloc: Global, question: Question<'_>) -> Option<Met> {
+    let serial = loops_of(alloc, question.serial).ok()?;
+    met_in(alloc, serial.as_slice(), question)
+}
+
+/// `for (variable = start; variable < limit; variable++)`.
+fn rising(variable: VarId, start: i128, limit: i128) -> Round {
+    Round {
+        variable,
+        direction: Direction::Rising,
+        by: 1,
+        start,
+        limit: (0, 0, 0, limit),
+    }
+}
+
+/// What `A[a * i + b]` and `A[c * i + d]` give in a loop.
+fn in_loop(alloc: Global, round: Round, x: (i64, i128), y: (i64, i128)) -> Option<Met> {
+    met(
+        alloc,
+        Question {
+            serial: &[],
+            nest: &[round],
+            inner: &[],
+            x: (x.0, 0, 0, x.1),
+            y: (y.0, 0, 0, y.1),
+            both_inside: true,
+        },
+    )
+}
+
+/// The same for `i` from a start below a limit.
+fn from_to(alloc: Global, start: i128, limit: i128, x: (i64, i128), y: (i64, i128)) -> Option<Met> {
+    in_loop(alloc, rising(I, start, limit), x, y)
+}
+
+#[test]
+fn shifted(rt: HostRuntime) {
+    let alloc = rt.alloc();
+    assert_eq!(rt;
+        from_to(alloc, 1, 8, (1, 0), (1, -1)),
+        Some(Some((0, 1, Some(1))))
+    );
+    assert_eq!(rt;
+        from_to(alloc, 0, 4, (3, 0), (3, 6)),
+        Some(Some((0, 2, Some(6))))
+    );
+    assert_eq!(rt;
+        from_to(alloc, 0, 4, (1, -1), (0, 0)),
+        Some(Some((0, 1, Some(0))))
+    );
+}
+
+#[test]
+fn mirrored(rt: HostRuntime) {
+    let alloc = rt.alloc();
+    assert_eq!(rt;
+        from_to(alloc, 0, 16, (1, 0), (-1, 15)),
+        Some(Some((7, 8, Some(7))))
+    );
+    assert_eq!(rt; from_to(alloc, 0, 8, (1, 0), (-1, 15)), Some(None));
+    assert_eq!(rt;
+        from_to(alloc, 0, 2, (1, 0), (-1, 1)),
+        Some(Some((0, 1, Some(0))))
+    );
+}
+
+#[test]
+fn far_apart(rt: HostRuntime) {
+    let alloc = rt.alloc();
+    assert_eq!(rt;
+        from_to(alloc, 0, 200, (1, 0), (1, 63)),
+        Some(Some((0, 63, Some(63))))
+    );
+    assert_eq!(rt; from_to(alloc, 0, 200, (1, 0), (1, 64)), Some(None));
+    assert_eq!(rt; from_to(alloc, 0, 200, (1, 0), (1, 100)), Some(None));
+}
+
+/// `A[i]` and `A[i + 3]` where `i` is 10, 7 and 4.
+#[test]
+fn falling_loop(rt: HostRuntime) {
+    let round = Round {
+        variable: I,
+        direction: Direction::Falling,
+        by: 3,
+        start: 10,
+        limit: (0, 0, 0, 2),
+    };
+    let found = in_loop(rt.alloc(), round, (1, 0), (1, 3));
+    assert_eq!(rt; found, Some(Some((0, 1, Some(10)))));
+}
+
+/// `A[4 * i + j]` with itself, where `i` is below 3 and `j` below 5.
+#[test]
+fn two_loops(rt: HostRuntime) {
+    let question = Question {
+        serial: &[],
+        nest: &[rising(I, 0, 3), rising(J, 0, 5)],
+        inner: &[],
+        x: (4, 1, 0, 0),
+        y: (4, 1, 0, 0),
+        both_inside: true,
+    };
+    assert_eq!(rt; met(rt.alloc(), question), Some(Some((4, 5, Some(4)))));
+}
+
+/// `A[j]` for `j` below `i` with itself, where `i` is below 4, or with `A[0]` outside of the inner loop. At the first iteration the
+/// inner loop has no turn.
+fn with_inner(alloc: Global, itself: bool) -> Option<Met> {
+    let below_i = Round {
+        limit: (1, 0, 0, 0),
+        ..rising(J, 0, 0)
+    };
+    met(
+        alloc,
+        Question {
+            serial: &[],
+            nest: &[rising(I, 0, 4)],
+            inner: &[below_i],
+            x: (0, 1, 0, 0),
+            y: if itself { (0, 1, 0, 0) } else { (0, 0, 0, 0) },
+            both_inside: itself,
+        },
+    )
+}
+
+#[test]
+fn inner_loops(rt: HostRuntime) {
+    assert_eq!(rt; with_inner(rt.alloc(), true), Some(Some((1, 2, Some(0)))));
+    assert_eq!(rt; with_inner(rt.alloc(), false), Some(Some((0, 1, Some(0)))));
+}
+
+/// What `A[i + n]` and `A[i + n + 1]` give, where `i` is below 4, in a loop over `n`.
+fn in_serial(alloc: Global, start: i128, limit: i128) -> Option<Met> {
+    met(
+        alloc,
+        Question {
+            serial: &[rising(N, start, limit)],
+            nest: &[rising(I, 0, 4)],
+            inner: &[],
+            x: (1, 0, 1, 0),
+            y: (1, 0, 1, 1),
+            both_inside: true,
+        },
+    )
+}
+
+#[test]
+fn serial_loops(rt: HostRuntime) {
+    assert_eq!(rt; in_serial(rt.alloc(), 2, 5), Some(Some((0, 1, Some(3)))));
+    assert_eq!(rt; in_serial(rt.alloc(), 3, 3), Some(None));
+}

@@ -1,8 +1,0 @@
-use Rattle.std.proofs.Common.{IsSome, subst, sym, ap, ◌∙◌}
-use Rattle.semantics.specs.Meaning.Runs.{run}
-use Rattle.evaluate.specs.Standing.{standing}
-use Rattle.execute.proofs.Counting.{loop_of, counts}
-use Rattle.test_run.proofs.execute_rows.counting.Goals as goal
-
-pub returns : goal.returns
-returns c = λ frame ks. subst (λ x. IsSome (run x (standing frame ks))) (sym (c.in_ok-stmt.ensures ∙ ap loop_of c.in_ok-body.ensures)) (counts (standing frame ks))

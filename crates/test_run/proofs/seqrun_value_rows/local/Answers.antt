@@ -1,0 +1,10 @@
+use Rattle.std.proofs.Common.{ap, ◌∙◌}
+use Rattle.semantics.specs.Tree
+use Rattle.ktree.specs.View.{exprs_of}
+use Rattle.seqrun_value.proofs.ValueLemmas.{object_of}
+use Rattle.test_run.proofs.seqrun_value_rows.local.Goals as goal
+
+pub returns : goal.returns
+returns c =
+    object_of (record { 0 = 1 }) c.new-2.result (record { name = record { line = 1; column = 1 }; subscripts = c.new.result })
+    ∙ ap (λ es. Tree.Object 1 (exprs_of es)) c.new-2.ensures.items

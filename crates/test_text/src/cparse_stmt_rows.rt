@@ -1,0 +1,160 @@
+//! Statements of tokens that are made by hand.
+
+use cparse_cursor::context::Setting;
+use cparse_cursor::lexeme::{Kind, Lexeme};
+use cparse_cursor::scope::{Entity, Scope, add, empty};
+use cparse_cursor::stop::{Fault, Flaw, Stop};
+use cparse_stmt::statement::items;
+use cparse_stmt::tally::Tally;
+use cparse_stmt::told::Told;
+use ctoken::Symbol;
+use ktree::{BinaryOp, Item, Place, Stmt, Suffix, VarId};
+use std::alloc::{AllocError, Global};
+use std::test::*;
+
+fn word<'t>(column: u32, name: &'t str) -> Lexeme<'t> {
+    let place = Place { line: 1, column };
+    Lexeme {
+        kind: Kind::Word(name),
+        place,
+    }
+}
+
+fn sign<'t>(column: u32, symbol: Symbol) -> Lexeme<'t> {
+    let place = Place { line: 1, column };
+    Lexeme {
+        kind: Kind::Sign(symbol),
+        place,
+    }
+}
+
+fn long<'t>(column: u32, value: u64) -> Lexeme<'t> {
+    let place = Place { line: 1, column };
+    Lexeme {
+        kind: Kind::Digits(Some(value), Suffix::Ull),
+        place,
+    }
+}
+
+fn visible(alloc: Global) -> Result<Scope<'static>, AllocError> {
+    let mut scope = empty(alloc);
+    add(&mut scope, "s", Entity::Variable(VarId(0), 0))?;
+    Ok(scope)
+}
+
+/// What is read of tokens.
+#[derive(Clone, Copy)]
+struct Reading {
+    /// How many items there are.
+    count: usize,
+    fault: Option<Fault>,
+    tally: Tally,
+    /// How many tokens are left.
+    rest: usize,
+    /// Whether the first item is an update by `^=`.
+    is_update: bool,
+}
+
+/// Whether an item is an update by `^=`.
+fn is_update(item: &Item) -> bool {
+    match item {
+        Item::Statement(stmt) => matches!(**stmt, Stmt::Update(_, BinaryOp::BitXor, _)),
+        _ => false,
+    }
+}
+
+fn summary(told: &Told<Vec<Item>>) -> Reading {
+    Reading {
+        count: told.tree.len(),
+        fault: told.fault,
+        tally: told.tally,
+        rest: told.rest.len(),
+        is_update: match told.tree.first() {
+            Some(item) => is_update(item),
+            None => false,
+        },
+    }
+}
+
+/// What is read of items where these names are visible, and so many statements may follow.
+fn read_among<'t>(
+    alloc: Global,
+    scope: &mut Scope<'t>,
+    left: u32,
+    tokens: &[Lexeme<'t>],
+) -> Result<Reading, Stop> {
+    let end = Place { line: 9, column: 1 };
+    let tally = Tally { next: 1, left };
+    match items(Setting { alloc, end }, scope, 64, tally, tokens) {
+        Ok(told) => Ok(summary(&told)),
+        Err(stop) => Err(stop),
+    }
+}
+
+/// What is read of items behind the declaration of the variable `s`, where so many statements may follow.
+fn read(alloc: Global, left: u32, tokens: &[Lexeme<'static>]) -> Result<Reading, Stop> {
+    match visible(alloc) {
+        Ok(mut scope) => read_among(alloc, &mut scope, left, tokens),
+        Err(_) => Err(Stop::Memory),
+    }
+}
+
+#[test]
+fn update_ends_at_its_semicolon(rt: HostRuntime) {
+    let tokens = [
+        word(1, "s"),
+        sign(3, Symbol::XorBecomes),
+        long(6, 5),
+        sign(10, Symbol::Semicolon),
+        sign(12, Symbol::CloseBrace),
+    ];
+    let reading = read(rt.alloc(), 7, &tokens)
+        .ok()
+        .expect(&rt, "the tokens are items");
+    assert!(rt; reading.fault.is_none());
+    assert_eq!(rt; reading.rest, 1);
+    assert_eq!(rt; reading.tally.left, 6);
+    assert_eq!(rt; reading.tally.next, 1);
+    assert!(rt; reading.is_update);
+}
+
+#[test]
+fn local_is_no_name_behind_its_block(rt: HostRuntime) {
+    let tokens = [
+        sign(1, Symbol::OpenBrace),
+        word(2, "uint64_t"),
+        word(11, "x"),
+        sign(12, Symbol::Semicolon),
+        sign(13, Symbol::CloseBrace),
+        word(15, "x"),
+        sign(17, Symbol::Becomes),
+        long(19, 1),
+        sign(23, Symbol::Semicolon),
+    ];
+    let reading = read(rt.alloc(), 7, &tokens)
+        .ok()
+        .expect(&rt, "the tokens are items");
+    assert_eq!(rt; reading.count, 2);
+    assert_eq!(rt; reading.tally.next, 2);
+    let column = match reading.fault {
+        Some(fault) if fault.flaw == Flaw::UnknownName => fault.place.column,
+        _ => 0,
+    };
+    assert_eq!(rt; column, 15);
+}
+
+#[test]
+fn statement_past_the_last_is_a_limit(rt: HostRuntime) {
+    let tokens = [
+        sign(1, Symbol::OpenBrace),
+        sign(2, Symbol::OpenBrace),
+        sign(3, Symbol::CloseBrace),
+        sign(4, Symbol::CloseBrace),
+    ];
+    let column = match read(rt.alloc(), 1, &tokens) {
+        Err(Stop::Limit(place)) => place.column,
+        _ => 0,
+    };
+    assert_eq!(rt; column, 2);
+    assert!(rt; read(rt.alloc(), 2, &tokens).is_ok());
+}

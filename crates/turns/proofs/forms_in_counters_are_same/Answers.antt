@@ -1,5 +1,0 @@
-use Rattle.turns.proofs.Laws.{forms_in_counters_are_same as the_law}
-use Rattle.turns.proofs.forms_in_counters_are_same.Goals as goal
-
-pub returns : goal.returns
-returns c = the_law

@@ -1,5 +1,0 @@
-use Rattle.turns.proofs.Laws.{iterations_are_there as the_law}
-use Rattle.turns.proofs.iterations_are_there.Goals as goal
-
-pub returns : goal.returns
-returns c = the_law

@@ -1,5 +1,0 @@
-use Rattle.turns.proofs.Laws.{iterations_are_turns as the_law}
-use Rattle.turns.proofs.iterations_are_turns.Goals as goal
-
-pub returns : goal.returns
-returns c = the_law

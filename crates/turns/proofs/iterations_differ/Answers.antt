@@ -1,5 +1,0 @@
-use Rattle.turns.proofs.Laws.{iterations_differ as the_law}
-use Rattle.turns.proofs.iterations_differ.Goals as goal
-
-pub returns : goal.returns
-returns c = the_law

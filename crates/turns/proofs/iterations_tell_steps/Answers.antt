@@ -1,5 +1,0 @@
-use Rattle.turns.proofs.Laws.{iterations_tell_steps as the_law}
-use Rattle.turns.proofs.iterations_tell_steps.Goals as goal
-
-pub returns : goal.returns
-returns c = the_law

@@ -1,5 +1,0 @@
-use Rattle.turns.proofs.Laws.{steps_tell_turns as the_law}
-use Rattle.turns.proofs.steps_tell_turns.Goals as goal
-
-pub returns : goal.returns
-returns c = the_law

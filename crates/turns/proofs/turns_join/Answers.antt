@@ -1,5 +1,0 @@
-use Rattle.turns.proofs.Laws.{turns_join as the_law}
-use Rattle.turns.proofs.turns_join.Goals as goal
-
-pub returns : goal.returns
-returns c = the_law

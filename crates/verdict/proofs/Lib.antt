@@ -1,6 +1,0 @@
-pub mod Showing
-pub mod Walks
-pub mod Same
-pub mod Verdicts
-pub mod Bodies
-pub mod Refusals
