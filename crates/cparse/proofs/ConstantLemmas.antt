@@ -5,13 +5,13 @@ use Rattle.semantics.specs.Tree.{Name, Source}
 use Rattle.semantics.specs.Source.Token.{Token}
 use Rattle.semantics.specs.Source.Typing.{constant}
 use Rattle.semantics.specs.Source.Scope.{Scope, AConstant, with_constants}
-use Rattle.cparse_cursor.specs.Reading.{Got, ◌>>=◌, got, chosen}
-use Rattle.cparse_expr.specs.Operators.{number_in, is_number}
-use Rattle.cparse_expr.specs.ExpressionReader.{expression}
-use Rattle.cparse_cursor.specs.NextTokens.{new_name, becomes, comma}
-use Rattle.cparse_stmt.specs.StatementReader.{is_unused}
-use Rattle.cparse.specs.TextReader.{constants, value_of, has_value}
-use Rattle.cparse.specs.DeclarationSteps.{constant_read, one_constant, and_then, visible}
+use Rattle.cparse_grammar.specs.Reading.{Got, ◌>>=◌, got, chosen}
+use Rattle.cparse_grammar.specs.Operators.{number_in, is_number}
+use Rattle.cparse_grammar.specs.ExpressionReader.{expression}
+use Rattle.cparse_grammar.specs.NextTokens.{new_name, becomes, comma}
+use Rattle.cparse_grammar.specs.StatementReader.{is_unused}
+use Rattle.cparse_grammar.specs.TextReader.{constants, value_of, has_value}
+use Rattle.cparse_grammar.specs.DeclarationSteps.{constant_read, one_constant, and_then, visible}
 use Rattle.cparse_cursor.specs.Outcome.{Fails}
 use Rattle.cparse_cursor.specs.declared.stop.Stop.{Stop}
 use Rattle.cparse_cursor.specs.declared.stop.Stop.TheVariants.{Memory, Syntax, Limit}

@@ -1,21 +1,22 @@
--- Lengths and lists of declarations.
-use Rattle.std.specs.Prelude.{ℕ, zero, suc, Bool, true, false, not, ◌&&◌, ◌==◌, ◌≡◌, ◌-◌, max, List, [], ◌∷◌, ◌++◌, Option, Some, None}
+-- Lengths, lists of declarations, and declarations that stop reading.
+use Rattle.std.specs.Prelude.{ℕ, zero, suc, Bool, true, not, ◌&&◌, ◌==◌, ◌≡◌, ◌-◌, max, List, [], ◌∷◌, ◌++◌, Option, Some, None, codes}
 use Rattle.std.proofs.Common.{rules, refl, sym, ap, ◌∙◌, arith}
 use Rattle.std.proofs.lemmas.List.{append_assoc, append-nil}
 use Rattle.semantics.specs.Tree.{Source}
 use Rattle.semantics.specs.Source.Token.{Token, Sign, OpenBracket}
 use Rattle.semantics.specs.Source.Typing.{constant}
 use Rattle.semantics.specs.Source.Scope.{Scope}
-use Rattle.cparse_cursor.specs.Reading.{Got, ◌>>=◌, got}
-use Rattle.cparse_expr.specs.Operators.{number_in, is_number}
-use Rattle.cparse_cursor.specs.NextTokens.{close_bracket, open_bracket}
-use Rattle.cparse_expr.specs.ExpressionReader.{expression}
-use Rattle.cparse.specs.TextReader.{lengths, length_of, is_length}
-use Rattle.cparse.specs.DeclarationSteps.{dimension, and_then}
+use Rattle.cparse_grammar.specs.Reading.{Got, ◌>>=◌, got}
+use Rattle.cparse_grammar.specs.Operators.{number_in, is_number}
+use Rattle.cparse_grammar.specs.NextTokens.{close_bracket, open_bracket, word}
+use Rattle.cparse_grammar.specs.ExpressionReader.{expression}
+use Rattle.cparse_grammar.specs.TextReader.{lengths, length_of, is_length, Decls}
+use Rattle.cparse_grammar.specs.DeclarationSteps.{dimension, and_then, enum_step, variable_step}
 use Rattle.cparse_cursor.specs.Outcome.{Fails}
 use Rattle.cparse_cursor.specs.declared.stop.Stop.{Stop}
 use Rattle.cparse_cursor.specs.declared.stop.Stop.TheVariants.{Memory, Syntax, Limit}
 use Rattle.cparse_expr.proofs.LoopLemmas.{opens}
+use Rattle.law_grammar.proofs.DeclarationTurns.{and_apart, and_right, decls_run, enum_by, variable_by}
 
 pub length_some : (n : ℕ) → length_of (Some n) ≡ max n 1
 length_some zero = refl
@@ -27,14 +28,6 @@ length_some (suc n) = sym (at_least n)
 pub is_length_some : (n : ℕ) → is_length (Some n) ≡ not (n == 0)
 is_length_some zero = refl
 is_length_some (suc n) = search rules
-
-pub and_apart : (a b c : Bool) → (a && (b && c)) ≡ ((a && b) && c)
-and_apart true b c = refl
-and_apart false b c = refl
-
-pub and_right : (b : Bool) → (b && true) ≡ b
-and_right true = refl
-and_right false = refl
 
 -- what was read, with a list in front of it
 abbrev pub behind_row : {A : Type 0} → Got (List A) → Option (Got (List A)) → Option (Got (List A))
@@ -117,3 +110,14 @@ lengths_over scope row = row_alone row
 -- part by part
 pub same_got : {A : Type 0} (g : Got A) (tree : A) (sound : Bool) (rest : List Token) → g.tree ≡ tree → g.sound ≡ sound → g.rest ≡ rest → g ≡ record { tree = tree; sound = sound; rest = rest }
 same_got g tree sound rest a b c = ap (λ x. record { tree = x; sound = g.sound; rest = g.rest }) a ∙ ap (λ x. record { tree = tree; sound = x; rest = g.rest }) b ∙ ap (λ x. record { tree = tree; sound = sound; rest = x }) c
+
+-- a declaration that stops reading
+pub enum_fails : (e : Stop) (s : Decls) (behind : List Token) → word (codes "enum") s.rest ≡ Some behind → Fails e (enum_step s behind) → (n : ℕ) → Fails e (decls_run (suc n) s)
+enum_fails Memory s behind h f n = tt
+enum_fails (Syntax place) s behind h f n = enum_by n s behind h ∙ ap (λ o. o >>= decls_run n) f
+enum_fails (Limit place) s behind h f n = enum_by n s behind h ∙ ap (λ o. o >>= decls_run n) f
+
+pub variable_fails : (e : Stop) (s : Decls) (behind : List Token) → word (codes "uint64_t") s.rest ≡ Some behind → Fails e (variable_step s behind) → (n : ℕ) → Fails e (decls_run (suc n) s)
+variable_fails Memory s behind h f n = tt
+variable_fails (Syntax place) s behind h f n = variable_by n s behind h ∙ ap (λ o. o >>= decls_run n) f
+variable_fails (Limit place) s behind h f n = variable_by n s behind h ∙ ap (λ o. o >>= decls_run n) f

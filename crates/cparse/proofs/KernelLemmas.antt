@@ -5,10 +5,10 @@ use Rattle.semantics.specs.Tree.{Items}
 use Rattle.semantics.specs.Source.Token.{Token}
 use Rattle.semantics.specs.Source.Scope.{Scope}
 use Rattle.semantics.specs.Source.Grammar.{elements}
-use Rattle.cparse_cursor.specs.Reading.{◌>>=◌}
-use Rattle.cparse_stmt.specs.StatementReader.{Told, items, statement}
-use Rattle.cparse_cursor.specs.NextTokens.{close_brace}
-use Rattle.cparse.specs.TextReader.{Decls, Whole, declarations, opening, behind_headers, at_end, kernel}
+use Rattle.cparse_grammar.specs.Reading.{◌>>=◌}
+use Rattle.cparse_grammar.specs.StatementReader.{Told, items, statement}
+use Rattle.cparse_grammar.specs.NextTokens.{close_brace}
+use Rattle.cparse_grammar.specs.TextReader.{Decls, Whole, declarations, opening, behind_headers, at_end, kernel}
 use Rattle.cparse_cursor.specs.Outcome.{Fails}
 use Rattle.cparse_cursor.specs.declared.stop.Stop.{Stop}
 use Rattle.cparse_cursor.specs.declared.stop.Stop.TheVariants.{Memory, Syntax, Limit}

@@ -1,10 +1,6 @@
-pub mod TextComplete
-pub mod TextSound
-pub mod Literals
 pub mod WithBytes
 pub mod DeclarationLemmas
 pub mod ConstantLemmas
-pub mod DeclarationTurns
 pub mod ExtentLemmas
 pub mod ParseLaw
 pub mod KernelLemmas

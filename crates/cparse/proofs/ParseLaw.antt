@@ -6,17 +6,18 @@ use Rattle.semantics.specs.Source.Grammar.{Reads, ReadsText}
 use Rattle.ctoken.specs.Meant.{AreTokensOf, HasNoTokens}
 use Rattle.ctoken.specs.declared.token.Token.{Token}
 use Rattle.ctoken.proofs.FrontLaw.{one_cut}
-use Rattle.cparse.specs.TextReader.{Whole, kernel}
+use Rattle.cparse_grammar.specs.TextReader.{Whole, kernel}
 use Rattle.cparse_cursor.specs.Lexemes.{tokens_of}
-use Rattle.cparse.specs.SameTokens.{AreSame, AreLexed}
+use Rattle.cparse_grammar.specs.SameTokens.{AreSame}
+use Rattle.cparse.specs.LexedTokens.{AreLexed}
 use Rattle.cparse.specs.Parsed.{HasNoTree, StopsFor}
 use Rattle.cparse_cursor.specs.Outcome.{Fails}
 use Rattle.cparse_cursor.specs.declared.lexeme.Lexeme.{Lexeme}
 use Rattle.cparse_cursor.specs.declared.stop.Stop.{Stop}
 use Rattle.cparse_cursor.specs.declared.stop.Stop.TheVariants as stop
-use Rattle.cparse.proofs.Literals.{reads_fit, fit_are, are_back}
-use Rattle.cparse.proofs.TextComplete.{kernel_read}
-use Rattle.cparse.proofs.TextSound.{kernel_sound, one_tree}
+use Rattle.law_grammar.proofs.Literals.{reads_fit, fit_are, are_back}
+use Rattle.law_grammar.proofs.TextComplete.{kernel_read}
+use Rattle.law_grammar.proofs.TextSound.{kernel_sound, one_tree}
 use Rattle.cparse.proofs.WithBytes.{lexed_same}
 
 same_tokens : (text : List ℕ) (ts : List Token) (ls : List Lexeme) (a : AreTokensOf text ts) → length text ≤ 2 ^ 20 → AreLexed text ts ls → AreSame (tokens_of ls) a.meant

@@ -20,7 +20,8 @@ use Rattle.cparse_cursor.specs.declared.lexeme.Kind.{Kind}
 use Rattle.cparse_cursor.specs.declared.lexeme.Kind.TheVariants as seen
 use Rattle.cparse_cursor.specs.declared.lexeme.Lexeme.{Lexeme}
 use Rattle.cparse_cursor.specs.Lexemes.{value_of, kind_of, tokens_of}
-use Rattle.cparse.specs.SameTokens.{IsSame, AreSame, IsKindOf, IsLexed, AreLexed}
+use Rattle.cparse_grammar.specs.SameTokens.{IsSame, AreSame}
+use Rattle.cparse.specs.LexedTokens.{IsKindOf, IsLexed, AreLexed}
 
 -- one token more of a front
 front_more : (ts : List Token) (i : ℕ) (d : Token) → i < length ts → take (suc i) ts ≡ take i ts ++ slice_index_or ts i d ∷ []

@@ -11,7 +11,7 @@ use Rattle.cparse.specs.declared.declarations.Named.{Named}
 use Rattle.cparse_cursor.specs.Lexemes.{tokens_of}
 use Rattle.cparse.specs.declared.kernel.Whole as code
 use Rattle.ktree.specs.View.{kernel_of}
-use Rattle.cparse.specs.TextReader.{Decls, Whole}
+use Rattle.cparse_grammar.specs.TextReader.{Decls, Whole}
 
 -- the value of a constant expression
 abbrev pub value_in : Constant → Option ℕ

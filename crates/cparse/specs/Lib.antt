@@ -1,5 +1,3 @@
-pub mod TextReader
-pub mod SameTokens
-pub mod DeclarationSteps
+pub mod LexedTokens
 pub mod DeclarationViews
 pub mod Parsed

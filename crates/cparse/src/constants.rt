@@ -2,9 +2,9 @@
 
 ghost use Rattle.std.specs.Prelude.{◌≡◌, ◌∷◌, ◌&&◌, is_none, length, Some, IfOk, OnOk};
 ghost use Rattle.semantics.specs.Source.Scope.{with_constants};
-ghost use Rattle.cparse.specs.DeclarationSteps.{constant_read, one_constant, and_then, visible};
+ghost use Rattle.cparse_grammar.specs.DeclarationSteps.{constant_read, one_constant, and_then, visible};
 ghost use Rattle.cparse.specs.DeclarationViews.{value_in, valued_of, enumerators_of};
-ghost use Rattle.cparse.specs.TextReader.{constants};
+ghost use Rattle.cparse_grammar.specs.TextReader.{constants};
 ghost use Rattle.cparse_cursor.specs.Names.{names_of};
 ghost use Rattle.cparse_cursor.specs.Lexemes.{tokens_of};
 ghost use Rattle.cparse_cursor.specs.Outcome.{Gives, got_of};
@@ -18,7 +18,7 @@ use cparse_cursor::stop::{Fault, Flaw, Stop, earlier, told, unless};
 use cparse_cursor::words::new_name;
 use cparse_cursor::written::{Sort, Written};
 use cparse_expr::expression::whole;
-use cparse_expr::wanted::number_in;
+use cparse_operand::wanted::number_in;
 use ktree::Enumerator;
 use std::alloc::Global;
 

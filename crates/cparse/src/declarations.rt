@@ -3,8 +3,8 @@
 ghost use Rattle.std.specs.Prelude.{ℕ, ◌≡◌, length, Some, IfOk};
 ghost use Rattle.semantics.specs.Source.Scope.{with_constants};
 ghost use Rattle.ktree.specs.View.{declaration_of};
-ghost use Rattle.cparse.specs.TextReader.{enumeration, variable, declarations};
-ghost use Rattle.cparse.specs.DeclarationSteps.{enum_step, variable_step};
+ghost use Rattle.cparse_grammar.specs.TextReader.{enumeration, variable, declarations};
+ghost use Rattle.cparse_grammar.specs.DeclarationSteps.{enum_step, variable_step};
 ghost use Rattle.cparse.specs.DeclarationViews.{enumerators_of, named_of, decls_of};
 ghost use Rattle.cparse_cursor.specs.Names.{names_of};
 ghost use Rattle.cparse_cursor.specs.Lexemes.{tokens_of};
@@ -39,7 +39,7 @@ struct Named<'t> {
 }
 
 /// What stands behind the word `enum`; the constants are visible behind it (C11 6.7.2.2).
-#[tactic(auto, unfolding(crate::specs::TextReader::enumeration))]
+#[tactic(auto, unfolding(cparse_grammar::specs::TextReader::enumeration))]
 fn enumeration<'s, 't>(
     setting: Setting,
     scope: &mut Scope<'t>,
@@ -56,7 +56,7 @@ fn enumeration<'s, 't>(
 }
 
 /// What stands behind a variable's type: its name and its dimensions, 4 at most (C11 6.7.6.2).
-#[tactic(auto, unfolding(crate::specs::TextReader::variable))]
+#[tactic(auto, unfolding(cparse_grammar::specs::TextReader::variable))]
 fn variable<'s, 't>(
     context: Context<'_, 't>,
     tokens: &'s [Lexeme<'t>],

@@ -2,7 +2,7 @@
 
 ghost use Rattle.std.specs.Prelude.{◌≡◌, length, IfOk, IfErr};
 ghost use Rattle.cparse_cursor.specs.declared.stop.Stop.TheVariants.{Memory};
-ghost use Rattle.cparse.specs.TextReader.{kernel};
+ghost use Rattle.cparse_grammar.specs.TextReader.{kernel};
 ghost use Rattle.cparse.specs.DeclarationViews.{whole_of};
 ghost use Rattle.cparse_cursor.specs.Lexemes.{tokens_of};
 ghost use Rattle.cparse_cursor.specs.Outcome.{Gives};
@@ -15,9 +15,9 @@ use cparse_cursor::lexeme::Lexeme;
 use cparse_cursor::punctuation::close_brace;
 use cparse_cursor::scope::empty;
 use cparse_cursor::stop::{Fault, Stop, earlier};
+use cparse_phrase::tally::Tally;
+use cparse_phrase::told::Told;
 use cparse_stmt::statement::items;
-use cparse_stmt::tally::Tally;
-use cparse_stmt::told::Told;
 use ktree::{Declaration, Kernel};
 
 /// How many statements there may be.
@@ -39,7 +39,7 @@ fn next_number(variables: &[Declaration]) -> Result<u32, Stop>
 }
 
 /// All tokens of a text: include lines, declarations and the kernel's block.
-#[tactic(auto, unfolding(crate::specs::TextReader::kernel))]
+#[tactic(auto, unfolding(cparse_grammar::specs::TextReader::kernel))]
 pub fn kernel<'s, 't>(setting: Setting, tokens: &'s [Lexeme<'t>]) -> Result<Whole, Stop>
     ensures { Gives whole_of result (kernel (tokens_of tokens.now)) }
 {

@@ -1,8 +1,8 @@
 //! The lengths of a declared array (C11 6.7.6.2).
 
 ghost use Rattle.std.specs.Prelude.{ℕ, ◌≡◌, length};
-ghost use Rattle.cparse.specs.TextReader.{lengths, length_of, is_length};
-ghost use Rattle.cparse.specs.DeclarationSteps.{dimension};
+ghost use Rattle.cparse_grammar.specs.TextReader.{lengths, length_of, is_length};
+ghost use Rattle.cparse_grammar.specs.DeclarationSteps.{dimension};
 ghost use Rattle.cparse_cursor.specs.Names.{names_of};
 ghost use Rattle.cparse_cursor.specs.Lexemes.{tokens_of};
 ghost use Rattle.cparse_cursor.specs.Outcome.{Gives, got_of};

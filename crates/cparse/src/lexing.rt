@@ -1,7 +1,7 @@
 //! The tokens of a text with their own bytes at hand.
 
 ghost use Rattle.std.specs.Prelude.{ℕ, ◌≡◌, List, [], ◌∷◌, ◌++◌, IfOk};
-ghost use Rattle.cparse.specs.SameTokens.{IsKindOf, IsLexed, AreLexed};
+ghost use Rattle.cparse.specs.LexedTokens.{IsKindOf, IsLexed, AreLexed};
 
 use cparse_cursor::lexeme::{Kind, Lexeme};
 use cparse_cursor::stop::Stop;

@@ -1,7 +1,7 @@
 //! What stands around the declarations and the kernel.
 
 ghost use Rattle.std.specs.Prelude.{◌≡◌, option_map};
-ghost use Rattle.cparse.specs.TextReader.{opening, behind_headers, at_end};
+ghost use Rattle.cparse_grammar.specs.TextReader.{opening, behind_headers, at_end};
 ghost use Rattle.cparse_cursor.specs.Lexemes.{tokens_of};
 ghost use Rattle.cparse_cursor.specs.Outcome.{Gives};
 
@@ -26,7 +26,7 @@ pub fn behind_headers<'s, 't>(tokens: &'s [Lexeme<'t>]) -> &'s [Lexeme<'t>]
 }
 
 /// The tokens behind `void kernel(void) {`.
-#[tactic(auto, unfolding(crate::specs::TextReader::opening))]
+#[tactic(auto, unfolding(cparse_grammar::specs::TextReader::opening))]
 pub fn opening<'s, 't>(tokens: &'s [Lexeme<'t>], end: Place) -> Result<&'s [Lexeme<'t>], Stop>
     ensures { Gives (λ rest. tokens_of rest.now) result (opening (tokens_of tokens.now)) }
 {

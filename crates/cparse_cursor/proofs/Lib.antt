@@ -1,4 +1,2 @@
-pub mod Binds
 pub mod NameLemmas
 pub mod Turns
-pub mod WordLemmas

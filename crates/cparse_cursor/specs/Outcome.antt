@@ -6,7 +6,7 @@ use Rattle.cparse_cursor.specs.declared.parsed.Parsed.{Parsed}
 use Rattle.cparse_cursor.specs.declared.parsed.Subscripts.{Subscripts}
 use Rattle.semantics.specs.Tree
 use Rattle.ktree.specs.View.{exprs_of}
-use Rattle.cparse_cursor.specs.Reading.{Got}
+use Rattle.cparse_grammar.specs.Reading.{Got}
 use Rattle.cparse_cursor.specs.Lexemes.{tokens_of}
 
 -- why nothing was read

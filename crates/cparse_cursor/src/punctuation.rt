@@ -1,7 +1,7 @@
 //! Symbols that begin, part or end expressions, statements and declarations.
 
 ghost use Rattle.std.specs.Prelude.{◌≡◌, option_map};
-ghost use Rattle.cparse_cursor.specs.NextTokens.{close_paren, close_bracket, question_mark, colon, open_bracket, semicolon, open_paren, becomes, open_brace, close_brace, comma};
+ghost use Rattle.cparse_grammar.specs.NextTokens.{close_paren, close_bracket, question_mark, colon, open_bracket, semicolon, open_paren, becomes, open_brace, close_brace, comma};
 ghost use Rattle.cparse_cursor.specs.Lexemes.{tokens_of, first_place};
 ghost use Rattle.cparse_cursor.specs.Outcome.{Gives};
 

@@ -3,7 +3,7 @@
 ghost use Rattle.std.specs.Prelude.{◌≡◌, true, false, option_map, MatchResult};
 ghost use Rattle.semantics.specs.Source.Scope.{find};
 ghost use Rattle.ctoken.specs.Meant.{symbol_of};
-ghost use Rattle.cparse_cursor.specs.NextTokens.{may_be_named, sign, word, new_name, next_word};
+ghost use Rattle.cparse_grammar.specs.NextTokens.{may_be_named, sign, word, new_name, next_word};
 ghost use Rattle.cparse_cursor.specs.Names.{entity_of, names_of};
 ghost use Rattle.cparse_cursor.specs.Lexemes.{tokens_of};
 ghost use Rattle.cparse_cursor.specs.Outcome.{Gives};
@@ -67,7 +67,7 @@ pub fn next_word<'s, 't>(tokens: &'s [Lexeme<'t>], end: Place) -> Result<NextWor
 }
 
 /// A word that may be declared, which has to come first.
-#[tactic(auto, using(crate::proofs::WordLemmas::new_name_by))]
+#[tactic(auto, using(cparse_grammar::proofs::WordLemmas::new_name_by))]
 pub fn new_name<'s, 't>(tokens: &'s [Lexeme<'t>], end: Place) -> Result<NextWord<'s, 't>, Stop>
     ensures { Gives (λ found. (found.name.now, tokens_of found.rest.now)) result (new_name (tokens_of tokens.now)) }
 {

@@ -1,4 +1,1 @@
-pub mod ExpressionComplete
-pub mod ExpressionSound
-pub mod TreeLemmas
 pub mod LoopLemmas

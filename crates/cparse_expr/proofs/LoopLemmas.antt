@@ -3,14 +3,14 @@ use Rattle.std.proofs.Common.{◌≡◌, ℕ, zero, suc, ◌+◌, ◌-◌, ◌<�
 use Rattle.std.specs.Prelude.{◌&&◌}
 use Rattle.semantics.specs.Tree.{Exprs, no_exprs, more_exprs, Source}
 use Rattle.semantics.specs.Source.Token.{Token, Sign, OpenBracket}
-use Rattle.cparse_cursor.specs.Reading.{Got, Reader, ◌>>=◌, got, chosen}
-use Rattle.cparse_expr.specs.Operators.{Infix, number_in, is_number}
-use Rattle.cparse_expr.specs.ExpressionReader.{Inner, subscripts, next_infix, join, further, choice}
-use Rattle.cparse_cursor.specs.NextTokens.{close_bracket, open_bracket, colon}
+use Rattle.cparse_grammar.specs.Reading.{Got, Reader, ◌>>=◌, got, chosen}
+use Rattle.cparse_grammar.specs.Operators.{Infix, number_in, is_number}
+use Rattle.cparse_grammar.specs.ExpressionReader.{Inner, subscripts, next_infix, join, further, choice}
+use Rattle.cparse_grammar.specs.NextTokens.{close_bracket, open_bracket, colon}
 use Rattle.cparse_cursor.specs.declared.stop.Stop.{Stop}
 use Rattle.cparse_cursor.specs.declared.stop.Stop.TheVariants.{Memory, Syntax, Limit}
 use Rattle.cparse_cursor.specs.Outcome.{Fails}
-use Rattle.cparse_expr.specs.Steps.{and_one, with_subscript, second_arm, arms_behind}
+use Rattle.cparse_grammar.specs.ExpressionSteps.{and_one, with_subscript, second_arm, arms_behind}
 
 -- one list of subscripts behind another
 abbrev pub append_exprs : Exprs → Exprs → Exprs

@@ -1,17 +1,13 @@
 //! Expressions (C11 6.5).
 
 ghost use Rattle.std.specs.Prelude.{◌≡◌, ◌≤◌, length, suc};
-ghost use Rattle.cparse_expr.specs.ExpressionReader.{subscripts, primary, unary, further, binary, whole, inside};
-ghost use Rattle.cparse_expr.specs.Steps.{at_name, second_arm, arms_behind};
+ghost use Rattle.cparse_grammar.specs.ExpressionReader.{subscripts, primary, unary, further, binary, whole, inside};
+ghost use Rattle.cparse_grammar.specs.ExpressionSteps.{at_name, second_arm, arms_behind};
 ghost use Rattle.cparse_cursor.specs.Names.{names_of};
 ghost use Rattle.cparse_cursor.specs.Lexemes.{tokens_of};
 ghost use Rattle.cparse_cursor.specs.Outcome.{Gives, got_of, subscripts_of};
-ghost use Rattle.cparse_expr.specs.OperandViews.{operand_of};
+ghost use Rattle.cparse_operand.specs.OperandViews.{operand_of};
 
-use crate::combining::{changed, choice, join, no_subscripts, opposite, with_subscript};
-use crate::leaf::{literal, named};
-use crate::operand::Operand;
-use crate::operator::next_infix;
 use cparse_cursor::context::{Context, Outcome, opened, tighter};
 use cparse_cursor::lexeme::{Kind, Lexeme};
 use cparse_cursor::parsed::{Parsed, Subscripts};
@@ -20,6 +16,10 @@ use cparse_cursor::punctuation::{
 };
 use cparse_cursor::scope::{find, is_reserved};
 use cparse_cursor::stop::Stop;
+use cparse_operand::combining::{changed, choice, join, no_subscripts, opposite, with_subscript};
+use cparse_operand::leaf::{literal, named};
+use cparse_operand::operand::Operand;
+use cparse_operand::operator::next_infix;
 use ctoken::Symbol;
 use ktree::{Place, UnaryOp};
 
@@ -95,7 +95,7 @@ fn name<'s, 't>(
 
 /// A literal, a name, or an expression in parentheses (C11 6.5.1).
 #[cycle(expression)]
-#[tactic(auto, unfolding(crate::specs::ExpressionReader::primary))]
+#[tactic(auto, unfolding(cparse_grammar::specs::ExpressionReader::primary))]
 fn primary<'s, 't>(
     context: Context<'_, 't>,
     room: u32,
@@ -124,7 +124,7 @@ fn primary<'s, 't>(
 
 /// An operand with the unary operators in front of it (C11 6.5.3.3).
 #[cycle(expression)]
-#[tactic(auto, unfolding(crate::specs::ExpressionReader::unary))]
+#[tactic(auto, unfolding(cparse_grammar::specs::ExpressionReader::unary))]
 fn unary<'s, 't>(
     context: Context<'_, 't>,
     room: u32,
@@ -251,7 +251,7 @@ fn arms<'s, 't>(
 
 /// A whole expression, of which `?:` reaches furthest (C11 6.5.15).
 #[cycle(expression)]
-#[tactic(auto, unfolding(crate::specs::ExpressionReader::whole))]
+#[tactic(auto, unfolding(cparse_grammar::specs::ExpressionReader::whole))]
 pub fn whole<'s, 't>(
     context: Context<'_, 't>,
     room: u32,

@@ -7,7 +7,7 @@ use Rattle.std.proofs.lemmas.List.Sums.{sum_by-cons}
 use Rattle.cparse_printf.specs.declared.format.Spot.{Spot}
 use Rattle.cparse_printf.specs.declared.format.Spot.TheVariants.{Characters, Number}
 use Rattle.cparse_printf.specs.Spots.{spot_of, is_place}
-use Rattle.cparse_printf.specs.PrintfReader.{fills}
+use Rattle.cparse_grammar.specs.PrintfReader.{fills}
 use Rattle.ktree.specs.declared.expression.Expr.{Expr}
 use Rattle.ktree.specs.View.{expr_of}
 

@@ -8,11 +8,11 @@ use Rattle.semantics.specs.Source.Typing.{typed, plain}
 use Rattle.cparse_cursor.specs.declared.stop.Stop.{Stop}
 use Rattle.cparse_cursor.specs.declared.stop.Stop.TheVariants.{Memory, Syntax, Limit}
 use Rattle.cparse_cursor.specs.Outcome.{Fails}
-use Rattle.cparse_cursor.specs.Reading.{Got, Reader, ◌>>=◌, got}
-use Rattle.cparse_expr.specs.Operators.{number_in, is_number}
-use Rattle.cparse_cursor.specs.NextTokens.{word, comma}
-use Rattle.cparse_printf.specs.PrintfReader.{starts_quoted, format, arguments, filled}
-use Rattle.cparse_printf.specs.Printing.{Turn, format_turn, turn_spots, with_turn, with_argument, part_at, arguments_behind}
+use Rattle.cparse_grammar.specs.Reading.{Got, Reader, ◌>>=◌, got}
+use Rattle.cparse_grammar.specs.Operators.{number_in, is_number}
+use Rattle.cparse_grammar.specs.NextTokens.{word, comma}
+use Rattle.cparse_grammar.specs.PrintfReader.{starts_quoted, format, arguments, filled}
+use Rattle.cparse_grammar.specs.PrintfSteps.{Turn, format_turn, turn_spots, with_turn, with_argument, part_at, arguments_behind}
 
 -- what was read, behind a front that was read before
 abbrev pub behind_front : {A : Type 0} → Got (List A) → Option (Got (List A)) → Option (Got (List A))

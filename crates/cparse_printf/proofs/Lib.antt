@@ -1,3 +1,2 @@
 pub mod FormatLemmas
 pub mod FillLemmas
-pub mod PrintedLemmas

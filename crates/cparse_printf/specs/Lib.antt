@@ -1,3 +1,1 @@
-pub mod PrintfReader
-pub mod Printing
 pub mod Spots

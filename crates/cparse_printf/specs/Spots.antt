@@ -8,7 +8,7 @@ use Rattle.semantics.specs.Tree
 use Rattle.cparse_printf.specs.declared.format.Spot.{Spot}
 use Rattle.cparse_printf.specs.declared.format.Spot.TheVariants.{Characters, Number}
 use Rattle.cparse_printf.specs.declared.format.Turn as code
-use Rattle.cparse_printf.specs.Printing.{Turn}
+use Rattle.cparse_grammar.specs.PrintfSteps.{Turn}
 use Rattle.cparse_cursor.specs.Lexemes.{tokens_of}
 
 -- a part of a format

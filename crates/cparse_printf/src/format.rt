@@ -1,8 +1,8 @@
 //! Formats of printf (C11 7.21.6.1, 7.8.1).
 
 ghost use Rattle.std.specs.Prelude.{◌≡◌, length, Some, map};
-ghost use Rattle.cparse_printf.specs.PrintfReader.{format, starts_quoted};
-ghost use Rattle.cparse_printf.specs.Printing.{format_turn, with_turn};
+ghost use Rattle.cparse_grammar.specs.PrintfReader.{format, starts_quoted};
+ghost use Rattle.cparse_grammar.specs.PrintfSteps.{format_turn, with_turn};
 ghost use Rattle.cparse_cursor.specs.Lexemes.{tokens_of};
 ghost use Rattle.cparse_cursor.specs.Outcome.{Gives, got_of};
 ghost use Rattle.cparse_printf.specs.Spots.{spots_of, turn_of};

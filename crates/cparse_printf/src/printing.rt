@@ -2,13 +2,13 @@
 
 ghost use Rattle.std.specs.Prelude.{◌≡◌, length, count_by, map, Some};
 ghost use Rattle.ktree.specs.View.{expr_of, part_of, stmt_of};
-ghost use Rattle.cparse_expr.specs.ExpressionReader.{expression};
-ghost use Rattle.cparse_printf.specs.PrintfReader.{arguments, filled, fills, printed};
-ghost use Rattle.cparse_printf.specs.Printing.{with_argument, part_at, arguments_behind, closed_arguments, print_of};
+ghost use Rattle.cparse_grammar.specs.ExpressionReader.{expression};
+ghost use Rattle.cparse_grammar.specs.PrintfReader.{arguments, filled, fills, printed};
+ghost use Rattle.cparse_grammar.specs.PrintfSteps.{with_argument, part_at, arguments_behind, closed_arguments, print_of};
 ghost use Rattle.cparse_cursor.specs.Names.{names_of};
 ghost use Rattle.cparse_cursor.specs.Lexemes.{tokens_of};
 ghost use Rattle.cparse_cursor.specs.Outcome.{Gives, got_of};
-ghost use Rattle.cparse_expr.specs.OperandViews.{operand_of};
+ghost use Rattle.cparse_operand.specs.OperandViews.{operand_of};
 ghost use Rattle.cparse_printf.specs.Spots.{spot_of, spots_of, is_place, arguments_of, arguments_left, parts_of};
 
 use crate::format::{Spot, format};
@@ -18,8 +18,8 @@ use cparse_cursor::parsed::Parsed;
 use cparse_cursor::punctuation::{close_paren, comma, open_paren};
 use cparse_cursor::stop::{Flaw, Stop, earlier, told_sort, unless};
 use cparse_expr::expression::whole;
-use cparse_expr::operand::Operand;
-use cparse_expr::wanted::number_in;
+use cparse_operand::operand::Operand;
+use cparse_operand::wanted::number_in;
 use ktree::{Expr, Place, PrintPart, Stmt, Suffix};
 use std::alloc::Global;
 
@@ -160,7 +160,7 @@ fn print_of<'s, 't>(
 }
 
 /// What stands behind the word printf, whose place this is.
-#[tactic(auto, using(crate::proofs::PrintedLemmas::printed_by_parts), unfolding(crate::specs::PrintfReader::printed))]
+#[tactic(auto, using(cparse_grammar::proofs::PrintedLemmas::printed_by_parts), unfolding(cparse_grammar::specs::PrintfReader::printed))]
 pub fn printed<'s, 't>(
     context: Context<'_, 't>,
     room: u32,

@@ -6,8 +6,8 @@ use Rattle.semantics.specs.Tree.{Name, Source, Items, no_items, mark, local, stm
 use Rattle.ktree.specs.View.{stmt_of, with_item, items_row_of, items_of}
 use Rattle.ktree.specs.declared.statement.Item.{Item, Directive, Local, Statement'}
 use Rattle.ktree.specs.declared.statement.Stmt.{Stmt, Block, Block', Row_of-Item, end_of-Item, more_of-Item, items-the_row-Item, items_hidden-the_row-Item-0}
-use Rattle.cparse_stmt.specs.StatementReader.{statement, counted}
-use Rattle.cparse_stmt.specs.Bodies.{append_items, once, twice}
+use Rattle.cparse_grammar.specs.StatementReader.{statement, counted}
+use Rattle.cparse_grammar.specs.StatementParts.{append_items, once, twice}
 
 -- an item in front of others
 with_item_by : (i : Item) (more : Items) → with_item i more ≡ append_items (with_item i no_items) more

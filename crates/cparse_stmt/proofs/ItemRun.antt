@@ -7,11 +7,11 @@ use Rattle.semantics.specs.Source.Scope.{Scope, same_name}
 use Rattle.cparse_cursor.specs.declared.stop.Stop.{Stop}
 use Rattle.cparse_cursor.specs.declared.stop.Stop.TheVariants.{Memory, Syntax, Limit}
 use Rattle.cparse_cursor.specs.Outcome.{Fails}
-use Rattle.cparse_cursor.specs.Reading.{Got, ◌>>=◌}
-use Rattle.cparse_expr.specs.ExpressionReader.{expression}
-use Rattle.cparse_stmt.specs.StatementReader.{Tally, Told, StmtReader, told, with_local, declared, is_unused, initial, with_stmt, items}
-use Rattle.cparse_cursor.specs.NextTokens.{new_name}
-use Rattle.cparse_stmt.specs.Bodies.{Row, begins_item, item, stated, located, append_items, with_item}
+use Rattle.cparse_grammar.specs.Reading.{Got, ◌>>=◌}
+use Rattle.cparse_grammar.specs.ExpressionReader.{expression}
+use Rattle.cparse_grammar.specs.StatementReader.{Tally, Told, StmtReader, told, with_local, declared, is_unused, initial, with_stmt, items}
+use Rattle.cparse_grammar.specs.NextTokens.{new_name}
+use Rattle.cparse_grammar.specs.StatementParts.{Row, begins_item, item, stated, located, append_items, with_item}
 use Rattle.cparse_stmt.proofs.ItemLemmas.{append_assoc, append_none}
 
 abbrev told_items : Items → Bool → Tally → List Token → Option (Told Items)

@@ -6,10 +6,10 @@ use Rattle.semantics.specs.Source.Scope.{Scope}
 use Rattle.ktree.specs.declared.statement.Item.{Item}
 use Rattle.ktree.specs.declared.statement.Stmt as code
 use Rattle.ktree.specs.View as view
-use Rattle.cparse_stmt.specs.declared.told.Told.{Told}
+use Rattle.cparse_phrase.specs.declared.told.Told.{Told}
 use Rattle.cparse_cursor.specs.Lexemes.{tokens_of}
-use Rattle.cparse_stmt.specs.Tallies.{tally_of}
-use Rattle.cparse_stmt.specs.Bodies.{Row}
+use Rattle.cparse_phrase.specs.Tallies.{tally_of}
+use Rattle.cparse_grammar.specs.StatementParts.{Row}
 
 -- a list of items
 abbrev pub items_in : Vec Item → Items

@@ -4,22 +4,22 @@ ghost use Rattle.std.specs.Prelude.{◌≡◌, ◌&&◌, Some, IfOk, IfErr, is_n
 ghost use Rattle.semantics.specs.Tree.{If, IfElse, For};
 ghost use Rattle.semantics.specs.Source.Scope.{Scope};
 ghost use Rattle.ktree.specs.View.{stmt_of, source_of, cond_of};
-ghost use Rattle.cparse_expr.specs.Operators.{cond_in};
-ghost use Rattle.cparse_stmt.specs.StatementReader.{told};
-ghost use Rattle.cparse_stmt.specs.Bodies.{append_items, with_item};
-ghost use Rattle.cparse_stmt.specs.Headings.{heading_of};
+ghost use Rattle.cparse_grammar.specs.Operators.{cond_in};
+ghost use Rattle.cparse_grammar.specs.StatementReader.{told};
+ghost use Rattle.cparse_grammar.specs.StatementParts.{append_items, with_item};
+ghost use Rattle.cparse_phrase.specs.Headings.{heading_of};
 ghost use Rattle.cparse_stmt.specs.Rows.{row_of, item_of, item_in, items_in, boxed_of};
-ghost use Rattle.cparse_stmt.specs.Tallies.{tally_of, told_of};
+ghost use Rattle.cparse_phrase.specs.Tallies.{tally_of, told_of};
 ghost use Rattle.cparse_cursor.specs.Lexemes.{tokens_of};
 ghost use Rattle.cparse_cursor.specs.Outcome.{Gives};
 ghost use Rattle.cparse_cursor.specs.declared.stop.Stop.TheVariants.{Memory};
 
-use crate::loop_head::LoopHead;
-use crate::tally::Tally;
-use crate::told::Told;
 use cparse_cursor::parsed::Parsed;
 use cparse_cursor::stop::{Stop, earlier};
-use cparse_expr::wanted::cond_in;
+use cparse_operand::wanted::cond_in;
+use cparse_phrase::loop_head::LoopHead;
+use cparse_phrase::tally::Tally;
+use cparse_phrase::told::Told;
 use ktree::{Head, Item, Place, Source, Stmt, VarId};
 use std::alloc::Global;
 

@@ -2,24 +2,24 @@
 
 ghost use Rattle.std.specs.Prelude.{◌≡◌, length, take, OnOk};
 ghost use Rattle.ktree.specs.View.{start_of};
-ghost use Rattle.cparse_expr.specs.ExpressionReader.{expression};
-ghost use Rattle.cparse_stmt.specs.StatementReader.{initial};
-ghost use Rattle.cparse_stmt.specs.Bodies.{begins_item, located};
+ghost use Rattle.cparse_grammar.specs.ExpressionReader.{expression};
+ghost use Rattle.cparse_grammar.specs.StatementReader.{initial};
+ghost use Rattle.cparse_grammar.specs.StatementParts.{begins_item, located};
 ghost use Rattle.cparse_stmt.specs.Rows.{item_of};
-ghost use Rattle.cparse_stmt.specs.Tallies.{tally_of};
+ghost use Rattle.cparse_phrase.specs.Tallies.{tally_of};
 ghost use Rattle.cparse_cursor.specs.Names.{names_of};
 ghost use Rattle.cparse_cursor.specs.Lexemes.{tokens_of};
 ghost use Rattle.cparse_cursor.specs.Outcome.{Gives, got_of};
 
-use crate::delimited::ended_source;
-use crate::tally::{Tally, declared};
-use crate::told::Told;
 use cparse_cursor::context::{Context, Outcome, Setting};
 use cparse_cursor::lexeme::{Kind, Lexeme};
 use cparse_cursor::parsed::Parsed;
 use cparse_cursor::scope::{Entity, Scope, add, find};
 use cparse_cursor::stop::{Flaw, Stop, earlier, unless};
 use cparse_cursor::words::new_name;
+use cparse_phrase::delimited::ended_source;
+use cparse_phrase::tally::{Tally, declared};
+use cparse_phrase::told::Told;
 use ctoken::Symbol;
 use ktree::{Item, Local, Source, VarId};
 

@@ -2,21 +2,21 @@
 
 ghost use Rattle.std.specs.Prelude.{◌≡◌};
 ghost use Rattle.ktree.specs.View.{stmt_of};
-ghost use Rattle.cparse_stmt.specs.StatementReader.{ended};
-ghost use Rattle.cparse_stmt.specs.Bodies.{simple};
-ghost use Rattle.cparse_stmt.specs.Tallies.{tally_of, told_of};
+ghost use Rattle.cparse_grammar.specs.StatementReader.{ended};
+ghost use Rattle.cparse_grammar.specs.StatementParts.{simple};
+ghost use Rattle.cparse_phrase.specs.Tallies.{tally_of, told_of};
 ghost use Rattle.cparse_cursor.specs.Names.{names_of};
 ghost use Rattle.cparse_cursor.specs.Lexemes.{tokens_of};
 ghost use Rattle.cparse_cursor.specs.Outcome.{Gives, got_of};
 
-use crate::assignment::assignment;
-use crate::tally::Tally;
-use crate::told::Told;
 use cparse_cursor::context::Context;
 use cparse_cursor::lexeme::Lexeme;
 use cparse_cursor::parsed::Parsed;
 use cparse_cursor::punctuation::semicolon;
 use cparse_cursor::stop::Stop;
+use cparse_phrase::assignment::assignment;
+use cparse_phrase::tally::Tally;
+use cparse_phrase::told::Told;
 use cparse_printf::printing::printed;
 use ktree::{Place, Stmt};
 

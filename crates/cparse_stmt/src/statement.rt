@@ -2,21 +2,17 @@
 
 ghost use Rattle.std.specs.Prelude.{◌≡◌, length, take, OnOk};
 ghost use Rattle.ktree.specs.View.{stmt_of, source_of};
-ghost use Rattle.cparse_stmt.specs.StatementReader.{statement, counted, block, items, selection, iteration};
-ghost use Rattle.cparse_stmt.specs.Bodies.{once, twice, headed, item, stated, otherwise};
+ghost use Rattle.cparse_grammar.specs.StatementReader.{statement, counted, block, items, selection, iteration};
+ghost use Rattle.cparse_grammar.specs.StatementParts.{once, twice, headed, item, stated, otherwise};
 ghost use Rattle.cparse_stmt.specs.Rows.{item_of, items_in, boxed_of};
-ghost use Rattle.cparse_stmt.specs.Tallies.{tally_of, told_of};
+ghost use Rattle.cparse_phrase.specs.Tallies.{tally_of, told_of};
 ghost use Rattle.cparse_cursor.specs.Names.{names_of};
 ghost use Rattle.cparse_cursor.specs.Lexemes.{tokens_of};
 ghost use Rattle.cparse_cursor.specs.Outcome.{Gives, got_of};
 
 use crate::building::{if_else, if_only, looped, with_item};
-use crate::delimited::in_parens;
 use crate::local::{begins_item, located};
-use crate::loop_head::heading;
 use crate::simple::simple;
-use crate::tally::{Tally, declared, spend};
-use crate::told::Told;
 use cparse_cursor::context::{Context, Setting, opened};
 use cparse_cursor::lexeme::{Kind, Lexeme};
 use cparse_cursor::parsed::Parsed;
@@ -24,6 +20,10 @@ use cparse_cursor::punctuation::close_brace;
 use cparse_cursor::scope::{Scope, close, count};
 use cparse_cursor::stop::Stop;
 use cparse_cursor::words::if_word;
+use cparse_phrase::delimited::in_parens;
+use cparse_phrase::loop_head::heading;
+use cparse_phrase::tally::{Tally, declared, spend};
+use cparse_phrase::told::Told;
 use ctoken::Symbol;
 use ktree::{Item, Place, Source, Stmt};
 
@@ -100,7 +100,7 @@ fn headed<'s, 't>(
 
 /// A block behind its `{` at a place (C11 6.8.2).
 #[cycle(statement)]
-#[tactic(auto, using(crate::proofs::ItemLemmas::block_of), unfolding(crate::specs::StatementReader::block))]
+#[tactic(auto, using(crate::proofs::ItemLemmas::block_of), unfolding(cparse_grammar::specs::StatementReader::block))]
 fn block<'s, 't>(
     setting: Setting,
     scope: &mut Scope<'t>,
@@ -233,7 +233,7 @@ fn stated<'s, 't>(
 
 /// What stands behind the word `if` at a place (C11 6.8.4.1).
 #[cycle(statement)]
-#[tactic(auto, unfolding(crate::specs::StatementReader::selection))]
+#[tactic(auto, unfolding(cparse_grammar::specs::StatementReader::selection))]
 fn selection<'s, 't>(
     setting: Setting,
     scope: &mut Scope<'t>,
@@ -276,7 +276,7 @@ fn otherwise<'s, 't>(
 
 /// What stands behind the word `for` at a place (C11 6.8.5.3).
 #[cycle(statement)]
-#[tactic(auto, unfolding(crate::specs::StatementReader::iteration))]
+#[tactic(auto, unfolding(cparse_grammar::specs::StatementReader::iteration))]
 fn iteration<'s, 't>(
     setting: Setting,
     scope: &mut Scope<'t>,

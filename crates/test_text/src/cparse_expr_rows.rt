@@ -6,7 +6,7 @@ use cparse_cursor::parsed::Parsed;
 use cparse_cursor::scope::{Entity, Scope, add, empty};
 use cparse_cursor::stop::{Fault, Flaw, Stop};
 use cparse_expr::expression::whole;
-use cparse_expr::operand::Operand;
+use cparse_operand::operand::Operand;
 use ctoken::Symbol;
 use ktree::{BinaryOp, Expr, Place, Source, Suffix, VarId};
 use std::alloc::{AllocError, Global};

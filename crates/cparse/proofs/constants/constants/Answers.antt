@@ -2,8 +2,8 @@ use Rattle.std.proofs.Common.{ℕ, ◌≡◌, ◌+◌, ◌-◌, ◌<◌, ◌≤�
 use Rattle.std.proofs.lemmas.Result.{err_from_is_err_and}
 use Rattle.std.proofs.lemmas.List.{length-map}
 use Rattle.semantics.specs.Source.Scope.{with_constants}
-use Rattle.cparse_cursor.specs.NextTokens.{comma}
-use Rattle.cparse.specs.DeclarationSteps.{and_then, visible}
+use Rattle.cparse_grammar.specs.NextTokens.{comma}
+use Rattle.cparse_grammar.specs.DeclarationSteps.{and_then, visible}
 use Rattle.cparse.specs.DeclarationViews.{enumerator_of, enumerators_of, valued_of}
 use Rattle.cparse_cursor.specs.Names.{names_of}
 use Rattle.cparse_cursor.specs.Lexemes.{token_of, tokens_of}

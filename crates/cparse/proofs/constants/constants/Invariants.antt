@@ -1,6 +1,6 @@
 use Rattle.std.proofs.Common.{◌≡◌, ◌-◌, length}
 use Rattle.semantics.specs.Source.Scope.{with_constants}
-use Rattle.cparse.specs.TextReader.{constants}
+use Rattle.cparse_grammar.specs.TextReader.{constants}
 use Rattle.cparse.specs.DeclarationViews.{enumerators_of}
 use Rattle.cparse_cursor.specs.Names.{names_of}
 use Rattle.cparse_cursor.specs.Lexemes.{tokens_of}

@@ -5,7 +5,8 @@ use Rattle.ktree.specs.View.{declaration_of}
 use Rattle.cparse.specs.DeclarationViews.{enumerator_of, decls_of}
 use Rattle.cparse_cursor.specs.Names.{names_of}
 use Rattle.cparse_cursor.specs.Lexemes.{token_of, tokens_of}
-use Rattle.cparse.proofs.DeclarationTurns.{decls_run, decls_begin, decls_end, decls_over, enum_goes, enum_fails, variable_goes, variable_fails}
+use Rattle.law_grammar.proofs.DeclarationTurns.{decls_run, decls_begin, decls_end, decls_over, enum_goes, variable_goes}
+use Rattle.cparse.proofs.DeclarationLemmas.{enum_fails, variable_fails}
 use Rattle.cparse_cursor.proofs.Turns.{goes, fails, ends, is_over}
 use Rattle.cparse.proofs.declarations.declarations.Goals as goal
 

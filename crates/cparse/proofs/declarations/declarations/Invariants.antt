@@ -1,9 +1,9 @@
 use Rattle.std.proofs.Common.{◌≡◌, ◌-◌, length}
-use Rattle.cparse.specs.TextReader.{declarations}
+use Rattle.cparse_grammar.specs.TextReader.{declarations}
 use Rattle.cparse.specs.DeclarationViews.{decls_of}
 use Rattle.cparse_cursor.specs.Names.{names_of}
 use Rattle.cparse_cursor.specs.Lexemes.{tokens_of}
-use Rattle.cparse.proofs.DeclarationTurns.{decls_run}
+use Rattle.law_grammar.proofs.DeclarationTurns.{decls_run}
 use Rattle.cparse.proofs.declarations.declarations.Given as goal
 
 -- reading on from here gives what reading from the beginning gives

@@ -8,7 +8,7 @@ use Rattle.cparse.specs.DeclarationViews.{decls_of}
 use Rattle.cparse_cursor.specs.Names.{names_of, seen}
 use Rattle.cparse_cursor.specs.Lexemes.{tokens_of}
 use Rattle.cparse_stmt.specs.Rows.{items_in}
-use Rattle.cparse_stmt.specs.Tallies.{told_of}
+use Rattle.cparse_phrase.specs.Tallies.{told_of}
 use Rattle.cparse.proofs.KernelLemmas.{whole, kernel_items, body_fails, brace_fails, end_fails, kernel_done}
 use Rattle.cparse.proofs.kernel.kernel.Goals as goal
 

@@ -1,7 +1,7 @@
 use Rattle.std.proofs.Common.{ℕ, ◌<◌, ◌≤◌, length, option_map, sym, ap, ◌∙◌, arith}
 use Rattle.std.proofs.lemmas.Result.{err_from_is_err_and}
 use Rattle.std.proofs.lemmas.List.{length-map}
-use Rattle.cparse.specs.DeclarationSteps.{and_then}
+use Rattle.cparse_grammar.specs.DeclarationSteps.{and_then}
 use Rattle.cparse_cursor.specs.Names.{names_of}
 use Rattle.cparse_cursor.specs.Lexemes.{token_of, tokens_of}
 use Rattle.cparse_cursor.specs.Outcome.{got_of}

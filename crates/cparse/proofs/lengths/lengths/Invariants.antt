@@ -1,5 +1,5 @@
 use Rattle.std.proofs.Common.{◌≡◌, ◌-◌, length}
-use Rattle.cparse.specs.TextReader.{lengths}
+use Rattle.cparse_grammar.specs.TextReader.{lengths}
 use Rattle.cparse_cursor.specs.Names.{names_of}
 use Rattle.cparse_cursor.specs.Lexemes.{tokens_of}
 use Rattle.cparse_cursor.specs.Outcome.{got_of}

@@ -1,5 +1,5 @@
 use Rattle.std.proofs.Common.{subst}
-use Rattle.cparse.specs.SameTokens.{AreLexed}
+use Rattle.cparse.specs.LexedTokens.{AreLexed}
 use Rattle.cparse.proofs.WithBytes.{front_all, lexed_next}
 use Rattle.cparse.proofs.lexing.lexemes.Goals as goal
 

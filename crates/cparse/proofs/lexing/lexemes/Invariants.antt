@@ -1,5 +1,5 @@
 use Rattle.std.proofs.Common.{take}
-use Rattle.cparse.specs.SameTokens.{AreLexed}
+use Rattle.cparse.specs.LexedTokens.{AreLexed}
 use Rattle.cparse.proofs.lexing.lexemes.Given as goal
 
 -- those so far

@@ -1,5 +1,5 @@
 use Rattle.std.proofs.Common.{◌≡◌, drop}
-use Rattle.cparse.specs.TextReader.{behind_headers}
+use Rattle.cparse_grammar.specs.TextReader.{behind_headers}
 use Rattle.cparse_cursor.specs.Lexemes.{tokens_of}
 use Rattle.cparse.proofs.opening.behind_headers.Given as goal
 

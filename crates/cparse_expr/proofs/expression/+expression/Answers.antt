@@ -3,12 +3,12 @@ use Rattle.std.proofs.lemmas.Result.{err_from_is_err_and}
 use Rattle.cparse_cursor.specs.Names.{names_of}
 use Rattle.std.proofs.lemmas.List.{length-map}
 use Rattle.cparse_cursor.specs.Lexemes.{token_of, tokens_of}
-use Rattle.cparse_expr.specs.Infixes.{infix_in}
-use Rattle.cparse_expr.specs.ExpressionReader.{further, subscripts, inside}
-use Rattle.cparse_cursor.specs.Reading.{Got}
+use Rattle.cparse_operand.specs.Infixes.{infix_in}
+use Rattle.cparse_grammar.specs.ExpressionReader.{further, subscripts, inside}
+use Rattle.cparse_grammar.specs.Reading.{Got}
 use Rattle.semantics.specs.Tree.{Exprs}
 use Rattle.cparse_cursor.specs.Outcome.{got_of, subscripts_of}
-use Rattle.cparse_expr.specs.OperandViews.{operand_of}
+use Rattle.cparse_operand.specs.OperandViews.{operand_of}
 use Rattle.cparse_expr.proofs.LoopLemmas.{in_front, same_some, further_ends, further_fails, further_goes, row_ends, row_is_done, row_fails, row_stays_open, row_goes, arms_fail, arms_go}
 use Rattle.cparse_expr.proofs.expression.+expression.Goals as goal
 

@@ -1,9 +1,9 @@
 use Rattle.std.proofs.Common.{◌≡◌, ◌+◌, ◌-◌, ◌*◌, suc, length}
 use Rattle.cparse_cursor.specs.Names.{names_of}
 use Rattle.cparse_cursor.specs.Lexemes.{tokens_of}
-use Rattle.cparse_expr.specs.ExpressionReader.{binary, further, subscripts, inside}
+use Rattle.cparse_grammar.specs.ExpressionReader.{binary, further, subscripts, inside}
 use Rattle.cparse_cursor.specs.Outcome.{got_of, subscripts_of}
-use Rattle.cparse_expr.specs.OperandViews.{operand_of}
+use Rattle.cparse_operand.specs.OperandViews.{operand_of}
 use Rattle.cparse_expr.proofs.LoopLemmas.{in_front}
 use Rattle.cparse_expr.proofs.expression.+expression.Given as goal
 

@@ -3,7 +3,7 @@ use Rattle.std.proofs.lemmas.List.{length-map}
 use Rattle.std.proofs.lemmas.Result.{err_from_is_err_and}
 use Rattle.cparse_cursor.specs.Lexemes.{token_of, tokens_of}
 use Rattle.cparse_cursor.specs.Outcome.{got_of}
-use Rattle.cparse_printf.specs.Printing.{with_turn}
+use Rattle.cparse_grammar.specs.PrintfSteps.{with_turn}
 use Rattle.cparse_printf.specs.Spots.{spots_of, turn_of}
 use Rattle.cparse_expr.proofs.LoopLemmas.{same_some}
 use Rattle.cparse_cursor.proofs.Turns.{goes, fails}

@@ -1,5 +1,5 @@
 use Rattle.std.proofs.Common.{◌≡◌, ◌-◌, length}
-use Rattle.cparse_printf.specs.PrintfReader.{format}
+use Rattle.cparse_grammar.specs.PrintfReader.{format}
 use Rattle.cparse_cursor.specs.Lexemes.{tokens_of}
 use Rattle.cparse_cursor.specs.Outcome.{got_of}
 use Rattle.cparse_printf.specs.Spots.{spots_of}

@@ -1,10 +1,10 @@
 use Rattle.std.proofs.Common.{◌<◌, length, option_map, sym, ap, ◌∙◌, arith}
 use Rattle.std.proofs.lemmas.List.{length-map}
-use Rattle.cparse_expr.specs.ExpressionReader.{expression}
+use Rattle.cparse_grammar.specs.ExpressionReader.{expression}
 use Rattle.cparse_cursor.specs.Names.{names_of}
 use Rattle.cparse_cursor.specs.Lexemes.{token_of, tokens_of}
 use Rattle.cparse_cursor.specs.Outcome.{got_of}
-use Rattle.cparse_expr.specs.OperandViews.{operand_of}
+use Rattle.cparse_operand.specs.OperandViews.{operand_of}
 use Rattle.cparse_printf.specs.Spots.{arguments_of}
 use Rattle.cparse_expr.proofs.LoopLemmas.{same_some}
 use Rattle.cparse_cursor.proofs.Turns.{goes, ends}

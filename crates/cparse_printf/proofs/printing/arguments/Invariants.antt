@@ -1,6 +1,6 @@
 use Rattle.std.proofs.Common.{◌≡◌, ◌-◌, length}
-use Rattle.cparse_expr.specs.ExpressionReader.{expression}
-use Rattle.cparse_printf.specs.PrintfReader.{arguments}
+use Rattle.cparse_grammar.specs.ExpressionReader.{expression}
+use Rattle.cparse_grammar.specs.PrintfReader.{arguments}
 use Rattle.cparse_cursor.specs.Names.{names_of}
 use Rattle.cparse_cursor.specs.Lexemes.{tokens_of}
 use Rattle.cparse_cursor.specs.Outcome.{got_of}

@@ -1,5 +1,5 @@
 use Rattle.std.proofs.Common.{◌≡◌, ◌++◌, map, reverse, vec_len}
-use Rattle.cparse_printf.specs.PrintfReader.{filled}
+use Rattle.cparse_grammar.specs.PrintfReader.{filled}
 use Rattle.cparse_printf.specs.Spots.{spot_of, spots_of, arguments_of, arguments_left, parts_of}
 use Rattle.cparse_printf.proofs.printing.filled.Given as goal
 

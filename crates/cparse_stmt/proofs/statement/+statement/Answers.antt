@@ -3,18 +3,18 @@ use Rattle.std.proofs.lemmas.List.{length-map}
 use Rattle.std.proofs.lemmas.Result.{err_from_is_err_and}
 use Rattle.semantics.specs.Tree.{Source, Stmt}
 use Rattle.ktree.specs.View.{stmt_of, source_of}
-use Rattle.cparse_cursor.specs.Reading.{Got}
+use Rattle.cparse_grammar.specs.Reading.{Got}
 use Rattle.cparse_cursor.specs.Outcome.{Gives, got_of}
 use Rattle.cparse_cursor.specs.Names.{names_of}
 use Rattle.cparse_cursor.specs.Lexemes.{token_of, tokens_of}
-use Rattle.cparse_stmt.specs.StatementReader.{Told, statement, selection}
-use Rattle.cparse_stmt.specs.Bodies.{once, twice, with_item, otherwise}
+use Rattle.cparse_grammar.specs.StatementReader.{Told, statement, selection}
+use Rattle.cparse_grammar.specs.StatementParts.{once, twice, with_item, otherwise}
 use Rattle.cparse_stmt.specs.Rows.{row_of, item_of, boxed_of}
-use Rattle.cparse_stmt.specs.Tallies.{tally_of, told_of}
+use Rattle.cparse_phrase.specs.Tallies.{tally_of, told_of}
 use Rattle.cparse_expr.proofs.LoopLemmas.{same_some, not_there}
 use Rattle.cparse_cursor.proofs.Turns.{goes, fails, ends, is_over}
 use Rattle.cparse_stmt.proofs.ItemLemmas.{front_then}
-use Rattle.cparse_stmt.proofs.HeadingLemmas.{selected}
+use Rattle.cparse_grammar.proofs.HeadingLemmas.{selected}
 use Rattle.cparse_stmt.proofs.ItemRun.{items_run, run_ends, run_out, run_fails, run_goes}
 use Rattle.cparse_stmt.proofs.statement.+statement.Goals as goal
 

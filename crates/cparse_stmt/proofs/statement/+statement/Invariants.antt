@@ -1,8 +1,8 @@
 use Rattle.std.proofs.Common.{◌≡◌, ◌+◌, ◌-◌, ◌*◌, length, take}
 use Rattle.cparse_cursor.specs.Names.{names_of}
 use Rattle.cparse_cursor.specs.Lexemes.{tokens_of}
-use Rattle.cparse_stmt.specs.StatementReader.{statement, items}
-use Rattle.cparse_stmt.specs.Tallies.{tally_of}
+use Rattle.cparse_grammar.specs.StatementReader.{statement, items}
+use Rattle.cparse_phrase.specs.Tallies.{tally_of}
 use Rattle.cparse_stmt.specs.Rows.{row_of}
 use Rattle.cparse_stmt.proofs.ItemRun.{items_run}
 use Rattle.cparse_stmt.proofs.statement.+statement.Given as goal

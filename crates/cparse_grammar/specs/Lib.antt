@@ -1,0 +1,13 @@
+pub mod Reading
+pub mod NextTokens
+pub mod Operators
+pub mod ExpressionReader
+pub mod ExpressionSteps
+pub mod PrintfReader
+pub mod PrintfSteps
+pub mod StatementReader
+pub mod StatementSteps
+pub mod StatementParts
+pub mod TextReader
+pub mod DeclarationSteps
+pub mod SameTokens

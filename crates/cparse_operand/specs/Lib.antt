@@ -1,0 +1,3 @@
+pub mod Infixes
+pub mod Operands
+pub mod OperandViews
