@@ -4,8 +4,8 @@
     python3 tools/build.py PROGRAM
 
 A library that is there and of these sources is left as it is, so that a build that was stopped goes on where it was. The
-libraries with the longest chain of others behind them come first. Each takes two jobs, so that no processor waits where one
-library has little to do at once, and one that few others run beside takes more. The status is 0 where all are there.
+libraries with the longest chain of others behind them come first, and one that no other runs beside gets more processors than
+one. The status is 0 where all are there.
 """
 import copy
 import os
@@ -19,9 +19,6 @@ sys.path.insert(0, os.path.join(TOP, "tools"))
 sys.dont_write_bytecode = True
 
 import kit
-
-# How many jobs a library takes at least.
-JOBS = 2
 
 
 def keep_stamps(crates):
@@ -54,7 +51,7 @@ def main(program):
             return False
         crate = copy.copy(crate)
         with tempfile.TemporaryFile("w+", errors="replace") as crate.out:
-            is_made = crate.build_rlib(["--jobs", str(max(jobs, JOBS))], anew=False) == 0
+            is_made = crate.build_rlib(["--jobs", str(jobs)], anew=False) == 0
             crate.out.seek(0)
             with printing:
                 done.append(crate.name)
@@ -64,11 +61,7 @@ def main(program):
                     print(crate.out.read(), file=sys.stderr, flush=True)
         return is_made
 
-    def need(crate):
-        """The memory that a library's proof is likely to take, in bytes: a further job takes some of it once more."""
-        return int(rt.need(crate) * (1 + 0.6 * (JOBS - 1)))
-
-    tasks = {it.name: ([dep.name for dep in it.below()], it.count(rb"\n"), need(it), lambda given, jobs, it=it: make(it, given, jobs)) for it in libraries}
+    tasks = {it.name: ([dep.name for dep in it.below()], it.count(rb"\n"), rt.need(it), lambda given, jobs, it=it: make(it, given, jobs)) for it in libraries}
     return 0 if all(rt.in_lanes(tasks).values()) else 1
 
 
