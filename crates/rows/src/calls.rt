@@ -6,10 +6,8 @@ use ktree::{Cause, Conflict, InputFault, NotShown, Place, Refusal, Workers};
 use ompk::{check, run, seq, status, tell};
 use seqrun_io::{Memory, Sink, SinkFault};
 use std::alloc::{AllocError, Global};
-use std::process::Abort;
 use std::sync::Wait;
 use std::sync::atomic::{AtomicU64, Ordering};
-use std::test::Fail;
 use std::thread;
 use std::thread::Threads;
 use team::{Gate, OpenGate, Taken};
@@ -20,7 +18,12 @@ const INCREMENT: &[u8] =
 const SERIAL: &[u8] =
     b"uint64_t A[8];\nvoid kernel(void)\n{\nfor (uint64_t i = 0; i < 8; i++) { A[i] = A[i] + i; }\n}\n";
 
+const PRINTING: &[u8] = b"void kernel(void)\n{\nprintf(\"a\");\n}\n";
+
 const ONES: &[u8] = b"A 1 1 1 1 1 1 1 1\n";
+
+/// What both write for that.
+const OUTPUT: &[u8] = b"A = 1 2 3 4 5 6 7 8\n";
 
 // A sink that takes nothing.
 #[derive(Drop)]
@@ -108,6 +111,25 @@ impl Both {
     }
 }
 
+/// What a gate has seen.
+#[derive(Clone, Copy, Debug, PartialEq, Eq)]
+struct Seen {
+    entered: u64,
+    late: u64,
+    chunks: u64,
+    outside: u64,
+}
+
+/// What this one has.
+fn seen_by(gate: &Both) -> Seen {
+    Seen {
+        entered: gate.entered.load(Ordering::SeqCst),
+        late: gate.late.load(Ordering::SeqCst),
+        chunks: gate.chunks.load(Ordering::SeqCst),
+        outside: gate.outside.load(Ordering::SeqCst),
+    }
+}
+
 impl Gate for Both {
     fn entered(&self, taken: Taken) {
         if taken.worker < 2 && taken.chunk < 3 {
@@ -144,174 +166,304 @@ fn accesses(alloc: Global) -> Result<NotShown, AllocError> {
     })
 }
 
+/// Whether this is the line of a refusal.
+fn is_line(alloc: Global, refusal: Refusal, line: &[u8]) -> bool {
+    says(alloc, &refusal, line)
+}
+
+/// A conflict of two accesses of `A`.
+fn conflict(alloc: Global) -> Result<Refusal, AllocError> {
+    let indexes = Vec::from_slice(alloc, &[1, 20])?;
+    let accesses = accesses(alloc)?;
+    Ok(Refusal::Conflict(Conflict {
+        accesses,
+        earlier: 0,
+        later: 1,
+        indexes,
+    }))
+}
+
+/// Whether this is the line of that conflict.
+fn is_line_of_conflict(alloc: Global, line: &[u8]) -> bool {
+    match conflict(alloc) {
+        Ok(refusal) => is_line(alloc, refusal, line),
+        Err(_error) => false,
+    }
+}
+
+/// Whether this is the line of two accesses of `A` that are not shown to be apart.
+fn is_line_of_accesses(alloc: Global, line: &[u8]) -> bool {
+    match accesses(alloc) {
+        Ok(accesses) => is_line(alloc, Refusal::NotShown(accesses), line),
+        Err(_error) => false,
+    }
+}
+
 #[test]
-fn refusals_have_their_lines(rt: HostRuntime) -> Result<(), Fail> {
+fn refusals_have_their_lines(rt: HostRuntime) {
     let heap = rt.alloc();
     let place = Place {
         line: 12,
         column: 3,
     };
-    assert!(rt; says(heap, &Refusal::Syntax(place), b"K01 12:3 syntax\n"));
-    assert!(rt;
-        says(
-            heap,
-            &Refusal::SubscriptOutOfRange(place),
-            b"K09 12:3 subscript out of range\n"
-        )
-    );
-    assert!(rt; says(heap, &Refusal::Limit(place), b"K21 12:3 limit\n"));
-    let conflict = Refusal::Conflict(Conflict {
-        accesses: accesses(heap)?,
-        earlier: 0,
-        later: 1,
-        indexes: Vec::from_slice(heap, &[1, 20])?,
-    });
+    let subscript = Refusal::SubscriptOutOfRange(place);
+    let line = b"K09 12:3 subscript out of range\n";
+    assert!(rt; is_line(heap, subscript, line));
+    assert!(rt; is_line(heap, Refusal::Syntax(place), b"K01 12:3 syntax\n"));
+    assert!(rt; is_line(heap, Refusal::Limit(place), b"K21 12:3 limit\n"));
     let line = b"K19 3:5 conflict: A at 3:5 and 3:12, iterations 0 and 1, element A[1][20]\n";
-    assert!(rt; says(heap, &conflict, line));
+    assert!(rt; is_line_of_conflict(heap, line));
     let line = b"K20 3:5 not shown: A at 3:5 and 3:12\n";
-    assert!(rt; says(heap, &Refusal::NotShown(accesses(heap)?), line));
-    let fault = InputFault {
+    assert!(rt; is_line_of_accesses(heap, line));
+    let fault = Refusal::Input(InputFault {
         line: 2,
         cause: Cause::Count,
-    };
-    assert!(rt; says(heap, &Refusal::Input(fault), b"K22 line 2: count\n"));
-    assert!(rt; says(heap, &Refusal::OutOfMemory, b"K23 out of memory\n"));
-    assert!(rt; says(heap, &Refusal::OutputFailed, b"K24 output failed\n"));
-    Ok(())
+    });
+    assert!(rt; is_line(heap, fault, b"K22 line 2: count\n"));
+    assert!(rt; is_line(heap, Refusal::OutOfMemory, b"K23 out of memory\n"));
+    assert!(rt; is_line(heap, Refusal::OutputFailed, b"K24 output failed\n"));
+}
+
+/// The status of a program that meets this refusal.
+fn status_of(refusal: Refusal) -> u8 {
+    status(&refusal)
 }
 
 #[test]
 fn refusals_have_their_statuses(rt: HostRuntime) {
     let place = Place { line: 1, column: 1 };
-    assert_eq!(rt; status(&Refusal::Syntax(place)), 3);
-    assert_eq!(rt; status(&Refusal::Limit(place)), 3);
-    assert_eq!(rt;
-        status(&Refusal::Input(InputFault {
-            line: 1,
-            cause: Cause::Form
-        })),
-        1
-    );
-    assert_eq!(rt; status(&Refusal::OutputFailed), 1);
-    assert_eq!(rt; status(&Refusal::OutOfMemory), 4);
+    let fault = InputFault {
+        line: 1,
+        cause: Cause::Form,
+    };
+    assert_eq!(rt; status_of(Refusal::Syntax(place)), 3);
+    assert_eq!(rt; status_of(Refusal::Limit(place)), 3);
+    assert_eq!(rt; status_of(Refusal::Input(fault)), 1);
+    assert_eq!(rt; status_of(Refusal::OutputFailed), 1);
+    assert_eq!(rt; status_of(Refusal::OutOfMemory), 4);
 }
 
-// Runs the kernel of a text on an input, with so many workers.
-fn run_kernel<R: Threads + Wait + Sync + Abort, G: Gate + Sync, S: Sink>(
+/// How a run ends.
+#[derive(Clone, Copy, Debug, PartialEq, Eq)]
+enum End {
+    Done,
+    OutputFailed,
+    Input(InputFault),
+    Other,
+}
+
+/// How a run ended that answers this.
+fn end_of(answer: Result<(), Refusal>) -> End {
+    match answer {
+        Ok(()) => End::Done,
+        Err(Refusal::OutputFailed) => End::OutputFailed,
+        Err(Refusal::Input(fault)) => End::Input(fault),
+        Err(_refusal) => End::Other,
+    }
+}
+
+/// A kernel's text, its input, and how many workers run it.
+#[derive(Clone, Copy)]
+struct Task {
+    text: &'static [u8],
+    input: &'static [u8],
+    workers: u64,
+}
+
+/// How a task ends.
+fn ended<R: Threads + Wait + Sync, G: Gate, S: Sink>(
     rt: &R,
     alloc: Global,
-    text: &[u8],
-    input: &[u8],
-    count: u64,
+    task: Task,
     gate: &G,
     sink: &mut S,
-) -> Result<(), Refusal>
+) -> End
     requires { S.failed sink.old + 1 < 2 ^ 64 }
 {
-    let checked = check(alloc, text)?;
-    let workers = Workers::new(count).expect(rt, "a number of workers");
-    run(rt, alloc, &checked, input, workers, gate, sink)
+    let Some(workers) = Workers::new(task.workers) else {
+        return End::Other;
+    };
+    match check(alloc, task.text) {
+        Ok(checked) => end_of(run(rt, alloc, &checked, task.input, workers, gate, sink)),
+        Err(_refusal) => End::Other,
+    }
+}
+
+/// Whether a task ends so, having written these bytes.
+fn ends<R: Threads + Wait + Sync, G: Gate>(
+    rt: &R,
+    alloc: Global,
+    task: Task,
+    gate: &G,
+    wanted: End,
+    output: &[u8],
+) -> bool {
+    let mut sink = Memory::new(alloc);
+    ended(rt, alloc, task, gate, &mut sink) == wanted && sink.bytes() == output
+}
+
+/// Whether so many workers increment an array of ones.
+fn increments<R: Threads + Wait + Sync>(rt: &R, alloc: Global, workers: u64) -> bool {
+    let task = Task {
+        text: INCREMENT,
+        input: ONES,
+        workers,
+    };
+    ends(rt, alloc, task, &OpenGate, End::Done, OUTPUT)
 }
 
 #[test]
 fn the_increment_runs(rt: HostRuntime) {
-    for count in [1, 3, 64] {
-        let mut sink = Memory::new(rt.alloc());
-        let ran = run_kernel(
-            &rt,
-            rt.alloc(),
-            INCREMENT,
-            ONES,
-            count,
-            &OpenGate,
-            &mut sink,
-        );
-        assert!(rt; ran.is_ok());
-        assert_eq!(rt;
-            sink.bytes(),
-            b"A = 1 2 3 4 5 6 7 8\n".as_slice(),
-            "by {count}"
-        );
-    }
+    let heap = rt.alloc();
+    assert!(rt; increments(&rt, heap, 1));
+    assert!(rt; increments(&rt, heap, 3));
+    assert!(rt; increments(&rt, heap, 64));
 }
 
 #[test]
 fn a_faulty_input_writes_nothing(rt: HostRuntime) {
-    let mut sink = Memory::new(rt.alloc());
-    let ran = run_kernel(
-        &rt,
-        rt.alloc(),
-        INCREMENT,
-        b"A 1 2\n",
-        2,
-        &OpenGate,
-        &mut sink,
-    );
-    assert!(rt;
-        matches!(
-            ran,
-            Err(Refusal::Input(InputFault {
-                line: 1,
-                cause: Cause::Count
-            }))
-        )
-    );
-    assert_eq!(rt; sink.bytes(), b"".as_slice());
+    let task = Task {
+        text: INCREMENT,
+        input: b"A 1 2\n",
+        workers: 2,
+    };
+    let fault = End::Input(InputFault {
+        line: 1,
+        cause: Cause::Count,
+    });
+    assert!(rt; ends(&rt, rt.alloc(), task, &OpenGate, fault, b""));
 }
 
 #[test]
 fn a_closed_sink_is_told(rt: HostRuntime) {
+    let task = Task {
+        text: INCREMENT,
+        input: b"",
+        workers: 2,
+    };
     let mut sink = Closed { failures: 0 };
-    let ran = run_kernel(&rt, rt.alloc(), INCREMENT, b"", 2, &OpenGate, &mut sink);
-    assert!(rt; matches!(ran, Err(Refusal::OutputFailed)));
-    assert_eq!(rt; sink.failures(), 1);
+    let end = ended(&rt, rt.alloc(), task, &OpenGate, &mut sink);
+    assert_eq!(rt; end, End::OutputFailed);
+    assert_eq!(rt; sink.failures, 1);
+}
+
+/// Whether the increment ends so, having told these bytes and counted so many failures, over a sink that fails at a call.
+fn is_told_slowly<R: Threads + Wait + Sync>(
+    rt: &R,
+    alloc: Global,
+    failing: u64,
+    wanted: End,
+    failures: u64,
+    told: &[u8],
+) -> bool {
+    let task = Task {
+        text: INCREMENT,
+        input: ONES,
+        workers: 2,
+    };
+    let mut sink = OneByte::new(alloc, failing);
+    ended(rt, alloc, task, &OpenGate, &mut sink) == wanted
+        && sink.failures == failures
+        && sink.bytes.as_slice() == told
 }
 
 #[test]
 fn a_slow_sink_is_told_all_before_it_fails(rt: HostRuntime) {
     // The output has 20 bytes.
-    let mut sink = OneByte::new(rt.alloc(), 21);
-    assert!(rt; run_kernel(&rt, rt.alloc(), INCREMENT, ONES, 2, &OpenGate, &mut sink).is_ok());
-    assert_eq!(rt; sink.failures(), 0);
-    assert_eq!(rt; sink.bytes.as_slice(), b"A = 1 2 3 4 5 6 7 8\n".as_slice());
-    for (failing, told) in [
-        (8, b"A = 1 2".as_slice()),
-        (20, b"A = 1 2 3 4 5 6 7 8".as_slice()),
-    ] {
-        let mut sink = OneByte::new(rt.alloc(), failing);
-        let ran = run_kernel(&rt, rt.alloc(), INCREMENT, ONES, 2, &OpenGate, &mut sink);
-        assert!(rt; matches!(ran, Err(Refusal::OutputFailed)), "at {failing}");
-        assert_eq!(rt; sink.failures(), 1);
-        assert_eq!(rt; sink.bytes.as_slice(), told);
+    let (heap, failed) = (rt.alloc(), End::OutputFailed);
+    let (seven, nineteen) = (b"A = 1 2", b"A = 1 2 3 4 5 6 7 8");
+    assert!(rt; is_told_slowly(&rt, heap, 21, End::Done, 0, OUTPUT));
+    assert!(rt; is_told_slowly(&rt, heap, 8, failed, 1, seven));
+    assert!(rt; is_told_slowly(&rt, heap, 20, failed, 1, nineteen));
+}
+
+/// What a gate sees of the kernel of a text that two workers run, where that writes what it is to write.
+fn seen_by_two<R: Threads + Wait + Sync>(
+    rt: &R,
+    alloc: Global,
+    text: &'static [u8],
+) -> Option<Seen> {
+    let task = Task {
+        text,
+        input: ONES,
+        workers: 2,
+    };
+    let gate = Both::new();
+    if ends(rt, alloc, task, &gate, End::Done, OUTPUT) {
+        Some(seen_by(&gate))
+    } else {
+        None
     }
 }
 
 #[test]
 fn two_workers_are_in_the_loop_at_once(rt: HostRuntime) {
-    let gate = Both::new();
-    let mut sink = Memory::new(rt.alloc());
-    assert!(rt; run_kernel(&rt, rt.alloc(), INCREMENT, ONES, 2, &gate, &mut sink).is_ok());
-    assert_eq!(rt; sink.bytes(), b"A = 1 2 3 4 5 6 7 8\n".as_slice());
-    assert_eq!(rt; gate.late.load(Ordering::SeqCst), 0);
-    assert_eq!(rt; gate.entered.load(Ordering::SeqCst), 3);
-    assert_eq!(rt; gate.chunks.load(Ordering::SeqCst), 7);
-    assert_eq!(rt; gate.outside.load(Ordering::SeqCst), 0);
+    let all = Seen {
+        entered: 3,
+        late: 0,
+        chunks: 7,
+        outside: 0,
+    };
+    assert_eq!(rt; seen_by_two(&rt, rt.alloc(), INCREMENT), Some(all));
 }
 
 #[test]
 fn a_loop_behind_no_line_is_run_by_no_team(rt: HostRuntime) {
-    let gate = Both::new();
-    let mut sink = Memory::new(rt.alloc());
-    assert!(rt; run_kernel(&rt, rt.alloc(), SERIAL, ONES, 2, &gate, &mut sink).is_ok());
-    assert_eq!(rt; sink.bytes(), b"A = 1 2 3 4 5 6 7 8\n".as_slice());
-    assert_eq!(rt; gate.entered.load(Ordering::SeqCst), 0);
+    let nothing = Seen {
+        entered: 0,
+        late: 0,
+        chunks: 0,
+        outside: 0,
+    };
+    assert_eq!(rt; seen_by_two(&rt, rt.alloc(), SERIAL), Some(nothing));
+}
+
+/// How the kernel of a text ends that one thread runs on an input.
+fn seq_kernel<S: Sink>(alloc: Global, text: &[u8], input: &[u8], sink: &mut S) -> End
+    requires { S.failed sink.old + 1 < 2 ^ 64 }
+{
+    match check(alloc, text) {
+        Ok(checked) => end_of(seq(alloc, &checked, input, sink)),
+        Err(_refusal) => End::Other,
+    }
+}
+
+/// Whether a run of the kernel by one thread ends so, over a sink that takes nothing.
+fn is_told_by_one_thread(alloc: Global, text: &[u8], input: &[u8]) -> bool {
+    let mut sink = Closed { failures: 0 };
+    seq_kernel(alloc, text, input, &mut sink) == End::OutputFailed && sink.failures == 1
 }
 
 #[test]
 fn a_closed_sink_is_told_by_one_thread_too(rt: HostRuntime) {
-    let checked = check(rt.alloc(), SERIAL).ok().expect(&rt, "a kernel");
-    let mut sink = Closed { failures: 0 };
-    let ran = seq(rt.alloc(), &checked, ONES, &mut sink);
-    assert!(rt; matches!(ran, Err(Refusal::OutputFailed)));
-    assert_eq!(rt; sink.failures(), 1);
+    assert!(rt; is_told_by_one_thread(rt.alloc(), SERIAL, ONES));
+    assert!(rt; is_told_by_one_thread(rt.alloc(), PRINTING, b""));
+}
+
+/// The name of an array, and so many zeros behind it.
+fn zeros(alloc: Global, count: u64) -> Result<Vec<u8>, AllocError> {
+    let mut line = Vec::from_slice(alloc, b"A")?;
+    for _ in 0..count {
+        line.extend_from_slice(b" 0")?;
+    }
+    line.push(b'\n')?;
+    Ok(line)
+}
+
+/// How many bytes a kernel writes that one thread runs on an input, none where it does not end well.
+fn length_of_output(alloc: Global, text: &[u8], input: &[u8]) -> usize {
+    let mut sink = Memory::new(alloc);
+    match seq_kernel(alloc, text, input, &mut sink) {
+        End::Done => sink.bytes().len(),
+        _ => 0,
+    }
+}
+
+#[test]
+fn a_long_input_is_taken(rt: HostRuntime) -> Result<(), AllocError> {
+    let text = b"uint64_t A[1048576];\nvoid kernel(void) {\n}\n";
+    let input = zeros(rt.alloc(), 1048576)?;
+    let length = length_of_output(rt.alloc(), text, input.as_slice());
+    assert_eq!(rt; length, 2097156);
+    Ok(())
 }

@@ -1,10 +1,11 @@
 //! Texts with two faults: the first pass that meets one refuses the text, at the first place in it, and of two faults at one place by the
-//! lower number.
+//! lower number. Texts that are large and right are not refused for want of memory.
 
 use crate::calls::says;
-use ktree::{Place, Refusal};
+use ktree::Refusal;
 use ompk::check;
 use std::alloc::{AllocError, Global};
+use std::test::Fail;
 
 /// A text, or the lines of a kernel, and what is told of it. Each begins with a line end, so that its own lines are counted from 2.
 #[derive(Clone, Copy)]
@@ -15,40 +16,16 @@ struct Row {
     column: u32,
 }
 
-/// Where a text is at fault.
-fn place_of(refusal: &Refusal) -> Option<Place> {
-    match refusal {
-        Refusal::Syntax(place) => Some(*place),
-        Refusal::NumberOutOfRange(place) => Some(*place),
-        Refusal::UnknownName(place) => Some(*place),
-        Refusal::NameTwice(place) => Some(*place),
-        Refusal::Operands(place) => Some(*place),
-        Refusal::LoopNotCanonical(place) => Some(*place),
-        Refusal::LoopMayWrap(place) => Some(*place),
-        Refusal::NotAffine(place) => Some(*place),
-        Refusal::SubscriptOutOfRange(place) => Some(*place),
-        Refusal::MayBeUnassigned(place) => Some(*place),
-        Refusal::Directive(place) => Some(*place),
-        Refusal::NestNotPerfect(place) => Some(*place),
-        Refusal::SharedScalarWritten(place) => Some(*place),
-        Refusal::Ordered(place) => Some(*place),
-        Refusal::Conflict(conflict) => Some(conflict.accesses.first),
-        Refusal::NotShown(accesses) => Some(accesses.first),
-        Refusal::Limit(place) => Some(*place),
-        _ => None,
-    }
-}
-
 /// The number, line and column of a refusal.
 fn number_and_place(refusal: &Refusal) -> (u8, u32, u32) {
-    match place_of(refusal) {
+    match refusal.place() {
         Some(place) => (refusal.number(), place.line, place.column),
         None => (refusal.number(), 0, 0),
     }
 }
 
 /// What is told of a text.
-fn told_of(alloc: Global, text: &[u8]) -> (u8, u32, u32) {
+pub(crate) fn told_of(alloc: Global, text: &[u8]) -> (u8, u32, u32) {
     match check(alloc, text) {
         Ok(_checked) => (0, 0, 0),
         Err(refusal) => number_and_place(&refusal),
@@ -156,6 +133,37 @@ s = ((((((((((((((((((((((((((((((((((((((((((((((((((((((((((((((((1x;",
             number: 21,
             line: 2,
             column: 68,
+        },
+        Row {
+            text: "
+s = 1x; // ??",
+            number: 1,
+            line: 2,
+            column: 6,
+        },
+        Row {
+            text: "
+// ??
+s = 1x;",
+            number: 1,
+            line: 2,
+            column: 4,
+        },
+        Row {
+            text: "
+// ??
+// ??",
+            number: 1,
+            line: 2,
+            column: 4,
+        },
+        Row {
+            text: "
+// \x01
+// \x02",
+            number: 1,
+            line: 2,
+            column: 4,
         },
     ];
     assert_eq!(rt; first_other_body(rt.alloc(), &rows), None);
@@ -388,6 +396,33 @@ for (uint64_t i = 0; i < 8; i++) {
             line: 4,
             column: 1,
         },
+        Row {
+            text: "
+#pragma omp simd
+for (uint64_t i = 0; i < 8; i++) {
+#pragma omp simd
+for (uint64_t j = 0; j < 8; j++) {
+}
+}",
+            number: 11,
+            line: 2,
+            column: 1,
+        },
+        Row {
+            text: "
+if (s) {
+#pragma omp simd
+for (uint64_t i = 0; i < 8; i++) {
+}
+} else {
+#pragma omp simd
+for (uint64_t i = 0; i < 8; i++) {
+}
+}",
+            number: 11,
+            line: 3,
+            column: 1,
+        },
     ];
     assert_eq!(rt; first_other_body(rt.alloc(), &rows), None);
 }
@@ -410,6 +445,16 @@ for (uint64_t j = 0; j; j++) {
 for (uint64_t i = 0; i; i++) {
 }
 for (uint64_t j = 0; j; j++) {
+}",
+            number: 6,
+            line: 2,
+            column: 1,
+        },
+        Row {
+            text: "
+for (uint64_t i = 0; i < 2; i++) {
+for (uint64_t j = 0; j < 2; ++i) {
+}
 }",
             number: 6,
             line: 2,
@@ -449,6 +494,28 @@ A[4294967297ull + s] = 1;",
             number: 8,
             line: 2,
             column: 3,
+        },
+        Row {
+            text: "
+A[s] = 1;
+B[s] = 1;",
+            number: 8,
+            line: 2,
+            column: 3,
+        },
+        Row {
+            text: "
+A[s] = B[s];",
+            number: 8,
+            line: 2,
+            column: 3,
+        },
+        Row {
+            text: "
+if (s) A[s] = 1; else B[s] = 1;",
+            number: 8,
+            line: 2,
+            column: 10,
         },
     ];
     assert_eq!(rt; first_other_body(rt.alloc(), &rows), None);
@@ -552,6 +619,27 @@ A[s] = 1;",
             line: 6,
             column: 3,
         },
+        Row {
+            text: "
+#pragma omp parallel for collapse(3) schedule(dynamic)
+for (uint64_t i = 0; i < 4; i++)
+for (uint64_t j = 0; j < i; j++)
+for (uint64_t k = 0; k < s; k++) {
+}",
+            number: 12,
+            line: 4,
+            column: 1,
+        },
+        Row {
+            text: "
+#pragma omp parallel for collapse(2) schedule(dynamic)
+for (uint64_t i = 0; i < 16777217; i++)
+for (uint64_t j = 0; j < i; j++) {
+}",
+            number: 21,
+            line: 3,
+            column: 1,
+        },
     ];
     assert_eq!(rt; first_other_body(rt.alloc(), &rows), None);
 }
@@ -651,6 +739,52 @@ A[8] = 1;
 #pragma omp parallel for
 for (uint64_t i = 0; i < 8; i++) {
 s = i;
+}",
+            number: 14,
+            line: 5,
+            column: 1,
+        },
+        Row {
+            text: "
+uint64_t x;
+uint64_t y;
+s = x;
+s = y;",
+            number: 10,
+            line: 4,
+            column: 5,
+        },
+        Row {
+            text: "
+uint64_t x;
+uint64_t y;
+s = x + y;",
+            number: 10,
+            line: 4,
+            column: 5,
+        },
+        Row {
+            text: "
+#pragma omp parallel for
+for (uint64_t i = 0; i < 8; i++) {
+s = i;
+}
+#pragma omp parallel for
+for (uint64_t i = 0; i < 8; i++) {
+printf(\"a\");
+}",
+            number: 14,
+            line: 4,
+            column: 1,
+        },
+        Row {
+            text: "
+#pragma omp parallel for
+for (uint64_t i = 0; i < 8; i++) {
+if (i < 2)
+s = 1;
+else
+printf(\"a\");
 }",
             number: 14,
             line: 5,
@@ -809,6 +943,23 @@ A[i + 4294967296ull * t] = A[i - 4294967296ull * t];
             line: 5,
             column: 1,
         },
+        Row {
+            text: "
+if (s) {
+#pragma omp parallel for
+for (uint64_t i = 0; i < 4; i++) {
+A[i] = A[7 - i];
+}
+} else {
+#pragma omp parallel for
+for (uint64_t i = 1; i < 8; i++) {
+A[i] = A[i - 1];
+}
+}",
+            number: 20,
+            line: 5,
+            column: 1,
+        },
     ];
     assert_eq!(rt; first_other_body(rt.alloc(), &rows), None);
 }
@@ -842,4 +993,73 @@ A[i] = A[7 - i] + A[0];
         ),
     ];
     assert_eq!(rt; first_other_line(rt.alloc(), &rows), None);
+}
+
+#[test]
+fn first_subscript_of_an_object_is_told(rt: HostRuntime) {
+    let rows = [
+        Row {
+            text: "
+uint64_t s;
+uint64_t M[2][2];
+void kernel(void) {
+M[s][s] = 1;
+}
+",
+            number: 8,
+            line: 5,
+            column: 3,
+        },
+        Row {
+            text: "
+uint64_t M[2][2];
+void kernel(void) {
+M[2][3] = 1;
+}
+",
+            number: 9,
+            line: 4,
+            column: 3,
+        },
+    ];
+    assert_eq!(rt; first_other_text(rt.alloc(), &rows), None);
+}
+
+/// What is told of a text with line ends behind it, so that it has so many bytes.
+fn told_of_long(alloc: Global, text: &[u8], length: usize) -> Result<(u8, u32, u32), AllocError> {
+    let mut bytes = Vec::from_slice(alloc, text)?;
+    for _ in text.len()..length {
+        bytes.push(b'\n')?;
+    }
+    Ok(told_of(alloc, bytes.as_slice()))
+}
+
+#[test]
+fn long_texts_are_told_of(rt: HostRuntime) -> Result<(), Fail> {
+    let heap = rt.alloc();
+    let right = b"uint64_t s;\nvoid kernel(void) {\ns = 1;\n}\n";
+    let wrong = b"uint64_t s;\nvoid kernel(void) {\ns = ;\n}\n";
+    assert_eq!(rt; told_of_long(heap, right, 1048576)?, (0, 0, 0));
+    assert_eq!(rt; told_of_long(heap, right, 1048577)?, (21, 1048540, 1));
+    assert_eq!(rt; told_of_long(heap, wrong, 1048577)?, (1, 3, 5));
+    Ok(())
+}
+
+/// What is told of a parallel loop of so many statements, each with two accesses.
+fn told_of_wide(alloc: Global, count: u64) -> Result<(u8, u32, u32), AllocError> {
+    let mut text = Vec::from_slice(
+        alloc,
+        b"uint64_t A[8]; uint64_t B[8]; void kernel(void) {\n#pragma omp parallel for\nfor (uint64_t i = 0; i < 8; i++) {\n",
+    )?;
+    for _ in 0..count {
+        text.extend_from_slice(b"A[i] = B[i];\n")?;
+    }
+    text.extend_from_slice(b"}\n}\n")?;
+    Ok(told_of(alloc, text.as_slice()))
+}
+
+#[test]
+fn bodies_of_many_accesses_are_accepted(rt: HostRuntime) -> Result<(), Fail> {
+    assert_eq!(rt; told_of_wide(rt.alloc(), 600)?, (0, 0, 0));
+    Ok(())
 }

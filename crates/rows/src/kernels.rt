@@ -1,277 +1,344 @@
-//! Kernels of the whole language: what they write, by a team and by one thread, and how they are refused.
+//! Kernels of the whole language: what they write, by teams and by one thread, and how they are refused.
 
-ghost use Rattle.std.specs.Prelude.{◌≤◌, length};
+ghost use Rattle.std.specs.Prelude.{◌≡◌, ◌<◌, length};
 
-use ktree::{Refusal, Workers};
-use ompk::{check, run, seq};
+use crate::first_faults::told_of;
+use ktree::Workers;
+use ompk::{Checked, check, run, seq};
 use seqrun_io::Memory;
 use std::alloc::{AllocError, Global};
-use std::process::Abort;
 use std::sync::Wait;
-use std::test::Fail;
 use std::thread::Threads;
 use team::OpenGate;
 
-// What a kernel writes for an input, where the team and the one thread write the same.
-fn written<R: Threads + Wait + Sync + Abort>(
+/// What comes of a kernel without input.
+#[derive(Clone, Copy)]
+enum Outcome {
+    /// The number of its refusal.
+    Refused(u8),
+    /// By the one thread, one worker and three, the same bytes.
+    Written,
+    /// Other bytes than are wanted, or not the same ones.
+    Other,
+}
+
+use Outcome::{Other, Refused, Written};
+
+/// Whether a team of so many workers writes these bytes.
+fn is_written_by<R: Threads + Wait + Sync>(
+    rt: &R,
+    alloc: Global,
+    checked: &Checked,
+    count: u64,
+    output: &[u8],
+) -> bool {
+    let Some(workers) = Workers::new(count) else {
+        return false;
+    };
+    let mut sink = Memory::new(alloc);
+    run(rt, alloc, checked, b"", workers, &OpenGate, &mut sink).is_ok() && sink.bytes() == output
+}
+
+/// What comes of a kernel that was checked, where these bytes are wanted, or any.
+fn outcome_of_checked<R: Threads + Wait + Sync>(
+    rt: &R,
+    alloc: Global,
+    checked: &Checked,
+    wanted: Option<&[u8]>,
+) -> Outcome {
+    let mut sink = Memory::new(alloc);
+    if let Err(refusal) = seq(alloc, checked, b"", &mut sink) {
+        return Refused(refusal.number());
+    }
+    let output = sink.bytes();
+    let is_wanted = match wanted {
+        Some(wanted) => output == wanted,
+        None => true,
+    };
+    if is_wanted
+        && is_written_by(rt, alloc, checked, 1, output)
+        && is_written_by(rt, alloc, checked, 3, output)
+    {
+        Written
+    } else {
+        Other
+    }
+}
+
+/// What comes of the kernel of a text, where these bytes are wanted, or any.
+fn outcome_of<R: Threads + Wait + Sync>(
     rt: &R,
     alloc: Global,
     text: &[u8],
-    input: &[u8],
-) -> Result<Vec<u8>, Refusal> {
-    let checked = check(alloc, text)?;
-    let mut sequence = Memory::new(alloc);
-    seq(alloc, &checked, input, &mut sequence)?;
-    for count in [1, 3] {
-        let workers = Workers::new(count).expect(rt, "a number of workers");
-        let mut team = Memory::new(alloc);
-        run(rt, alloc, &checked, input, workers, &OpenGate, &mut team)?;
-        assert_eq!(rt; team.bytes(), sequence.bytes());
+    wanted: Option<&[u8]>,
+) -> Outcome {
+    match check(alloc, text) {
+        Ok(checked) => outcome_of_checked(rt, alloc, &checked, wanted),
+        Err(refusal) => Refused(refusal.number()),
     }
-    Ok(Vec::from_slice(alloc, sequence.bytes())?)
 }
 
-// A kernel of this body, over a scalar and an array.
-fn kernel(alloc: Global, body: &[u8]) -> Result<Vec<u8>, AllocError> {
-    let mut text = Vec::from_slice(alloc, b"uint64_t s;\nuint64_t d[3];\nvoid kernel(void) {\n")?;
-    text.extend_from_slice(body)?;
-    text.extend_from_slice(b"\n}\n")?;
-    Ok(text)
+/// The text of a kernel of this body, over a scalar and an array.
+fn kernel(alloc: Global, body: &str) -> Result<String, AllocError> {
+    format!(in alloc; "uint64_t s;\nuint64_t d[3];\nvoid kernel(void) {{\n{body}\n}}\n")
 }
 
-// The body writes this, behind it the variables' lines.
-fn writes<R: Threads + Wait + Sync + Abort>(
+/// Whether that kernel writes this, behind it the variables' lines.
+fn writes<R: Threads + Wait + Sync>(rt: &R, alloc: Global, body: &str, output: &str) -> bool {
+    match kernel(alloc, body) {
+        Ok(text) => {
+            let wanted = Some(output.as_bytes());
+            matches!(outcome_of(rt, alloc, text.as_bytes(), wanted), Written)
+        }
+        Err(_error) => false,
+    }
+}
+
+/// The first body of some rows that does not write what stands beside it.
+fn first_other<R: Threads + Wait + Sync>(
     rt: &R,
     alloc: Global,
-    body: &[u8],
-    output: &[u8],
-) -> Result<(), AllocError> {
-    let text = kernel(alloc, body)?;
-    match written(rt, alloc, text.as_slice(), b"") {
-        Ok(bytes) => assert_eq!(rt; bytes.as_slice(), output),
-        Err(refusal) => assert_eq!(rt; refusal.number(), 0),
+    rows: &[(&'static str, &'static str)],
+) -> Option<&'static str> {
+    for (body, output) in rows {
+        if !writes(rt, alloc, *body, *output) {
+            return Some(*body);
+        }
     }
-    Ok(())
-}
-
-// The body is refused by this number.
-fn refused<R: Abort>(rt: &R, alloc: Global, body: &[u8], number: u8) -> Result<(), AllocError> {
-    let text = kernel(alloc, body)?;
-    let answer = match check(alloc, text.as_slice()) {
-        Ok(_checked) => 0,
-        Err(refusal) => refusal.number(),
-    };
-    assert_eq!(rt; answer, number);
-    Ok(())
+    None
 }
 
 #[test]
-fn expressions_have_the_values_of_c(rt: HostRuntime) -> Result<(), Fail> {
-    let heap = rt.alloc();
-    writes(&rt, heap, b"s = 1 + 2;", b"s = 3\nd = 0 0 0\n")?;
-    writes(&rt, heap, b"s = 1ull << 3;", b"s = 8\nd = 0 0 0\n")?;
-    writes(&rt, heap, b"s = 0ull < 2;", b"s = 1\nd = 0 0 0\n")?;
-    writes(
-        &rt,
-        heap,
-        b"s = ~0ull;",
-        b"s = 18446744073709551615\nd = 0 0 0\n",
-    )?;
-    writes(&rt, heap, b"s = 10ull - 3 - 2;", b"s = 5\nd = 0 0 0\n")?;
-    writes(&rt, heap, b"s = 1ull << 2 < 3;", b"s = 0\nd = 0 0 0\n")?;
-    writes(&rt, heap, b"s = -s + 7ull / 2 % 2;", b"s = 1\nd = 0 0 0\n")?;
-    writes(&rt, heap, b"s = 6ull & 3 ^ 5 | 8;", b"s = 15\nd = 0 0 0\n")?;
-    writes(
-        &rt,
-        heap,
-        b"d[1] = s ? 4 : s > 1 ? 5 : 6;",
-        b"s = 0\nd = 0 6 0\n",
-    )?;
-    writes(&rt, heap, b"s = !s && (s || 2ull);", b"s = 1\nd = 0 0 0\n")?;
-    Ok(())
+fn expressions_have_the_values_of_c(rt: HostRuntime) {
+    let rows = [
+        ("s = 1 + 2;", "s = 3\nd = 0 0 0\n"),
+        ("s = 1ull << 3;", "s = 8\nd = 0 0 0\n"),
+        ("s = 0ull < 2;", "s = 1\nd = 0 0 0\n"),
+        ("s = ~0ull;", "s = 18446744073709551615\nd = 0 0 0\n"),
+        ("s = 10ull - 3 - 2;", "s = 5\nd = 0 0 0\n"),
+        ("s = 1ull << 2 < 3;", "s = 0\nd = 0 0 0\n"),
+        ("s = -s + 7ull / 2 % 2;", "s = 1\nd = 0 0 0\n"),
+        ("s = 6ull & 3 ^ 5 | 8;", "s = 15\nd = 0 0 0\n"),
+        ("d[1] = s ? 4 : s > 1 ? 5 : 6;", "s = 0\nd = 0 6 0\n"),
+        ("s = !s && (s || 2ull);", "s = 1\nd = 0 0 0\n"),
+    ];
+    assert_eq!(rt; first_other(&rt, rt.alloc(), &rows), None);
 }
 
 #[test]
-fn statements_run_as_those_of_c(rt: HostRuntime) -> Result<(), Fail> {
-    let heap = rt.alloc();
-    let choice = b"uint64_t x; if (s > 3) x = 1; else x = 2; s = x;";
-    writes(&rt, heap, choice, b"s = 2\nd = 0 0 0\n")?;
-    let nearest = b"if (s == 0) if (s) s = 1; else s = 2;";
-    writes(&rt, heap, nearest, b"s = 2\nd = 0 0 0\n")?;
-    let blocks = b"{ uint64_t x = 3; s += x; } { uint64_t x = 4; s *= x; d[2ull] ^= s; }";
-    writes(&rt, heap, blocks, b"s = 12\nd = 0 0 12\n")?;
-    let serial = b"s = 5; for (uint64_t i = 0; i < 3; i++) { d[i] = i * 2ull; } d[0] = s;";
-    writes(&rt, heap, serial, b"s = 5\nd = 5 2 4\n")?;
-    let parallel =
-        b"if (s < 1) {\n#pragma omp parallel for schedule(dynamic, 2)\nfor (uint64_t i = 0; i < 3; i++) { d[i] = d[i] + 7ull; }\ns = 9; }";
-    writes(&rt, heap, parallel, b"s = 9\nd = 7 7 7\n")?;
-    let joined =
-        b"\n#pragma omp parallel for collapse(2)\nfor (uint64_t i = 1; i < 3; i++) for (uint64_t j = 0; j < 1; j++) { d[i] = i; }";
-    writes(&rt, heap, joined, b"s = 0\nd = 0 1 2\n")?;
-    Ok(())
-}
-
-// The body `for (uint64_t HEAD) { BODY }`.
-fn looped(alloc: Global, head: &[u8], body: &[u8]) -> Result<Vec<u8>, AllocError> {
-    let mut text = Vec::from_slice(alloc, b"for (uint64_t ")?;
-    text.extend_from_slice(head)?;
-    text.extend_from_slice(b") { ")?;
-    text.extend_from_slice(body)?;
-    text.extend_from_slice(b" }")?;
-    Ok(text)
+fn statements_run_as_those_of_c(rt: HostRuntime) {
+    let rows = [
+        (
+            "uint64_t x; if (s > 3) x = 1; else x = 2; s = x;",
+            "s = 2\nd = 0 0 0\n",
+        ),
+        (
+            "if (s == 0) if (s) s = 1; else s = 2;",
+            "s = 2\nd = 0 0 0\n",
+        ),
+        (
+            "{ uint64_t x = 3; s += x; } { uint64_t x = 4; s *= x; d[2ull] ^= s; }",
+            "s = 12\nd = 0 0 12\n",
+        ),
+        (
+            "s = 5; for (uint64_t i = 0; i < 3; i++) { d[i] = i * 2ull; } d[0] = s;",
+            "s = 5\nd = 5 2 4\n",
+        ),
+        (
+            "if (s < 1) {\n#pragma omp parallel for schedule(dynamic, 2)\nfor (uint64_t i = 0; i < 3; i++) { d[i] = d[i] + 7ull; }\ns = 9; }",
+            "s = 9\nd = 7 7 7\n",
+        ),
+        (
+            "\n#pragma omp parallel for collapse(2)\nfor (uint64_t i = 1; i < 3; i++) for (uint64_t j = 0; j < 1; j++) { d[i] = i; }",
+            "s = 0\nd = 0 1 2\n",
+        ),
+        (
+            "\n#pragma omp parallel for schedule(dynamic, 1)\nfor (uint64_t i = 0; i < 0; i++) { d[i] = i; }",
+            "s = 0\nd = 0 0 0\n",
+        ),
+    ];
+    assert_eq!(rt; first_other(&rt, rt.alloc(), &rows), None);
 }
 
 #[test]
-fn loops_run_as_those_of_c(rt: HostRuntime) -> Result<(), Fail> {
-    let heap = rt.alloc();
-    for (head, body, output) in [
+fn loops_run_as_those_of_c(rt: HostRuntime) {
+    let rows = [
         (
-            b"i = 10; i > 2; i -= 3".as_slice(),
-            b"s = s * 100 + i;".as_slice(),
-            b"s = 100704\nd = 0 0 0\n".as_slice(),
+            "for (uint64_t i = 10; i > 2; i -= 3) { s = s * 100 + i; }",
+            "s = 100704\nd = 0 0 0\n",
         ),
         (
-            b"i = 7; i != 3; i--",
-            b"s = s * 10 + i;",
-            b"s = 7654\nd = 0 0 0\n",
+            "for (uint64_t i = 7; i != 3; i--) { s = s * 10 + i; }",
+            "s = 7654\nd = 0 0 0\n",
         ),
         (
-            b"i = 0; i <= 4; i = 2 + i",
-            b"s = s * 10 + i;",
-            b"s = 24\nd = 0 0 0\n",
+            "for (uint64_t i = 0; i <= 4; i = 2 + i) { s = s * 10 + i; }",
+            "s = 24\nd = 0 0 0\n",
         ),
         (
-            b"i = 0; i < 3; i++",
-            b"for (uint64_t j = i; j < 3; j++) { d[j] += i + 1; }",
-            b"s = 0\nd = 1 3 6\n",
+            "for (uint64_t i = 0; i < 3; i++) { for (uint64_t j = i; j < 3; j++) { d[j] += i + 1; } }",
+            "s = 0\nd = 1 3 6\n",
         ),
         (
-            b"i = 1; i < 3; ++i",
-            b"for (uint64_t j = 0; j < i - 1; j++) { d[i - j] = 5 + j; }",
-            b"s = 0\nd = 0 0 5\n",
+            "for (uint64_t i = 1; i < 3; ++i) { for (uint64_t j = 0; j < i - 1; j++) { d[i - j] = 5 + j; } }",
+            "s = 0\nd = 0 0 5\n",
         ),
         (
-            b"i = 0; i < 0; i++",
-            b"d[i + 7] = 1;",
-            b"s = 0\nd = 0 0 0\n",
+            "for (uint64_t i = 0; i < 0; i++) { d[i + 7] = 1; }",
+            "s = 0\nd = 0 0 0\n",
         ),
-    ] {
-        let text = looped(heap, head, body)?;
-        writes(&rt, heap, text.as_slice(), output)?;
+        (
+            "uint64_t x = 3; for (uint64_t t = 0; t < 3; t++) { for (uint64_t i = 0; i < 3; i++) { d[i] = d[i] + t; } x *= 2; } s = x;",
+            "s = 24\nd = 3 3 3\n",
+        ),
+    ];
+    assert_eq!(rt; first_other(&rt, rt.alloc(), &rows), None);
+}
+
+/// The number of the refusal of the kernel of a body, or 0; 23 too where there is no memory for its text.
+fn number_of(alloc: Global, body: &str) -> u8 {
+    match kernel(alloc, body) {
+        Ok(text) => told_of(alloc, text.as_bytes()).0,
+        Err(_error) => 23,
     }
-    let again =
-        b"uint64_t x = 3; for (uint64_t t = 0; t < 3; t++) { for (uint64_t i = 0; i < 3; i++) { d[i] = d[i] + t; } x *= 2; } s = x;";
-    writes(&rt, heap, again, b"s = 24\nd = 3 3 3\n")?;
-    Ok(())
+}
+
+/// The first body of some rows that is not refused by the number beside it.
+fn first_other_number(alloc: Global, rows: &[(&'static str, u8)]) -> Option<&'static str> {
+    for (body, number) in rows {
+        if number_of(alloc, *body) != *number {
+            return Some(*body);
+        }
+    }
+    None
+}
+
+/// So many loops, one in the other, round an assignment.
+fn nest_of(alloc: Global, depth: u32) -> Result<String, AllocError> {
+    let mut body = String::new(alloc);
+    for at in 0..depth {
+        write!(body, "for (uint64_t x{at} = 0; x{at} < 1; x{at}++) {{ ")?;
+    }
+    body.push_str("s = 1;")?;
+    for _at in 0..depth {
+        body.push_str(" }")?;
+    }
+    Ok(body)
+}
+
+/// The number of the refusal of the kernel of so many loops, or 0.
+fn number_of_nest(alloc: Global, depth: u32) -> u8 {
+    match nest_of(alloc, depth) {
+        Ok(body) => number_of(alloc, body.as_str()),
+        Err(_error) => 23,
+    }
+}
+
+/// The first depth up to eight that is refused.
+fn first_refused_depth(alloc: Global) -> Option<u32> {
+    for depth in 1..9 {
+        if number_of_nest(alloc, depth) != 0 {
+            return Some(depth);
+        }
+    }
+    None
 }
 
 #[test]
-fn loops_are_refused(rt: HostRuntime) -> Result<(), Fail> {
-    let heap = rt.alloc();
-    for (head, body, number) in [
-        (b"i = 0; i; i++".as_slice(), b"s = i;".as_slice(), 6),
-        (b"i = 0; i < 3; i += 0", b"s = i;", 6),
-        (b"i = 0; i > 3; i++", b"s = i;", 6),
-        (b"i = 9; i != 3; i -= 2", b"s = i;", 6),
-        (b"i = 0; i < 3; i++", b"i = 2;", 6),
-        (b"i = i; i < 3; i++", b"s = i;", 6),
-        (b"i = 9; i >= 0; i--", b"s = i;", 7),
-        (b"i = 6; i > 0; i -= 2", b"s = i;", 7),
-        (b"i = 10; i > 1; i -= 3", b"s = i;", 7),
-        (b"i = 3; i != 7; i--", b"s = i;", 7),
+fn loops_are_refused(rt: HostRuntime) {
+    let rows = [
+        ("for (uint64_t i = 0; i; i++) { s = i; }", 6),
+        ("for (uint64_t i = 0; i < 3; i += 0) { s = i; }", 6),
+        ("for (uint64_t i = 0; i > 3; i++) { s = i; }", 6),
+        ("for (uint64_t i = 9; i != 3; i -= 2) { s = i; }", 6),
+        ("for (uint64_t i = 0; i < 3; i++) { i = 2; }", 6),
+        ("for (uint64_t i = i; i < 3; i++) { s = i; }", 6),
+        ("for (uint64_t i = 9; i >= 0; i--) { s = i; }", 7),
+        ("for (uint64_t i = 6; i > 0; i -= 2) { s = i; }", 7),
+        ("for (uint64_t i = 10; i > 1; i -= 3) { s = i; }", 7),
+        ("for (uint64_t i = 3; i != 7; i--) { s = i; }", 7),
         (
-            b"i = 0; i < 8; i++",
-            b"for (uint64_t j = 0; j < i - 1; j++) { s = j; }",
+            "for (uint64_t i = 0; i < 8; i++) { for (uint64_t j = 0; j < i - 1; j++) { s = j; } }",
             7,
         ),
-        (b"i = 0; i < s; i++", b"s = i;", 8),
-        (b"i = 0; i < 2; i++", b"d[i * i] = 1;", 8),
-        (b"i = 0; i < 4; i++", b"d[i] = i;", 9),
-        (b"i = 0; i < 3; i++", b"s = d[i + 1];", 9),
-        (b"i = 0; i < 3; i++", b"if (i < 2) d[i + 1] = 1;", 9),
-        (b"i = 0; i < 4294967297; i++", b"s = i;", 2),
-        (b"i = 0; i < 4294967297ull; i++", b"s = i;", 21),
-    ] {
-        let text = looped(heap, head, body)?;
-        refused(&rt, heap, text.as_slice(), number)?;
-    }
-    let mut text = Vec::from_slice(heap, b"s = 1;")?;
-    for name in [b'a', b'b', b'c', b'e', b'f', b'g', b'h', b'i', b'j'] {
-        let mut head = Vec::from_slice(heap, b"x = 0; x < 1; x++")?;
-        head[0] = name;
-        head[7] = name;
-        head[14] = name;
-        text = looped(heap, head.as_slice(), text.as_slice())?;
-        let number = if name == b'j' { 21 } else { 0 };
-        refused(&rt, heap, text.as_slice(), number)?;
-    }
-    Ok(())
+        ("for (uint64_t i = 0; i < s; i++) { s = i; }", 8),
+        ("for (uint64_t i = 0; i < 2; i++) { d[i * i] = 1; }", 8),
+        ("for (uint64_t i = 0; i < 4; i++) { d[i] = i; }", 9),
+        ("for (uint64_t i = 0; i < 3; i++) { s = d[i + 1]; }", 9),
+        (
+            "for (uint64_t i = 0; i < 3; i++) { if (i < 2) d[i + 1] = 1; }",
+            9,
+        ),
+        ("for (uint64_t i = 0; i < 4294967297; i++) { s = i; }", 2),
+        (
+            "for (uint64_t i = 0; i < 4294967297ull; i++) { s = i; }",
+            21,
+        ),
+    ];
+    let heap = rt.alloc();
+    assert_eq!(rt; first_other_number(heap, &rows), None);
+    assert_eq!(rt; first_refused_depth(heap), None);
+    assert_eq!(rt; number_of_nest(heap, 9), 21);
 }
 
 #[test]
-fn text_is_printed_before_the_variables(rt: HostRuntime) -> Result<(), Fail> {
-    let heap = rt.alloc();
-    let percent = b"printf(\"%\" PRIu64 \", 100%%\\n\", s + 7);";
-    writes(&rt, heap, percent, b"7, 100%\ns = 0\nd = 0 0 0\n")?;
-    let turns = b"printf(\"\\\"a\\\\\\n\"); s = 4; printf(\"%\" PRIu64 \" %\" PRIu64, s, s * 2);";
-    writes(&rt, heap, turns, b"\"a\\\n4 8s = 4\nd = 0 0 0\n")?;
-    Ok(())
+fn text_is_printed_before_the_variables(rt: HostRuntime) {
+    let rows = [
+        (
+            "printf(\"%\" PRIu64 \", 100%%\\n\", s + 7);",
+            "7, 100%\ns = 0\nd = 0 0 0\n",
+        ),
+        (
+            "printf(\"\\\"a\\\\\\n\"); s = 4; printf(\"%\" PRIu64 \" %\" PRIu64, s, s * 2);",
+            "\"a\\\n4 8s = 4\nd = 0 0 0\n",
+        ),
+    ];
+    assert_eq!(rt; first_other(&rt, rt.alloc(), &rows), None);
 }
 
 #[test]
-fn bodies_are_refused(rt: HostRuntime) -> Result<(), Fail> {
-    let heap = rt.alloc();
-    refused(&rt, heap, b"s = 2147483647 + 1;", 2)?;
-    refused(&rt, heap, b"s = s / 0ull;", 2)?;
-    refused(&rt, heap, b"s = t;", 3)?;
-    refused(&rt, heap, b"uint64_t s;", 4)?;
-    refused(&rt, heap, b"s = 1 << 3;", 5)?;
-    refused(&rt, heap, b"s = 1 < 2;", 5)?;
-    refused(&rt, heap, b"s = (0ull < 2) + 1ull;", 5)?;
-    refused(&rt, heap, b"s = ~0;", 5)?;
-    refused(&rt, heap, b"printf(\"%\" PRIu64 \"\\n\", s + 7ull);", 5)?;
-    refused(&rt, heap, b"d[s] = 1;", 8)?;
-    refused(&rt, heap, b"d[3] = 1;", 9)?;
-    refused(&rt, heap, b"s = d[3ull];", 9)?;
-    refused(&rt, heap, b"uint64_t x; if (s > 3) x = 1; s = x;", 10)?;
-    refused(&rt, heap, b"uint64_t x = x;", 10)?;
-    refused(
-        &rt,
-        heap,
-        b"\n#pragma omp simd\nfor (uint64_t i = 0; i < 3; i++) { d[i] = i; }",
-        11,
-    )?;
-    refused(
-        &rt,
-        heap,
-        b"\n#pragma omp parallel for schedule(dynamic, 2)\ns = 1;",
-        11,
-    )?;
-    refused(
-        &rt,
-        heap,
-        b"\n#pragma omp parallel for\nfor (uint64_t i = 0; i < 3; i++) {\n#pragma omp parallel for\nfor (uint64_t j = 0; j < 3; j++) { d[j] = i; } }",
-        11,
-    )?;
-    refused(
-        &rt,
-        heap,
-        b"\n#pragma omp parallel for collapse(2)\nfor (uint64_t i = 0; i < 3; i++) { d[i] = i; }",
-        12,
-    )?;
-    refused(
-        &rt,
-        heap,
-        b"\n#pragma omp parallel for\nfor (uint64_t i = 0; i < 16777217; i++) { d[0] = 1; }",
-        21,
-    )?;
-    refused(
-        &rt,
-        heap,
-        b"\n#pragma omp parallel for schedule(dynamic, 2)\nfor (uint64_t i = 1; i < 4; i++) { d[i] = i; }",
-        9,
-    )?;
-    Ok(())
+fn bodies_are_refused(rt: HostRuntime) {
+    let rows = [
+        ("s = 2147483647 + 1;", 2),
+        ("s = s / 0ull;", 2),
+        ("s = t;", 3),
+        ("uint64_t s;", 4),
+        ("s = 1 << 3;", 5),
+        ("s = 1 < 2;", 5),
+        ("s = (0ull < 2) + 1ull;", 5),
+        ("s = ~0;", 5),
+        ("printf(\"%\" PRIu64 \"\\n\", s + 7ull);", 5),
+        ("d[s] = 1;", 8),
+        ("d[3] = 1;", 9),
+        ("s = d[3ull];", 9),
+        ("uint64_t x; if (s > 3) x = 1; s = x;", 10),
+        ("uint64_t x = x;", 10),
+        (
+            "\n#pragma omp simd\nfor (uint64_t i = 0; i < 3; i++) { d[i] = i; }",
+            11,
+        ),
+        (
+            "\n#pragma omp parallel for schedule(dynamic, 2)\ns = 1;",
+            11,
+        ),
+        (
+            "\n#pragma omp parallel for\nfor (uint64_t i = 0; i < 3; i++) {\n#pragma omp parallel for\nfor (uint64_t j = 0; j < 3; j++) { d[j] = i; } }",
+            11,
+        ),
+        (
+            "\n#pragma omp parallel for collapse(2)\nfor (uint64_t i = 0; i < 3; i++) { d[i] = i; }",
+            12,
+        ),
+        (
+            "\n#pragma omp parallel for\nfor (uint64_t i = 0; i < 16777217; i++) { d[0] = 1; }",
+            21,
+        ),
+        (
+            "\n#pragma omp parallel for schedule(dynamic, 2)\nfor (uint64_t i = 1; i < 4; i++) { d[i] = i; }",
+            9,
+        ),
+    ];
+    assert_eq!(rt; first_other_number(rt.alloc(), &rows), None);
 }
 
 const PRINTING: &[u8] = b"// what printf writes, and which arm counts
@@ -328,43 +395,84 @@ void kernel(void) {
 }
 ";
 
-// Whether a text is refused, or run to the same bytes by the team and by the one thread.
-fn is_answered<R: Threads + Wait + Sync + Abort>(rt: &R, alloc: Global, text: &[u8]) -> bool {
-    match written(rt, alloc, text, b"") {
-        Ok(_bytes) => true,
-        Err(refusal) => (1..=21).contains(&refusal.number()),
+/// Whether a text is refused, or run to the same bytes by the teams and by the one thread.
+fn is_answered<R: Threads + Wait + Sync>(rt: &R, alloc: Global, text: &[u8]) -> bool {
+    match outcome_of(rt, alloc, text, None) {
+        Refused(number) => (1..=21).contains(&number),
+        Written => true,
+        Other => false,
     }
 }
 
-// Each beginning of a text is answered, and each text with another byte at one place.
-fn answers_all<R: Threads + Wait + Sync + Abort>(
+/// The length of the first beginning of a text that is not answered.
+fn first_other_beginning<R: Threads + Wait + Sync>(
     rt: &R,
     alloc: Global,
     text: &[u8],
-) -> Result<(), AllocError> {
-    assert!(rt; 200 <= text.len());
-    assert!(rt; written(rt, alloc, text, b"").is_ok());
+) -> Option<usize> {
     for length in 0..text.len() {
-        assert!(rt; is_answered(rt, alloc, &text[..length]), "{length} bytes");
-    }
-    let mut changed = Vec::from_slice(alloc, text)?;
-    for (place, old) in text.iter().enumerate() {
-        for byte in [0x00, 0x22, 0x23, 0x2f, 0xff] {
-            changed[place] = byte;
-            assert!(rt;
-                is_answered(rt, alloc, changed.as_slice()),
-                "{byte} at {place}"
-            );
+        if !is_answered(rt, alloc, &text[..length]) {
+            return Some(length);
         }
-        changed[place] = *old;
     }
-    Ok(())
+    None
+}
+
+/// The first other byte at a place of a text with which it is not answered.
+fn first_other_byte<R: Threads + Wait + Sync>(
+    rt: &R,
+    alloc: Global,
+    text: &mut [u8],
+    place: usize,
+) -> Option<u8>
+    requires { place < length text.old }
+    ensures { length text.new ≡ length text.old }
+{
+    let old = text[place];
+    for byte in [0x00, 0x22, 0x23, 0x2f, 0xff] {
+        text[place] = byte;
+        if !is_answered(rt, alloc, text) {
+            return Some(byte);
+        }
+    }
+    text[place] = old;
+    None
+}
+
+/// The first place of a text, and the byte there, with which it is not answered.
+fn first_other_change<R: Threads + Wait + Sync>(
+    rt: &R,
+    alloc: Global,
+    text: &mut [u8],
+) -> Option<(usize, u8)> {
+    for place in 0..text.len() {
+        if let Some(byte) = first_other_byte(rt, alloc, text, place) {
+            return Some((place, byte));
+        }
+    }
+    None
+}
+
+/// Whether a text of some length is written and each beginning of it is answered, and each text with another byte at one place.
+fn is_answered_throughout<R: Threads + Wait + Sync>(
+    rt: &R,
+    alloc: Global,
+    text: &[u8],
+) -> Result<bool, AllocError> {
+    let mut changed = Vec::from_slice(alloc, text)?;
+    Ok(
+        200 <= text.len()
+            && matches!(outcome_of(rt, alloc, text, None), Written)
+            && first_other_beginning(rt, alloc, text).is_none()
+            && first_other_change(rt, alloc, &mut changed).is_none(),
+    )
 }
 
 #[test]
-fn beginnings_and_changes_of_texts_are_answered(rt: HostRuntime) -> Result<(), Fail> {
-    for text in [PRINTING, CHOOSING, TEAMED, WORDS] {
-        answers_all(&rt, rt.alloc(), text)?;
-    }
-    Ok(())
+fn beginnings_and_changes_of_texts_are_answered(rt: HostRuntime) {
+    let heap = rt.alloc();
+    assert_eq!(rt; is_answered_throughout(&rt, heap, PRINTING), Ok(true));
+    assert_eq!(rt; is_answered_throughout(&rt, heap, CHOOSING), Ok(true));
+    assert_eq!(rt; is_answered_throughout(&rt, heap, TEAMED), Ok(true));
+    assert_eq!(rt; is_answered_throughout(&rt, heap, WORDS), Ok(true));
 }

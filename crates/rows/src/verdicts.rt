@@ -4,11 +4,9 @@ use ktree::Refusal;
 use ompk::{check, tell};
 use seqrun_io::Memory;
 use std::alloc::{AllocError, Global};
-use std::process::Abort;
-use std::test::Fail;
 
 /// What is said of a kernel.
-#[derive(Clone, Copy, Debug, PartialEq, Eq)]
+#[derive(Clone, Copy)]
 enum Verdict {
     Accepted,
     /// Two iterations, and the element that both touch.
@@ -26,38 +24,55 @@ struct Row {
     verdict: Verdict,
 }
 
-/// What is said of a row.
-fn said<R: Abort>(rt: &R, alloc: Global, row: Row) -> Result<(), AllocError> {
-    let mut text = Vec::from_slice(alloc, row.declarations.as_bytes())?;
-    text.extend_from_slice(b"\nvoid kernel(void) {\n")?;
-    text.extend_from_slice(row.body.as_bytes())?;
-    text.extend_from_slice(b"\n}\n")?;
-    let answer = check(alloc, text.as_slice());
-    match (answer, row.verdict) {
-        (Ok(_checked), verdict) => assert_eq!(rt; verdict, Accepted),
-        (Err(refusal), verdict) => refused(rt, alloc, &refusal, verdict),
-    }
-    Ok(())
+/// The text with these declarations and this body.
+fn text(alloc: Global, row: Row) -> Result<String, AllocError> {
+    let (declarations, body) = (row.declarations, row.body);
+    format!(in alloc; "{declarations}\nvoid kernel(void) {{\n{body}\n}}\n")
 }
 
-/// What is said of a kernel that is refused.
-fn refused<R: Abort>(rt: &R, alloc: Global, refusal: &Refusal, verdict: Verdict) {
+/// Whether the line of a refusal ends with these words.
+fn ends_with(alloc: Global, refusal: &Refusal, words: &str) -> bool {
+    let mut line = Memory::new(alloc);
+    tell(refusal, &mut line).is_ok() && line.bytes().ends_with(words.as_bytes())
+}
+
+/// Whether a refusal is this verdict.
+fn is_refused(alloc: Global, refusal: &Refusal, verdict: Verdict) -> bool {
     match verdict {
-        Accepted => assert_eq!(rt; refusal.number(), 0),
-        NotShown => assert_eq!(rt; refusal.number(), 20),
-        Conflict(iterations) => {
-            assert_eq!(rt; refusal.number(), 19);
-            let mut line = Memory::new(alloc);
-            let told = tell(refusal, &mut line);
-            assert!(rt; told.is_ok());
-            assert!(rt; line.bytes().ends_with(iterations.as_bytes()));
+        Accepted => false,
+        NotShown => refusal.number() == 20,
+        Conflict(iterations) => refusal.number() == 19 && ends_with(alloc, refusal, iterations),
+    }
+}
+
+/// Whether this is said of a text.
+fn is_said(alloc: Global, text: &[u8], verdict: Verdict) -> bool {
+    match check(alloc, text) {
+        Ok(_checked) => matches!(verdict, Accepted),
+        Err(refusal) => is_refused(alloc, &refusal, verdict),
+    }
+}
+
+/// Whether a row's verdict is said of its kernel.
+fn holds(alloc: Global, row: Row) -> bool {
+    match text(alloc, row) {
+        Ok(text) => is_said(alloc, text.as_bytes(), row.verdict),
+        Err(_error) => false,
+    }
+}
+
+/// The first body of some rows of which something else is said.
+fn first_other(alloc: Global, rows: &[Row]) -> Option<&'static str> {
+    for row in rows {
+        if !holds(alloc, *row) {
+            return Some(row.body);
         }
     }
+    None
 }
 
 #[test]
-fn maps_and_stencils(rt: HostRuntime) -> Result<(), Fail> {
-    let heap = rt.alloc();
+fn maps_and_stencils(rt: HostRuntime) {
     let rows = [
         Row {
             declarations: "uint64_t A[8];uint64_t B[8];",
@@ -90,15 +105,11 @@ fn maps_and_stencils(rt: HostRuntime) -> Result<(), Fail> {
             verdict: Accepted,
         },
     ];
-    for row in rows {
-        said(&rt, heap, row)?;
-    }
-    Ok(())
+    assert_eq!(rt; first_other(rt.alloc(), &rows), None);
 }
 
 #[test]
-fn transposes_and_reversals(rt: HostRuntime) -> Result<(), Fail> {
-    let heap = rt.alloc();
+fn transposes_and_reversals(rt: HostRuntime) {
     let rows = [
         Row {
             declarations: "uint64_t A[4][4];uint64_t B[4][4];",
@@ -126,15 +137,11 @@ fn transposes_and_reversals(rt: HostRuntime) -> Result<(), Fail> {
             verdict: Accepted,
         },
     ];
-    for row in rows {
-        said(&rt, heap, row)?;
-    }
-    Ok(())
+    assert_eq!(rt; first_other(rt.alloc(), &rows), None);
 }
 
 #[test]
-fn strides(rt: HostRuntime) -> Result<(), Fail> {
-    let heap = rt.alloc();
+fn strides(rt: HostRuntime) {
     let rows = [
         Row {
             declarations: "uint64_t A[8];uint64_t B[16];",
@@ -167,15 +174,11 @@ fn strides(rt: HostRuntime) -> Result<(), Fail> {
             verdict: Accepted,
         },
     ];
-    for row in rows {
-        said(&rt, heap, row)?;
-    }
-    Ok(())
+    assert_eq!(rt; first_other(rt.alloc(), &rows), None);
 }
 
 #[test]
-fn matrices(rt: HostRuntime) -> Result<(), Fail> {
-    let heap = rt.alloc();
+fn matrices(rt: HostRuntime) {
     let rows = [
         Row {
             declarations: "uint64_t A[4];uint64_t B[4];uint64_t C[4][4];",
@@ -203,15 +206,11 @@ fn matrices(rt: HostRuntime) -> Result<(), Fail> {
             verdict: Conflict("iterations 0 and 1, element S[0]\n"),
         },
     ];
-    for row in rows {
-        said(&rt, heap, row)?;
-    }
-    Ok(())
+    assert_eq!(rt; first_other(rt.alloc(), &rows), None);
 }
 
 #[test]
-fn triangles_and_rows(rt: HostRuntime) -> Result<(), Fail> {
-    let heap = rt.alloc();
+fn triangles_and_rows(rt: HostRuntime) {
     let rows = [
         Row {
             declarations: "uint64_t T[8][8];",
@@ -239,15 +238,11 @@ fn triangles_and_rows(rt: HostRuntime) -> Result<(), Fail> {
             verdict: Conflict("iterations 4 and 5, element A[4]\n"),
         },
     ];
-    for row in rows {
-        said(&rt, heap, row)?;
-    }
-    Ok(())
+    assert_eq!(rt; first_other(rt.alloc(), &rows), None);
 }
 
 #[test]
-fn distances_and_guards(rt: HostRuntime) -> Result<(), Fail> {
-    let heap = rt.alloc();
+fn distances_and_guards(rt: HostRuntime) {
     let rows = [
         Row {
             declarations: "uint64_t A[300];",
@@ -275,15 +270,11 @@ fn distances_and_guards(rt: HostRuntime) -> Result<(), Fail> {
             verdict: Conflict("iterations 0 and 1, element A[0]\n"),
         },
     ];
-    for row in rows {
-        said(&rt, heap, row)?;
-    }
-    Ok(())
+    assert_eq!(rt; first_other(rt.alloc(), &rows), None);
 }
 
 #[test]
-fn serial_loops_round_parallel_ones(rt: HostRuntime) -> Result<(), Fail> {
-    let heap = rt.alloc();
+fn serial_loops_round_parallel_ones(rt: HostRuntime) {
     let rows = [
         Row {
             declarations: "uint64_t A[4];",
@@ -296,8 +287,5 @@ fn serial_loops_round_parallel_ones(rt: HostRuntime) -> Result<(), Fail> {
             verdict: NotShown,
         },
     ];
-    for row in rows {
-        said(&rt, heap, row)?;
-    }
-    Ok(())
+    assert_eq!(rt; first_other(rt.alloc(), &rows), None);
 }

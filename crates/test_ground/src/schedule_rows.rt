@@ -1,17 +1,10 @@
 //! Worked rows of schedules.
 
-ghost use Rattle.std.specs.Prelude.{◌≡◌, ◌≤◌, ◌^◌, IfOk};
+ghost use Rattle.std.specs.Prelude.{◌≤◌, ◌<◌, ◌^◌, IfSome};
 
 use ktree::{ChunkSize, Workers};
 use schedule::*;
 use std::alloc::Global;
-use std::test::Fail;
-
-fn workers(count: u64) -> Result<Workers, Fail>
-    ensures { IfOk result (λ workers. workers ≡ count) }
-{
-    Ok(Workers::new(count).ok_or("workers")?)
-}
 
 /// The schedule of a kind, with chunks of this size where it has one.
 fn sched(kind: Kind, size: u64) -> Option<Sched> {
@@ -70,52 +63,68 @@ fn cuts_by_the_schedule(rt: HostRuntime) {
     assert!(rt; is_cut(alloc, Kind::Guided, 3, 0, 3, &[]));
 }
 
-#[test]
-fn deals_chunks_in_turn(rt: HostRuntime) -> Result<(), Fail> {
-    let two = workers(2)?;
-    let first = static_init(10, two, 0, Some(3));
-    assert_eq!(rt; first.chunk(0), Some(Chunk { first: 0, count: 3 }));
-    assert_eq!(rt; first.chunk(1), Some(Chunk { first: 6, count: 3 }));
-    assert_eq!(rt; first.chunk(2), None);
-    let second = static_init(10, two, 1, Some(3));
-    assert_eq!(rt; second.chunk(0), Some(Chunk { first: 3, count: 3 }));
-    assert_eq!(rt; second.chunk(1), Some(Chunk { first: 9, count: 1 }));
-    assert_eq!(rt; second.number(1), Some(3));
-    assert_eq!(rt; second.chunk(2), None);
-    assert_eq!(rt; second.chunk(u64::MAX), None);
+/// Whether a worker's chunks of a loop are these, each with its first iteration and how many there are, and no others.
+fn are_chunks(part: &StaticPart, wanted: &[Chunk]) -> bool {
+    for (turn, chunk) in wanted.iter().enumerate() {
+        if part.chunk(turn as u64) != Some(*chunk) {
+            return false;
+        }
+    }
+    part.chunk(wanted.len() as u64).is_none() && part.chunk(u64::MAX).is_none()
+}
 
-    let first = static_init(10, two, 0, Some(4));
-    assert_eq!(rt; first.chunk(0), Some(Chunk { first: 0, count: 4 }));
-    assert_eq!(rt; first.chunk(1), Some(Chunk { first: 8, count: 2 }));
-    assert_eq!(rt; first.chunk(2), None);
-    let second = static_init(10, two, 1, Some(4));
-    assert_eq!(rt; second.chunk(0), Some(Chunk { first: 4, count: 4 }));
-    assert_eq!(rt; second.chunk(1), None);
-    Ok(())
+/// Whether these are the chunks of one of two workers, in a loop of ten iterations with chunks of this size.
+fn are_dealt(worker: u64, size: u64, wanted: &[Chunk]) -> bool
+    requires worker { worker < 2 }
+    requires size { (1 ≤ size) × (size ≤ 2 ^ 24) }
+{
+    match Workers::new(2) {
+        Some(two) => are_chunks(&static_init(10, two, worker, Some(size)), wanted),
+        None => false,
+    }
+}
+
+/// The number of the second chunk of the second of two workers, in a loop of ten iterations with chunks of three.
+fn second_number() -> Option<u64> {
+    let two = Workers::new(2)?;
+    static_init(10, two, 1, Some(3)).number(1)
+}
+
+/// A chunk.
+fn chunk(first: u64, count: u64) -> Chunk {
+    Chunk { first, count }
 }
 
 #[test]
-fn leaves_workers_without_a_chunk(rt: HostRuntime) -> Result<(), Fail> {
-    let team = workers(64)?;
-    for worker in 0..64 {
-        let own = static_init(8, team, worker, None);
-        assert_eq!(rt;
-            own.chunk(0),
-            (worker < 8).then_some(Chunk {
-                first: worker,
-                count: 1
-            })
-        );
-        assert_eq!(rt; own.chunk(1), None);
-        let own = static_init(3, team, worker, Some(1));
-        assert_eq!(rt;
-            own.chunk(0),
-            (worker < 3).then_some(Chunk {
-                first: worker,
-                count: 1
-            })
-        );
-        assert_eq!(rt; own.chunk(1), None);
+fn deals_chunks_in_turn(rt: HostRuntime) {
+    assert!(rt; are_dealt(0, 3, &[chunk(0, 3), chunk(6, 3)]));
+    assert!(rt; are_dealt(1, 3, &[chunk(3, 3), chunk(9, 1)]));
+    assert_eq!(rt; second_number(), Some(3));
+    assert!(rt; are_dealt(0, 4, &[chunk(0, 4), chunk(8, 2)]));
+    assert!(rt; are_dealt(1, 4, &[chunk(4, 4)]));
+}
+
+/// Whether one of 64 workers has its own iteration alone in a loop of so many, if it has one, where chunks have this size, if any.
+fn has_own(worker: u64, iterations: u64, size: Option<u64>) -> bool
+    requires worker { worker < 64 }
+    requires iterations { iterations ≤ 2 ^ 24 }
+    requires size { IfSome size (λ k. (1 ≤ k) × (k ≤ 2 ^ 24)) }
+{
+    let Some(team) = Workers::new(64) else {
+        return false;
+    };
+    let part = static_init(iterations, team, worker, size);
+    if worker < iterations {
+        are_chunks(&part, &[chunk(worker, 1)])
+    } else {
+        are_chunks(&part, &[])
     }
-    Ok(())
+}
+
+#[test]
+fn leaves_workers_without_a_chunk(rt: HostRuntime) {
+    for worker in 0..64 {
+        let is_own = has_own(worker, 8, None) && has_own(worker, 3, Some(1));
+        assert!(rt; is_own, "worker {worker}");
+    }
 }

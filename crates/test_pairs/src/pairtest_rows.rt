@@ -1,15 +1,40 @@
+//! What is said of two accesses in a nest.
+
 use ktree::{Place, VarId};
 use pairtest::*;
 use std::alloc::{AllocError, Global};
-use std::test::Fail;
+
+/// A subscript: its constant and its coefficients.
+type Form<'a> = (i64, &'a [i64]);
+
+/// Two accesses with one subscript each: how often the loops round them turn, those of the body too, and the subscripts.
+#[derive(Clone, Copy)]
+struct Pair<'a> {
+    serial: &'a [u64],
+    loops: &'a [u64],
+    inner: &'a [u64],
+    x: Form<'a>,
+    y: Form<'a>,
+}
+
+/// A nest of these loops.
+fn nest(alloc: Global, serial: &[u64], loops: &[u64]) -> Result<Nest, AllocError> {
+    let serial = Vec::from_slice(alloc, serial)?;
+    let loops = Vec::from_slice(alloc, loops)?;
+    Ok(Nest { serial, loops })
+}
 
 /// An access with one subscript.
-fn access(constant: i64, coefficients: Vec<i64>, inner: Vec<u64>) -> Result<Access, AllocError> {
-    let mut subscripts = Vec::new(*inner.allocator());
-    subscripts.push(Subscript {
-        constant,
-        coefficients,
-    })?;
+fn access(alloc: Global, form: Form<'_>, inner: &[u64]) -> Result<Access, AllocError> {
+    let (constant, coefficients) = form;
+    let coefficients = Vec::from_slice(alloc, coefficients)?;
+    let subscripts = vec![in alloc;
+        Subscript {
+            constant,
+            coefficients
+        },
+    ]?;
+    let inner = Vec::from_slice(alloc, inner)?;
     Ok(Access {
         array: VarId(0),
         mode: Mode::Writes,
@@ -19,109 +44,131 @@ fn access(constant: i64, coefficients: Vec<i64>, inner: Vec<u64>) -> Result<Acce
     })
 }
 
-/// What is said of `x.0 * i + x.1` and `y.0 * i + y.1` in a loop of so many turns; None past the limit.
-fn lines(
-    alloc: Global,
-    turns: u64,
-    x: (i64, i64),
-    y: (i64, i64),
-) -> Result<Option<bool>, AllocError> {
-    let nest = Nest {
-        serial: Vec::new(alloc),
-        loops: vec![in alloc; turns]?,
-    };
-    let x = access(x.1, vec![in alloc; x.0]?, Vec::new(alloc))?;
-    let y = access(y.1, vec![in alloc; y.0]?, Vec::new(alloc))?;
+/// What is said of two accesses; None past the limit.
+fn said(alloc: Global, pair: Pair<'_>) -> Result<Option<bool>, AllocError> {
+    let nest = nest(alloc, pair.serial, pair.loops)?;
+    let x = access(alloc, pair.x, pair.inner)?;
+    let y = access(alloc, pair.y, pair.inner)?;
     Ok(independent(&x, &y, &nest).ok())
+}
+
+/// Whether this is said of them.
+fn is_said(alloc: Global, pair: Pair<'_>, wanted: Option<bool>) -> bool {
+    match said(alloc, pair) {
+        Ok(said) => said == wanted,
+        Err(_error) => false,
+    }
+}
+
+/// How often a loop turns, the factors and the constants of two subscripts in it, and what is said of them; None past the limit.
+type Row = (u64, (i64, i64), (i64, i64), Option<bool>);
+
+/// Whether that is said of `x.0 * i + x.1` and `y.0 * i + y.1` in a loop of so many turns.
+fn holds(alloc: Global, row: Row) -> bool {
+    let (turns, x, y, wanted) = row;
+    let pair = Pair {
+        serial: &[],
+        loops: &[turns],
+        inner: &[],
+        x: (x.1, &[x.0]),
+        y: (y.1, &[y.0]),
+    };
+    is_said(alloc, pair, wanted)
+}
+
+/// The number of the first row, from 0, of which something else is said.
+fn first_other(alloc: Global, rows: &[Row]) -> Option<usize> {
+    for (number, row) in rows.iter().enumerate() {
+        if !holds(alloc, *row) {
+            return Some(number);
+        }
+    }
+    None
 }
 
 #[test]
 fn one_loop(rt: HostRuntime) {
-    let alloc = rt.alloc();
-    assert!(rt; matches!(lines(alloc, 8, (2, 0), (2, 1)), Ok(Some(true))));
-    assert!(rt; matches!(lines(alloc, 7, (1, 1), (1, 0)), Ok(Some(false))));
-    assert!(rt; matches!(lines(alloc, 4, (3, 0), (3, 6)), Ok(Some(false))));
-    assert!(rt; matches!(lines(alloc, 2, (3, 0), (3, 6)), Ok(Some(true))));
-    assert!(rt; matches!(lines(alloc, 16, (1, 0), (-1, 15)), Ok(Some(false))));
-    assert!(rt; matches!(lines(alloc, 8, (1, 0), (-1, 15)), Ok(Some(false))));
-    assert!(rt; matches!(lines(alloc, 200, (1, 100), (1, 0)), Ok(Some(false))));
+    let rows = [
+        (8, (2, 0), (2, 1), Some(true)),
+        (7, (1, 1), (1, 0), Some(false)),
+        (4, (3, 0), (3, 6), Some(false)),
+        (2, (3, 0), (3, 6), Some(true)),
+        (16, (1, 0), (-1, 15), Some(false)),
+        (8, (1, 0), (-1, 15), Some(false)),
+        (200, (1, 100), (1, 0), Some(false)),
+    ];
+    assert_eq!(rt; first_other(rt.alloc(), &rows), None);
 }
 
 #[test]
 fn few_turns(rt: HostRuntime) {
-    let alloc = rt.alloc();
-    assert!(rt; matches!(lines(alloc, 2, (0, 0), (0, 0)), Ok(Some(false))));
-    assert!(rt; matches!(lines(alloc, 1, (0, 0), (0, 0)), Ok(Some(true))));
-    assert!(rt; matches!(lines(alloc, 0, (0, 0), (0, 0)), Ok(Some(true))));
+    let rows = [
+        (2, (0, 0), (0, 0), Some(false)),
+        (1, (0, 0), (0, 0), Some(true)),
+        (0, (0, 0), (0, 0), Some(true)),
+    ];
+    assert_eq!(rt; first_other(rt.alloc(), &rows), None);
 }
 
 #[test]
 fn limits(rt: HostRuntime) {
-    let alloc = rt.alloc();
     let greatest = 1 << 62;
-    assert!(rt;
-        matches!(
-            lines(alloc, 9, (greatest, 0), (greatest, 0)),
-            Ok(Some(true))
-        )
-    );
-    assert!(rt; matches!(lines(alloc, 9, (greatest, 0), (-1, 0)), Ok(None)));
-    assert!(rt; matches!(lines(alloc, 9, (0, greatest), (0, -1)), Ok(None)));
-    assert!(rt; matches!(lines(alloc, u64::MAX, (1, 0), (1, -greatest)), Ok(None)));
+    let rows = [
+        (9, (greatest, 0), (greatest, 0), Some(true)),
+        (9, (greatest, 0), (-1, 0), None),
+        (9, (0, greatest), (0, -1), None),
+        (u64::MAX, (1, 0), (1, -greatest), None),
+    ];
+    assert_eq!(rt; first_other(rt.alloc(), &rows), None);
 }
 
-/// What is said of `4 * i + j` with itself in two loops, which take 3 and so many turns.
-fn rows(alloc: Global, turns: u64) -> Result<Option<bool>, AllocError> {
-    let nest = Nest {
-        serial: Vec::new(alloc),
-        loops: vec![in alloc; 3, turns]?,
+/// Whether this is said of a form with itself, where these loops are round it.
+fn is_said_of_itself(
+    alloc: Global,
+    serial: &[u64],
+    loops: &[u64],
+    inner: &[u64],
+    coefficients: &[i64],
+    wanted: bool,
+) -> bool {
+    let form = (0, coefficients);
+    let pair = Pair {
+        serial,
+        loops,
+        inner,
+        x: form,
+        y: form,
     };
-    let x = access(0, vec![in alloc; 4, 1]?, Vec::new(alloc))?;
-    Ok(independent(&x, &x, &nest).ok())
+    is_said(alloc, pair, Some(wanted))
 }
 
+/// `4 * i + j` in two loops.
 #[test]
 fn two_loops(rt: HostRuntime) {
-    assert!(rt; matches!(rows(rt.alloc(), 4), Ok(Some(true))));
-    assert!(rt; matches!(rows(rt.alloc(), 5), Ok(Some(false))));
+    let alloc = rt.alloc();
+    assert!(rt; is_said_of_itself(alloc, &[], &[3, 4], &[], &[4, 1], true));
+    assert!(rt; is_said_of_itself(alloc, &[], &[3, 5], &[], &[4, 1], false));
 }
 
-/// What is said of `8 * i + j` with itself, where a loop of the body counts j.
-fn blocks(alloc: Global, turns: u64) -> Result<Option<bool>, AllocError> {
-    let nest = Nest {
-        serial: Vec::new(alloc),
-        loops: vec![in alloc; 6]?,
-    };
-    let x = access(0, vec![in alloc; 8, 1]?, vec![in alloc; turns]?)?;
-    Ok(independent(&x, &x, &nest).ok())
-}
-
+/// `8 * i + j`, where a loop of the body counts j.
 #[test]
 fn loops_of_the_body(rt: HostRuntime) {
-    assert!(rt; matches!(blocks(rt.alloc(), 8), Ok(Some(true))));
-    assert!(rt; matches!(blocks(rt.alloc(), 9), Ok(Some(false))));
+    let alloc = rt.alloc();
+    assert!(rt; is_said_of_itself(alloc, &[], &[6], &[8], &[8, 1], true));
+    assert!(rt; is_said_of_itself(alloc, &[], &[6], &[9], &[8, 1], false));
 }
 
-/// What is said of `s + factor * i` with itself, where a serial loop counts s.
-fn under_serial(alloc: Global, factor: i64) -> Result<Option<bool>, AllocError> {
-    let nest = Nest {
-        serial: vec![in alloc; 5]?,
-        loops: vec![in alloc; 6]?,
-    };
-    let x = access(0, vec![in alloc; 1, factor]?, Vec::new(alloc))?;
-    Ok(independent(&x, &x, &nest).ok())
-}
-
+/// `s + i` and `s`, where a serial loop counts s.
 #[test]
 fn serial_loops(rt: HostRuntime) {
-    assert!(rt; matches!(under_serial(rt.alloc(), 1), Ok(Some(true))));
-    assert!(rt; matches!(under_serial(rt.alloc(), 0), Ok(Some(false))));
+    let alloc = rt.alloc();
+    assert!(rt; is_said_of_itself(alloc, &[5], &[6], &[], &[1, 1], true));
+    assert!(rt; is_said_of_itself(alloc, &[5], &[6], &[], &[1, 0], false));
 }
 
 #[test]
-fn laws(_rt: HostRuntime) -> Result<(), Fail> {
+fn laws(_rt: HostRuntime) {
     refuted_equations_have_no_solution();
     refuted_pairs_do_not_meet();
     one_loop_is_exact();
-    Ok(())
 }

@@ -1,65 +1,78 @@
-ghost use Rattle.std.specs.Prelude.{◌≡◌, All};
+//! Drawings by seats that are asked in turn, and by threads.
+
+ghost use Rattle.std.specs.Prelude.{◌≡◌, ◌≤◌, ◌^◌, All};
 
 use draw::{DrawSeat, Drawing};
 use std::alloc::{AllocError, Global};
 use std::sync::atomic::{AtomicU64, Ordering};
-use std::test::Fail;
 use std::thread;
+use std::thread::Threads;
 
-#[test]
-fn draws_each_once(rt: HostRuntime) -> Result<(), Fail> {
-    let (drawing, mut seats) = Drawing::new(rt.alloc(), 3, 2)?;
-    assert_eq!(rt; seats.len(), 2);
-    {
-        let first = &mut seats[0];
-        assert_eq!(rt; drawing.next(first), Some(0));
-        assert_eq!(rt; drawing.next(first), Some(1));
-    }
-    {
-        let second = &mut seats[1];
-        assert_eq!(rt; drawing.next(second), Some(2));
-        assert_eq!(rt; drawing.next(second), None);
-        assert_eq!(rt; drawing.next(second), None);
-    }
-    assert!(rt; drawing.close(seats).whole());
-    Ok(())
-}
+/// A seat that is asked, by its number, and the ticket that it draws.
+type Row = (usize, Option<u64>);
 
-#[test]
-fn the_end_is_met_once(rt: HostRuntime) -> Result<(), Fail> {
-    let (drawing, mut seats) = Drawing::new(rt.alloc(), 1, 1)?;
-    {
-        let only = &mut seats[0];
-        assert_eq!(rt; drawing.next(only), Some(0));
-        'asks: for _ in 0..1001 {
-            assert_eq!(rt; drawing.next(only), None);
+/// Whether seats that are asked in turn draw these tickets.
+fn draw_these(drawing: &Drawing, seats: &mut [DrawSeat], rows: &[Row]) -> bool
+    requires { All (λ s. s.of ≡ drawing.now) seats.old }
+    ensures { All (λ s. s.of ≡ drawing.now) seats.new }
+{
+    'asks: for (number, ticket) in rows {
+        if *number >= seats.len() {
+            return false;
+        }
+        let seat = &mut seats[*number];
+        if drawing.next(seat) != *ticket {
+            return false;
         }
     }
-    assert!(rt; drawing.close(seats).whole());
-    Ok(())
+    true
+}
+
+/// Whether a drawing to which so many seats come back is whole; none where its seats do not draw these tickets.
+fn is_whole(alloc: Global, tickets: u64, count: u64, rows: &[Row], back: usize) -> Option<bool>
+    requires tickets { tickets ≤ 2 ^ 24 }
+    requires count { (1 ≤ count) × (count ≤ 65) }
+{
+    let Ok((drawing, mut seats)) = Drawing::new(alloc, tickets, count) else {
+        return None;
+    };
+    if seats.len() as u64 != count || !draw_these(&drawing, &mut seats, rows) {
+        return None;
+    }
+    seats.truncate(back);
+    Some(drawing.close(seats).whole())
 }
 
 #[test]
-fn no_tickets(rt: HostRuntime) -> Result<(), Fail> {
-    let (drawing, mut seats) = Drawing::new(rt.alloc(), 0, 3)?;
-    assert_eq!(rt; drawing.next(&mut seats[0]), None);
-    assert_eq!(rt; drawing.next(&mut seats[1]), None);
-    assert_eq!(rt; drawing.next(&mut seats[2]), None);
-    assert!(rt; drawing.close(seats).whole());
-    Ok(())
+fn draws_each_once(rt: HostRuntime) {
+    let rows = [
+        (0, Some(0)),
+        (0, Some(1)),
+        (1, Some(2)),
+        (1, None),
+        (1, None),
+    ];
+    assert_eq!(rt; is_whole(rt.alloc(), 3, 2, &rows, 2), Some(true));
 }
 
 #[test]
-fn a_missing_seat_or_no_end_is_not_whole(rt: HostRuntime) -> Result<(), Fail> {
-    let (drawing, mut seats) = Drawing::new(rt.alloc(), 0, 2)?;
-    assert_eq!(rt; drawing.next(&mut seats[0]), None);
-    seats.truncate(1);
-    assert!(rt; !drawing.close(seats).whole());
+fn the_end_is_met_once(rt: HostRuntime) {
+    let mut rows = [(0, None); 1002];
+    rows[0] = (0, Some(0));
+    assert_eq!(rt; is_whole(rt.alloc(), 1, 1, &rows, 1), Some(true));
+}
 
-    let (drawing, mut seats) = Drawing::new(rt.alloc(), 1, 2)?;
-    assert_eq!(rt; drawing.next(&mut seats[0]), Some(0));
-    assert!(rt; !drawing.close(seats).whole());
-    Ok(())
+#[test]
+fn no_tickets(rt: HostRuntime) {
+    let rows = [(0, None), (1, None), (2, None)];
+    assert_eq!(rt; is_whole(rt.alloc(), 0, 3, &rows, 3), Some(true));
+}
+
+#[test]
+fn a_missing_seat_or_no_end_is_not_whole(rt: HostRuntime) {
+    let heap = rt.alloc();
+    assert_eq!(rt; is_whole(heap, 0, 2, &[(0, None)], 1), Some(false));
+    assert_eq!(rt; is_whole(heap, 1, 2, &[(0, Some(0))], 2), Some(false));
 }
 
 const TICKETS: u64 = 10_000;
@@ -92,37 +105,52 @@ fn draw_all(
     Ok(tickets)
 }
 
-#[test]
-fn three_threads_draw_each_once(rt: HostRuntime) -> Result<(), Fail> {
-    let (drawing, seats) = Drawing::new(rt.alloc(), TICKETS, THREADS)?;
+/// What the threads draw, each with one of these seats.
+fn draw_together<R: Threads + Sync>(
+    rt: &R,
+    alloc: Global,
+    drawing: &Drawing,
+    seats: Vec<DrawSeat>,
+) -> Result<Vec<Result<Vec<u64>, AllocError>>, AllocError>
+    requires { All (λ s. s.of ≡ drawing.now) seats.items }
+{
     let there = AtomicU64::new(0);
-    let (drawing, there, alloc) = (&drawing, &there, rt.alloc());
-    let drawn = thread::scope(
-        thread::scope_env(),
-        &rt,
-        |scope| -> Result<Vec<u64>, AllocError>
-            requires { All (λ s. s.of ≡ drawing.now) seats.items }
-        {
-            let mut children = Vec::with_capacity(alloc, seats.len())?;
-            for seat in seats {
-                let child = scope.spawn(
-                    move || -> Result<Vec<u64>, AllocError>
-                        requires { seat.of ≡ drawing.now }
-                    { draw_all(alloc, drawing, seat, there) },
-                );
-                if let Ok(child) = child {
-                    children.push(child)?;
-                }
-            }
-            let mut drawn = Vec::new(alloc);
-            for child in children {
-                drawn.append(&mut child.join(&rt)?)?;
-            }
-            Ok(drawn)
-        },
-    );
-    let mut drawn = drawn?;
-    drawn.sort_unstable();
-    assert!(rt; drawn.iter().copied().eq(0..TICKETS));
-    Ok(())
+    let there = &there;
+    thread::map_vec(
+        rt,
+        seats,
+        &|seat: DrawSeat| -> Result<Vec<u64>, AllocError>
+            requires { seat.of ≡ drawing.now }
+        { draw_all(alloc, drawing, seat, there) },
+    )
+}
+
+/// All tickets that threads have drawn, in order.
+fn sorted(alloc: Global, drawn: Vec<Result<Vec<u64>, AllocError>>) -> Result<Vec<u64>, AllocError> {
+    let mut all = Vec::new(alloc);
+    for tickets in drawn {
+        all.append(&mut tickets?)?;
+    }
+    all.sort_unstable();
+    Ok(all)
+}
+
+/// The tickets that three threads draw, in order.
+fn drawn_by_three<R: Threads + Sync>(rt: &R, alloc: Global) -> Result<Vec<u64>, AllocError> {
+    let (drawing, seats) = Drawing::new(alloc, TICKETS, THREADS)?;
+    let drawn = draw_together(rt, alloc, &drawing, seats)?;
+    sorted(alloc, drawn)
+}
+
+/// Whether these are all tickets.
+fn are_all(tickets: Result<Vec<u64>, AllocError>) -> bool {
+    match tickets {
+        Ok(tickets) => tickets.iter().copied().eq(0..TICKETS),
+        Err(_error) => false,
+    }
+}
+
+#[test]
+fn three_threads_draw_each_once(rt: HostRuntime) {
+    assert!(rt; are_all(drawn_by_three(&rt, rt.alloc())));
 }

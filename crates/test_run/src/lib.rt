@@ -14,4 +14,6 @@ mod seqrun_rows;
 #[cfg(test)]
 mod seqrun_value_rows;
 #[cfg(test)]
+mod stores;
+#[cfg(test)]
 mod team_rows;

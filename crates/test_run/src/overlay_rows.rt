@@ -1,27 +1,35 @@
-//! A store, a chunk's piece, and its writes.
+//! A chunk's piece of a loop, and its writes.
 
-ghost use Rattle.std.specs.Prelude.{◌≡◌, [], ◌∷◌, length, IfOk};
+ghost use Rattle.std.specs.Prelude.{◌+◌, ◌≤◌};
 
+use crate::stores::{holds, one_array};
 use ktree::{ChunkNo, ChunkSize, VarId};
+use lower::fits;
 use overlay::*;
-use std::alloc::{AllocError, Global};
-use std::test::Fail;
+use std::alloc::Global;
 use store::{Array, Store};
 
-/// A store of one array that holds these values.
-fn one_array(alloc: Global, values: Vec<u64>) -> Result<Store, AllocError>
-    ensures { IfOk result (λ s. s ≡ record { lengths = length values.items ∷ []; values = values.items } ∷ []) }
+/// Whether a chunk of a loop computes these values from eight ones, and leaves those behind it.
+fn writes(alloc: Global, lowered: &LoweredLoop, work: Work, computed: &[u64], left: &[u64]) -> bool
+    requires { work.first + work.count ≤ lowered.now.bound }
 {
-    let mut lengths = Vec::with_capacity(alloc, 1)?;
-    lengths.push(values.len() as u64)?;
-    let mut arrays = Vec::with_capacity(alloc, 1)?;
-    arrays.push(Array::new(lengths, values))?;
-    Ok(Store::new(arrays))
+    let Ok(mut store) = one_array(alloc, &[1, 1, 1, 1, 1, 1, 1, 1]) else {
+        return false;
+    };
+    if !fits(lowered, &store) {
+        return false;
+    }
+    let Ok(piece) = run_chunk(alloc, lowered, &store, work) else {
+        return false;
+    };
+    let changes = piece.release();
+    let is_computed = changes.values.as_slice() == computed;
+    changes.apply(&mut store);
+    is_computed && holds(&store, left)
 }
 
 #[test]
-fn a_chunk_writes_its_own_elements(rt: HostRuntime) -> Result<(), Fail> {
-    let mut store = one_array(rt.alloc(), vec![in rt.alloc(); 1u64; 8]?)?;
+fn a_chunk_writes_its_own_elements(rt: HostRuntime) {
     let lowered = LoweredLoop {
         counter: VarId(1),
         bound: 8,
@@ -38,17 +46,6 @@ fn a_chunk_writes_its_own_elements(rt: HostRuntime) -> Result<(), Fail> {
         first: 3,
         count: 3,
     };
-    let changes = run_chunk(rt.alloc(), &lowered, &store, work)
-        .ok()
-        .expect(&rt, "memory")
-        .release();
-    assert_eq!(rt; changes.values.as_slice(), [4, 5, 6].as_slice());
-    changes.apply(&mut store);
-    assert_eq!(rt; store.arrays().len(), 1);
-    assert_eq!(rt; store.arrays()[0].lengths(), [8].as_slice());
-    assert_eq!(rt;
-        store.arrays()[0].values(),
-        [1, 1, 1, 4, 5, 6, 1, 1].as_slice()
-    );
-    Ok(())
+    let left = [1, 1, 1, 4, 5, 6, 1, 1];
+    assert!(rt; writes(rt.alloc(), &lowered, work, &[4, 5, 6], &left));
 }

@@ -1,13 +1,14 @@
 //! Statements over a store with one array, the variable 0, and the local 1.
 
-ghost use Rattle.std.specs.Prelude.{◌≡◌, List, [], ◌∷◌, codes, Some, IsSome, IfOk};
+ghost use Rattle.std.specs.Prelude.{◌≡◌, ◌+◌, ◌<◌, ◌^◌, List, [], ◌∷◌, codes, Some, IsSome, IfOk};
 ghost use Rattle.semantics.specs.Tree;
 ghost use Rattle.ktree.specs.View.{expr_of, cond_of, binary_of, stmt_of, with_item, items_of};
-ghost use Rattle.semantics.specs.Meaning.Runs.{run};
+ghost use Rattle.semantics.specs.Meaning.Runs.{run, run_items};
 ghost use Rattle.store.specs.Kept.{Kept};
 ghost use Rattle.seqrun_value.specs.Standing.{standing};
 ghost use Rattle.seqrun_value.specs.declared.frame.Slot.{Slot};
 
+use crate::stores::{holds, one_array};
 use ktree::{
     BinaryOp, CompareOp, Cond, Expr, Head, Increment, Item, Local, Mention, Place, PrintPart,
     Refusal, Source, Stmt, Suffix, Target, VarId,
@@ -18,7 +19,7 @@ use seqrun_value::Frame;
 use std::alloc::{AllocError, Global};
 use std::io::{Error, ErrorKind, Write};
 use std::test::Fail;
-use store::{Array, Store};
+use store::Store;
 
 const HERE: Place = Place { line: 1, column: 1 };
 
@@ -81,21 +82,12 @@ fn update(alloc: Global, at: u64, op: BinaryOp, n: u64) -> Result<Box<Stmt>, All
     Ok(Box::new(alloc, Stmt::Update(target, op, number(n)))?)
 }
 
-/// `if (local < n) then else other`
-fn choice(alloc: Global, n: u64, then: Box<Stmt>, other: Box<Stmt>) -> Result<Box<Stmt>, AllocError>
-    ensures { IfOk result (λ s. stmt_of s.value ≡ Tree.IfElse (Tree.Compare Tree.Less (Tree.Object 1 Tree.no_exprs) (Tree.Literal n Tree.Ull)) (stmt_of then.value) (stmt_of other.value)) }
-{
-    let cond = below(alloc, n)?;
-    Ok(Box::new(alloc, Stmt::If(cond, then, Some(other)))?)
-}
-
 /// `printf("%llu\n", local);`
 fn line(alloc: Global) -> Result<Box<Stmt>, AllocError>
     ensures { IfOk result (λ s. stmt_of s.value ≡ Tree.Print (Tree.Decimal (Tree.Object 1 Tree.no_exprs) ∷ Tree.Characters (codes "\n") ∷ [])) }
 {
-    let mut parts = Vec::new(alloc);
-    parts.push(PrintPart::Decimal(local(alloc)))?;
-    parts.push(PrintPart::Characters(Vec::from_slice(alloc, b"\n")?))?;
+    let characters = PrintPart::Characters(Vec::from_slice(alloc, b"\n")?);
+    let parts = vec![in alloc; PrintPart::Decimal(local(alloc)), characters]?;
     Ok(Box::new(alloc, Stmt::Print(parts, HERE))?)
 }
 
@@ -138,38 +130,42 @@ fn declaration(alloc: Global, n: u64) -> Result<Item, AllocError>
     }))
 }
 
-/// The store of an array of three elements, 7 each.
-fn store(alloc: Global) -> Result<Store, AllocError>
-    ensures { IfOk result (λ s. s ≡ record { lengths = 3 ∷ []; values = 7 ∷ 7 ∷ 7 ∷ [] } ∷ []) }
+/// Runs a statement without locals; the number of its refusal, where it is refused.
+fn refused<S: Sink>(alloc: Global, stmt: &Stmt, store: &mut Store, sink: &mut S) -> Option<u8>
+    requires room { S.failed sink.old + 1 < 2 ^ 64 }
+    requires runs { IsSome (run (stmt_of stmt.now) (standing [] store.old)) }
 {
-    let mut lengths = Vec::new(alloc);
-    lengths.push(3)?;
-    let mut arrays = Vec::new(alloc);
-    arrays.push(Array::new(lengths, vec![in alloc; 7u64; 3]?))?;
-    Ok(Store::new(arrays))
+    let mut frame = Frame::new(Vec::new(alloc));
+    match statement(stmt, &mut frame, store, sink) {
+        Ok(()) => None,
+        Err(refusal) => Some(refusal.number()),
+    }
+}
+
+/// Whether a statement leaves these values of three, 7 each, and writes these bytes.
+fn leaves(alloc: Global, stmt: &Stmt, values: &[u64], output: &[u8]) -> bool
+    requires { IsSome (run (stmt_of stmt.now) (standing [] (record { lengths = 3 ∷ []; values = 7 ∷ 7 ∷ 7 ∷ [] } ∷ []))) }
+{
+    let Ok(mut store) = one_array(alloc, &[7, 7, 7]) else {
+        return false;
+    };
+    let mut sink = Memory::new(alloc);
+    refused(alloc, stmt, &mut store, &mut sink).is_none()
+        && holds(&store, values)
+        && sink.bytes() == output
 }
 
 #[test]
 fn assignments_write_elements(rt: HostRuntime) -> Result<(), Fail> {
-    let alloc = rt.alloc();
-    let stmt = assignment(alloc, 2, 9)?;
-    let mut store = store(alloc)?;
-    let mut frame = Frame::new(Vec::new(alloc));
-    let mut sink = Memory::new(alloc);
-    assert!(rt; statement(&*stmt, &mut frame, &mut store, &mut sink).is_ok());
-    assert_eq!(rt; store.arrays()[0].values(), [7u64, 7, 9].as_slice());
+    let stmt = assignment(rt.alloc(), 2, 9)?;
+    assert!(rt; leaves(rt.alloc(), &*stmt, &[7, 7, 9], b""));
     Ok(())
 }
 
 #[test]
 fn updates_take_the_old_value(rt: HostRuntime) -> Result<(), Fail> {
-    let alloc = rt.alloc();
-    let stmt = update(alloc, 1, BinaryOp::Minus, 8)?;
-    let mut store = store(alloc)?;
-    let mut frame = Frame::new(Vec::new(alloc));
-    let mut sink = Memory::new(alloc);
-    assert!(rt; statement(&*stmt, &mut frame, &mut store, &mut sink).is_ok());
-    assert_eq!(rt; store.arrays()[0].values(), [7, u64::MAX, 7].as_slice());
+    let stmt = update(rt.alloc(), 1, BinaryOp::Minus, 8)?;
+    assert!(rt; leaves(rt.alloc(), &*stmt, &[7, u64::MAX, 7], b""));
     Ok(())
 }
 
@@ -179,7 +175,8 @@ fn chosen(alloc: Global) -> Result<Box<Stmt>, AllocError>
 {
     let then = assignment(alloc, 0, 1)?;
     let other = assignment(alloc, 0, 2)?;
-    choice(alloc, 4, then, other)
+    let cond = below(alloc, 4)?;
+    Ok(Box::new(alloc, Stmt::If(cond, then, Some(other)))?)
 }
 
 /// A declaration of the local and a choice by it.
@@ -193,27 +190,29 @@ fn body(alloc: Global) -> Result<Vec<Item>, AllocError>
     Ok(items)
 }
 
-#[test]
-fn blocks_run_their_items_in_order(rt: HostRuntime) -> Result<(), Fail> {
-    let alloc = rt.alloc();
-    let items = body(alloc)?;
-    let mut store = store(alloc)?;
+/// Whether items leave these values of three, 7 each.
+fn leave(alloc: Global, items: &[Item], values: &[u64]) -> bool
+    requires { IsSome (run_items (items_of items.now) (standing [] (record { lengths = 3 ∷ []; values = 7 ∷ 7 ∷ 7 ∷ [] } ∷ []))) }
+{
+    let Ok(mut store) = one_array(alloc, &[7, 7, 7]) else {
+        return false;
+    };
     let mut frame = Frame::new(Vec::new(alloc));
     let mut sink = Memory::new(alloc);
-    assert!(rt; block(items.as_slice(), &mut frame, &mut store, &mut sink).is_ok());
-    assert_eq!(rt; store.arrays()[0].values(), [2u64, 7, 7].as_slice());
+    block(items, &mut frame, &mut store, &mut sink).is_ok() && holds(&store, values)
+}
+
+#[test]
+fn blocks_run_their_items_in_order(rt: HostRuntime) -> Result<(), Fail> {
+    let items = body(rt.alloc())?;
+    assert!(rt; leave(rt.alloc(), items.as_slice(), &[2, 7, 7]));
     Ok(())
 }
 
 #[test]
 fn loops_print_in_each_turn(rt: HostRuntime) -> Result<(), Fail> {
-    let alloc = rt.alloc();
-    let stmt = counting(alloc)?;
-    let mut store = store(alloc)?;
-    let mut frame = Frame::new(Vec::new(alloc));
-    let mut sink = Memory::new(alloc);
-    assert!(rt; statement(&*stmt, &mut frame, &mut store, &mut sink).is_ok());
-    assert_eq!(rt; sink.bytes(), b"9\n10\n11\n".as_slice());
+    let stmt = counting(rt.alloc())?;
+    assert!(rt; leaves(rt.alloc(), &*stmt, &[7, 7, 7], b"9\n10\n11\n"));
     Ok(())
 }
 
@@ -237,15 +236,19 @@ impl Write for OneByte {
     }
 }
 
+/// Whether a statement over that writer is refused as an output that failed, and the sink failed once.
+fn fails_once(alloc: Global, stmt: &Stmt) -> Result<bool, AllocError>
+    requires { IsSome (run (stmt_of stmt.now) (standing [] (record { lengths = 3 ∷ []; values = 7 ∷ 7 ∷ 7 ∷ [] } ∷ []))) }
+{
+    let mut store = one_array(alloc, &[7, 7, 7])?;
+    let mut sink = Writer::new(OneByte { calls: 0 });
+    let number = refused(alloc, stmt, &mut store, &mut sink);
+    Ok(number == Some(Refusal::OutputFailed.number()) && sink.failures() == 1)
+}
+
 #[test]
 fn a_failing_sink_ends_the_run(rt: HostRuntime) -> Result<(), Fail> {
-    let alloc = rt.alloc();
-    let stmt = counting(alloc)?;
-    let mut store = store(alloc)?;
-    let mut frame = Frame::new(Vec::new(alloc));
-    let mut sink = Writer::new(OneByte { calls: 0 });
-    let answer = statement(&*stmt, &mut frame, &mut store, &mut sink);
-    assert!(rt; matches!(answer, Err(Refusal::OutputFailed)));
-    assert_eq!(rt; sink.failures(), 1);
+    let stmt = counting(rt.alloc())?;
+    assert!(rt; matches!(fails_once(rt.alloc(), &*stmt), Ok(true)));
     Ok(())
 }

@@ -1,17 +1,18 @@
 //! Rows of loops that a team runs, with values from hand, and workers that are held until all are at once in the loop.
 
-ghost use Rattle.std.specs.Prelude.{◌≡◌, ◌≤◌, [], ◌∷◌, length, IfOk};
+ghost use Rattle.std.specs.Prelude.{◌≤◌};
 
+use crate::stores::{holds, one_array};
 use ktree::{ChunkSize, VarId, Workers};
+use lower::fits;
 use overlay::{Formula, LoweredLoop, Operand, Operation};
-use std::alloc::{AllocError, Global};
+use std::alloc::Global;
 use std::process::Abort;
 use std::sync::Wait;
 use std::sync::atomic::{AtomicU64, Ordering};
-use std::test::Fail;
 use std::thread;
 use std::thread::Threads;
-use store::{Array, Store};
+use store::Store;
 use team::{Gate, OpenGate, Taken, run_loop};
 
 const A: VarId = VarId(0);
@@ -41,6 +42,27 @@ impl Held {
     }
 }
 
+/// What was told to workers that were held.
+#[derive(Clone, Copy, Debug, PartialEq, Eq)]
+struct Told {
+    entered: u64,
+    late: u64,
+    chunks: u64,
+    workers: u64,
+    outside: u64,
+}
+
+/// What was told to these.
+fn told_by(held: &Held) -> Told {
+    Told {
+        entered: held.entered.load(Ordering::SeqCst),
+        late: held.late.load(Ordering::SeqCst),
+        chunks: held.chunks.load(Ordering::SeqCst),
+        workers: held.workers.load(Ordering::SeqCst),
+        outside: held.outside.load(Ordering::SeqCst),
+    }
+}
+
 impl Gate for Held {
     fn entered(&self, taken: Taken) {
         if taken.workers == self.all && taken.chunks == self.all && self.all <= 64 {
@@ -60,21 +82,8 @@ impl Gate for Held {
     }
 }
 
-/// A store of one array that holds these values.
-fn one_array(alloc: Global, values: Vec<u64>) -> Result<Store, AllocError>
-    ensures { IfOk result (λ s. s ≡ record { lengths = length values.items ∷ []; values = values.items } ∷ []) }
-{
-    let mut lengths = Vec::with_capacity(alloc, 1)?;
-    lengths.push(values.len() as u64)?;
-    let mut arrays = Vec::with_capacity(alloc, 1)?;
-    arrays.push(Array::new(lengths, values))?;
-    Ok(Store::new(arrays))
-}
-
-/// The loop over the first `bound` elements of that array.
-fn loop_of(rt: &impl Abort, bound: u64, formula: Formula, size: u64) -> LoweredLoop
-    ensures { (result.counter.0 ≡ 1) × (result.bound ≡ bound) × (result.target.0 ≡ 0) × (result.formula ≡ formula) }
-{
+/// The loop over the first `bound` elements of the array.
+fn loop_of(rt: &impl Abort, bound: u64, formula: Formula, size: u64) -> LoweredLoop {
     LoweredLoop {
         counter: VarId(1),
         bound,
@@ -84,115 +93,108 @@ fn loop_of(rt: &impl Abort, bound: u64, formula: Formula, size: u64) -> LoweredL
     }
 }
 
-fn workers(rt: &impl Abort, count: u64) -> Workers {
-    Workers::new(count).expect(rt, "a number of workers")
+/// Runs a loop over a store by so many workers; whether it fits the store, and was run.
+fn is_run<R: Threads + Wait + Sync, G: Gate>(
+    rt: &R,
+    alloc: Global,
+    lowered: &LoweredLoop,
+    store: &mut Store,
+    count: u64,
+    gate: &G,
+) -> bool {
+    let Some(workers) = Workers::new(count) else {
+        return false;
+    };
+    fits(lowered, store) && run_loop(rt, alloc, lowered, store, workers, gate).is_ok()
 }
 
-/// The values of the store's one array.
-fn values_of<'a>(rt: &impl Abort, store: &'a Store) -> &'a [u64] {
-    assert_eq!(rt; store.arrays().len(), 1);
-    store.arrays()[0].values()
-}
-
-#[test]
-fn each_element_gets_its_number_more(rt: HostRuntime) -> Result<(), Fail> {
-    let lowered = loop_of(
-        &rt,
-        8,
-        Formula::Two(Operation::Plus, Operand::Element(A), Operand::Counter),
-        3,
-    );
-    let mut store = one_array(rt.alloc(), vec![in rt.alloc(); 1u64; 8]?)?;
-    run_loop(
-        &rt,
-        rt.alloc(),
-        &lowered,
-        &mut store,
-        workers(&rt, 3),
-        &OpenGate,
-    )
-    .ok()
-    .expect(&rt, "memory");
-    assert_eq!(rt; values_of(&rt, &store), [1, 2, 3, 4, 5, 6, 7, 8].as_slice());
-    Ok(())
-}
-
-#[test]
-fn differences_wrap(rt: HostRuntime) -> Result<(), Fail> {
-    for count in [1, 3, 64] {
-        let lowered = loop_of(
-            &rt,
-            5,
-            Formula::Two(Operation::Minus, Operand::Counter, Operand::Literal(1)),
-            2,
-        );
-        let mut store = one_array(rt.alloc(), vec![in rt.alloc(); 0u64; 5]?)?;
-        run_loop(
-            &rt,
-            rt.alloc(),
-            &lowered,
-            &mut store,
-            workers(&rt, count),
-            &OpenGate,
-        )
-        .ok()
-        .expect(&rt, "memory");
-        assert_eq!(rt;
-            values_of(&rt, &store),
-            [18446744073709551615, 0, 1, 2, 3].as_slice(),
-            "by {count}"
-        );
+/// Whether a loop by so many workers leaves these values of those.
+fn leaves<R: Threads + Wait + Sync>(
+    rt: &R,
+    alloc: Global,
+    lowered: &LoweredLoop,
+    count: u64,
+    old: &[u64],
+    new: &[u64],
+) -> bool {
+    match one_array(alloc, old) {
+        Ok(mut store) => {
+            is_run(rt, alloc, lowered, &mut store, count, &OpenGate) && holds(&store, new)
+        }
+        Err(_error) => false,
     }
-    Ok(())
 }
 
 #[test]
-fn a_loop_without_iterations_writes_nothing(rt: HostRuntime) -> Result<(), Fail> {
+fn each_element_gets_its_number_more(rt: HostRuntime) {
+    let sum = Formula::Two(Operation::Plus, Operand::Element(A), Operand::Counter);
+    let lowered = loop_of(&rt, 8, sum, 3);
+    let old = [1, 1, 1, 1, 1, 1, 1, 1];
+    let new = [1, 2, 3, 4, 5, 6, 7, 8];
+    assert!(rt; leaves(&rt, rt.alloc(), &lowered, 3, &old, &new));
+}
+
+#[test]
+fn differences_wrap(rt: HostRuntime) {
+    let (heap, old) = (rt.alloc(), [0, 0, 0, 0, 0]);
+    let difference = Formula::Two(Operation::Minus, Operand::Counter, Operand::Literal(1));
+    let lowered = loop_of(&rt, 5, difference, 2);
+    let new = [18446744073709551615, 0, 1, 2, 3];
+    assert!(rt; leaves(&rt, heap, &lowered, 1, &old, &new));
+    assert!(rt; leaves(&rt, heap, &lowered, 3, &old, &new));
+    assert!(rt; leaves(&rt, heap, &lowered, 64, &old, &new));
+}
+
+#[test]
+fn a_loop_without_iterations_writes_nothing(rt: HostRuntime) {
     let lowered = loop_of(&rt, 0, Formula::One(Operand::Counter), 1);
-    let mut store = one_array(rt.alloc(), vec![in rt.alloc(); 7u64; 2]?)?;
-    run_loop(
-        &rt,
-        rt.alloc(),
-        &lowered,
-        &mut store,
-        workers(&rt, 2),
-        &OpenGate,
-    )
-    .ok()
-    .expect(&rt, "memory");
-    assert_eq!(rt; values_of(&rt, &store), [7, 7].as_slice());
-    Ok(())
+    assert!(rt; leaves(&rt, rt.alloc(), &lowered, 2, &[7, 7], &[7, 7]));
+}
+
+/// Whether the element 1 of the store's one array is 1.
+fn has_second(store: &Store) -> bool {
+    match store.arrays() {
+        [array] => array.values().get(1) == Some(&1),
+        _ => false,
+    }
+}
+
+/// What is told to so many workers, each with one chunk of a loop that gives elements their numbers, where it is run.
+fn told_to<R: Threads + Wait + Sync>(
+    rt: &R,
+    alloc: Global,
+    lowered: &LoweredLoop,
+    count: u64,
+) -> Option<Told> {
+    let gate = Held::until(count);
+    let mut store = one_array(alloc, &[0; 64]).ok()?;
+    if is_run(rt, alloc, lowered, &mut store, count, &gate) && has_second(&store) {
+        Some(told_by(&gate))
+    } else {
+        None
+    }
 }
 
 /// So many workers, each with one chunk, are all in the loop before one of them goes on; each worker and each chunk is there once.
-fn hold_all<R: Threads + Wait + Sync + Abort>(
-    rt: &R,
-    alloc: Global,
-    count: u64,
-) -> Result<(), AllocError>
+fn is_held<R: Threads + Wait + Sync + Abort>(rt: &R, alloc: Global, count: u64) -> bool
     requires some { 1 ≤ count }
     requires most { count ≤ 64 }
 {
-    let gate = Held::until(count);
     let lowered = loop_of(rt, count, Formula::One(Operand::Counter), 1);
-    let mut store = one_array(alloc, vec![in alloc; 0u64; 64]?)?;
-    run_loop(rt, alloc, &lowered, &mut store, workers(rt, count), &gate)
-        .ok()
-        .expect(rt, "memory");
-    assert_eq!(rt; values_of(rt, &store).get(1), Some(&1));
-    assert_eq!(rt; gate.late.load(Ordering::SeqCst), 0, "by {count}");
     let each = u64::MAX >> (64 - count);
-    assert_eq!(rt; gate.entered.load(Ordering::SeqCst), count);
-    assert_eq!(rt; gate.chunks.load(Ordering::SeqCst), each, "by {count}");
-    assert_eq!(rt; gate.workers.load(Ordering::SeqCst), each, "by {count}");
-    assert_eq!(rt; gate.outside.load(Ordering::SeqCst), 0, "by {count}");
-    Ok(())
+    let wanted = Told {
+        entered: count,
+        late: 0,
+        chunks: each,
+        workers: each,
+        outside: 0,
+    };
+    told_to(rt, alloc, &lowered, count) == Some(wanted)
 }
 
 #[test]
-fn workers_are_at_once_in_the_loop(rt: HostRuntime) -> Result<(), Fail> {
-    hold_all(&rt, rt.alloc(), 2)?;
-    hold_all(&rt, rt.alloc(), 3)?;
-    hold_all(&rt, rt.alloc(), 64)?;
-    Ok(())
+fn workers_are_at_once_in_the_loop(rt: HostRuntime) {
+    assert!(rt; is_held(&rt, rt.alloc(), 2));
+    assert!(rt; is_held(&rt, rt.alloc(), 3));
+    assert!(rt; is_held(&rt, rt.alloc(), 64));
 }

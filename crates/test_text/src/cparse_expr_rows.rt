@@ -75,6 +75,14 @@ fn read(alloc: Global, tokens: &[Lexeme]) -> Result<Reading, Stop> {
     }
 }
 
+/// Whether tokens are a sum whose right operand is a product.
+fn are_sum(alloc: Global, tokens: &[Lexeme]) -> bool {
+    match read(alloc, tokens) {
+        Ok(reading) => reading.fault.is_none() && reading.rest == 0 && reading.is_sum,
+        Err(_) => false,
+    }
+}
+
 #[test]
 fn products_are_tighter_than_sums(rt: HostRuntime) {
     let tokens = [
@@ -84,12 +92,7 @@ fn products_are_tighter_than_sums(rt: HostRuntime) {
         token(7, Kind::Sign(Symbol::Star)),
         token(9, Kind::Word("x")),
     ];
-    let reading = read(rt.alloc(), &tokens)
-        .ok()
-        .expect(&rt, "the tokens are an expression");
-    assert!(rt; reading.fault.is_none());
-    assert_eq!(rt; reading.rest, 0);
-    assert!(rt; reading.is_sum);
+    assert!(rt; are_sum(rt.alloc(), &tokens));
 }
 
 /// Where operands are told not to fit in an expression of these tokens, or 0; none, if they are no expression.

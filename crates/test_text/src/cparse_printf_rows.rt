@@ -73,6 +73,14 @@ fn read(alloc: Global, tokens: &[Lexeme]) -> Option<Reading> {
     }
 }
 
+/// Whether tokens, the last left out, are a call of printf that writes a number.
+fn write_number(alloc: Global, tokens: &[Lexeme]) -> bool {
+    match read(alloc, tokens) {
+        Some(reading) => reading.fault.is_none() && reading.rest == 1 && reading.writes_number,
+        None => false,
+    }
+}
+
 #[test]
 fn printf_has_an_argument_for_each_place(rt: HostRuntime) {
     let tokens = [
@@ -85,8 +93,5 @@ fn printf_has_an_argument_for_each_place(rt: HostRuntime) {
         token(28, Kind::Sign(Symbol::CloseParen)),
         token(29, Kind::Sign(Symbol::Semicolon)),
     ];
-    let reading = read(rt.alloc(), &tokens).expect(&rt, "the tokens are a call of printf");
-    assert!(rt; reading.fault.is_none());
-    assert_eq!(rt; reading.rest, 1);
-    assert!(rt; reading.writes_number);
+    assert!(rt; write_number(rt.alloc(), &tokens));
 }

@@ -99,6 +99,20 @@ fn read(alloc: Global, left: u32, tokens: &[Lexeme<'static>]) -> Result<Reading,
     }
 }
 
+/// Whether tokens are an update by `^=` and one token more, where seven statements may follow.
+fn is_one_update(alloc: Global, tokens: &[Lexeme<'static>]) -> bool {
+    match read(alloc, 7, tokens) {
+        Ok(reading) => {
+            reading.fault.is_none()
+                && reading.rest == 1
+                && reading.tally.left == 6
+                && reading.tally.next == 1
+                && reading.is_update
+        }
+        Err(_) => false,
+    }
+}
+
 #[test]
 fn update_ends_at_its_semicolon(rt: HostRuntime) {
     let tokens = [
@@ -108,14 +122,18 @@ fn update_ends_at_its_semicolon(rt: HostRuntime) {
         sign(10, Symbol::Semicolon),
         sign(12, Symbol::CloseBrace),
     ];
-    let reading = read(rt.alloc(), 7, &tokens)
-        .ok()
-        .expect(&rt, "the tokens are items");
-    assert!(rt; reading.fault.is_none());
-    assert_eq!(rt; reading.rest, 1);
-    assert_eq!(rt; reading.tally.left, 6);
-    assert_eq!(rt; reading.tally.next, 1);
-    assert!(rt; reading.is_update);
+    assert!(rt; is_one_update(rt.alloc(), &tokens));
+}
+
+/// The column of the name that tokens use unknown in two items with one local, where seven statements may follow.
+fn unknown_in_two(alloc: Global, tokens: &[Lexeme<'static>]) -> Option<u32> {
+    let reading = read(alloc, 7, tokens).ok()?;
+    let fault = reading.fault?;
+    if reading.count == 2 && reading.tally.next == 2 && fault.flaw == Flaw::UnknownName {
+        Some(fault.place.column)
+    } else {
+        None
+    }
 }
 
 #[test]
@@ -131,16 +149,16 @@ fn local_is_no_name_behind_its_block(rt: HostRuntime) {
         long(19, 1),
         sign(23, Symbol::Semicolon),
     ];
-    let reading = read(rt.alloc(), 7, &tokens)
-        .ok()
-        .expect(&rt, "the tokens are items");
-    assert_eq!(rt; reading.count, 2);
-    assert_eq!(rt; reading.tally.next, 2);
-    let column = match reading.fault {
-        Some(fault) if fault.flaw == Flaw::UnknownName => fault.place.column,
-        _ => 0,
-    };
-    assert_eq!(rt; column, 15);
+    assert_eq!(rt; unknown_in_two(rt.alloc(), &tokens), Some(15));
+}
+
+/// The column at which tokens pass the limit, or 0, where so many statements may follow; none where they are refused otherwise.
+fn limit_column(alloc: Global, left: u32, tokens: &[Lexeme<'static>]) -> Option<u32> {
+    match read(alloc, left, tokens) {
+        Ok(_) => Some(0),
+        Err(Stop::Limit(place)) => Some(place.column),
+        Err(_) => None,
+    }
 }
 
 #[test]
@@ -151,10 +169,6 @@ fn statement_past_the_last_is_a_limit(rt: HostRuntime) {
         sign(3, Symbol::CloseBrace),
         sign(4, Symbol::CloseBrace),
     ];
-    let column = match read(rt.alloc(), 1, &tokens) {
-        Err(Stop::Limit(place)) => place.column,
-        _ => 0,
-    };
-    assert_eq!(rt; column, 2);
-    assert!(rt; read(rt.alloc(), 2, &tokens).is_ok());
+    assert_eq!(rt; limit_column(rt.alloc(), 1, &tokens), Some(2));
+    assert_eq!(rt; limit_column(rt.alloc(), 2, &tokens), Some(0));
 }

@@ -158,6 +158,16 @@ fn outcome_at(directives: &Directives, line: u32) -> Result<ParallelFor, u8> {
     }
 }
 
+/// The first line of a table that says something else in a text.
+fn other_line(alloc: Global, text: &[u8], rows: &[(u32, Result<ParallelFor, u8>)]) -> Option<u32> {
+    for (line, outcome) in rows {
+        if line_outcome(alloc, text, *line) != Some(*outcome) {
+            return Some(*line);
+        }
+    }
+    None
+}
+
 #[test]
 fn lines_have_numbers(rt: HostRuntime) {
     let alloc = rt.alloc();
@@ -171,19 +181,14 @@ fn lines_have_numbers(rt: HostRuntime) {
         schedule: ChunkSize::new(16777216),
         collapse: None,
     };
-    for (line, outcome) in [
+    let rows = [
         (1, Ok(joined)),
         (2, Err(11)),
         (3, Ok(sized)),
         (4, Err(21)),
         (5, Err(11)),
-    ] {
-        assert_eq!(rt;
-            line_outcome(alloc, text, line),
-            Some(outcome),
-            "line {line}"
-        );
-    }
+    ];
+    assert_eq!(rt; other_line(alloc, text, &rows), None);
 }
 
 /// The first fault of a kernel whose directive lines stand in this text; none for want of memory.
@@ -255,25 +260,24 @@ fn a_directive_stands_in_no_parallel_loop(rt: HostRuntime) {
     assert_eq!(rt; other_fault(rt.alloc(), &rows), None);
 }
 
-/// The number of the refusal that tells a fault.
-fn number(fault: Fault) -> u8 {
-    fault.refusal().number()
+/// The number of the refusal that tells the first fault of the directive lines of a kernel; none without a fault, or if the text is
+/// no kernel.
+fn number_of(alloc: Global, text: &str) -> Option<u8> {
+    match fault_of(alloc, text.as_bytes()) {
+        Some(Some(fault)) => Some(fault.refusal().number()),
+        _ => None,
+    }
 }
 
 #[test]
 fn the_lowest_number_is_told(rt: HostRuntime) {
     let alloc = rt.alloc();
     let before_a_loop =
-        b"uint64_t v; void kernel(void) {\n#pragma omp parallel for collapse(5)\nfor (uint64_t i = 0; i < 8; i++) { } }\n";
-    let fault = fault_of(alloc, before_a_loop)
-        .expect(&rt, "a kernel")
-        .expect(&rt, "a fault");
-    assert_eq!(rt; fault, Fault::Size(at(2)));
-    assert_eq!(rt; number(fault), 21);
+        "uint64_t v; void kernel(void) {\n#pragma omp parallel for collapse(5)\nfor (uint64_t i = 0; i < 8; i++) { } }\n";
+    let rows = [(before_a_loop, Some(Fault::Size(at(2))))];
+    assert_eq!(rt; other_fault(alloc, &rows), None);
+    assert_eq!(rt; number_of(alloc, before_a_loop), Some(21));
     let before_none =
-        b"uint64_t v; void kernel(void) {\n#pragma omp parallel for collapse(5)\nv = 1; }\n";
-    let fault = fault_of(alloc, before_none)
-        .expect(&rt, "a kernel")
-        .expect(&rt, "a fault");
-    assert_eq!(rt; number(fault), 11);
+        "uint64_t v; void kernel(void) {\n#pragma omp parallel for collapse(5)\nv = 1; }\n";
+    assert_eq!(rt; number_of(alloc, before_none), Some(11));
 }
