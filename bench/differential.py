@@ -3,8 +3,9 @@
 
     bench/differential.py [KERNEL..]
 
-By default the kernels of examples/, each with its input where it has one. The text without its directive lines, and the text
-with them, are compiled round a driver that sets the input's values and prints each file-scope variable. Silent where all agree.
+By default the kernels of examples/ that `ompk check` accepts, each with its input where it has one. The text without its directive
+lines, and the text with them, are compiled round a driver that sets the input's values and prints each file-scope variable. Silent
+where all agree.
 """
 import pathlib
 import re
@@ -63,8 +64,12 @@ def judge(work, kernel):
     return faults
 
 
+def is_accepted(kernel):
+    return subprocess.run([TOP / "ompk", "check", kernel], capture_output=True).returncode == 0
+
+
 def main():
-    kernels = [pathlib.Path(name) for name in sys.argv[1:]] or sorted((TOP / "examples").glob("*.c"))
+    kernels = [pathlib.Path(name) for name in sys.argv[1:]] or [it for it in sorted((TOP / "examples").glob("*.c")) if is_accepted(it)]
     status = 0
     with tempfile.TemporaryDirectory() as folder:
         for kernel in kernels:
