@@ -13,7 +13,7 @@ use Rattle.pairtest.specs.declared.access.Access.{Access}
 use Rattle.pairtest.specs.declared.access.Nest.{Nest}
 use Rattle.pairtest_access.specs.declared.told.Touched.{Touched}
 use Rattle.pairtest_access.specs.Sites.{Site, Sites, IsInside}
-use Rattle.pairtest_access.specs.Found.{AreFound, IsTold, inner_loops}
+use Rattle.pairtest_access.specs.Found.{AreMet, IsTold, inner_loops}
 use Rattle.deptest_verdict.specs.declared.pairs.Pair.{Pair}
 use Rattle.deptest_verdict.specs.Pairs.{AreShown, IsFirstPair, AreNamed}
 use Rattle.deptest_verdict.specs.Refused.{AreTested, IsFirstOf, IsVerdict, IsTooLarge, BodyRefused, NestRefused}
@@ -26,19 +26,19 @@ use Rattle.deptest_verdict.proofs.Same.{sites_are_unique}
 pub record Tested (now : Nesting) (outer : ℕ) (serial : List ℕ) (body : Stmt) (found : List Access) (nest : Nest) : Type 0 where
   pub sites : List Site
   pub are : Sites now body sites
-  pub finds : AreFound (length now.levels) sites found
+  pub finds : AreMet (length now.levels) sites found
   pub counts : nest.serial.items ≡ serial
   pub loops : nest.loops.items ≡ map (λ v. v.most) (inner_loops outer now.levels)
 
-pub tested : (now : Nesting) (outer : ℕ) (serial : List ℕ) (body : Stmt) (ss : List Site) (found xs : List Access) (nest : Nest) → Sites now body ss → AreFound (length now.levels) ss found
+pub tested : (now : Nesting) (outer : ℕ) (serial : List ℕ) (body : Stmt) (ss : List Site) (found xs : List Access) (nest : Nest) → Sites now body ss → AreMet (length now.levels) ss found
     → xs ≡ found → nest.serial.items ≡ serial → nest.loops.items ≡ map (λ v. v.most) (inner_loops outer now.levels) → Tested now outer serial body xs nest
-tested now outer serial body ss found xs nest are finds same p q = record { sites = ss; are = are; finds = subst (AreFound (length now.levels) ss) (sym same) finds; counts = p; loops = q }
+tested now outer serial body ss found xs nest are finds same p q = record { sites = ss; are = are; finds = subst (AreMet (length now.levels) ss) (sym same) finds; counts = p; loops = q }
 
 are_tested : (now : Nesting) (outer : ℕ) (serial : List ℕ) (body : Stmt) (found : List Access) (nest : Nest) (t : Tested now outer serial body found nest) → AreTested now outer serial body t.sites found nest
 are_tested now outer serial body found nest t = record { are = t.are; finds = t.finds; counts = t.counts; loops = t.loops }
 
 -- an access that was found is one of the body
-site_of : (outer : ℕ) (ss : List Site) (fs : List Access) (i : ℕ) (f : Access) → AreFound outer ss fs → slice_get fs i ≡ Some f → (s : Site) × (slice_get ss i ≡ Some s)
+site_of : (outer : ℕ) (ss : List Site) (fs : List Access) (i : ℕ) (f : Access) → AreMet outer ss fs → slice_get fs i ≡ Some f → (s : Site) × (slice_get ss i ≡ Some s)
 site_of outer [] [] i f are e = absurd (cc e)
 site_of outer [] (g ∷ fs) i f are e = absurd are
 site_of outer (s ∷ ss) [] i f are e = absurd are

@@ -5,7 +5,7 @@ use Rattle.std.proofs.lemmas.List.{take_more, length-drop}
 use Rattle.std.proofs.lemmas.List.Elements.{All-push}
 use Rattle.std.proofs.lemmas.Option.{same_Some, slice_get_within, get_or_from_slice_get}
 use Rattle.std.proofs.lemmas.Bool.Decides.{Decides-ltb, nat_tests}
-use Rattle.std.proofs.Common.{refl, sym, ap, ◌∙◌, subst, arith}
+use Rattle.std.proofs.Common.{inl, inr, refl, sym, ap, ◌∙◌, subst, arith}
 use Rattle.std.specs.declared.result.Result.{Result}
 use Rattle.std.proofs.lemmas.Result.{IfOk-weaker}
 use Rattle.pairtest.specs.declared.access.Access.{Access}
@@ -36,15 +36,16 @@ pub found_behind : (nest : Nest) (x y : Access) (ys : List Access) (j : ℕ) →
 found_behind nest x y ys j e h s = record { before = h; access = y; there = e; not_shown = s }
 
 -- one access more is shown to be independent of itself and those behind it
-pub shown_more : (nest : Nest) (x : Access) (xs : List Access) (i : ℕ) → slice_get xs i ≡ Some x → AreShownBefore nest xs i → All (IsShown nest x) (drop i xs) → AreShownBefore nest xs (i + 1)
-shown_more nest x xs i e h s k y l f = go (nat_lt k i) refl
+pub shown_more : (nest : Nest) (x : Access) (xs : List Access) (i : ℕ) → slice_get xs i ≡ Some x → AreShownBefore nest xs i → IsTrue x.is_counted → All (IsShown nest x) (drop i xs) → AreShownBefore nest xs (i + 1)
+shown_more nest x xs i e h counted s k y l f = go (nat_lt k i) refl
   where
-    go : (b : Bool) → nat_lt k i ≡ b → All (IsShown nest y) (drop k xs)
+    go : (b : Bool) → nat_lt k i ≡ b → IsTrue y.is_counted × All (IsShown nest y) (drop k xs)
     go true t = h k y ((Decides-ltb k i).0 t) f
     go false t =
         let same : i ≡ k = grind (arith, nat_tests) in
         let found : Some x ≡ Some y = sym e ∙ ap (slice_get xs) same ∙ f in
-        subst (λ (n : ℕ). All (IsShown nest y) (drop n xs)) same (subst (λ (z : Access). All (IsShown nest z) (drop i xs)) (same_Some x y found) s)
+        subst (λ (n : ℕ). IsTrue y.is_counted × All (IsShown nest y) (drop n xs)) same
+        (subst (λ (z : Access). IsTrue z.is_counted × All (IsShown nest z) (drop i xs)) (same_Some x y found) (counted, s))
 
 pub pair_found : (nest : Nest) (x : Access) (xs : List Access) (i j : ℕ) → slice_get xs i ≡ Some x → AreShownBefore nest xs i → IsFirstBehind nest x (drop i xs) j → IsFirstPair nest xs i (i + j)
 pair_found nest x xs i j e h f = record { before = h; access = x; there = e; behind = j; second = refl; first = f }
@@ -75,7 +76,7 @@ from_on (x ∷ xs) (suc i) j (suc n) e = from_on xs i j n (omega (arith, e))
 stands_from : (xs : List Access) (i j : ℕ) (place : Place) → StandsAt (drop i xs) j place → StandsAt xs (i + j) place
 stands_from xs i j place (x, there, at) = (x, sym (from_on xs i j (i + j) refl) ∙ there, at)
 
--- ---- a pair with too large numbers
+-- ---- too large numbers
 
 pub large_behind : (nest : Nest) (x y : Access) (ys : List Access) (j : ℕ) → slice_get ys j ≡ Some y → All (IsShown nest x) (take j ys) → IsPair x y → (AllWithin nest x y → ⊥) → IsLargeBehind nest x ys
 large_behind nest x y ys j e h p l = record { behind = j; other = y; there = e; shown = h; pair = p; large = l }
@@ -83,7 +84,10 @@ large_behind nest x y ys j e h p l = record { behind = j; other = y; there = e; 
 pub too_large : (nest : Nest) (x : Access) (xs : List Access) (i : ℕ) (place : Place) → slice_get xs i ≡ Some x → AreShownBefore nest xs i → IsLargeBehind nest x (drop i xs) → place ≡ x.place
     → IsTooLarge nest xs place
 too_large nest x xs i place e h k at =
-    record { first = i; behind = k.behind; before = h; one = x; other = k.other; one_is = e; other_is = k.there; shown = k.shown; pair = k.pair; large = k.large; at = at }
+    record { first = i; before = h; one = x; one_is = e; large = inr k; at = at }
+
+pub not_counted : (nest : Nest) (x : Access) (xs : List Access) (i : ℕ) (place : Place) → slice_get xs i ≡ Some x → AreShownBefore nest xs i → x.is_counted ≡ false → place ≡ x.place → IsTooLarge nest xs place
+not_counted nest x xs i place e h k at = record { first = i; before = h; one = x; one_is = e; large = inl k; at = at }
 
 -- ---- a pair's array and places
 

@@ -1,5 +1,5 @@
 -- The pairs of accesses of a loop's body, and the first that is not independent. (OpenMP 5.2, 1.4.1)
-use Rattle.std.specs.Prelude.{ℕ, ◌≡◌, ◌⊎◌, ◌+◌, ◌<◌, List, length, take, drop, slice_get, Some, All}
+use Rattle.std.specs.Prelude.{ℕ, ◌≡◌, ◌⊎◌, ◌+◌, ◌<◌, IsTrue, List, length, take, drop, slice_get, Some, All}
 use Rattle.ktree.specs.declared.place.Place.{Place}
 use Rattle.pairtest.specs.declared.access.Mode.TheVariants.{Writes}
 use Rattle.pairtest.specs.declared.access.Access.{Access}
@@ -7,17 +7,17 @@ use Rattle.pairtest.specs.declared.access.Nest.{Nest}
 use Rattle.pairtest.specs.Cases.{AllRefuted, AllWithin}
 use Rattle.deptest_verdict.specs.declared.pairs.Pair.{Pair}
 
--- two accesses of one array, of which one writes
+-- two accesses of one array, of which one writes, and both are counted
 abbrev pub IsPair : Access → Access → Type 0
-IsPair x y = (x.array ≡ y.array) × ((x.mode ≡ Writes) ⊎ (y.mode ≡ Writes))
+IsPair x y = (x.array ≡ y.array) × ((x.mode ≡ Writes) ⊎ (y.mode ≡ Writes)) × IsTrue x.is_counted × IsTrue y.is_counted
 
 -- if they are such a pair, every case of theirs is refuted
 abbrev pub IsShown : Nest → Access → Access → Type 0
 IsShown nest x y = IsPair x y → AllRefuted nest x y
 
--- each of the first n accesses with itself and with those behind it
+-- each of the first n accesses is counted, and so with itself and with those behind it
 abbrev pub AreShownBefore : Nest → List Access → ℕ → Type 0
-AreShownBefore nest xs n = (k : ℕ) (x : Access) → k < n → slice_get xs k ≡ Some x → All (IsShown nest x) (drop k xs)
+AreShownBefore nest xs n = (k : ℕ) (x : Access) → k < n → slice_get xs k ≡ Some x → IsTrue x.is_counted × All (IsShown nest x) (drop k xs)
 
 -- every access with itself and with those behind it
 abbrev pub AreShown : Nest → List Access → Type 0

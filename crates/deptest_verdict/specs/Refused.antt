@@ -1,5 +1,5 @@
 -- Why the test of pairs refuses a kernel: the first parallel loop, and there the first pair, that is not shown to be independent. (OpenMP 5.2, 1.4.1, 4.4.2 and 11.5)
-use Rattle.std.specs.Prelude.{ℕ, zero, suc, ◌≡◌, ◌⊎◌, List, length, map, reverse, take, drop, slice_get, Option, Some, None, All, string_bytes}
+use Rattle.std.specs.Prelude.{ℕ, zero, suc, ◌≡◌, ◌⊎◌, false, List, length, map, reverse, take, drop, slice_get, Option, Some, None, string_bytes}
 use Rattle.semantics.specs.Tree.{Variable, Stmt, Assign, Update, If, IfElse, For, Block, Print, Items, no_items, mark, local, stmt, Declaration, Kernel}
 use Rattle.semantics.specs.Source.Text.{line_at}
 use Rattle.semantics.specs.Loops.Nest.{Loop, as_loop}
@@ -16,14 +16,13 @@ use Rattle.pragma.specs.Parallel.{associated}
 use Rattle.nest_space.specs.Space.{IsSpace}
 use Rattle.pairtest.specs.declared.access.Access as pairs
 use Rattle.pairtest.specs.declared.access.Nest.{Nest}
-use Rattle.pairtest.specs.Cases.{AllWithin}
 use Rattle.pairtest_access.specs.declared.told.Touched.{Touched}
 use Rattle.pairtest_access.specs.Sites.{Site, Sites, IsInside}
-use Rattle.pairtest_access.specs.Found.{AreFound, IsTold, inner_loops}
+use Rattle.pairtest_access.specs.Found.{AreMet, IsTold, inner_loops}
 use Rattle.pairtest_access.specs.Refused.{IsStuck}
 use Rattle.deptest_witness.specs.Touching.{Access, NestAt, IsEntered, TouchesAt}
 use Rattle.deptest_witness.specs.Pairs.{IsFirst, NeverMeet}
-use Rattle.deptest_verdict.specs.Pairs.{IsPair, IsShown, AreShownBefore, IsFirstPair}
+use Rattle.deptest_verdict.specs.Pairs.{AreShownBefore, IsFirstPair, IsLargeBehind}
 use Rattle.deptest_verdict.specs.Shown.{no_loops, LineShown, LoopsShown}
 
 -- the array's name, where the variable is declared
@@ -33,7 +32,7 @@ IsNameOf ds x bytes = (d : Declaration) → slice_get ds x ≡ Some d → bytes 
 -- the accesses of a body, in order of place, as they are tested; of the loops round it the first so many are serial, with these greatest counts
 pub record AreTested (now : Nesting) (outer : ℕ) (serial : List ℕ) (body : Stmt) (sites : List Site) (found : List pairs.Access) (nest : Nest) : Type 0 where
   pub are : Sites now body sites
-  pub finds : AreFound (length now.levels) sites found
+  pub finds : AreMet (length now.levels) sites found
   pub counts : nest.serial.items ≡ serial
   pub loops : nest.loops.items ≡ map (λ v. v.most) (inner_loops outer now.levels)
 
@@ -80,21 +79,16 @@ IsVerdict ds now outer serial body (refusals.NotShown a) =
     → NeverMeet (TouchesAt at (touch_of p.one_touched)) (TouchesAt at (touch_of p.other_touched)))
 IsVerdict ds now outer serial body _ = ⊥
 
--- a pair whose equations have a number above 2^62, and all pairs before it are shown to be independent
+-- an access that is not counted, or that has a pair whose equations have a number above 2^62; all before are shown to be independent
 pub record IsTooLarge (nest : Nest) (found : List pairs.Access) (place : Place) : Type 0 where
   pub first : ℕ
-  pub behind : ℕ
   pub before : AreShownBefore nest found first
   pub one : pairs.Access
-  pub other : pairs.Access
   pub one_is : slice_get found first ≡ Some one
-  pub other_is : slice_get (drop first found) behind ≡ Some other
-  pub shown : All (IsShown nest one) (take behind (drop first found))
-  pub pair : IsPair one other
-  pub large : AllWithin nest one other → ⊥
+  pub large : (one.is_counted ≡ false) ⊎ IsLargeBehind nest one (drop first found)
   pub at : place ≡ one.place
 
--- a body is refused for a pair, for a pair's numbers, or for an access without forms
+-- a body is refused for a pair, for numbers that are too large, or for an access without forms
 abbrev pub BodyRefused : List Declaration → Nesting → ℕ → List ℕ → Stmt → Refusal → Type 0
 BodyRefused ds now outer serial body r =
     IsVerdict ds now outer serial body r

@@ -45,7 +45,8 @@ pub struct Pair {
     pub second_place: Place,
 }
 
-/// Why no answer is given: the equations of a pair whose first access stands at this place pass the limit of 2^62.
+/// Why no answer is given: the access at this place is not counted, or the equations of a pair whose first access stands there
+/// pass the limit of 2^62.
 #[derive(Clone, Copy, Debug, PartialEq, Eq)]
 pub struct TooLarge {
     pub place: Place,
@@ -58,11 +59,14 @@ struct Behind {
     place: Place,
 }
 
-/// Whether two accesses are of one array, and one of them writes.
+/// Whether two accesses are of one array, one of them writes, and both are counted.
 fn is_pair(x: &Access, y: &Access) -> bool
     ensures { IsTrue result ↔ IsPair x.now y.now }
 {
-    x.array == y.array && (x.mode == Mode::Writes || y.mode == Mode::Writes)
+    x.is_counted
+        && y.is_counted
+        && x.array == y.array
+        && (x.mode == Mode::Writes || y.mode == Mode::Writes)
 }
 
 /// Whether two accesses are independent, if they are such a pair.
@@ -156,7 +160,7 @@ fn first_from(
 ///
 /// # Errors
 ///
-/// Where an equation of a pair before has a number above 2^62 in absolute value.
+/// Where an access before is not counted, or an equation of a pair before has a number above 2^62 in absolute value.
 pub fn first_pair(accesses: &Accesses, nest: &Nest) -> Result<Option<Pair>, TooLarge>
     requires { AreWrites accesses.now.all.items accesses.now.writes.items }
     ensures ok { IfOk result (λ found. MatchOption found (AreShown nest.now accesses.now.all.items) (λ pair. IsFirstPair nest.now accesses.now.all.items pair.first pair.second)) }
@@ -165,6 +169,9 @@ pub fn first_pair(accesses: &Accesses, nest: &Nest) -> Result<Option<Pair>, TooL
 {
     let all = accesses.all.as_slice();
     for (i, x) in all.iter().enumerate() {
+        if !x.is_counted {
+            return Err(TooLarge { place: x.place });
+        }
         let found = match first_from(x, i, accesses, nest) {
             Ok(found) => found,
             Err(_large) => return Err(TooLarge { place: x.place }),

@@ -1,5 +1,5 @@
 -- What is told of the first pair of a body that is not shown to be independent is a conflict.
-use Rattle.std.specs.Prelude.{ℕ, ◌≡◌, ◌<◌, ◌⊎◌, List, [], length, Contains, Option, Some, slice_get, string_bytes}
+use Rattle.std.specs.Prelude.{ℕ, ◌≡◌, ◌<◌, ◌⊎◌, IsTrue, List, [], length, Contains, Option, Some, slice_get, string_bytes}
 use Rattle.std.proofs.Common.{refl, sym, inl, inr, ap, ◌∙◌, subst, ⊎_elim}
 use Rattle.semantics.specs.Tree.{Stmt, Declaration}
 use Rattle.semantics.specs.Loops.Nest.{Loop, nest_of}
@@ -16,7 +16,7 @@ use Rattle.nest_space.specs.Space.{vectors}
 use Rattle.deptest_witness.specs.Touching.{NestAt, IsEntered, TouchesAt}
 use Rattle.deptest_witness.specs.Pairs.{Share}
 use Rattle.pairtest_access.specs.Sites.{Site, Sites}
-use Rattle.pairtest_access.specs.Found.{AreFound, IsFound, IsTouched, IsTold}
+use Rattle.pairtest_access.specs.Found.{AreMet, IsFound, IsTouched, IsTold}
 use Rattle.pairtest_access.specs.declared.told.Touched.{Touched}
 use Rattle.deptest_verdict.specs.Shown.{no_loops}
 use Rattle.deptest_verdict.specs.Refused.{IsNameOf, touch_of, serial_loops, nest_loops, IsVerdict}
@@ -37,10 +37,10 @@ record IsMade (now : Nesting) (body : Stmt) (f : Access) (touched : Touched) : T
   among : Contains (accesses [] body) access
   link : Link now site access
 
-made : (now : Nesting) (body : Stmt) (sites : List Site) (fs : List Access) (k : ℕ) (f : Access) (touched : Touched) → LoopsAreRead now.box body → Sites now body sites → AreFound (length now.levels) sites fs
-    → slice_get fs k ≡ Some f → IsTold (length now.levels) (slice_get sites k) (Some touched) → IsMade now body f touched
-made now body sites fs k f touched read are finds at is =
-    let s = site_of (length now.levels) sites fs k f finds at in
+made : (now : Nesting) (body : Stmt) (sites : List Site) (fs : List Access) (k : ℕ) (f : Access) (touched : Touched) → LoopsAreRead now.box body → Sites now body sites → AreMet (length now.levels) sites fs
+    → slice_get fs k ≡ Some f → IsTrue f.is_counted → IsTold (length now.levels) (slice_get sites k) (Some touched) → IsMade now body f touched
+made now body sites fs k f touched read are finds at counted is =
+    let s = site_of (length now.levels) sites fs k f finds at counted in
     let l = linked now now [] body sites refl are read s.0 (contains_at sites k s.0 s.1) in
     record {
       site = s.0;
@@ -97,9 +97,9 @@ module _ (ds : List Declaration) (c : told.Conflict) (serial loops : List Loop) 
   -- the verdict on the body is one
   pub verdict_is_conflict : (counts : List ℕ) → IsVerdict ds now (length round.levels) counts body (refusals.Conflict c) → IsConflict ds c serial n s
   verdict_is_conflict counts (p, region, known, first) =
-      let x = made now body p.sites p.found p.first p.one p.one_touched read p.tested.are p.tested.finds p.one_is p.one_touches in
-      let y = made now body p.sites p.found p.second p.other p.other_touched read p.tested.are p.tested.finds p.other_is p.other_touches in
       let pair = first_is_pair p.nest p.found p.first p.second p.one p.other p.is p.one_is p.other_is in
+      let x = made now body p.sites p.found p.first p.one p.one_touched read p.tested.are p.tested.finds p.one_is pair.2 p.one_touches in
+      let y = made now body p.sites p.found p.second p.other p.other_touched read p.tested.are p.tested.finds p.other_is pair.3 p.other_touches in
       ⊎_elim
       (λ (h : Share (TouchesAt region (touch_of p.one_touched)) (TouchesAt region (touch_of p.other_touched)) c.earlier c.later c.indexes.items).
       conflict_of region known p.one p.other p.one_touched p.other_touched x y pair.0 pair.1 p.array first.order h.0 h.1)

@@ -59,9 +59,11 @@ refuted : (nest : Nest) (fs : List Access) (x y : Access) → AreShown nest fs �
 refuted nest fs x y shown in_x in_y same writes =
     let i = place_of fs x in_x in
     let j = place_of fs y in_y in
+    let one = shown i.0 x (slice_get_within fs i.0 x i.1) i.1 in
+    let other = shown j.0 y (slice_get_within fs j.0 y j.1) j.1 in
     ⊎_elim
-    (λ (less : i.0 < j.0). inl (from_there (IsShown nest x) fs i.0 j.0 y (omega arith) j.1 (shown i.0 x (slice_get_within fs i.0 x i.1) i.1) (same, writes)))
-    (λ (more : j.0 ≤ i.0). inr (from_there (IsShown nest y) fs j.0 i.0 x more i.1 (shown j.0 y (slice_get_within fs j.0 y j.1) j.1) (sym same, turned)))
+    (λ (less : i.0 < j.0). inl (from_there (IsShown nest x) fs i.0 j.0 y (omega arith) j.1 one.1 (same, writes, one.0, other.0)))
+    (λ (more : j.0 ≤ i.0). inr (from_there (IsShown nest y) fs j.0 i.0 x more i.1 other.1 (sym same, turned, other.0, one.0)))
     (cases_lt i.0 j.0)
   where
     turned : (y.mode ≡ found.Writes) ⊎ (x.mode ≡ found.Writes)

@@ -22,12 +22,14 @@ pub enum Mode {
 }
 
 /// An access of an element of an array in the body of a nest: where it stands, its subscripts, and for each loop of the
-/// body round it, from the outermost on, how many turns it takes at most.
+/// body round it, from the outermost on, how many turns it takes at most. An access is not counted where a subscript has no
+/// form in the counters within the limits: it has no subscripts then, and nothing is tested of it.
 #[derive(Drop)]
 pub struct Access {
     pub array: VarId,
     pub mode: Mode,
     pub place: Place,
+    pub is_counted: bool,
     pub subscripts: Vec<Subscript>,
     pub inner: Vec<u64>,
 }

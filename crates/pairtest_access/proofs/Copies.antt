@@ -1,6 +1,6 @@
 -- Copies of canonical loops, and the last of some loops first.
 use Rattle.std.specs.Prelude.{◌≡◌, List, [], ◌∷◌, ◌++◌, map, reverse}
-use Rattle.std.proofs.Common.{refl, sym, ap, ◌∙◌, subst}
+use Rattle.std.proofs.Common.{sym, ap, ◌∙◌}
 use Rattle.std.proofs.lemmas.List.{map-append, reverse-append}
 use Rattle.affine.specs.Affine.{Affine}
 use Rattle.nest_loop.specs.declared.head.Canonical.{Canonical}

@@ -1,9 +1,9 @@
 -- Lists that grow at their end.
-use Rattle.std.specs.Prelude.{ℕ, zero, suc, ◌+◌, ◌≡◌, ◌<◌, ◌⊎◌, Option, None, List, [], ◌∷◌, ◌++◌, length, get_or, take, map}
-use Rattle.std.proofs.Common.{inl, inr, refl, sym, ap, ◌∙◌, subst, arith}
+use Rattle.std.specs.Prelude.{ℕ, zero, suc, ◌+◌, ◌≡◌, ◌<◌, ◌⊎◌, None, List, [], ◌∷◌, ◌++◌, length, get_or, take}
+use Rattle.std.proofs.Common.{inl, inr, sym, ap, ◌∙◌, subst, arith}
 use Rattle.std.proofs.lemmas.List.{take_more}
 use Rattle.semantics.specs.Tree
-use Rattle.ktree.specs.View.{expr_of, exprs_of, part_of}
+use Rattle.ktree.specs.View.{expr_of, exprs_of}
 use Rattle.ktree.specs.declared.expression.Expr.{Expr}
 use Rattle.affine_expr.specs.Forms.{form_of}
 use Rattle.affine_expr.specs.declared.faults.Fault.{Fault}

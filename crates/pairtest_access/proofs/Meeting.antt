@@ -1,5 +1,5 @@
 -- One object that is met, and what is kept in the end.
-use Rattle.std.specs.Prelude.{ℕ, zero, suc, ◌-◌, ◌≡◌, ◌<◌, ◌==◌, Bool, false, List, [], ◌∷◌, ◌++◌, length, Option, Some, None, slice_get}
+use Rattle.std.specs.Prelude.{ℕ, zero, suc, ◌-◌, ◌≡◌, ◌<◌, ◌==◌, false, List, [], ◌∷◌, ◌++◌, length, Some, None, slice_get}
 use Rattle.std.proofs.Common.{inl, inr, Vec, Global, refl, sym, ap, ◌∙◌, subst, arith}
 use Rattle.std.proofs.lemmas.List.{append_assoc, append-nil}
 use Rattle.semantics.specs.Tree.{Variable}
@@ -9,14 +9,13 @@ use Rattle.pairtest_counter.specs.Levels.{Nesting}
 use Rattle.pairtest.specs.declared.access.Access.{Access}
 use Rattle.pairtest.specs.declared.access.Mode.{Mode}
 use Rattle.pairtest_access.specs.Sites.{Site, named}
-use Rattle.pairtest_access.specs.Found.{AreEach, IsSubscript, IsFound, IsTouched, AreFound, IsTold}
+use Rattle.pairtest_access.specs.Found.{AreEach, IsSubscript, IsMet, IsTouched, AreMet, IsTold}
 use Rattle.affine_expr.specs.declared.faults.Fault.{Fault}
 use Rattle.pairtest.specs.declared.access.Subscript.{Subscript}
 use Rattle.pairtest_access.specs.Refused.{Because, Lacks}
 use Rattle.pairtest_access.specs.Walk.{Meets, MeetsWanted, MeetsAll}
 use Rattle.pairtest_access.specs.declared.told.Touched.{Touched}
 use Rattle.pairtest_access.specs.declared.finder.Finder.{Finder}
-use Rattle.pairtest_access.specs.declared.finder.Wanted.{Wanted}
 use Rattle.pairtest_access.specs.declared.finder.Wanted.TheVariants.{Every, Only, Nothing}
 
 -- an object with subscripts is an access
@@ -26,7 +25,7 @@ one_met n mode x [] b a some h = absurd (cc some)
 one_met n mode x (e ∷ es) b a some h = (a, h, refl)
 
 pub every_met : (n : Nesting) (mode : Mode) (x : Variable) (es : List Expr) (b : Finder) (f : Access) (v : Vec Access Global) → (length es == 0) ≡ false → b.wanted ≡ Every
-    → IsFound b.outer (record { round = n; mode = mode; array = x; subscripts = exprs_of es }) f → v.items ≡ b.accesses.items ++ (f ∷ [])
+    → IsMet b.outer (record { round = n; mode = mode; array = x; subscripts = exprs_of es }) f → v.items ≡ b.accesses.items ++ (f ∷ [])
     → MeetsAll b (named n mode x (exprs_of es)) (record { outer = b.outer; wanted = b.wanted; accesses = v; touched = b.touched })
 every_met n mode x es b f v some is found items =
     let a : Finder = record { outer = b.outer; wanted = b.wanted; accesses = v; touched = b.touched } in
@@ -67,7 +66,7 @@ site_lacks n mode x (e ∷ es) fault some (inr h) = inr (inl h)
 record More (b a : Finder) (ss : List Site) : Type 0 where
   found : List Access
   behind : a.accesses.items ≡ b.accesses.items ++ found
-  are : AreFound b.outer ss found
+  are : AreMet b.outer ss found
 
 all_found : (ss : List Site) (b a : Finder) → b.wanted ≡ Every → MeetsAll b ss a → More b a ss
 all_found [] b a is h = record { found = []; behind = ap (λ (f : Finder). f.accesses.items) h ∙ sym (append-nil b.accesses.items); are = tt }
@@ -77,13 +76,13 @@ all_found (s ∷ ss) b a is (m, met, rest) =
     record {
       found = here.0 ∷ more.found;
       behind = more.behind ∙ ap (λ fs. fs ++ more.found) here.2 ∙ append_assoc b.accesses.items (here.0 ∷ []) more.found;
-      are = (here.1, subst (λ n. AreFound n ss more.found) met.0 more.are);
+      are = (here.1, subst (λ n. AreMet n ss more.found) met.0 more.are);
     }
 
-pub are_found : (ss : List Site) (b a : Finder) (outer : ℕ) → b.outer ≡ outer → b.wanted ≡ Every → b.accesses.items ≡ [] → MeetsAll b ss a → AreFound outer ss a.accesses.items
+pub are_found : (ss : List Site) (b a : Finder) (outer : ℕ) → b.outer ≡ outer → b.wanted ≡ Every → b.accesses.items ≡ [] → MeetsAll b ss a → AreMet outer ss a.accesses.items
 are_found ss b a outer out is none h =
     let more = all_found ss b a is h in
-    subst (λ n. AreFound n ss a.accesses.items) out (subst (AreFound b.outer ss) (sym (more.behind ∙ ap (λ fs. fs ++ more.found) none)) more.are)
+    subst (λ n. AreMet n ss a.accesses.items) out (subst (AreMet b.outer ss) (sym (more.behind ∙ ap (λ fs. fs ++ more.found) none)) more.are)
 
 -- nothing more is kept
 nothing_more : (ss : List Site) (b a : Finder) → b.wanted ≡ Nothing → MeetsAll b ss a → a ≡ b

@@ -3,7 +3,7 @@ use Rattle.std.specs.Prelude.{ℕ, zero, suc, ◌+◌, ◌≡◌, ◌<◌, ◌�
 use Rattle.std.proofs.Common.{inl, inr, refl, sym, ap, ◌∙◌, subst, arith}
 use Rattle.std.proofs.lemmas.List.{take_more, append_assoc, append-nil}
 use Rattle.semantics.specs.Tree
-use Rattle.ktree.specs.View.{expr_of, start_of, stmt_of, items_of, with_item, part_of, source_of, cond_of, increment_of}
+use Rattle.ktree.specs.View.{start_of, stmt_of, items_of, with_item, part_of, source_of, cond_of, increment_of}
 use Rattle.ktree.specs.declared.statement.Head.{Head}
 use Rattle.ktree.specs.declared.statement.PrintPart.{PrintPart}
 use Rattle.ktree.specs.declared.statement.Item.{Item, Directive, Local, Statement'}
@@ -14,7 +14,7 @@ use Rattle.pairtest.specs.declared.access.Mode.TheVariants.{Writes}
 use Rattle.affine_expr.specs.declared.faults.Fault.{Fault}
 use Rattle.pairtest_access.specs.Sites.{Site, Sites, ItemsSites, IsInside, named, expr_sites, cond_sites, source_sites, start_sites, printed_sites, part_sites}
 use Rattle.pairtest_access.specs.Refused.{Lacks, IsStuck, AreStuck, Because}
-use Rattle.pairtest_access.specs.Walk.{Meets, MeetsAll}
+use Rattle.pairtest_access.specs.Walk.{MeetsAll}
 use Rattle.pairtest_access.specs.declared.finder.Finder.{Finder}
 
 -- no access

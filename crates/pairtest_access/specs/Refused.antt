@@ -4,14 +4,9 @@ use Rattle.semantics.specs.Tree.{Stmt, Assign, Update, If, IfElse, For, Block, P
 use Rattle.pairtest_counter.specs.Levels.{Nesting}
 use Rattle.affine_expr.specs.declared.faults.Fault.{Fault}
 use Rattle.affine_expr.specs.declared.faults.Fault.TheVariants.{OutOfMemory}
-use Rattle.pairtest.specs.declared.access.Subscript.{Subscript}
 use Rattle.pairtest.specs.declared.access.Mode.TheVariants.{Writes}
 use Rattle.pairtest_access.specs.Sites.{Site, named, expr_sites, cond_sites, source_sites, start_sites, part_sites, IsInside}
-use Rattle.pairtest_access.specs.Found.{AreEach, IsSubscript}
-
--- some subscript of an access has no form in the variables of the loops round it, or none in their counters within the limits
-abbrev pub HasNoForms : Site → Type 0
-HasNoForms s = (ts : List Subscript) → AreEach (IsSubscript s.round) s.subscripts ts → ⊥
+use Rattle.pairtest_access.specs.Found.{HasNoForms}
 
 -- some access has none
 abbrev pub Lacks : List Site → Type 0

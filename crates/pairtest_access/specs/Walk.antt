@@ -1,8 +1,8 @@
 -- What a walk over element accesses keeps of them.
-use Rattle.std.specs.Prelude.{ℕ, zero, suc, ◌≡◌, List, [], ◌∷◌, ◌++◌, Some}
+use Rattle.std.specs.Prelude.{zero, suc, ◌≡◌, List, [], ◌∷◌, ◌++◌, Some}
 use Rattle.pairtest.specs.declared.access.Access.{Access}
 use Rattle.pairtest_access.specs.Sites.{Site}
-use Rattle.pairtest_access.specs.Found.{IsFound, IsTouched}
+use Rattle.pairtest_access.specs.Found.{IsMet, IsTouched}
 use Rattle.pairtest_access.specs.declared.told.Touched.{Touched}
 use Rattle.pairtest_access.specs.declared.finder.Finder.{Finder}
 use Rattle.pairtest_access.specs.declared.finder.Wanted.{Wanted}
@@ -11,7 +11,7 @@ use Rattle.pairtest_access.specs.declared.finder.Wanted.TheVariants.{Every, Only
 -- a further access, where this is wanted
 abbrev pub MeetsWanted : Wanted → Finder → Site → Finder → Type 0
 MeetsWanted Every before s after =
-    (f : Access) × IsFound before.outer s f × (after.accesses.items ≡ before.accesses.items ++ (f ∷ [])) × (after.wanted ≡ Every)
+    (f : Access) × IsMet before.outer s f × (after.accesses.items ≡ before.accesses.items ++ (f ∷ [])) × (after.wanted ≡ Every)
 MeetsWanted (Only zero) before s after = (t : Touched) × IsTouched before.outer s.round s.subscripts t × (after.touched ≡ Some t) × (after.wanted ≡ Nothing)
 MeetsWanted (Only (suc n)) before s after = (after.touched ≡ before.touched) × (after.wanted ≡ Only n)
 MeetsWanted Nothing before s after = after ≡ before

@@ -3,7 +3,7 @@
 ghost use Rattle.std.specs.Prelude.{◌≡◌, List, length, slice_get, OnOk, IfOk, IfErr};
 ghost use Rattle.ktree.specs.View.{stmt_of};
 ghost use Rattle.pairtest_access.specs.Sites.{Site, Sites};
-ghost use Rattle.pairtest_access.specs.Found.{AreFound, IsTold};
+ghost use Rattle.pairtest_access.specs.Found.{AreMet, IsTold};
 ghost use Rattle.pairtest_access.specs.Refused.{Because, IsStuck};
 
 use crate::finder::{Finder, Wanted};
@@ -17,14 +17,15 @@ use std::alloc::Global;
 
 /// Every element access of a body, in order of place, where the loops of the chain stand round the body; the target of an
 /// assignment stands first, and writes. Of the loops inside the body each has its greatest count in the accesses inside it.
+/// An access is not counted where a number of a subscript's form in the counters is above 2^62 in absolute value.
 /// The chain has the same loops behind it.
 ///
 /// # Errors
 ///
-/// `Limit` at the access where a number of a subscript's form in the counters is above 2^62 in absolute value; the fault of
-/// a loop that is not canonical, may wrap or is one too many, and of a subscript without a form; `OutOfMemory`.
+/// The fault of a loop that is not canonical, may wrap or is one too many, and of a subscript without a form in the variables;
+/// `OutOfMemory`.
 pub fn accesses(alloc: Global, chain: &mut Chain, body: &Stmt) -> Result<Vec<Access>, Fault>
-    ensures ok { IfOk result (λ found. (ss : List Site) × Sites chain.old (stmt_of body.now) ss × AreFound (length chain.old.levels) ss found.items) }
+    ensures ok { IfOk result (λ found. (ss : List Site) × Sites chain.old (stmt_of body.now) ss × AreMet (length chain.old.levels) ss found.items) }
     ensures err { IfErr result (Because (IsStuck chain.old (stmt_of body.now))) }
     ensures back { OnOk result (chain.new ≡ chain.old) }
 {

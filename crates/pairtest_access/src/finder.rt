@@ -3,7 +3,7 @@
 ghost use Rattle.std.specs.Prelude.{◌≡◌, OnOk, IfOk, IfErr, List};
 ghost use Rattle.ktree.specs.View.{exprs_of};
 ghost use Rattle.pairtest_access.specs.Sites.{Site, named};
-ghost use Rattle.pairtest_access.specs.Found.{AreEach, IsSubscript, IsFound, IsTouched};
+ghost use Rattle.pairtest_access.specs.Found.{AreEach, IsSubscript, IsMet, IsTouched};
 ghost use Rattle.pairtest.specs.declared.access.Subscript as subscripts;
 ghost use Rattle.pairtest_access.specs.Refused.{Because, Lacks};
 ghost use Rattle.pairtest_access.specs.Walk.{MeetsAll};
@@ -33,7 +33,7 @@ pub(crate) struct Finder {
     pub touched: Option<Touched>,
 }
 
-/// An access inside the loops of a chain.
+/// An access inside the loops of a chain, not counted where its subscripts pass the limits.
 fn access(
     alloc: Global,
     chain: &Chain,
@@ -43,14 +43,20 @@ fn access(
     expressions: &[Expr],
     mention: &Mention,
 ) -> Result<Access, Fault>
-    ensures ok { IfOk result (IsFound outer (record { round = chain.now; mode = mode; array = array.0; subscripts = exprs_of expressions.now })) }
+    ensures ok { IfOk result (IsMet outer (record { round = chain.now; mode = mode; array = array.0; subscripts = exprs_of expressions.now })) }
     ensures err { IfErr result (Because ((ts : List subscripts.Subscript) → AreEach (IsSubscript chain.now) (exprs_of expressions.now) ts → ⊥)) }
 {
+    let (is_counted, subscripts) = match subscripts(alloc, chain, expressions, mention) {
+        Ok(found) => (true, found),
+        Err(Fault::Limit(_)) => (false, Vec::new(alloc)),
+        Err(fault) => return Err(fault),
+    };
     Ok(Access {
         array,
         mode,
         place: mention.name,
-        subscripts: subscripts(alloc, chain, expressions, mention)?,
+        is_counted,
+        subscripts,
         inner: inner_counts(alloc, chain, outer)?,
     })
 }

@@ -943,6 +943,34 @@ A[i + 4294967296ull * t] = A[i - 4294967296ull * t];
             line: 5,
             column: 1,
         },
+        // With each step of `t` the subscript changes by more than 2^62: the access has no form in the counters.
+        Row {
+            text: "
+for (uint64_t t = 0; t < 1; t += 2147483647) {
+#pragma omp parallel for
+for (uint64_t i = 0; i < 8; i++) {
+A[i] = A[i + 4294967296ull * t];
+A[7 - i] = i;
+}
+}",
+            number: 19,
+            line: 5,
+            column: 1,
+        },
+        Row {
+            text: "
+for (uint64_t t = 0; t < 1; t += 2147483647) {
+#pragma omp parallel for
+for (uint64_t i = 0; i < 8; i++) {
+A[i] = 1;
+uint64_t x = A[i + 4294967296ull * t];
+B[0] = i;
+}
+}",
+            number: 21,
+            line: 6,
+            column: 14,
+        },
         Row {
             text: "
 if (s) {

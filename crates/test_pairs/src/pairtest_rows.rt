@@ -39,6 +39,7 @@ fn access(alloc: Global, form: Form<'_>, inner: &[u64]) -> Result<Access, AllocE
         array: VarId(0),
         mode: Mode::Writes,
         place: Place { line: 3, column: 5 },
+        is_counted: true,
         subscripts,
         inner,
     })
