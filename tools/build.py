@@ -14,31 +14,17 @@ import tempfile
 import threading
 import time
 
-TOP = os.path.dirname(os.path.dirname(os.path.abspath(__file__)))
-sys.path.insert(0, os.path.join(TOP, "tools"))
 sys.dont_write_bytecode = True
 
 import kit
 
 
-def keep_stamps(crates):
-    """Lets each crate's sum of sources be made once, and not once for each way down to it."""
-    kept, make = {}, crates.Crate.stamp
-
-    def stamp(crate):
-        if crate.name not in kept:
-            kept[crate.name] = make(crate)
-        return kept[crate.name]
-
-    crates.Crate.stamp = stamp
-
-
 def main(program):
-    os.chdir(TOP)
+    os.chdir(kit.TOP)
     rt = kit.load()
     rt.rtlib.guarded()
-    keep_stamps(rt.rtlib)
-    found = [it for it in rt.rtlib.crates_below(TOP) if it.name == program]
+    kit.sum_once(rt.rtlib)
+    found = [it for it in rt.rtlib.crates_below(kit.TOP) if it.name == program]
     if not found:
         sys.exit(f"build: crates.txt names no crate {program}")
     libraries = found[0].below()

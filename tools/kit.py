@@ -4,6 +4,9 @@ import importlib.util
 import os
 import shutil
 import sys
+import threading
+
+TOP = os.path.dirname(os.path.dirname(os.path.abspath(__file__)))
 
 
 def load():
@@ -16,3 +19,35 @@ def load():
     module = importlib.util.module_from_spec(importlib.util.spec_from_loader("rt", loader))
     loader.exec_module(module)
     return module
+
+
+def state_of_sources():
+    """The newest change of a crate's file, and how many files there are."""
+    newest = count = 0
+    for folder, inner, files in os.walk(f"{TOP}/crates"):
+        inner[:] = [it for it in inner if it != "out"]
+        count += len(files)
+        newest = max([newest, *(os.stat(f"{folder}/{it}").st_mtime_ns for it in files)])
+    return newest, count
+
+
+def sum_once(rtlib):
+    """Lets each crate's sum of sources be made once as long as no file changes, and not once for each way down to it."""
+    kept, make, lock = {}, rtlib.Crate.stamp, threading.RLock()
+    state, depth = None, 0
+
+    def stamp(crate):
+        nonlocal state, depth
+        with lock:
+            if depth == 0 and state != (now := state_of_sources()):
+                kept.clear()
+                state = now
+            if crate.name not in kept:
+                depth += 1
+                try:
+                    kept[crate.name] = make(crate)
+                finally:
+                    depth -= 1
+            return kept[crate.name]
+
+    rtlib.Crate.stamp = stamp
