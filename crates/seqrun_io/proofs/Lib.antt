@@ -3,6 +3,7 @@ pub mod Rows
 pub mod Puts
 pub mod InputWords
 pub mod InputLaw
+pub mod Places
 pub mod LineSteps
 pub mod InputStore
 pub mod InputRun

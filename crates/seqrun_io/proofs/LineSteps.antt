@@ -1,5 +1,5 @@
 -- The steps in which a line is read.
-use Rattle.std.specs.Prelude.{ℕ, zero, suc, Bool, true, false, not, ◌≡◌, ◌≢◌, ◌==◌, ◌+◌, ◌-◌, ◌*◌, ◌<◌, ◌≤◌, ◌&&◌, ◌^◌, nat_lt, if◌then◌else◌, List, [], ◌∷◌, ◌++◌, length, map, flat_map, take, drop, Some, None, slice_get, slice_index_or, All, string_bytes, count_by, option_map}
+use Rattle.std.specs.Prelude.{ℕ, zero, suc, Bool, true, false, not, ◌≡◌, ◌≢◌, ◌==◌, ◌+◌, ◌-◌, ◌*◌, ◌<◌, ◌≤◌, ◌&&◌, ◌^◌, nat_lt, if◌then◌else◌, List, [], ◌∷◌, ◌++◌, length, map, flat_map, take, drop, Some, None, slice_get, slice_index_or, All, count_by}
 use Rattle.std.specs.List.{list_all}
 use Rattle.std.specs.Fmt.{decimal}
 use Rattle.std.proofs.Common.{refl, sym, ap, ◌∙◌, subst, arith, append_assoc, append-nil, get_or, drop-cons, length-append}
@@ -8,22 +8,16 @@ use Rattle.std.proofs.lemmas.List.{take-append-drop, take_all}
 use Rattle.std.proofs.lemmas.List.Elements.{All-append}
 use Rattle.std.proofs.lemmas.List.Sums.{sum_by-cons}
 use Rattle.std.proofs.lemmas.Grind.{flat_map-append}
-use Rattle.std.proofs.lemmas.Option.{slice_get_read, slice_get-map}
 use Rattle.semantics.specs.Tree as Tree
 use Rattle.semantics.specs.Source.Cuts.{is_digit, is_decimal, decimal_from}
-use Rattle.semantics.specs.Source.Scope.{same_name}
 use Rattle.semantics.specs.Meaning.Places.{size}
 use Rattle.semantics.specs.Meaning.Output.{name_of}
 use Rattle.semantics.specs.Meaning.InputFault.{WrongForm, UnknownName, NamedTwice, WrongCount, WrongNumber, Judged, Right, Faulty, is_formed, is_value, split_from, declared_from, judged_at, judged_words, judged}
-use Rattle.ktree.specs.declared.statement.Declaration.{Declaration}
-use Rattle.ktree.specs.View.{declaration_of}
 use Rattle.semantics.proofs.EraseTokenLaw.{first_of, second_of}
-use Rattle.store.specs.Kept.{Kept}
-use Rattle.seqrun_io.specs.Lines.{HasLengths, value_text}
-use Rattle.seqrun_io.proofs.Puts.{heads, tails}
-use Rattle.seqrun_io.specs.Reading.{words_behind, IsBefore, StartsWithSpace, value_of_word, AreRead, IsFound, Marks, IsRight}
+use Rattle.seqrun_io.specs.Lines.{value_text}
+use Rattle.seqrun_io.specs.Reading.{words_behind, IsBefore, StartsWithSpace, value_of_word, AreRead, Marks, IsRight}
+use Rattle.seqrun_io.proofs.Places.{IsFound}
 use Rattle.seqrun_io.proofs.InputWords.{both_pass, formed_from, formed_bytes, split_at_end, split_at_space, decimal_of_word}
-use Rattle.seqrun_io.proofs.InputLaw.{itself}
 
 nothing_left : (w : List ℕ) (i : ℕ) → length w ≤ i → drop i w ≡ []
 nothing_left [] zero le = refl
@@ -84,19 +78,6 @@ read_word w n i le some lead d e lt =
         unlike : (t : Bool) → (b == 48) ≡ t → not t ≡ true
         unlike true e = absurd (lead (omega arith) (eqb-true b 48 e))
         unlike false e = refl
-
--- a declaration that has the name
-pub found_at : (ds : List Declaration) (name : List ℕ) (i : ℕ) (d : Declaration) → i < length ds → d ≡ get_or ds i d → string_bytes d.name ≡ name → declared_from 0 (map declaration_of ds) name ≡ declared_from i (map declaration_of (drop i ds)) name → IsFound (map declaration_of ds) name i
-found_at ds name i d lt e n f = record {
-  declaration = declaration_of d;
-  at = slice_get-map declaration_of ds i ∙ ap (option_map declaration_of) (slice_get_read ds (length ds) i d refl lt e);
-  named = n;
-  first =
-      f
-      ∙ ap (λ l. declared_from i (map declaration_of l) name) (drop-cons ds i d lt ∙ ap (λ d. d ∷ drop (suc i) ds) (sym e))
-      ∙ ap (λ m. if same_name (string_bytes d.name) m then Some (i, size d.lengths.items) else declared_from (suc i) (map declaration_of (drop (suc i) ds)) m) (sym n)
-      ∙ ap (λ t. if t then Some (i, size d.lengths.items) else declared_from (suc i) (map declaration_of (drop (suc i) ds)) (string_bytes d.name)) (itself (string_bytes d.name));
-}
 
 -- a variable that was found is there
 pub found_there : (ds : List Tree.Declaration) (x : ℕ) (d : Tree.Declaration) → slice_get ds x ≡ Some d → x < length ds
@@ -261,19 +242,7 @@ module _ (ds : List Tree.Declaration) (seen : List Bool) (line name text : List 
         new = t;
       }
 
--- a declared variable is kept with its lengths
-pub lengths_of : (ds : List Tree.Declaration) (ks : List Kept) (x : ℕ) (d : Tree.Declaration) (k : Kept) → HasLengths ds ks → slice_get ds x ≡ Some d → k ≡ get_or ks x k → (k.lengths ≡ d.lengths) × (x < length ks)
-lengths_of [] ks x d k h e f = absurd (cc e)
-lengths_of (a ∷ ds) [] x d k h e f = absurd (cc h)
-lengths_of (a ∷ ds) (b ∷ ks) zero d k h e f = let same : a ≡ d = cc in (ap (λ k. k.lengths) f ∙ heads _ _ _ _ h ∙ ap (λ d. d.lengths) same, omega arith)
-lengths_of (a ∷ ds) (b ∷ ks) (suc x) d k h e f = let r = lengths_of ds ks x d k (tails _ _ _ _ h) e f in (r.0, (let lt = r.1 in omega arith))
-
-pub arrays_count : (ds : List Tree.Declaration) (ks : List Kept) → HasLengths ds ks → length ks ≡ length ds
-arrays_count [] [] h = refl
-arrays_count [] (b ∷ ks) h = absurd (cc h)
-arrays_count (a ∷ ds) [] h = absurd (cc h)
-arrays_count (a ∷ ds) (b ∷ ks) h = let r = arrays_count ds ks (tails _ _ _ _ h) in omega arith
-
+-- as many as there were
 pub there_in : {A B : Type 0} (f : A → B) (xs : List A) → length (map f xs) ≡ length xs
 there_in f [] = refl
 there_in f (x ∷ xs) = ap suc (there_in f xs)

@@ -1,5 +1,9 @@
 -- What an input is read for, and what is known of the variables that it may name.
-use Rattle.std.specs.Prelude.{ℕ, suc, Bool, true, false, not, ◌≡◌, ◌≢◌, ◌⊎◌, ◌≤◌, ◌<◌, ◌==◌, ◌^◌, nat_eq, if◌then◌else◌, List, [], ◌∷◌, ◌++◌, length, take, Option, Some, None, slice_get, slice_index_or, replicate, flat_map, All}
+use Rattle.std.specs.Prelude.{ℕ, suc, Bool, true, false, not, ◌≡◌, ◌≢◌, ◌⊎◌, ◌≤◌, ◌<◌, ◌==◌, ◌^◌, nat_eq, if◌then◌else◌, List, [], ◌∷◌, ◌++◌, length, take, Option, Some, None, option_map, slice_index_or, replicate, flat_map, All}
+use Rattle.std.specs.BTreeMap.{BTreeMap, get_by}
+use Rattle.std.specs.Cmp.Lexicographic.{slice_cmp}
+use Rattle.std.specs.Ordering.{nat_cmp}
+use denote.Ref.{Bor}
 use Rattle.std.specs.List.{list_any, list_all}
 use Rattle.semantics.specs.Tree.{Name, Declaration}
 use Rattle.semantics.specs.Source.Cuts.{is_name, decimal_from}
@@ -71,12 +75,9 @@ pub record AreRead (text values : List ℕ) : Type 0 where
   pub count : length (words_behind text) ≡ length values
   pub small : All (λ v. v < 2 ^ 64) values
 
--- the first declaration of this name
-pub record IsFound (ds : List Declaration) (name : Name) (x : ℕ) : Type 0 where
-  pub declaration : Declaration
-  pub at : slice_get ds x ≡ Some declaration
-  pub named : declaration.name ≡ name
-  pub first : declared_from 0 ds name ≡ Some (x, size declaration.lengths)
+-- a map has the place of the first declaration of each name
+abbrev pub ArePlaces : List Declaration → BTreeMap (Bor (List ℕ)) ℕ → Type 0
+ArePlaces ds places = (name : Name) → get_by (λ k. slice_cmp nat_cmp name k.now) places ≡ option_map (λ found. found.0) (declared_from 0 ds name)
 
 -- whether a variable had a line, for each
 pub record Marks (seen : List Bool) (marked : List ℕ) : Type 0 where

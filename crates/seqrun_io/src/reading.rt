@@ -2,15 +2,15 @@
 
 ghost use Rattle.std.specs.Prelude.{◌≡◌, ◌==◌, ◌+◌, ◌^◌, ◌≤◌, [], false, length, map, count_by, IfOk, IfErr, MatchOption};
 ghost use Rattle.std.specs.List.{list_all};
-ghost use Rattle.semantics.specs.Meaning.InputFault.{is_formed as formed, is_value, declared_from};
+ghost use Rattle.semantics.specs.Meaning.InputFault.{is_formed as formed, is_value};
 ghost use Rattle.ktree.specs.View.{declaration_of};
-ghost use Rattle.seqrun_io.specs.Lines.{HasLengths};
-ghost use Rattle.seqrun_io.specs.Reading.{words_behind, IsBefore, StartsWithSpace, value_of_word, AreRead, IsFound, IsRight, IsFault, AreVariables, ArePositive, kept_from, IsStart, RefusesInput, refused};
+ghost use Rattle.seqrun_io.specs.Reading.{words_behind, IsBefore, StartsWithSpace, value_of_word, AreRead, ArePlaces, IsRight, IsFault, AreVariables, ArePositive, kept_from, IsStart, RefusesInput, refused};
 ghost use Rattle.semantics.specs.Meaning.Places.{size};
 ghost use Rattle.semantics.specs.Source.Grammar.{elements};
 
 use ktree::{Cause, Declaration, InputFault, Refusal, VarId};
 use std::alloc::{AllocError, Global};
+use std::collections::BTreeMap;
 use store::{Array, Store};
 
 /// Why a line is not read.
@@ -115,50 +115,6 @@ fn read_values(alloc: Global, text: &[u8]) -> Result<Option<Vec<u64>>, AllocErro
     Ok(Some(values))
 }
 
-// The place of the declaration of this name.
-fn find_variable(declarations: &[Declaration], name: &[u8]) -> Option<usize>
-    ensures { MatchOption result (declared_from 0 (map declaration_of declarations.now) name.now ≡ None) (IsFound (map declaration_of declarations.now) name.now) }
-{
-    for (variable, declaration) in declarations.iter().enumerate() {
-        if declaration.name.as_bytes() == name {
-            return Some(variable);
-        }
-    }
-    None
-}
-
-// A line, without its end: its variable, which had none so far, and its values.
-fn read_line(
-    alloc: Global,
-    declarations: &[Declaration],
-    arrays: &[Array],
-    seen: &[bool],
-    line: &[u8],
-) -> Result<(usize, Vec<u64>), Fault>
-    requires lengths { HasLengths (map declaration_of declarations.now) arrays.now }
-    requires count { length seen.now ≡ length declarations.now }
-    ensures right { IfOk result (λ read. IsRight (map declaration_of declarations.now) seen.now line.now read.0 read.1.items) }
-    ensures fault { IfErr result (IsFault (map declaration_of declarations.now) seen.now line.now) }
-{
-    if !is_formed(line) {
-        return Err(Fault::Line(Cause::Form));
-    }
-    let (name, text) = line.split_at(length_before(line, b' '));
-    let Some(variable) = find_variable(declarations, name) else {
-        return Err(Fault::Line(Cause::Name));
-    };
-    if seen[variable] {
-        return Err(Fault::Line(Cause::Twice));
-    }
-    if spaces(text) != arrays[variable].values().len() {
-        return Err(Fault::Line(Cause::Count));
-    }
-    match read_values(alloc, text)? {
-        Some(values) => Ok((variable, values)),
-        None => Err(Fault::Line(Cause::Number)),
-    }
-}
-
 // How many elements an array of these lengths has.
 fn size_of(lengths: &[u64]) -> u64
     requires positive { ArePositive lengths.now }
@@ -170,6 +126,57 @@ fn size_of(lengths: &[u64]) -> u64
         product *= *length;
     }
     product
+}
+
+// The place of each declaration by its name. The last is put down first, so that of two of a name
+// the first stays.
+fn places_of<'d>(
+    alloc: Global,
+    declarations: &'d [Declaration],
+) -> Result<BTreeMap<&'d [u8], usize>, AllocError>
+    ensures { IfOk result (ArePlaces (map declaration_of declarations.now)) }
+{
+    let mut places = BTreeMap::new(alloc);
+    let mut rest = declarations;
+    while let Some((declaration, front)) = rest.split_last() {
+        places.insert(declaration.name.as_bytes(), front.len())?;
+        rest = front;
+    }
+    Ok(places)
+}
+
+// A line, without its end: its variable, which had none so far, and its values.
+fn read_line(
+    alloc: Global,
+    declarations: &[Declaration],
+    places: &BTreeMap<&[u8], usize>,
+    seen: &[bool],
+    line: &[u8],
+) -> Result<(usize, Vec<u64>), Fault>
+    requires named { AreVariables (map declaration_of declarations.now) }
+    requires few { elements (map declaration_of declarations.now) ≤ 2 ^ 24 }
+    requires places { ArePlaces (map declaration_of declarations.now) places.now }
+    requires count { length seen.now ≡ length declarations.now }
+    ensures right { IfOk result (λ read. IsRight (map declaration_of declarations.now) seen.now line.now read.0 read.1.items) }
+    ensures fault { IfErr result (IsFault (map declaration_of declarations.now) seen.now line.now) }
+{
+    if !is_formed(line) {
+        return Err(Fault::Line(Cause::Form));
+    }
+    let (name, text) = line.split_at(length_before(line, b' '));
+    let Some(variable) = places.get(name).copied() else {
+        return Err(Fault::Line(Cause::Name));
+    };
+    if seen[variable] {
+        return Err(Fault::Line(Cause::Twice));
+    }
+    if spaces(text) != size_of(declarations[variable].lengths.as_slice()) as usize {
+        return Err(Fault::Line(Cause::Count));
+    }
+    match read_values(alloc, text)? {
+        Some(values) => Ok((variable, values)),
+        None => Err(Fault::Line(Cause::Number)),
+    }
 }
 
 // The variables, each element 0.
@@ -197,6 +204,7 @@ pub fn input(alloc: Global, declarations: &[Declaration], bytes: &[u8]) -> Resul
     ensures start { IfOk result (IsStart (map declaration_of declarations.now) bytes.now) }
     ensures refusal { IfErr result (RefusesInput (map declaration_of declarations.now) bytes.now) }
 {
+    let places = places_of(alloc, declarations)?;
     let mut store = zeros(alloc, declarations)?;
     let mut seen = Vec::from_elem(alloc, false, declarations.len())?;
     let mut rest = bytes;
@@ -207,7 +215,7 @@ pub fn input(alloc: Global, declarations: &[Declaration], bytes: &[u8]) -> Resul
             let cause = Cause::Form;
             return Err(Refusal::Input(InputFault { line, cause }));
         };
-        let read = read_line(alloc, declarations, store.arrays(), seen.as_slice(), front);
+        let read = read_line(alloc, declarations, &places, seen.as_slice(), front);
         let (variable, values) = match read {
             Ok(read) => read,
             Err(fault) => return Err(refusal_at(fault, line)),

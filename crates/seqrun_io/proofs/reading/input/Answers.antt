@@ -3,9 +3,7 @@ use Rattle.std.proofs.Common.{rules, refl, arith, ap, sym, subst, inr, ◌∙◌
 use Rattle.std.proofs.lemmas.Bool.Decides.{nat_tests}
 use Rattle.ktree.specs.View.{declaration_of}
 use Rattle.store.specs.Kept.{HasRoom, rewritten_at}
-use Rattle.seqrun_io.specs.Lines.{HasLengths}
 use Rattle.seqrun_io.specs.Reading.{RefusesInput}
-use Rattle.seqrun_io.proofs.InputStore.{kept_lengths}
 use Rattle.seqrun_io.proofs.LineSteps.{there_in}
 use Rattle.seqrun_io.proofs.InputRun.{begins, ends, cut_off, one_line, one_room, one_place, one_variable, refused_right}
 use Rattle.seqrun_io.proofs.reading.input.Goals as goal
@@ -21,10 +19,6 @@ returns-in_default-clause-refusal c =
       cut_off _ _ _ _ c.loop-rest.rest.now c.loop-rest.line c.requires.named c.loop-rest.invariant c.length_before.result c.length_before.ensures
           (let e = c.loop-rest-test.ensures in grind (arith, nat_tests)) (sym (ap length c.split_at.ensures.back) ∙ c.in_default.ensures.cases),
     )
-
-pub read_line-read-requires-clause-lengths : goal.read_line-read-requires-clause-lengths
-read_line-read-requires-clause-lengths c =
-    subst (HasLengths (map declaration_of c.args.declarations.now)) (sym (c.arrays.ensures ∙ c.loop-rest.invariant.kept)) (kept_lengths 0 (map declaration_of c.args.declarations.now) c.loop-rest.invariant.given)
 
 pub returns-in-Err-clause-refusal : goal.returns-in-Err-clause-refusal
 returns-in-Err-clause-refusal c =
