@@ -3,7 +3,7 @@ use Rattle.std.specs.Prelude.{ℕ, ◌≡◌, ◌<◌, ◌≤◌, ◌+◌, unwra
 use Rattle.semantics.specs.Meaning.Places.{below}
 use Rattle.semantics.specs.Loops.Chunk.{Chunk, Dynamic, cut, chunk_iterations}
 use Rattle.semantics.specs.Loops.Arrangement.{times}
-use Rattle.draw.specs.Tickets.{DrawingName, SeatState}
+use Rattle.draw.specs.Tickets.{DrawingName, SeatState, all_tickets}
 use Rattle.semantics.specs.Meaning.Value.{value}
 use Rattle.semantics.specs.Loops.Nest.{at_value}
 use Rattle.store.specs.Kept.{Kept, Covers, state_of}
@@ -59,6 +59,20 @@ pub record IsChange (lowered : LoweredLoop) (store : List Kept) (chunks : List C
   pub count : length c.values.items ≡ c.work.count
   pub within : c.work.first + c.work.count ≤ lowered.bound
   pub each : (j : ℕ) → j < c.work.count → IsWorth lowered store (c.work.first + j) (slice_index c.values.items j)
+
+-- all seats of a drawing, each of which met its end
+pub record AreBack (of : DrawingName) (seats : List SeatState) : Type 0 where
+  pub some : 1 ≤ of.seats
+  pub all : length seats ≡ of.seats
+  pub named : All (λ s. s.of ≡ of) seats
+  pub ended : All (λ s. s.ended ≡ true) seats
+
+-- what the chunks that these seats drew write, of all these chunks
+pub record AreDrawn (lowered : LoweredLoop) (store : List Kept) (chunks : List Chunk) (of : DrawingName) (seats : List SeatState) (cs : List Changes) : Type 0 where
+  pub cut : IsCut lowered.bound chunks
+  pub count : of.count ≡ length chunks
+  pub each : All (IsChange lowered store chunks) cs
+  pub numbers : map (λ c. c.work.chunk.0) cs ≡ all_tickets seats
 
 -- what all of these chunks write, each chunk's writes being among these
 pub record AreAll (lowered : LoweredLoop) (store : List Kept) (chunks : List Chunk) (cs : List Changes) : Type 0 where

@@ -6,7 +6,7 @@ ghost use Rattle.overlay.specs.Loop.{Fits, Shows, RunsTo, statement_of};
 ghost use Rattle.store.specs.Kept.{Kept, Locals, state_with};
 ghost use Rattle.overlay.specs.declared.lowered.LoweredLoop.{LoweredLoop};
 ghost use Rattle.semantics.specs.Loops.Chunk.{Chunk};
-ghost use Rattle.team.specs.Ends.{chunks_of_loop, IsCut, IsPieceOf, IsFinished, AreFinished, CameFrom, IsChange, AreAll, IsWritten, KeepsOthers};
+ghost use Rattle.team.specs.Ends.{chunks_of_loop, IsCut, IsPieceOf, IsFinished, AreFinished, CameFrom, IsChange, AreBack, AreDrawn, AreAll, IsWritten, KeepsOthers};
 ghost use Rattle.semantics.specs.Loops.Piece.{no_roles};
 ghost use Rattle.semantics.specs.Theorems.{RunsAsTheLoop};
 
@@ -165,7 +165,7 @@ fn run_workers<'l, 's, R: Threads + Wait + Sync, G: Gate>(
     requires fits { Fits lowered.now store.now }
     requires cut { IsCut lowered.now.bound chunks.now }
     requires few { length chunks.now ≤ 2 ^ 24 }
-    ensures drawing { IfOk result (λ r. (r.0.count ≡ length chunks.now) × (r.0.seats ≡ workers)) }
+    ensures drawing { IfOk result (λ r. (r.0.count ≡ length chunks.now) × (r.0.seats ≡ workers) × (1 ≤ r.0.seats)) }
     ensures len { IfOk result (λ r. vec_len r.1 ≡ workers) }
     ensures ends { IfOk result (λ r. AreFinished lowered.now store.now chunks.now r.0 r.1.items) }
     ensures refusal { IfErr result (λ refusal. refusal ≡ Refusal.OutOfMemory) }
@@ -176,7 +176,17 @@ fn run_workers<'l, 's, R: Threads + Wait + Sync, G: Gate>(
     Ok((drawing, ends))
 }
 
-/// What all chunks of a loop write, each run by the worker that drew it.
+/// What the workers of a loop leave: their drawing, the seat of each, and what the chunks that they
+/// drew write.
+#[derive(Drop)]
+struct TeamEnd {
+    drawing: Drawing,
+    seats: Vec<DrawSeat>,
+    changes: Vec<Changes>,
+}
+
+/// Runs each chunk of a loop by the worker that draws it. So many workers come back, each with the
+/// end met.
 fn run_chunks<R: Threads + Wait + Sync, G: Gate>(
     rt: &R,
     alloc: Global,
@@ -184,20 +194,38 @@ fn run_chunks<R: Threads + Wait + Sync, G: Gate>(
     store: &Store,
     workers: Workers,
     gate: &G,
-) -> Result<Vec<Changes>, Refusal>
+) -> Result<TeamEnd, Refusal>
     requires fits { Fits lowered.now store.now }
     requires bound { lowered.now.bound ≤ 2 ^ 24 }
-    ensures changes { IfOk result (λ cs. AreAll lowered.now store.now (chunks_of_loop lowered.now workers) cs.items) }
+    ensures everyone { IfOk result (λ end. vec_len end.seats ≡ workers) }
+    ensures back { IfOk result (λ end. AreBack end.drawing end.seats.items) }
+    ensures changes { IfOk result (λ end. AreDrawn lowered.now store.now (chunks_of_loop lowered.now workers) end.drawing end.seats.items end.changes.items) }
     ensures refusal { IfErr result (λ refusal. refusal ≡ Refusal.OutOfMemory) }
 {
     let chunks = chunks_of(alloc, lowered, workers)?;
     let (drawing, ends) = run_workers(rt, alloc, lowered, store, &chunks, workers, gate)?;
     let (seats, pieces) = collect(alloc, ends)?;
-    let everyone = seats.len() as u64 == workers.get();
-    prove!(everyone);
+    let changes = release_all(alloc, pieces)?;
+    Ok(TeamEnd {
+        drawing,
+        seats,
+        changes,
+    })
+}
+
+/// What all chunks of a loop write: where all seats are back, no chunk was left out.
+fn all_changes(end: TeamEnd) -> Vec<Changes>
+    requires { AreBack end.drawing end.seats.items }
+    ensures { (lowered : LoweredLoop) (store : List Kept) (chunks : List Chunk) → AreDrawn lowered store chunks end.drawing end.seats.items end.changes.items → AreAll lowered store chunks result.items }
+{
+    let TeamEnd {
+        drawing,
+        seats,
+        changes,
+    } = end;
     let whole = drawing.close(seats).whole();
     prove!(whole);
-    release_all(alloc, pieces)
+    changes
 }
 
 /// Runs a loop with `schedule(dynamic, k)` on a team of so many workers: each draws chunks until none is left, and runs them
@@ -222,7 +250,7 @@ pub fn run_loop<R: Threads + Wait + Sync, G: Gate>(
     ensures shape { map (λ k. k.lengths) store.new ≡ map (λ k. k.lengths) store.old }
     ensures refusal { IfErr result (λ refusal. refusal ≡ Refusal.OutOfMemory) }
 {
-    let changes = run_chunks(rt, alloc, lowered, store, workers, gate)?;
-    apply_all(store, lowered, changes);
+    let end = run_chunks(rt, alloc, lowered, store, workers, gate)?;
+    apply_all(store, lowered, all_changes(end));
     Ok(())
 }
