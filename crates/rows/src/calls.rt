@@ -15,6 +15,9 @@ use team::{Gate, OpenGate, Taken};
 const INCREMENT: &[u8] =
     b"#include <stdint.h>\nuint64_t A[8];\nvoid kernel(void)\n{\n#pragma omp parallel for schedule(dynamic, 3)\nfor (uint64_t i = 0; i < 8; i++) { A[i] = A[i] + i; }\n}\n";
 
+const TWO_LINES: &[u8] =
+    b"uint64_t A[8];\nvoid kernel(void)\n{\n#pragma omp parallel for schedule(dynamic, 3)\nfor (uint64_t i = 0; i < 8; i++) { A[i] = A[i] + i; }\n#pragma omp parallel for schedule(dynamic, 4)\nfor (uint64_t i = 0; i < 8; i++) { A[i] = A[i] + 0ull; }\n}\n";
+
 const SERIAL: &[u8] =
     b"uint64_t A[8];\nvoid kernel(void)\n{\nfor (uint64_t i = 0; i < 8; i++) { A[i] = A[i] + i; }\n}\n";
 
@@ -22,7 +25,7 @@ const PRINTING: &[u8] = b"void kernel(void)\n{\nprintf(\"a\");\n}\n";
 
 const ONES: &[u8] = b"A 1 1 1 1 1 1 1 1\n";
 
-/// What both write for that.
+/// What each writes for that.
 const OUTPUT: &[u8] = b"A = 1 2 3 4 5 6 7 8\n";
 
 // A sink that takes nothing.
@@ -334,17 +337,21 @@ fn a_faulty_input_writes_nothing(rt: HostRuntime) {
     assert!(rt; ends(&rt, rt.alloc(), task, &OpenGate, fault, b""));
 }
 
-#[test]
-fn a_closed_sink_is_told(rt: HostRuntime) {
+/// Whether a run of the kernel by two workers ends so, over a sink that takes nothing.
+fn is_told_by_a_team<R: Threads + Wait + Sync>(rt: &R, alloc: Global, text: &'static [u8]) -> bool {
     let task = Task {
-        text: INCREMENT,
+        text,
         input: b"",
         workers: 2,
     };
     let mut sink = Closed { failures: 0 };
-    let end = ended(&rt, rt.alloc(), task, &OpenGate, &mut sink);
-    assert_eq!(rt; end, End::OutputFailed);
-    assert_eq!(rt; sink.failures, 1);
+    ended(rt, alloc, task, &OpenGate, &mut sink) == End::OutputFailed && sink.failures == 1
+}
+
+#[test]
+fn a_closed_sink_is_told(rt: HostRuntime) {
+    assert!(rt; is_told_by_a_team(&rt, rt.alloc(), INCREMENT));
+    assert!(rt; is_told_by_a_team(&rt, rt.alloc(), PRINTING));
 }
 
 /// Whether the increment ends so, having told these bytes and counted so many failures, over a sink that fails at a call.
@@ -405,6 +412,18 @@ fn two_workers_are_in_the_loop_at_once(rt: HostRuntime) {
         outside: 0,
     };
     assert_eq!(rt; seen_by_two(&rt, rt.alloc(), INCREMENT), Some(all));
+}
+
+#[test]
+fn each_loop_has_the_chunks_of_its_own_line(rt: HostRuntime) {
+    // Three chunks and then two.
+    let all = Seen {
+        entered: 5,
+        late: 0,
+        chunks: 10,
+        outside: 0,
+    };
+    assert_eq!(rt; seen_by_two(&rt, rt.alloc(), TWO_LINES), Some(all));
 }
 
 #[test]

@@ -214,6 +214,17 @@ t = 1x;
             line: 4,
             column: 6,
         },
+        Row {
+            text: "
+void kernel(void) {
+t = 1;
+}
+x
+",
+            number: 1,
+            line: 5,
+            column: 1,
+        },
     ];
     assert_eq!(rt; first_other_text(rt.alloc(), &rows), None);
 }
@@ -640,6 +651,41 @@ for (uint64_t j = 0; j < i; j++) {
             line: 3,
             column: 1,
         },
+        Row {
+            text: "
+#pragma omp parallel for collapse(2)
+for (uint64_t i = 0; i < 8; i++) { A[s] = 1; }",
+            number: 12,
+            line: 3,
+            column: 1,
+        },
+        Row {
+            text: "
+#pragma omp parallel for collapse(2)
+for (uint64_t i = 0; i < 8; i++) {
+}
+#pragma omp parallel for
+for (uint64_t i = 0; i < 16777217; i++) {
+}",
+            number: 12,
+            line: 3,
+            column: 1,
+        },
+        Row {
+            text: "
+if (s) {
+#pragma omp parallel for collapse(2)
+for (uint64_t i = 0; i < 8; i++) {
+}
+} else {
+#pragma omp parallel for
+for (uint64_t i = 0; i < 16777217; i++) {
+}
+}",
+            number: 12,
+            line: 4,
+            column: 1,
+        },
     ];
     assert_eq!(rt; first_other_body(rt.alloc(), &rows), None);
 }
@@ -789,6 +835,32 @@ printf(\"a\");
             number: 14,
             line: 5,
             column: 1,
+        },
+        Row {
+            text: "
+if (s) {
+#pragma omp parallel for
+for (uint64_t i = 0; i < 8; i++) {
+s = i;
+}
+} else {
+#pragma omp parallel for
+for (uint64_t i = 0; i < 8; i++) {
+printf(\"a\");
+}
+}",
+            number: 14,
+            line: 5,
+            column: 1,
+        },
+        Row {
+            text: "
+uint64_t x;
+uint64_t y;
+if (s) s = x; else s = y;",
+            number: 10,
+            line: 4,
+            column: 12,
         },
     ];
     assert_eq!(rt; first_other_body(rt.alloc(), &rows), None);
@@ -1018,6 +1090,16 @@ for (uint64_t i = 0; i < 4; i++) {
 A[i] = A[7 - i] + A[0];
 }",
             "K20 4:1 not shown: A at 4:1 and 4:8\n",
+        ),
+        (
+            "
+#pragma omp parallel for
+for (uint64_t i = 0; i < 7; i++) {
+B[i] = A[i + 1];
+A[i] = 1;
+A[i] = 2;
+}",
+            "K19 4:8 conflict: A at 4:8 and 5:1, iterations 0 and 1, element A[1]\n",
         ),
     ];
     assert_eq!(rt; first_other_line(rt.alloc(), &rows), None);

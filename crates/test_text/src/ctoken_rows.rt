@@ -164,7 +164,7 @@ fn decodes_a_string(rt: HostRuntime) {
 }
 
 /// Texts, and where each is at fault first.
-const FAULTS: [(&str, (u32, u32)); 19] = [
+const FAULTS: [(&str, (u32, u32)); 23] = [
     ("void kernel(void) {", (1, 20)),
     ("/* a ?? */\n", (1, 6)),
     ("\n #pragma once\n", (2, 2)),
@@ -184,6 +184,13 @@ const FAULTS: [(&str, (u32, u32)); 19] = [
     ("\tx = \x07 @;\n", (1, 6)),
     ("x\n#include <stdio.h>\n", (2, 1)),
     ("#include <stdio.h>\n#include<stdio.h> \n", (2, 1)),
+    ("#pragma omp # \\\n", (1, 13)),
+    ("\"%\" x \"%\" y\n", (1, 5)),
+    ("x\n#include <stdio.h>\n#include <stdint.h>\n", (2, 1)),
+    (
+        "#include <stdio.h>\n#include <stdio.h>\n#include <stdio.h>\n",
+        (2, 1),
+    ),
 ];
 
 /// The first text of a table that is at fault at another place.
