@@ -1,11 +1,12 @@
 #!/usr/bin/env python3
-"""Proves and builds the libraries that a program stands on, with all processors; a line for each that is done.
+"""Proves and builds a program and the libraries that it stands on, with all processors; a line for each that is done.
 
     python3 tools/build.py PROGRAM
 
 A library that is there and of these sources is left as it is, so that a build that was stopped goes on where it was. The
 libraries with the longest chain of others behind them come first, and one that no other runs beside gets more processors than
-one. The status is 0 where all are there.
+one, as the program does at the end. The program is run with --help as soon as it is there, which writes to standard output.
+The status is 0 where all are there, and of one state of the sources.
 """
 import copy
 import os
@@ -19,6 +20,19 @@ sys.dont_write_bytecode = True
 import kit
 
 
+def build(crate, flags):
+    """Whether a library, or a program, is there in the end."""
+    if not crate.is_program:
+        return crate.build_rlib(flags, anew=False) == 0
+    os.makedirs(f"{crate.folder}/out", exist_ok=True)
+    if crate.run(flags, ["--help"]):
+        return False
+    if os.path.isfile(f"{crate.folder}/out/{crate.name}.stamp"):
+        return True
+    print("build: a source has changed meanwhile; run it again", file=crate.out)
+    return False
+
+
 def main(program):
     os.chdir(kit.TOP)
     rt = kit.load()
@@ -27,27 +41,30 @@ def main(program):
     found = [it for it in rt.rtlib.crates_below(kit.TOP) if it.name == program]
     if not found:
         sys.exit(f"build: crates.txt names no crate {program}")
-    libraries = found[0].below()
-    rt.rtlib.lock(libraries)
+    rt.read_files(found[0])
+    crates = [*found[0].below(), found[0]]
+    held = rt.rtlib.lock(crates)
     begun, printing, done = time.time(), threading.Lock(), []
 
     def make(crate, given, jobs):
-        """Whether a library is there in the end."""
+        """Whether a crate is there in the end."""
         if not all(given[it.name] for it in crate.below()):
             return False
         crate = copy.copy(crate)
+        crate.held = held if crate.is_program else []
         with tempfile.TemporaryFile("w+", errors="replace") as crate.out:
-            is_made = crate.build_rlib(["--jobs", str(jobs)], anew=False) == 0
+            is_made = build(crate, ["--jobs", str(jobs)])
             crate.out.seek(0)
             with printing:
                 done.append(crate.name)
-                left = len(libraries) - len(done) + 1
-                print(f"ompk: {crate.name} is {'done' if is_made else 'NOT PROVED'}, {left} of {len(libraries) + 1} left, {(time.time() - begun) / 60:.0f} min", file=sys.stderr, flush=True)
+                what = "done" if is_made else "NOT PROVED"
+                minutes = (time.time() - begun) / 60
+                print(f"ompk: {crate.name} is {what}, {len(crates) - len(done)} of {len(crates)} left, {minutes:.0f} min", file=sys.stderr, flush=True)
                 if not is_made:
                     print(crate.out.read(), file=sys.stderr, flush=True)
         return is_made
 
-    tasks = {it.name: ([dep.name for dep in it.below()], it.count(rb"\n"), rt.need(it), lambda given, jobs, it=it: make(it, given, jobs)) for it in libraries}
+    tasks = {it.name: ([dep.name for dep in it.below()], it.count(rb"\n"), rt.need(it), lambda given, jobs, it=it: make(it, given, jobs)) for it in crates}
     return 0 if all(rt.in_lanes(tasks).values()) else 1
 
 
