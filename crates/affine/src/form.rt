@@ -9,7 +9,7 @@ ghost use Rattle.affine.specs.Limits.{Fits, IsWithin, NumbersWithin, Refuses};
 ghost use Rattle.affine.specs.Box.{IsEmpty, IsRange};
 
 use crate::interval::VarBox;
-use crate::merge::{Terms, fitting, place_of, plus_product, take_out, with_multiple};
+use crate::merge::{Terms, place_of, plus_product, take_out, with_multiple, within_limit};
 use crate::term::Term;
 use ktree::{Place, Refusal, VarId};
 use smallvec::SmallVec;
@@ -43,11 +43,13 @@ impl Form {
     ///
     /// Refuses by the limit, at the place, exactly where the number is not within 2^62 in absolute value.
     pub fn constant(alloc: Global, number: i128, place: Place) -> Result<Form, Refusal>
-        ensures ok { IfOk result (λ form. (form ≡ constant_form number) × IsWithin (2 ^ 62) number) }
-        ensures refusal { IfErr result (λ refusal. (refusal ≡ Refusal.Limit place) × (¬ (IsWithin (2 ^ 62) number))) }
+        ensures ok { IfOk result (λ form. (form ≡ constant_form number)
+            × IsWithin (2 ^ 62) number) }
+        ensures refusal { IfErr result
+            (λ refusal. (refusal ≡ Refusal.Limit place) × (¬ (IsWithin (2 ^ 62) number))) }
     {
         Ok(Form {
-            constant: fitting(number, place)?,
+            constant: within_limit(number, place)?,
             terms: SmallVec::new(alloc),
         })
     }
@@ -109,7 +111,8 @@ impl Form {
     /// Refuses by the limit, at the place, where the sum passes the limits of forms, and where memory runs out.
     pub fn add(&self, other: &Form, place: Place) -> Result<Form, Refusal>
         ensures ok { IfOk result (λ form. form ≡ sum_form self.now other.now) }
-        ensures value { IfOk result (λ form. (values : Variable → ℤ) → value form values ≡ value self.now values +ℤ value other.now values) }
+        ensures value { IfOk result (λ form. (values : Variable → ℤ)
+            → value form values ≡ value self.now values +ℤ value other.now values) }
         ensures fits { IfOk result Fits }
         ensures refusal { IfErr result (Refuses place (sum_form self.now other.now)) }
     {
@@ -123,9 +126,11 @@ impl Form {
     /// Refuses by the limit, at the place, where the difference passes the limits of forms, and where memory runs out.
     pub fn subtract(&self, other: &Form, place: Place) -> Result<Form, Refusal>
         ensures ok { IfOk result (λ form. form ≡ with_multiple_of self.now (negsuc 0) other.now) }
-        ensures value { IfOk result (λ form. (values : Variable → ℤ) → value form values ≡ value self.now values -ℤ value other.now values) }
+        ensures value { IfOk result (λ form. (values : Variable → ℤ)
+            → value form values ≡ value self.now values -ℤ value other.now values) }
         ensures fits { IfOk result Fits }
-        ensures refusal { IfErr result (Refuses place (with_multiple_of self.now (negsuc 0) other.now)) }
+        ensures refusal { IfErr result
+            (Refuses place (with_multiple_of self.now (negsuc 0) other.now)) }
     {
         plus_multiple(self.constant, self.terms.as_slice(), -1, other, place)
     }
@@ -137,7 +142,8 @@ impl Form {
     /// Refuses by the limit, at the place, where the multiple passes the limits of forms, and where memory runs out.
     pub fn scale(&self, factor: i64, place: Place) -> Result<Form, Refusal>
         ensures ok { IfOk result (λ form. form ≡ multiple_form self.now factor) }
-        ensures value { IfOk result (λ form. (values : Variable → ℤ) → value form values ≡ value self.now values *ℤ factor) }
+        ensures value { IfOk result (λ form. (values : Variable → ℤ)
+            → value form values ≡ value self.now values *ℤ factor) }
         ensures fits { IfOk result Fits }
         ensures refusal { IfErr result (Refuses place (multiple_form self.now factor)) }
     {
@@ -151,7 +157,9 @@ impl Form {
     /// Refuses by the limit, at the place, where the form so made passes the limits of forms, and where memory runs out.
     pub fn substitute(&self, variable: VarId, by: &Form, place: Place) -> Result<Form, Refusal>
         ensures ok { IfOk result (λ form. form ≡ substituted self.now variable.0 by.now) }
-        ensures value { IfOk result (λ form. (values : Variable → ℤ) → value form values ≡ value self.now (with_value values variable.0 (value by.now values))) }
+        ensures value { IfOk result (λ form. (values : Variable → ℤ)
+            → value form values ≡ value self.now
+            (with_value values variable.0 (value by.now values))) }
         ensures fits { IfOk result Fits }
         ensures refusal { IfErr result (Refuses place (substituted self.now variable.0 by.now)) }
     {
@@ -189,12 +197,15 @@ fn plus_multiple(
     place: Place,
 ) -> Result<Form, Refusal>
     requires { IsCanonical terms.now }
-    ensures ok { IfOk result (λ form. form ≡ with_multiple_of (record { constant = constant; terms = terms.now }) factor other.now) }
+    ensures ok { IfOk result (λ form. form
+        ≡ with_multiple_of (record { constant = constant; terms = terms.now }) factor other.now) }
     ensures fits { IfOk result Fits }
-    ensures refusal { IfErr result (Refuses place (with_multiple_of (record { constant = constant; terms = terms.now }) factor other.now)) }
+    ensures refusal { IfErr result
+        (Refuses place (with_multiple_of (record { constant = constant; terms = terms.now }) factor
+        other.now)) }
 {
     Ok(Form {
-        constant: fitting(plus_product(constant, factor, other.constant), place)?,
+        constant: within_limit(plus_product(constant, factor, other.constant), place)?,
         terms: with_multiple(
             *other.terms.allocator(),
             factor,

@@ -120,7 +120,7 @@ impl VarBox {
     ///
     /// Refuses by the limit, at the place, where an end is not within 2^33 in absolute value, and where memory runs out;
     /// the box is then as it was.
-    pub fn bound(
+    pub fn bind(
         &mut self,
         variable: VarId,
         least: i128,
@@ -145,7 +145,7 @@ impl VarBox {
     }
 
     /// Takes back the values that were given last.
-    pub fn unbound(&mut self)
+    pub fn unbind(&mut self)
         requires { 0 < length self.old }
         ensures { self.new ≡ drop 1 self.old }
     {

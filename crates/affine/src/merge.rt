@@ -21,9 +21,10 @@ const VARIABLES: usize = 64;
 pub(crate) type Terms = SmallVec<Term, 8>;
 
 /// The number as one of a form, where it is within the limit.
-pub(crate) fn fitting(value: i128, place: Place) -> Result<i64, Refusal>
+pub(crate) fn within_limit(value: i128, place: Place) -> Result<i64, Refusal>
     ensures ok { IfOk result (λ number. (number ≡ value) × IsWithin (2 ^ 62) value) }
-    ensures refusal { IfErr result (λ refusal. (refusal ≡ Refusal.Limit place) × (¬ (IsWithin (2 ^ 62) value))) }
+    ensures refusal { IfErr result
+        (λ refusal. (refusal ≡ Refusal.Limit place) × (¬ (IsWithin (2 ^ 62) value))) }
 {
     if value.unsigned_abs() > GREATEST {
         return Err(Refusal::Limit(place));
@@ -54,15 +55,18 @@ fn push_term(
     place: Place,
 ) -> Result<(), Refusal>
     requires { TermsFit terms.old.items }
-    ensures ok { OnOk result (terms.new.items ≡ terms.old.items ++ term_before variable.0 coefficient []) }
+    ensures ok { OnOk result (terms.new.items
+        ≡ terms.old.items ++ term_before variable.0 coefficient []) }
     ensures fits { OnOk result (TermsFit terms.new.items) }
-    ensures refusal { IfErr result (λ refusal. (refusal ≡ Refusal.OutOfMemory)
-        ⊎ ((refusal ≡ Refusal.Limit place) × (¬ (TermsFit (terms.old.items ++ term_before variable.0 coefficient []))))) }
+    ensures refusal { IfErr result
+        (λ refusal. (refusal ≡ Refusal.OutOfMemory)
+        ⊎ ((refusal ≡ Refusal.Limit place)
+        × (¬ (TermsFit (terms.old.items ++ term_before variable.0 coefficient []))))) }
 {
     if coefficient == 0 {
         return Ok(());
     }
-    let coefficient = fitting(coefficient, place)?;
+    let coefficient = within_limit(coefficient, place)?;
     if terms.len() == VARIABLES {
         return Err(Refusal::Limit(place));
     }
@@ -87,11 +91,15 @@ fn split_least<'a>(factor: i64, multiple: &'a [Term], base: &'a [Term]) -> Optio
     requires multiple_canonical { IsCanonical multiple.now }
     requires base_canonical { IsCanonical base.now }
     ensures none { IsNone result ↔ ((multiple.now ≡ []) × (base.now ≡ [])) }
-    ensures some { IfSome result (λ split. multiple_added factor multiple.now base.now
-        ≡ term_before split.variable.0 split.coefficient (multiple_added factor split.multiple.now split.base.now)) }
+    ensures some { IfSome result
+        (λ split. multiple_added factor multiple.now base.now
+        ≡ term_before split.variable.0 split.coefficient
+        (multiple_added factor split.multiple.now split.base.now)) }
     ensures multiple_left { IfSome result (λ split. IsCanonical split.multiple.now) }
     ensures base_left { IfSome result (λ split. IsCanonical split.base.now) }
-    ensures shorter { IfSome result (λ split. length split.multiple.now + length split.base.now < length multiple.now + length base.now) }
+    ensures shorter { IfSome result
+        (λ split. length split.multiple.now + length split.base.now < length multiple.now
+        + length base.now) }
 {
     match (base, multiple) {
         ([], []) => None,
@@ -134,8 +142,10 @@ pub(crate) fn with_multiple<'a>(
     requires base_canonical { IsCanonical base.now }
     ensures ok { IfOk result (λ terms. terms.items ≡ multiple_added factor multiple.now base.now) }
     ensures fits { IfOk result (λ terms. TermsFit terms.items) }
-    ensures refusal { IfErr result (λ refusal. (refusal ≡ Refusal.OutOfMemory)
-        ⊎ ((refusal ≡ Refusal.Limit place) × (¬ (TermsFit (multiple_added factor multiple.now base.now))))) }
+    ensures refusal { IfErr result
+        (λ refusal. (refusal ≡ Refusal.OutOfMemory)
+        ⊎ ((refusal ≡ Refusal.Limit place)
+        × (¬ (TermsFit (multiple_added factor multiple.now base.now))))) }
 {
     let mut terms = SmallVec::new(alloc);
     while let Some(split) = split_least(factor, multiple, base) {

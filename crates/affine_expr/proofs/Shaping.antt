@@ -6,7 +6,7 @@ use Rattle.std.proofs.Common.{refl, sym, ap, ◌∙◌, subst, cond, arith, inl,
 use Rattle.ktree.specs.View.{exprs_of, expr_of}
 use Rattle.ktree.specs.declared.place.Place.{Place}
 use Rattle.ktree.specs.declared.expression.Expr as code
-use Rattle.semantics.specs.Tree.{Variable, BinaryOp, Plus, Minus, Times, Divide, Remainder, BitAnd, BitOr, BitXor, ShiftLeft, ShiftRight, Negate, Complement, Expr, Literal, Constant, Object, Unary, Binary, Choose, Exprs, no_exprs, more_exprs}
+use Rattle.semantics.specs.Tree.{Variable, BinaryOp, Plus, Minus, Times, Divide, Remainder, BitAnd, BitOr, BitXor, ShiftLeft, ShiftRight, Negate, Complement, Expr, Literal, Constant, Object, Unary, Binary, Conditional, Exprs, no_exprs, more_exprs}
 use Rattle.semantics.specs.Meaning.Value.{both_then}
 use Rattle.affine.specs.declared.interval.Side.{Side}
 use Rattle.affine.specs.Affine.{Affine}
@@ -64,7 +64,7 @@ form_kept box (Object x es) f is = variable_kept box x es f is
 form_kept box (Unary Negate a) f is = negated_kept (form_of box a) f is
 form_kept box (Unary Complement a) f is = absurd (cc is)
 form_kept box (Binary op a b) f is = both_kept op (is_number a) (is_number b) (form_of box a) (form_of box b) f is
-form_kept box (Choose c a b) f is = absurd (cc is)
+form_kept box (Conditional c a b) f is = absurd (cc is)
 
 -- ---- shapes
 
@@ -113,7 +113,7 @@ form_shaped box (Unary Negate a) f is = negated_shaped (form_of box a) (shape_of
 form_shaped box (Unary Complement a) f is = absurd (cc is)
 form_shaped box (Binary op a b) f is =
     both_shaped op (is_number a) (is_number b) (form_of box a) (form_of box b) (shape_of box a) (shape_of box b) f (λ g h. form_shaped box a g h) (λ g h. form_shaped box b g h) is
-form_shaped box (Choose c a b) f is = absurd (cc is)
+form_shaped box (Conditional c a b) f is = absurd (cc is)
 
 none_found : {A : Type 0} (o : Option A) → ((a : A) → o ≡ Some a → ⊥) → o ≡ None
 none_found None f = refl

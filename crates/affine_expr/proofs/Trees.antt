@@ -6,7 +6,7 @@ use mathlib.Core.Former.{Count}
 use Rattle.semantics.specs.Tree
 use Rattle.ktree.specs.View.{expr_of, row_of, exprs_of}
 use Rattle.ktree.specs.declared.place.VarId.{VarId}
-use Rattle.ktree.specs.declared.expression.Mention.{Mention}
+use Rattle.ktree.specs.declared.expression.NamePlaces.{NamePlaces}
 use Rattle.ktree.specs.declared.expression.Expr.{Expr, Object, Object', Row_of-Expr, end_of-Expr, more_of-Expr, items-the_row-Expr, items_hidden-the_row-Expr-0}
 use Rattle.affine.specs.declared.interval.Side.{Side}
 use Rattle.affine_expr.specs.Forms.{is_counter}
@@ -20,13 +20,13 @@ abbrev row_at : Expr → (n : Count) × Row_of-Expr n
 row_at (Object' x shape row place) = (_, row)
 row_at _ = (_, end_of-Expr)
 
-pub object_of : (x : VarId) (subs : Vec Expr Global) (mention : Mention) → expr_of (Object x subs mention) ≡ Tree.Object x.0 (exprs_of subs.items)
+pub object_of : (x : VarId) (subs : Vec Expr Global) (mention : NamePlaces) → expr_of (Object x subs mention) ≡ Tree.Object x.0 (exprs_of subs.items)
 object_of x subs mention =
     let row = row_at (Object x subs mention) in
     ap (Tree.Object x.0) (row_items row.0 row.1 ∙ ap exprs_of (items_hidden-the_row-Expr-0 subs))
 
 -- the same of an expression that is that object
-pub object_is : (e : Expr) (x : VarId) (subs : Vec Expr Global) (mention : Mention) (xs : List Expr) → e ≡ Object x subs mention → xs ≡ subs.items
+pub object_is : (e : Expr) (x : VarId) (subs : Vec Expr Global) (mention : NamePlaces) (xs : List Expr) → e ≡ Object x subs mention → xs ≡ subs.items
     → expr_of e ≡ Tree.Object x.0 (exprs_of xs)
 object_is e x subs mention xs p q = ap expr_of p ∙ object_of x subs mention ∙ ap (λ es. Tree.Object x.0 (exprs_of es)) (sym q)
 

@@ -1,7 +1,7 @@
 -- What is told where a loop or a subscript is not as the rules have it.
 use Rattle.std.specs.Prelude.{ℕ, slice_get, unwrap_or, ◌≡◌, ◌⊎◌, Bool, Option, Some, None}
 use Rattle.ktree.specs.declared.place.Place.{Place}
-use Rattle.ktree.specs.declared.expression.Mention.{Mention}
+use Rattle.ktree.specs.declared.expression.NamePlaces.{NamePlaces}
 use Rattle.ktree.specs.declared.refusal.Refusal.{Refusal}
 use Rattle.ktree.specs.declared.refusal.Refusal.TheVariants as refusals
 use Rattle.affine.specs.Affine.{Affine}
@@ -32,5 +32,5 @@ abbrev pub Stops : Place → Option Bool → Option Affine → Fault → Type 0
 Stops place shape form fault = (fault ≡ OutOfMemory) ⊎ ((form ≡ None) × ((fault ≡ Limit place) ⊎ (shape ≡ None)))
 
 -- where a subscript stands; its name, where it has no place
-abbrev pub place_of : Mention → ℕ → Place
+abbrev pub place_of : NamePlaces → ℕ → Place
 place_of mention i = unwrap_or (slice_get mention.subscripts.items i) mention.name

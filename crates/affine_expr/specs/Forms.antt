@@ -1,6 +1,6 @@
 -- Bounds and subscripts that are linear in the variables of loops, and the affine forms that they stand for. (OpenMP 5.2, 4.4.1)
 use Rattle.std.specs.Prelude.{◌^◌, Bool, true, false, ◌&&◌, ◌==◌, nat_le, unsigned_abs, ℤ, pos, negsuc, List, [], ◌∷◌, length, if◌then◌else◌, Option, Some, None, option_and_then, is_some}
-use Rattle.semantics.specs.Tree.{Variable, Negate, Complement, BinaryOp, Plus, Minus, Times, Expr, Literal, Constant, Object, Unary, Binary, Choose, Exprs, no_exprs, more_exprs}
+use Rattle.semantics.specs.Tree.{Variable, Negate, Complement, BinaryOp, Plus, Minus, Times, Expr, Literal, Constant, Object, Unary, Binary, Conditional, Exprs, no_exprs, more_exprs}
 use Rattle.semantics.specs.Meaning.Value.{both_then}
 use Rattle.affine.specs.declared.term.Term.{Term}
 use Rattle.affine.specs.declared.interval.Side.{Side}
@@ -31,7 +31,7 @@ is_number (Constant name n) = true
 is_number (Object x is) = false
 is_number (Unary op a) = is_number a
 is_number (Binary op a b) = is_number a && is_number b
-is_number (Choose c a b) = false
+is_number (Conditional c a b) = false
 
 -- a product, of which one factor mentions no variable
 abbrev pub product : Bool → Bool → Affine → Affine → Option Affine
@@ -59,7 +59,7 @@ form_of box (Object x is) = variable_form_in box x is
 form_of box (Unary Negate a) = option_and_then (λ f. kept (multiple_form f (negsuc 0))) (form_of box a)
 form_of box (Unary Complement a) = None
 form_of box (Binary op a b) = both_then (operated op (is_number a) (is_number b)) (form_of box a) (form_of box b)
-form_of box (Choose c a b) = None
+form_of box (Conditional c a b) = None
 
 -- each subscript is affine (OpenMP 5.2, 4.4.1)
 abbrev pub are_affine : List Side → Exprs → Bool

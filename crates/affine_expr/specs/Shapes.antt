@@ -1,6 +1,6 @@
 -- Which expressions are linear in the variables of loops, whatever their numbers.
 use Rattle.std.specs.Prelude.{Bool, true, false, ◌&&◌, ◌||◌, List, Option, Some, None, if◌then◌else◌}
-use Rattle.semantics.specs.Tree.{Variable, Negate, Complement, BinaryOp, Plus, Minus, Times, Expr, Literal, Constant, Object, Unary, Binary, Choose, Exprs, no_exprs, more_exprs}
+use Rattle.semantics.specs.Tree.{Variable, Negate, Complement, BinaryOp, Plus, Minus, Times, Expr, Literal, Constant, Object, Unary, Binary, Conditional, Exprs, no_exprs, more_exprs}
 use Rattle.semantics.specs.Meaning.Value.{both_then}
 use Rattle.affine.specs.declared.interval.Side.{Side}
 use Rattle.affine_expr.specs.Forms.{is_counter}
@@ -25,4 +25,4 @@ shape_of box (Object x is) = variable_shape box x is
 shape_of box (Unary Negate a) = shape_of box a
 shape_of box (Unary Complement a) = None
 shape_of box (Binary op a b) = both_then (shape_by op) (shape_of box a) (shape_of box b)
-shape_of box (Choose c a b) = None
+shape_of box (Conditional c a b) = None

@@ -18,7 +18,7 @@ fn in_int(value: u64) -> Option<u32>
 }
 
 /// The value of + - * in that range, none below 0.
-fn operated(operator: BinaryOp, left: u32, right: u32) -> Option<u32>
+fn fold_constants(operator: BinaryOp, left: u32, right: u32) -> Option<u32>
     ensures { result ≡ int_operate (binary_of operator) left right }
 {
     match operator {
@@ -40,11 +40,11 @@ pub fn constant(expr: &Expr) -> Option<u32>
         Expr::Binary(operator, left, right) => {
             let left = constant(left)?;
             let right = constant(right)?;
-            operated(*operator, left, right)
+            fold_constants(*operator, left, right)
         }
         Expr::Literal(_, Suffix::Ull) => None,
         Expr::Object(_, _, _) => None,
         Expr::Unary(_, _) => None,
-        Expr::Choose(_, _, _) => None,
+        Expr::Conditional(_, _, _) => None,
     }
 }

@@ -63,7 +63,7 @@ impl<T: Drop> From<AllocFailed<T>> for Fault {
 }
 
 /// The fault that a form's refusal is: the limit at this place, or want of memory.
-pub fn refused(refusal: Refusal, place: Place) -> Fault
+pub fn fault_of_refusal(refusal: Refusal, place: Place) -> Fault
     ensures limit { refusal ≡ Refusal.Limit place → result ≡ Fault.Limit place }
     ensures memory { refusal ≡ Refusal.OutOfMemory → result ≡ Fault.OutOfMemory }
 {

@@ -5,7 +5,7 @@ ghost use Rattle.affine.specs.Arithmetic.{constant_form, sum_form, plus_multiple
 ghost use Rattle.affine_expr.specs.Forms.{kept};
 ghost use Rattle.affine_expr.specs.Faults.{Refused};
 
-use crate::faults::{Fault, refused};
+use crate::faults::{Fault, fault_of_refusal};
 use affine::Form;
 use ktree::Place;
 use std::alloc::Global;
@@ -17,7 +17,7 @@ const GREATEST: u64 = 1 << 32;
 const VARIABLES: usize = 32;
 
 /// The form, where it keeps the limits.
-fn kept(form: Form, place: Place) -> Result<Form, Fault>
+fn keep_limits(form: Form, place: Place) -> Result<Form, Fault>
     ensures ok { IfOk result (λ kept_form. kept form ≡ Some kept_form) }
     ensures err { IfErr result (λ fault. (fault ≡ Fault.Limit place) × (kept form ≡ None)) }
 {
@@ -34,8 +34,8 @@ pub(crate) fn number(alloc: Global, value: i128, place: Place) -> Result<Form, F
     ensures err { IfErr result (Refused place (kept (constant_form value))) }
 {
     match Form::constant(alloc, value, place) {
-        Ok(form) => kept(form, place),
-        Err(refusal) => Err(refused(refusal, place)),
+        Ok(form) => keep_limits(form, place),
+        Err(refusal) => Err(fault_of_refusal(refusal, place)),
     }
 }
 
@@ -45,19 +45,21 @@ pub(crate) fn sum(left: &Form, right: &Form, place: Place) -> Result<Form, Fault
     ensures err { IfErr result (Refused place (kept (sum_form left.now right.now))) }
 {
     match left.add(right, place) {
-        Ok(form) => kept(form, place),
-        Err(refusal) => Err(refused(refusal, place)),
+        Ok(form) => keep_limits(form, place),
+        Err(refusal) => Err(fault_of_refusal(refusal, place)),
     }
 }
 
 /// The first without the second.
 pub(crate) fn difference(left: &Form, right: &Form, place: Place) -> Result<Form, Fault>
-    ensures ok { IfOk result (λ form. kept (plus_multiple left.now (negsuc 0) right.now) ≡ Some form) }
-    ensures err { IfErr result (Refused place (kept (plus_multiple left.now (negsuc 0) right.now))) }
+    ensures ok { IfOk result (λ form. kept (plus_multiple left.now (negsuc 0) right.now)
+        ≡ Some form) }
+    ensures err { IfErr result
+        (Refused place (kept (plus_multiple left.now (negsuc 0) right.now))) }
 {
     match left.subtract(right, place) {
-        Ok(form) => kept(form, place),
-        Err(refusal) => Err(refused(refusal, place)),
+        Ok(form) => keep_limits(form, place),
+        Err(refusal) => Err(fault_of_refusal(refusal, place)),
     }
 }
 
@@ -67,7 +69,7 @@ pub(crate) fn multiple(form: &Form, factor: i64, place: Place) -> Result<Form, F
     ensures err { IfErr result (Refused place (kept (multiple_form form.now factor))) }
 {
     match form.scale(factor, place) {
-        Ok(made) => kept(made, place),
-        Err(refusal) => Err(refused(refusal, place)),
+        Ok(made) => keep_limits(made, place),
+        Err(refusal) => Err(fault_of_refusal(refusal, place)),
     }
 }

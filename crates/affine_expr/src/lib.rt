@@ -9,6 +9,6 @@ mod shape;
 mod subscripts;
 
 pub use constants::constant;
-pub use faults::{Fault, refused};
+pub use faults::{Fault, fault_of_refusal};
 pub use linear::form_of;
 pub use subscripts::{are_affine, subscript_place};

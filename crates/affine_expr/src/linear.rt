@@ -24,8 +24,11 @@ struct Linear {
 
 /// The form of a product.
 fn product(left: &Linear, right: &Linear, place: Place) -> Result<Form, Fault>
-    ensures ok { IfOk result (λ form. product left.now.number right.now.number left.now.form right.now.form ≡ Some form) }
-    ensures err { IfErr result (Stops place (shape_by Times left.now.number right.now.number) (product left.now.number right.now.number left.now.form right.now.form)) }
+    ensures ok { IfOk result (λ form. product left.now.number right.now.number left.now.form
+        right.now.form ≡ Some form) }
+    ensures err { IfErr result
+        (Stops place (shape_by Times left.now.number right.now.number)
+        (product left.now.number right.now.number left.now.form right.now.form)) }
 {
     if left.number {
         multiple(&right.form, left.form.constant_term(), place)
@@ -37,9 +40,13 @@ fn product(left: &Linear, right: &Linear, place: Place) -> Result<Form, Fault>
 }
 
 /// The form of what two expressions make.
-fn operated(operator: BinaryOp, left: &Linear, right: &Linear, place: Place) -> Result<Form, Fault>
-    ensures ok { IfOk result (λ form. operated (binary_of operator) left.now.number right.now.number left.now.form right.now.form ≡ Some form) }
-    ensures err { IfErr result (Stops place (shape_by (binary_of operator) left.now.number right.now.number) (operated (binary_of operator) left.now.number right.now.number left.now.form right.now.form)) }
+fn operate(operator: BinaryOp, left: &Linear, right: &Linear, place: Place) -> Result<Form, Fault>
+    ensures ok { IfOk result (λ form. operated (binary_of operator) left.now.number right.now.number
+        left.now.form right.now.form ≡ Some form) }
+    ensures err { IfErr result
+        (Stops place (shape_by (binary_of operator) left.now.number right.now.number)
+        (operated (binary_of operator) left.now.number right.now.number left.now.form
+        right.now.form)) }
 {
     match operator {
         BinaryOp::Plus => sum(&left.form, &right.form, place),
@@ -57,8 +64,11 @@ fn variable_form(
     bounds: &VarBox,
     place: Place,
 ) -> Result<Form, Fault>
-    ensures ok { IfOk result (λ form. variable_form_in bounds.now variable.0 (exprs_of subscripts.now) ≡ Some form) }
-    ensures err { IfErr result (Stops place (variable_shape bounds.now variable.0 (exprs_of subscripts.now)) (variable_form_in bounds.now variable.0 (exprs_of subscripts.now))) }
+    ensures ok { IfOk result (λ form. variable_form_in bounds.now variable.0
+        (exprs_of subscripts.now) ≡ Some form) }
+    ensures err { IfErr result
+        (Stops place (variable_shape bounds.now variable.0 (exprs_of subscripts.now))
+        (variable_form_in bounds.now variable.0 (exprs_of subscripts.now))) }
 {
     match subscripts {
         [] => {
@@ -92,9 +102,12 @@ fn object(
     bounds: &VarBox,
     place: Place,
 ) -> Result<Box<Linear>, Fault>
-    ensures form { IfOk result (λ l. variable_form_in bounds.now variable.0 (exprs_of subscripts.now) ≡ Some l.value.form) }
+    ensures form { IfOk result (λ l. variable_form_in bounds.now variable.0
+        (exprs_of subscripts.now) ≡ Some l.value.form) }
     ensures number { IfOk result (λ l. l.value.number ≡ false) }
-    ensures err { IfErr result (Stops place (variable_shape bounds.now variable.0 (exprs_of subscripts.now)) (variable_form_in bounds.now variable.0 (exprs_of subscripts.now))) }
+    ensures err { IfErr result
+        (Stops place (variable_shape bounds.now variable.0 (exprs_of subscripts.now))
+        (variable_form_in bounds.now variable.0 (exprs_of subscripts.now))) }
 {
     let form = variable_form(alloc, variable, subscripts, bounds, place)?;
     Ok(Box::new(
@@ -108,8 +121,9 @@ fn object(
 
 /// What unary minus makes of an expression.
 #[inline(never)]
-fn negated(alloc: Global, operand: &Linear, place: Place) -> Result<Box<Linear>, Fault>
-    ensures form { IfOk result (λ l. kept (multiple_form operand.now.form (negsuc 0)) ≡ Some l.value.form) }
+fn negate(alloc: Global, operand: &Linear, place: Place) -> Result<Box<Linear>, Fault>
+    ensures form { IfOk result (λ l. kept (multiple_form operand.now.form (negsuc 0))
+        ≡ Some l.value.form) }
     ensures number { IfOk result (λ l. l.value.number ≡ operand.now.number) }
     ensures err { IfErr result (Refused place (kept (multiple_form operand.now.form (negsuc 0)))) }
 {
@@ -125,18 +139,22 @@ fn negated(alloc: Global, operand: &Linear, place: Place) -> Result<Box<Linear>,
 
 /// What two expressions make.
 #[inline(never)]
-fn joined(
+fn join(
     alloc: Global,
     operator: BinaryOp,
     left: &Linear,
     right: &Linear,
     place: Place,
 ) -> Result<Box<Linear>, Fault>
-    ensures form { IfOk result (λ l. operated (binary_of operator) left.now.number right.now.number left.now.form right.now.form ≡ Some l.value.form) }
+    ensures form { IfOk result (λ l. operated (binary_of operator) left.now.number right.now.number
+        left.now.form right.now.form ≡ Some l.value.form) }
     ensures number { IfOk result (λ l. l.value.number ≡ (left.now.number && right.now.number)) }
-    ensures err { IfErr result (Stops place (shape_by (binary_of operator) left.now.number right.now.number) (operated (binary_of operator) left.now.number right.now.number left.now.form right.now.form)) }
+    ensures err { IfErr result
+        (Stops place (shape_by (binary_of operator) left.now.number right.now.number)
+        (operated (binary_of operator) left.now.number right.now.number left.now.form
+        right.now.form)) }
 {
-    let form = operated(operator, left, right, place)?;
+    let form = operate(operator, left, right, place)?;
     let number = left.number && right.number;
     Ok(Box::new(alloc, Linear { form, number })?)
 }
@@ -145,7 +163,9 @@ fn joined(
 fn parts_of(alloc: Global, expr: &Expr, bounds: &VarBox, place: Place) -> Result<Box<Linear>, Fault>
     ensures form { IfOk result (λ l. form_of bounds.now (expr_of expr.now) ≡ Some l.value.form) }
     ensures number { IfOk result (λ l. l.value.number ≡ is_number (expr_of expr.now)) }
-    ensures err { IfErr result (Stops place (shape_of bounds.now (expr_of expr.now)) (form_of bounds.now (expr_of expr.now))) }
+    ensures err { IfErr result
+        (Stops place (shape_of bounds.now (expr_of expr.now))
+        (form_of bounds.now (expr_of expr.now))) }
 {
     match expr {
         Expr::Literal(value, _) => constant(alloc, *value, place),
@@ -155,15 +175,15 @@ fn parts_of(alloc: Global, expr: &Expr, bounds: &VarBox, place: Place) -> Result
         }
         Expr::Unary(UnaryOp::Negate, operand) => {
             let operand = parts_of(alloc, operand, bounds, place)?;
-            negated(alloc, &operand, place)
+            negate(alloc, &operand, place)
         }
         Expr::Unary(UnaryOp::Complement, _) => Err(Fault::NotAffine(place)),
         Expr::Binary(operator, left, right) => {
             let left = parts_of(alloc, left, bounds, place)?;
             let right = parts_of(alloc, right, bounds, place)?;
-            joined(alloc, *operator, &left, &right, place)
+            join(alloc, *operator, &left, &right, place)
         }
-        Expr::Choose(_, _, _) => Err(Fault::NotAffine(place)),
+        Expr::Conditional(_, _, _) => Err(Fault::NotAffine(place)),
     }
 }
 
@@ -176,8 +196,11 @@ fn parts_of(alloc: Global, expr: &Expr, bounds: &VarBox, place: Place) -> Result
 /// above 2^32 in absolute value or more than 32 variables; `OutOfMemory`.
 pub fn form_of(alloc: Global, expr: &Expr, bounds: &VarBox, place: Place) -> Result<Form, Fault>
     ensures ok { IfOk result (λ form. form_of bounds.now (expr_of expr.now) ≡ Some form) }
-    ensures err { IfErr result (λ fault. (fault ≡ Fault.OutOfMemory) ⊎ (form_of bounds.now (expr_of expr.now) ≡ None)) }
-    ensures fault { IfErr result (λ fault. (fault ≡ Fault.OutOfMemory) ⊎ (fault ≡ told place (shape_of bounds.now (expr_of expr.now)))) }
+    ensures err { IfErr result
+        (λ fault. (fault ≡ Fault.OutOfMemory) ⊎ (form_of bounds.now (expr_of expr.now) ≡ None)) }
+    ensures fault { IfErr result
+        (λ fault. (fault ≡ Fault.OutOfMemory)
+        ⊎ (fault ≡ told place (shape_of bounds.now (expr_of expr.now)))) }
 {
     let Some(_number) = shape_of(expr, bounds) else {
         return Err(Fault::NotAffine(place));

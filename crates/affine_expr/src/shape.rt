@@ -58,6 +58,6 @@ pub(crate) fn shape_of(expr: &Expr, bounds: &VarBox) -> Option<bool>
             let right = shape_of(right, bounds)?;
             shape_by(*operator, left, right)
         }
-        Expr::Choose(_, _, _) => None,
+        Expr::Conditional(_, _, _) => None,
     }
 }

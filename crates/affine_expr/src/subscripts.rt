@@ -8,11 +8,11 @@ ghost use Rattle.affine_expr.specs.Faults.{place_of};
 use crate::faults::Fault;
 use crate::linear::form_of;
 use affine::VarBox;
-use ktree::{Expr, Mention, Place};
+use ktree::{Expr, NamePlaces, Place};
 use std::alloc::Global;
 
 /// Where a subscript stands, counted from 0; its name, where there is none.
-pub fn subscript_place(mention: &Mention, index: usize) -> Place
+pub fn subscript_place(mention: &NamePlaces, index: usize) -> Place
     ensures { result ≡ place_of mention.now index }
 {
     match mention.subscripts.get(index) {
@@ -29,11 +29,13 @@ pub fn subscript_place(mention: &Mention, index: usize) -> Place
 pub fn are_affine(
     alloc: Global,
     subscripts: &[Expr],
-    mention: &Mention,
+    mention: &NamePlaces,
     bounds: &VarBox,
 ) -> Result<(), Fault>
     ensures ok { OnOk result (are_affine bounds.now (exprs_of subscripts.now) ≡ true) }
-    ensures err { IfErr result (λ fault. (fault ≡ Fault.OutOfMemory) ⊎ (are_affine bounds.now (exprs_of subscripts.now) ≡ false)) }
+    ensures err { IfErr result
+        (λ fault. (fault ≡ Fault.OutOfMemory)
+        ⊎ (are_affine bounds.now (exprs_of subscripts.now) ≡ false)) }
 {
     for (i, subscript) in subscripts.iter().enumerate() {
         let _form = form_of(alloc, subscript, bounds, subscript_place(mention, i))?;

@@ -8,7 +8,7 @@ use Rattle.semantics.specs.Source.Scope.{Scope, AConstant, with_constants}
 use Rattle.cparse_grammar.specs.Reading.{Got, ◌>>=◌, got, chosen}
 use Rattle.cparse_grammar.specs.Operators.{number_in, is_number}
 use Rattle.cparse_grammar.specs.ExpressionReader.{expression}
-use Rattle.cparse_grammar.specs.NextTokens.{new_name, becomes, comma}
+use Rattle.cparse_grammar.specs.NextTokens.{new_name, equal_sign, comma}
 use Rattle.cparse_grammar.specs.StatementReader.{is_unused}
 use Rattle.cparse_grammar.specs.TextReader.{constants, value_of, has_value}
 use Rattle.cparse_grammar.specs.DeclarationSteps.{constant_read, one_constant, and_then, visible}
@@ -41,13 +41,13 @@ constants_by n scope ts = first (new_name ts)
     second w None = refl
     second w (Some behind) = third w (expression 64 scope behind)
 
-    first : (o : Option (Name × List Token)) → (o >>= λ name. becomes name.1 >>= λ behind. expression 64 scope behind >>= λ e. chosen (comma e.rest)
+    first : (o : Option (Name × List Token)) → (o >>= λ name. equal_sign name.1 >>= λ behind. expression 64 scope behind >>= λ e. chosen (comma e.rest)
         (got ((name.0, value_of (constant (number_in e.tree))) ∷ []) (is_unused scope name.0 && ((e.sound && is_number e.tree) && has_value (constant (number_in e.tree)))) e.rest)
         (λ next. constants n ((name.0, AConstant (value_of (constant (number_in e.tree)))) ∷ scope) next >>= λ more.
         got ((name.0, value_of (constant (number_in e.tree))) ∷ more.tree) ((is_unused scope name.0 && ((e.sound && is_number e.tree) && has_value (constant (number_in e.tree)))) && more.sound) more.rest))
-        ≡ ((o >>= λ name. becomes name.1 >>= λ behind. constant_read scope behind >>= λ v. got (name.0, value_of v.tree) (is_unused scope name.0 && (v.sound && has_value v.tree)) v.rest) >>= λ one. after n scope one (comma one.rest))
+        ≡ ((o >>= λ name. equal_sign name.1 >>= λ behind. constant_read scope behind >>= λ v. got (name.0, value_of v.tree) (is_unused scope name.0 && (v.sound && has_value v.tree)) v.rest) >>= λ one. after n scope one (comma one.rest))
     first None = refl
-    first (Some name) = second name.0 (becomes name.1)
+    first (Some name) = second name.0 (equal_sign name.1)
 
 -- what the loop has read, and the names that are visible
 abbrev pub constants_run : ℕ → Got (List (Name × ℕ)) × Scope → Option (Got (List (Name × ℕ)))

@@ -3,7 +3,7 @@ use Rattle.std.specs.Prelude.{ℕ, zero, suc, Bool, true, not, ◌&&◌, ◌==�
 use Rattle.std.proofs.Common.{rules, refl, sym, ap, ◌∙◌, arith}
 use Rattle.std.proofs.lemmas.List.{append_assoc, append-nil}
 use Rattle.semantics.specs.Tree.{Source}
-use Rattle.semantics.specs.Source.Token.{Token, Sign, OpenBracket}
+use Rattle.semantics.specs.Source.Token.{Token, Punctuator, OpenBracket}
 use Rattle.semantics.specs.Source.Typing.{constant}
 use Rattle.semantics.specs.Source.Scope.{Scope}
 use Rattle.cparse_grammar.specs.Reading.{Got, ◌>>=◌, got}
@@ -52,7 +52,7 @@ abbrev tail : Got Source → List Token → Option (Got (List ℕ)) → Option (
 tail e behind read = read >>= λ more. got (length_of (constant (number_in e.tree)) ∷ more.tree) ((e.sound && is_number e.tree) && (is_length (constant (number_in e.tree)) && more.sound)) more.rest
 
 -- a dimension and those behind it
-lengths_by : (n : ℕ) (scope : Scope) (ts : List Token) → lengths (suc n) scope (Sign OpenBracket ∷ ts) ≡ (dimension scope ts >>= λ one. lengths n scope one.rest >>= λ more. got (one.tree ∷ more.tree) (one.sound && more.sound) more.rest)
+lengths_by : (n : ℕ) (scope : Scope) (ts : List Token) → lengths (suc n) scope (Punctuator OpenBracket ∷ ts) ≡ (dimension scope ts >>= λ one. lengths n scope one.rest >>= λ more. got (one.tree ∷ more.tree) (one.sound && more.sound) more.rest)
 lengths_by n scope ts = first (expression 64 scope ts)
   where
     third : (e : Got Source) (behind : List Token) (read : Option (Got (List ℕ))) → tail e behind read
@@ -91,7 +91,7 @@ lengths_fail (Limit place) scope row ts h d n = lengths_at n scope row ts h ∙ 
 lengths_none : (n : ℕ) (scope : Scope) (ts : List Token) → open_bracket ts ≡ None → lengths n scope ts ≡ got [] true ts
 lengths_none zero scope ts e = refl
 lengths_none (suc n) scope [] e = refl
-lengths_none (suc n) scope (Sign OpenBracket ∷ ts) e = absurd cc
+lengths_none (suc n) scope (Punctuator OpenBracket ∷ ts) e = absurd cc
 lengths_none (suc n) scope (t ∷ ts) e = refl
 
 pub lengths_end : (scope : Scope) (row : Got (List ℕ)) → open_bracket row.rest ≡ None → (n : ℕ) → lengths_run scope n row ≡ Some row

@@ -65,7 +65,7 @@ too_great n h = go (nat_le (2 ^ 64) n) refl
     go true e = leb-true (2 ^ 64) n e
     go false e = absurd (h (leb-false (2 ^ 64) n e))
 
-value_same : (value : Option ℕ) (n : ℕ) (s u : Suffix) → SomeIff value (n < 2 ^ 64) n → s ≡ u → IsSame (meant.Digits (value_of value) s) (meant.Digits n u)
+value_same : (value : Option ℕ) (n : ℕ) (s u : Suffix) → SomeIff value (n < 2 ^ 64) n → s ≡ u → IsSame (meant.IntegerConstant (value_of value) s) (meant.IntegerConstant n u)
 value_same None n s u h e = (e, inr (omega arith, too_great n h))
 value_same (Some m) n s u h e = (e, inl h.1)
 
@@ -86,18 +86,18 @@ kind_same : (text : List ℕ) (t : Token) (line : ℕ) (k : TokenKind) (l : Kind
 kind_same text t line given.Word (seen.Word w) (meant.Word v) small h n a e = ap meant.Word (e ∙ stands_word a)
 kind_same text t line given.Word (seen.Word w) m small h n a e = absurd h
 kind_same text t line given.Word l m small h n a e = absurd e
-kind_same text t line (given.Digits value s) (seen.Digits value' s') (meant.Digits n u) small h l a e =
+kind_same text t line (given.IntegerConstant value s) (seen.IntegerConstant value' s') (meant.IntegerConstant n u) small h l a e =
     value_same value' n (suffix_of s') u (subst (λ x. SomeIff x (n < 2 ^ 64) n) e.0 h.0) (ap suffix_of (sym e.1) ∙ h.1)
-kind_same text t line (given.Digits value s) (seen.Digits value' s') m small h n a e = absurd h
-kind_same text t line (given.Digits value s) l m small h n a e = absurd e
-kind_same text t line (given.Quoted o) (seen.Quoted w o') (meant.Quoted cs p) small h n a e =
+kind_same text t line (given.IntegerConstant value s) (seen.IntegerConstant value' s') m small h n a e = absurd h
+kind_same text t line (given.IntegerConstant value s) l m small h n a e = absurd e
+kind_same text t line (given.StringLiteral o) (seen.StringLiteral w o') (meant.StringLiteral cs p) small h n a e =
     let s = stands_string a in
-    ap (λ xs. meant.Quoted (spelled false xs) o') (e.1 s.0 s.1) ∙ ap (λ xs. meant.Quoted xs o') (spelled_whole s.2) ∙ ap (λ x. meant.Quoted cs x) (sym e.0 ∙ h)
-kind_same text t line (given.Quoted o) (seen.Quoted w o') m small h n a e = absurd h
-kind_same text t line (given.Quoted o) l m small h n a e = absurd e
-kind_same text t line (given.Sign s) (seen.Sign s') (meant.Sign x) small h n a e = ap meant.Sign (ap symbol_of (sym e) ∙ h)
-kind_same text t line (given.Sign s) (seen.Sign s') m small h n a e = absurd h
-kind_same text t line (given.Sign s) l m small h n a e = absurd e
+    ap (λ xs. meant.StringLiteral (spelled false xs) o') (e.1 s.0 s.1) ∙ ap (λ xs. meant.StringLiteral xs o') (spelled_whole s.2) ∙ ap (λ x. meant.StringLiteral cs x) (sym e.0 ∙ h)
+kind_same text t line (given.StringLiteral o) (seen.StringLiteral w o') m small h n a e = absurd h
+kind_same text t line (given.StringLiteral o) l m small h n a e = absurd e
+kind_same text t line (given.Punctuator s) (seen.Punctuator s') (meant.Punctuator x) small h n a e = ap meant.Punctuator (ap symbol_of (sym e) ∙ h)
+kind_same text t line (given.Punctuator s) (seen.Punctuator s') m small h n a e = absurd h
+kind_same text t line (given.Punctuator s) l m small h n a e = absurd e
 kind_same text t line (given.Include i) (seen.Include i') (meant.Header n) small h l a e = ap meant.Header (ap number_of (sym e) ∙ h)
 kind_same text t line (given.Include i) (seen.Include i') m small h n a e = absurd h
 kind_same text t line (given.Include i) l m small h n a e = absurd e

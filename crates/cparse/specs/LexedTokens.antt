@@ -12,9 +12,9 @@ use Rattle.cparse_cursor.specs.declared.lexeme.Lexeme.{Lexeme}
 -- a kind of token with its own bytes; of a string those between its quotes
 abbrev pub IsKindOf : List ℕ → TokenKind → Kind → Type 0
 IsKindOf bytes given.Word (seen.Word w) = w.now ≡ bytes
-IsKindOf bytes (given.Digits value suffix) (seen.Digits value' suffix') = (value ≡ value') × (suffix ≡ suffix')
-IsKindOf bytes (given.Quoted single) (seen.Quoted w single') = (single ≡ single') × ((inner : List ℕ) → bytes ≡ 34 ∷ (inner ++ 34 ∷ []) → w.now ≡ inner)
-IsKindOf bytes (given.Sign s) (seen.Sign s') = s ≡ s'
+IsKindOf bytes (given.IntegerConstant value suffix) (seen.IntegerConstant value' suffix') = (value ≡ value') × (suffix ≡ suffix')
+IsKindOf bytes (given.StringLiteral single) (seen.StringLiteral w single') = (single ≡ single') × ((inner : List ℕ) → bytes ≡ 34 ∷ (inner ++ 34 ∷ []) → w.now ≡ inner)
+IsKindOf bytes (given.Punctuator s) (seen.Punctuator s') = s ≡ s'
 IsKindOf bytes (given.Include h) (seen.Include h') = h ≡ h'
 IsKindOf bytes given.Line seen.Line = Unit {0}
 IsKindOf bytes _ _ = ⊥

@@ -12,9 +12,9 @@ ghost use Rattle.cparse_cursor.specs.Outcome.{Gives, got_of};
 use cparse_cursor::context::{Context, Outcome, Setting};
 use cparse_cursor::lexeme::Lexeme;
 use cparse_cursor::parsed::{Parsed, and_then};
-use cparse_cursor::punctuation::{becomes, comma, first_place};
+use cparse_cursor::punctuation::{comma, equal_sign, first_place};
 use cparse_cursor::scope::{Entity, Scope, add, find};
-use cparse_cursor::stop::{Fault, Flaw, Stop, earlier, told, unless};
+use cparse_cursor::stop::{Fault, Flaw, Stop, earlier, operand_fault, unless};
 use cparse_cursor::words::new_name;
 use cparse_cursor::written::{Sort, Written};
 use cparse_expr::expression::whole;
@@ -43,10 +43,10 @@ impl Constant {
     }
 
     /// The fault that is told where this value or more is wanted, and whether it has one that is right.
-    pub fn told(self, inside: Option<Fault>, right: bool, least: u32) -> Option<Fault>
+    pub fn fault_for(self, inside: Option<Fault>, right: bool, least: u32) -> Option<Fault>
         ensures { is_none result ≡ (is_none inside && right) }
     {
-        told(inside, right, self.misfit(least), self.written.place)
+        operand_fault(inside, right, self.misfit(least), self.written.place)
     }
 }
 
@@ -55,7 +55,8 @@ pub fn constant_expression<'s, 't>(
     context: Context<'_, 't>,
     tokens: &'s [Lexeme<'t>],
 ) -> Outcome<'s, 't, Constant>
-    ensures { Gives (got_of value_in) result (constant_read (names_of context.entry.scope.now) (tokens_of tokens.now)) }
+    ensures { Gives (got_of value_in) result
+        (constant_read (names_of context.entry.scope.now) (tokens_of tokens.now)) }
 {
     let Parsed { tree, fault, rest } = whole(context, 64, tokens)?;
     let constant = Constant {
@@ -65,7 +66,7 @@ pub fn constant_expression<'s, 't>(
     let number = number_in(tree);
     Ok(Parsed {
         tree: constant,
-        fault: constant.told(fault, number.is_number, 0),
+        fault: constant.fault_for(fault, number.is_number, 0),
         rest,
     })
 }
@@ -82,17 +83,18 @@ fn enumerator<'s, 't>(
     context: Context<'_, 't>,
     tokens: &'s [Lexeme<'t>],
 ) -> Outcome<'s, 't, Valued<'t>>
-    ensures { Gives (got_of valued_of) result (one_constant (names_of context.entry.scope.now) (tokens_of tokens.now)) }
+    ensures { Gives (got_of valued_of) result
+        (one_constant (names_of context.entry.scope.now) (tokens_of tokens.now)) }
 {
     let name = new_name(tokens, context.end)?;
-    let behind = becomes(name.rest, context.end)?;
+    let behind = equal_sign(name.rest, context.end)?;
     let twice = unless(
         find(context.scope, name.name).is_none(),
         Flaw::NameTwice,
         name.place,
     );
     let Parsed { tree, fault, rest } = constant_expression(context, behind)?;
-    let fault = tree.told(fault, tree.value.is_some(), 0);
+    let fault = tree.fault_for(fault, tree.value.is_some(), 0);
     let tree = Valued {
         name: name.name,
         value: tree.value.unwrap_or(0),
@@ -111,8 +113,10 @@ fn with_constant<'s, 't>(
     row: Parsed<'s, 't, Vec<Enumerator>>,
     one: Parsed<'s, 't, Valued<'t>>,
 ) -> Outcome<'s, 't, Vec<Enumerator>>
-    ensures row { Gives (got_of enumerators_of) result (Some (and_then (got_of enumerators_of row.entry) (got_of valued_of one.entry))) }
-    ensures visible { OnOk result (names_of scope.new ≡ visible (valued_of one.entry.tree) ∷ names_of scope.old) }
+    ensures row { Gives (got_of enumerators_of) result
+        (Some (and_then (got_of enumerators_of row.entry) (got_of valued_of one.entry))) }
+    ensures visible { OnOk result (names_of scope.new
+        ≡ visible (valued_of one.entry.tree) ∷ names_of scope.old) }
 {
     let Parsed {
         tree: Valued { name, value },
@@ -133,8 +137,10 @@ pub fn constants<'s, 't>(
     scope: &mut Scope<'t>,
     tokens: &'s [Lexeme<'t>],
 ) -> Outcome<'s, 't, Vec<Enumerator>>
-    ensures constants { Gives (got_of enumerators_of) result (constants (length (tokens_of tokens.now)) (names_of scope.old) (tokens_of tokens.now)) }
-    ensures visible { IfOk result (λ cs. names_of scope.new ≡ with_constants (enumerators_of cs.tree) (names_of scope.old)) }
+    ensures constants { Gives (got_of enumerators_of) result
+        (constants (length (tokens_of tokens.now)) (names_of scope.old) (tokens_of tokens.now)) }
+    ensures visible { IfOk result (λ cs. names_of scope.new
+        ≡ with_constants (enumerators_of cs.tree) (names_of scope.old)) }
 {
     let Setting { alloc, end } = setting;
     let mut row = Parsed {

@@ -45,8 +45,10 @@ fn enumeration<'s, 't>(
     scope: &mut Scope<'t>,
     tokens: &'s [Lexeme<'t>],
 ) -> Outcome<'s, 't, Vec<Enumerator>>
-    ensures constants { Gives (got_of enumerators_of) result (enumeration (names_of scope.old) (tokens_of tokens.now)) }
-    ensures visible { IfOk result (λ cs. names_of scope.new ≡ with_constants (enumerators_of cs.tree) (names_of scope.old)) }
+    ensures constants { Gives (got_of enumerators_of) result
+        (enumeration (names_of scope.old) (tokens_of tokens.now)) }
+    ensures visible { IfOk result (λ cs. names_of scope.new
+        ≡ with_constants (enumerators_of cs.tree) (names_of scope.old)) }
 {
     let inner = open_brace(tokens, setting.end)?;
     let Parsed { tree, fault, rest } = constants(setting, scope, inner)?;
@@ -61,7 +63,8 @@ fn variable<'s, 't>(
     context: Context<'_, 't>,
     tokens: &'s [Lexeme<'t>],
 ) -> Outcome<'s, 't, Named<'t>>
-    ensures { Gives (got_of named_of) result (variable (names_of context.entry.scope.now) (tokens_of tokens.now)) }
+    ensures { Gives (got_of named_of) result
+        (variable (names_of context.entry.scope.now) (tokens_of tokens.now)) }
 {
     let name = new_name(tokens, context.end)?;
     let twice = unless(
@@ -95,7 +98,8 @@ fn with_enumeration<'s, 't>(
     row: FileScope<'s, 't>,
     tokens: &'s [Lexeme<'t>],
 ) -> Result<FileScope<'s, 't>, Stop>
-    ensures { Gives (decls_of (names_of scope.new)) result (enum_step (decls_of (names_of scope.old) row.entry) (tokens_of tokens.now)) }
+    ensures { Gives (decls_of (names_of scope.new)) result
+        (enum_step (decls_of (names_of scope.old) row.entry) (tokens_of tokens.now)) }
 {
     let FileScope {
         constants: mut all,
@@ -124,7 +128,8 @@ fn with_variable<'s, 't>(
     row: FileScope<'s, 't>,
     tokens: &'s [Lexeme<'t>],
 ) -> Result<FileScope<'s, 't>, Stop>
-    ensures { Gives (decls_of (names_of scope.new)) result (variable_step (decls_of (names_of scope.old) row.entry) (tokens_of tokens.now)) }
+    ensures { Gives (decls_of (names_of scope.new)) result
+        (variable_step (decls_of (names_of scope.old) row.entry) (tokens_of tokens.now)) }
 {
     let Setting { alloc, end } = setting;
     let FileScope {
@@ -163,7 +168,9 @@ pub fn declarations<'s, 't>(
     scope: &mut Scope<'t>,
     tokens: &'s [Lexeme<'t>],
 ) -> Result<FileScope<'s, 't>, Stop>
-    ensures { Gives (decls_of (names_of scope.new)) result (declarations (length (tokens_of tokens.now)) (names_of scope.old) 0 (tokens_of tokens.now)) }
+    ensures { Gives (decls_of (names_of scope.new)) result
+        (declarations (length (tokens_of tokens.now)) (names_of scope.old) 0
+        (tokens_of tokens.now)) }
 {
     let alloc = setting.alloc;
     let mut row = FileScope {

@@ -37,13 +37,14 @@ fn is_length(value: Option<u32>) -> bool
 
 /// A dimension behind its bracket.
 fn dimension<'s, 't>(context: Context<'_, 't>, tokens: &'s [Lexeme<'t>]) -> Outcome<'s, 't, u64>
-    ensures { Gives (got_of (λ (n : ℕ). n)) result (dimension (names_of context.entry.scope.now) (tokens_of tokens.now)) }
+    ensures { Gives (got_of (λ (n : ℕ). n)) result
+        (dimension (names_of context.entry.scope.now) (tokens_of tokens.now)) }
 {
     let Parsed { tree, fault, rest } = constant_expression(context, tokens)?;
     let rest = close_bracket(rest, context.end)?;
     Ok(Parsed {
         tree: length_of(tree.value),
-        fault: tree.told(fault, is_length(tree.value), 1),
+        fault: tree.fault_for(fault, is_length(tree.value), 1),
         rest,
     })
 }
@@ -53,7 +54,9 @@ pub fn lengths<'s, 't>(
     context: Context<'_, 't>,
     tokens: &'s [Lexeme<'t>],
 ) -> Outcome<'s, 't, Vec<u64>>
-    ensures { Gives (got_of (λ v. v.items)) result (lengths (length (tokens_of tokens.now)) (names_of context.entry.scope.now) (tokens_of tokens.now)) }
+    ensures { Gives (got_of (λ v. v.items)) result
+        (lengths (length (tokens_of tokens.now)) (names_of context.entry.scope.now)
+        (tokens_of tokens.now)) }
 {
     let mut row = Parsed {
         tree: Vec::new(context.alloc),

@@ -33,9 +33,9 @@ fn kind(bytes: &[u8], kind: TokenKind) -> Result<Kind<'_>, Stop>
 {
     match kind {
         TokenKind::Word => Ok(Kind::Word(word(bytes)?)),
-        TokenKind::Digits(value, suffix) => Ok(Kind::Digits(value, suffix)),
-        TokenKind::Quoted(single) => Ok(Kind::Quoted(between_quotes(bytes), single)),
-        TokenKind::Sign(symbol) => Ok(Kind::Sign(symbol)),
+        TokenKind::IntegerConstant(value, suffix) => Ok(Kind::IntegerConstant(value, suffix)),
+        TokenKind::StringLiteral(single) => Ok(Kind::StringLiteral(between_quotes(bytes), single)),
+        TokenKind::Punctuator(symbol) => Ok(Kind::Punctuator(symbol)),
         TokenKind::Include(header) => Ok(Kind::Include(header)),
         TokenKind::Line => Ok(Kind::Line),
     }

@@ -21,8 +21,9 @@ pub struct Context<'a, 't> {
 pub type Outcome<'s, 't, T> = Result<Parsed<'s, 't, T>, Stop>;
 
 /// How much may be opened inside of what is opened here.
-pub fn opened(room: u32, place: Place) -> Result<u32, Stop>
-    ensures { MatchResult result (λ inner. room ≡ suc inner) (λ stop. (room ≡ 0) × (stop ≡ Limit place)) }
+pub fn enter_level(room: u32, place: Place) -> Result<u32, Stop>
+    ensures { MatchResult result (λ inner. room ≡ suc inner)
+        (λ stop. (room ≡ 0) × (stop ≡ Limit place)) }
 {
     if room == 0 {
         Err(Stop::Limit(place))
@@ -32,10 +33,10 @@ pub fn opened(room: u32, place: Place) -> Result<u32, Stop>
 }
 
 /// The next tighter reach, if there is one.
-pub fn tighter(reach: u32) -> Option<u32>
-    ensures { MatchOption result (reach ≡ 0) (λ tighter. reach ≡ suc tighter) }
+pub fn tighter(precedence: u32) -> Option<u32>
+    ensures { MatchOption result (precedence ≡ 0) (λ tighter. precedence ≡ suc tighter) }
 {
-    reach.checked_sub(1)
+    precedence.checked_sub(1)
 }
 
 /// What stays the same over a text.

@@ -9,10 +9,10 @@ pub enum Kind<'t> {
     /// A name or a reserved word.
     Word(&'t str),
     /// A literal: its value if that is below 2^64, and its suffix.
-    Digits(Option<u64>, Suffix),
+    IntegerConstant(Option<u64>, Suffix),
     /// A string literal: its bytes between the quotes, and whether it ends in a single `%`.
-    Quoted(&'t [u8], bool),
-    Sign(Symbol),
+    StringLiteral(&'t [u8], bool),
+    Punctuator(Symbol),
     /// An include line.
     Include(Header),
     /// A directive line.

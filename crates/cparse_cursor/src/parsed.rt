@@ -28,7 +28,8 @@ pub fn and_then<'s, 't, T: Drop>(
     one: Parsed<'s, 't, T>,
 ) -> Result<Parsed<'s, 't, Vec<T>>, Stop>
     ensures tree { IfOk result (λ r. r.tree.items ≡ row.entry.tree.items ++ one.entry.tree ∷ []) }
-    ensures fault { IfOk result (λ r. is_none r.fault ≡ (is_none row.entry.fault && is_none one.entry.fault)) }
+    ensures fault { IfOk result (λ r. is_none r.fault
+        ≡ (is_none row.entry.fault && is_none one.entry.fault)) }
     ensures rest { IfOk result (λ r. r.rest ≡ one.entry.rest) }
     ensures err { IfErr result (λ stop. stop ≡ Memory) }
 {

@@ -1,7 +1,7 @@
 //! Symbols that begin, part or end expressions, statements and declarations.
 
 ghost use Rattle.std.specs.Prelude.{◌≡◌, option_map};
-ghost use Rattle.cparse_grammar.specs.NextTokens.{close_paren, close_bracket, question_mark, colon, open_bracket, semicolon, open_paren, becomes, open_brace, close_brace, comma};
+ghost use Rattle.cparse_grammar.specs.NextTokens.{close_paren, close_bracket, question_mark, colon, open_bracket, semicolon, open_paren, equal_sign, open_brace, close_brace, comma};
 ghost use Rattle.cparse_cursor.specs.Lexemes.{tokens_of, first_place};
 ghost use Rattle.cparse_cursor.specs.Outcome.{Gives};
 
@@ -27,7 +27,7 @@ pub fn close_paren<'s, 't>(tokens: &'s [Lexeme<'t>], end: Place) -> Result<&'s [
     match tokens {
         [
             Lexeme {
-                kind: Kind::Sign(Symbol::CloseParen),
+                kind: Kind::Punctuator(Symbol::CloseParen),
                 ..
             },
             rest @ ..,
@@ -43,7 +43,7 @@ pub fn close_bracket<'s, 't>(tokens: &'s [Lexeme<'t>], end: Place) -> Result<&'s
     match tokens {
         [
             Lexeme {
-                kind: Kind::Sign(Symbol::CloseBracket),
+                kind: Kind::Punctuator(Symbol::CloseBracket),
                 ..
             },
             rest @ ..,
@@ -59,7 +59,7 @@ pub fn colon<'s, 't>(tokens: &'s [Lexeme<'t>], end: Place) -> Result<&'s [Lexeme
     match tokens {
         [
             Lexeme {
-                kind: Kind::Sign(Symbol::Colon),
+                kind: Kind::Punctuator(Symbol::Colon),
                 ..
             },
             rest @ ..,
@@ -70,12 +70,13 @@ pub fn colon<'s, 't>(tokens: &'s [Lexeme<'t>], end: Place) -> Result<&'s [Lexeme
 
 /// The place of `?` and the tokens behind it, if it comes first.
 pub fn question_mark<'s, 't>(tokens: &'s [Lexeme<'t>]) -> Option<(Place, &'s [Lexeme<'t>])>
-    ensures { option_map (λ found. tokens_of found.1.now) result ≡ question_mark (tokens_of tokens.now) }
+    ensures { option_map (λ found. tokens_of found.1.now) result
+        ≡ question_mark (tokens_of tokens.now) }
 {
     match tokens {
         [
             Lexeme {
-                kind: Kind::Sign(Symbol::Question),
+                kind: Kind::Punctuator(Symbol::Question),
                 place,
             },
             rest @ ..,
@@ -86,12 +87,13 @@ pub fn question_mark<'s, 't>(tokens: &'s [Lexeme<'t>]) -> Option<(Place, &'s [Le
 
 /// The place of `[` and the tokens behind it, if it comes first.
 pub fn open_bracket<'s, 't>(tokens: &'s [Lexeme<'t>]) -> Option<(Place, &'s [Lexeme<'t>])>
-    ensures { option_map (λ found. tokens_of found.1.now) result ≡ open_bracket (tokens_of tokens.now) }
+    ensures { option_map (λ found. tokens_of found.1.now) result
+        ≡ open_bracket (tokens_of tokens.now) }
 {
     match tokens {
         [
             Lexeme {
-                kind: Kind::Sign(Symbol::OpenBracket),
+                kind: Kind::Punctuator(Symbol::OpenBracket),
                 place,
             },
             rest @ ..,
@@ -107,7 +109,7 @@ pub fn semicolon<'s, 't>(tokens: &'s [Lexeme<'t>], end: Place) -> Result<&'s [Le
     match tokens {
         [
             Lexeme {
-                kind: Kind::Sign(Symbol::Semicolon),
+                kind: Kind::Punctuator(Symbol::Semicolon),
                 ..
             },
             rest @ ..,
@@ -123,7 +125,7 @@ pub fn open_paren<'s, 't>(tokens: &'s [Lexeme<'t>], end: Place) -> Result<&'s [L
     match tokens {
         [
             Lexeme {
-                kind: Kind::Sign(Symbol::OpenParen),
+                kind: Kind::Punctuator(Symbol::OpenParen),
                 ..
             },
             rest @ ..,
@@ -133,13 +135,13 @@ pub fn open_paren<'s, 't>(tokens: &'s [Lexeme<'t>], end: Place) -> Result<&'s [L
 }
 
 /// The tokens behind `=`, which has to come first.
-pub fn becomes<'s, 't>(tokens: &'s [Lexeme<'t>], end: Place) -> Result<&'s [Lexeme<'t>], Stop>
-    ensures { Gives (λ rest. tokens_of rest.now) result (becomes (tokens_of tokens.now)) }
+pub fn equal_sign<'s, 't>(tokens: &'s [Lexeme<'t>], end: Place) -> Result<&'s [Lexeme<'t>], Stop>
+    ensures { Gives (λ rest. tokens_of rest.now) result (equal_sign (tokens_of tokens.now)) }
 {
     match tokens {
         [
             Lexeme {
-                kind: Kind::Sign(Symbol::Becomes),
+                kind: Kind::Punctuator(Symbol::EqualSign),
                 ..
             },
             rest @ ..,
@@ -155,7 +157,7 @@ pub fn open_brace<'s, 't>(tokens: &'s [Lexeme<'t>], end: Place) -> Result<&'s [L
     match tokens {
         [
             Lexeme {
-                kind: Kind::Sign(Symbol::OpenBrace),
+                kind: Kind::Punctuator(Symbol::OpenBrace),
                 ..
             },
             rest @ ..,
@@ -171,7 +173,7 @@ pub fn close_brace<'s, 't>(tokens: &'s [Lexeme<'t>], end: Place) -> Result<&'s [
     match tokens {
         [
             Lexeme {
-                kind: Kind::Sign(Symbol::CloseBrace),
+                kind: Kind::Punctuator(Symbol::CloseBrace),
                 ..
             },
             rest @ ..,
@@ -187,7 +189,7 @@ pub fn comma<'s, 't>(tokens: &'s [Lexeme<'t>]) -> Option<&'s [Lexeme<'t>]>
     match tokens {
         [
             Lexeme {
-                kind: Kind::Sign(Symbol::Comma),
+                kind: Kind::Punctuator(Symbol::Comma),
                 ..
             },
             rest @ ..,

@@ -72,7 +72,9 @@ fn put<'t>(
     name: &'t str,
     entity: Entity,
 ) -> Result<(), AllocError>
-    ensures ok { OnOk result ((q : Name) → stands latest.new q ≡ cond (same_name name.now q) (Some (entity_of entity)) (stands latest.old q)) }
+    ensures ok { OnOk result ((q : Name)
+        → stands latest.new q ≡ cond (same_name name.now q) (Some (entity_of entity))
+        (stands latest.old q)) }
     ensures err { OnErr result ((q : Name) → stands latest.new q ≡ stands latest.old q) }
 {
     latest.insert(name, entity)?;
@@ -82,7 +84,8 @@ fn put<'t>(
 /// Puts back what a name stood for.
 fn put_back<'t>(latest: &mut HashMap<&'t str, Entity>, name: &'t str, before: Option<Entity>)
     requires { IsSome (stands latest.old name.now) }
-    ensures { (q : Name) → stands latest.new q ≡ cond (same_name name.now q) (option_map entity_of before) (stands latest.old q) }
+    ensures { (q : Name) → stands latest.new q
+        ≡ cond (same_name name.now q) (option_map entity_of before) (stands latest.old q) }
 {
     match before {
         None => {
@@ -96,7 +99,8 @@ fn put_back<'t>(latest: &mut HashMap<&'t str, Entity>, name: &'t str, before: Op
 
 /// Makes a name visible.
 pub fn add<'t>(scope: &mut Scope<'t>, name: &'t str, entity: Entity) -> Result<(), AllocError>
-    ensures names { OnOk result (names_of scope.new ≡ (name.now, entity_of entity) ∷ names_of scope.old) }
+    ensures names { OnOk result (names_of scope.new
+        ≡ (name.now, entity_of entity) ∷ names_of scope.old) }
     ensures front { OnOk result (take (length scope.old) scope.new ≡ scope.old) }
 {
     let before = scope.latest.get(name).copied();

@@ -84,7 +84,12 @@ pub fn unless(right: bool, flaw: Flaw, place: Place) -> Option<Fault>
 
 /// What is told of a fault inside of operands and of one in how they were written, where an operator may have them or not.
 /// Operands that do not fit because of a fault inside alone have none of their own.
-pub fn told(inside: Option<Fault>, right: bool, own: Option<Fault>, place: Place) -> Option<Fault>
+pub fn operand_fault(
+    inside: Option<Fault>,
+    right: bool,
+    own: Option<Fault>,
+    place: Place,
+) -> Option<Fault>
     ensures { is_none result ≡ (is_none inside && right) }
 {
     match (inside, own) {
@@ -98,5 +103,5 @@ pub fn told(inside: Option<Fault>, right: bool, own: Option<Fault>, place: Place
 pub fn told_sort(inside: Option<Fault>, right: bool, counts: bool, place: Place) -> Option<Fault>
     ensures { is_none result ≡ (is_none inside && right) }
 {
-    told(inside, right, unless(counts, Flaw::Operands, place), place)
+    operand_fault(inside, right, unless(counts, Flaw::Operands, place), place)
 }

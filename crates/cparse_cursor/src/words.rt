@@ -21,7 +21,8 @@ pub fn if_word<'s, 't>(
     expected: &str,
     tokens: &'s [Lexeme<'t>],
 ) -> Option<(Place, &'s [Lexeme<'t>])>
-    ensures { option_map (λ found. tokens_of found.1.now) result ≡ word expected.now (tokens_of tokens.now) }
+    ensures { option_map (λ found. tokens_of found.1.now) result
+        ≡ word expected.now (tokens_of tokens.now) }
 {
     let (first, rest) = tokens.split_first()?;
     match first.kind {
@@ -54,7 +55,8 @@ pub struct NextWord<'s, 't> {
 
 /// A word, which has to come first.
 pub fn next_word<'s, 't>(tokens: &'s [Lexeme<'t>], end: Place) -> Result<NextWord<'s, 't>, Stop>
-    ensures { Gives (λ found. (found.name.now, tokens_of found.rest.now)) result (next_word (tokens_of tokens.now)) }
+    ensures { Gives (λ found. (found.name.now, tokens_of found.rest.now)) result
+        (next_word (tokens_of tokens.now)) }
 {
     let Some((first, rest)) = tokens.split_first() else {
         return Err(Stop::Syntax(end));
@@ -69,7 +71,8 @@ pub fn next_word<'s, 't>(tokens: &'s [Lexeme<'t>], end: Place) -> Result<NextWor
 /// A word that may be declared, which has to come first.
 #[tactic(auto, using(cparse_grammar::proofs::WordLemmas::new_name_by))]
 pub fn new_name<'s, 't>(tokens: &'s [Lexeme<'t>], end: Place) -> Result<NextWord<'s, 't>, Stop>
-    ensures { Gives (λ found. (found.name.now, tokens_of found.rest.now)) result (new_name (tokens_of tokens.now)) }
+    ensures { Gives (λ found. (found.name.now, tokens_of found.rest.now)) result
+        (new_name (tokens_of tokens.now)) }
 {
     let found = next_word(tokens, end)?;
     if is_reserved(found.name) {
@@ -89,14 +92,15 @@ pub struct NextSign<'s, 't> {
 
 /// A symbol, which has to come first.
 pub fn next_sign<'s, 't>(tokens: &'s [Lexeme<'t>], end: Place) -> Result<NextSign<'s, 't>, Stop>
-    ensures { Gives (λ found. (symbol_of found.symbol, tokens_of found.rest.now)) result (sign (tokens_of tokens.now)) }
+    ensures { Gives (λ found. (symbol_of found.symbol, tokens_of found.rest.now)) result
+        (sign (tokens_of tokens.now)) }
 {
     let Some((first, rest)) = tokens.split_first() else {
         return Err(Stop::Syntax(end));
     };
     let place = first.place;
     match first.kind {
-        Kind::Sign(symbol) => Ok(NextSign {
+        Kind::Punctuator(symbol) => Ok(NextSign {
             symbol,
             place,
             rest,
@@ -106,10 +110,12 @@ pub fn next_sign<'s, 't>(tokens: &'s [Lexeme<'t>], end: Place) -> Result<NextSig
 }
 
 /// What a name at a place stands for, if anything; a reserved word is no name.
-pub fn known(scope: &Scope, name: &str, place: Place) -> Result<Option<Entity>, Stop>
+pub fn look_up(scope: &Scope, name: &str, place: Place) -> Result<Option<Entity>, Stop>
     ensures { MatchResult result
-        (λ entity. (option_map entity_of entity ≡ find (names_of scope.now) name.now) × (may_be_named (find (names_of scope.now) name.now) name.now ≡ true))
-        (λ stop. (stop ≡ Syntax place) × (may_be_named (find (names_of scope.now) name.now) name.now ≡ false)) }
+        (λ entity. (option_map entity_of entity ≡ find (names_of scope.now) name.now)
+        × (may_be_named (find (names_of scope.now) name.now) name.now ≡ true))
+        (λ stop. (stop ≡ Syntax place)
+        × (may_be_named (find (names_of scope.now) name.now) name.now ≡ false)) }
 {
     let entity = find(scope, name);
     if entity.is_none() && is_reserved(name) {

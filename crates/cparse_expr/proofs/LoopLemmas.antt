@@ -2,7 +2,7 @@
 use Rattle.std.proofs.Common.{◌≡◌, ℕ, zero, suc, ◌+◌, ◌-◌, ◌<◌, ◌≤◌, Bool, true, false, List, [], ◌∷◌, Option, Some, None, refl, sym, ap, subst, ◌∙◌, arith}
 use Rattle.std.specs.Prelude.{◌&&◌}
 use Rattle.semantics.specs.Tree.{Exprs, no_exprs, more_exprs, Source}
-use Rattle.semantics.specs.Source.Token.{Token, Sign, OpenBracket}
+use Rattle.semantics.specs.Source.Token.{Token, Punctuator, OpenBracket}
 use Rattle.cparse_grammar.specs.Reading.{Got, Reader, ◌>>=◌, got, chosen}
 use Rattle.cparse_grammar.specs.Operators.{Infix, number_in, is_number}
 use Rattle.cparse_grammar.specs.ExpressionReader.{Inner, subscripts, next_infix, join, further, choice}
@@ -29,8 +29,8 @@ append_none : (xs : Exprs) → append_exprs xs no_exprs ≡ xs
 append_none no_exprs = refl
 append_none (more_exprs x xs) = ap (more_exprs x) (append_none xs)
 
-pub opens : (us ts : List Token) → open_bracket us ≡ Some ts → us ≡ Sign OpenBracket ∷ ts
-opens (Sign OpenBracket ∷ us) ts e = cc
+pub opens : (us ts : List Token) → open_bracket us ≡ Some ts → us ≡ Punctuator OpenBracket ∷ ts
+opens (Punctuator OpenBracket ∷ us) ts e = cc
 opens _ ts e = absurd cc
 
 -- no operator of this reach comes next
@@ -66,7 +66,7 @@ further_goes count i k operand a op b total lt h f so_far =
 pub subscripts_end : (m : ℕ) (inner : Inner) (ts : List Token) → open_bracket ts ≡ None → subscripts m inner ts ≡ got no_exprs true ts
 subscripts_end zero inner ts e = refl
 subscripts_end (suc n) inner [] e = refl
-subscripts_end (suc n) inner (Sign OpenBracket ∷ ts) e = absurd cc
+subscripts_end (suc n) inner (Punctuator OpenBracket ∷ ts) e = absurd cc
 subscripts_end (suc n) inner (t ∷ ts) e = refl
 
 -- one comes next

@@ -8,7 +8,7 @@ ghost use Rattle.cparse_cursor.specs.Lexemes.{tokens_of};
 ghost use Rattle.cparse_cursor.specs.Outcome.{Gives, got_of, subscripts_of};
 ghost use Rattle.cparse_operand.specs.OperandViews.{operand_of};
 
-use cparse_cursor::context::{Context, Outcome, opened, tighter};
+use cparse_cursor::context::{Context, Outcome, enter_level, tighter};
 use cparse_cursor::lexeme::{Kind, Lexeme};
 use cparse_cursor::parsed::{Parsed, Subscripts};
 use cparse_cursor::punctuation::{
@@ -16,8 +16,10 @@ use cparse_cursor::punctuation::{
 };
 use cparse_cursor::scope::{find, is_reserved};
 use cparse_cursor::stop::Stop;
-use cparse_operand::combining::{changed, choice, join, no_subscripts, opposite, with_subscript};
-use cparse_operand::leaf::{literal, named};
+use cparse_operand::combining::{
+    apply_unary, choice, join, no_subscripts, opposite, with_subscript,
+};
+use cparse_operand::leaf::{literal, named_operand};
 use cparse_operand::operand::Operand;
 use cparse_operand::operator::next_infix;
 use ctoken::Symbol;
@@ -31,9 +33,10 @@ fn whole_inside<'s, 't>(
     place: Place,
     tokens: &'s [Lexeme<'t>],
 ) -> Outcome<'s, 't, Operand>
-    ensures { Gives (got_of operand_of) result ((inside room (names_of context.entry.scope.now)).whole (tokens_of tokens.now)) }
+    ensures { Gives (got_of operand_of) result
+        ((inside room (names_of context.entry.scope.now)).whole (tokens_of tokens.now)) }
 {
-    let room = opened(room, place)?;
+    let room = enter_level(room, place)?;
     whole(context, room, tokens)
 }
 
@@ -45,9 +48,10 @@ fn operand_inside<'s, 't>(
     place: Place,
     tokens: &'s [Lexeme<'t>],
 ) -> Outcome<'s, 't, Operand>
-    ensures { Gives (got_of operand_of) result ((inside room (names_of context.entry.scope.now)).operand (tokens_of tokens.now)) }
+    ensures { Gives (got_of operand_of) result
+        ((inside room (names_of context.entry.scope.now)).operand (tokens_of tokens.now)) }
 {
-    let room = opened(room, place)?;
+    let room = enter_level(room, place)?;
     unary(context, room, tokens)
 }
 
@@ -59,7 +63,9 @@ pub fn subscripts<'s, 't>(
     place: Place,
     tokens: &'s [Lexeme<'t>],
 ) -> Outcome<'s, 't, Subscripts>
-    ensures { Gives (got_of subscripts_of) result (subscripts (length (tokens_of tokens.now)) (inside room (names_of context.entry.scope.now)) (tokens_of tokens.now)) }
+    ensures { Gives (got_of subscripts_of) result
+        (subscripts (length (tokens_of tokens.now)) (inside room (names_of context.entry.scope.now))
+        (tokens_of tokens.now)) }
 {
     let mut row = no_subscripts(context.alloc, tokens);
     for _turn in 0..tokens.len() {
@@ -83,14 +89,16 @@ fn name<'s, 't>(
     place: Place,
     tokens: &'s [Lexeme<'t>],
 ) -> Outcome<'s, 't, Operand>
-    ensures { Gives (got_of operand_of) result (at_name (names_of context.entry.scope.now) (inside room (names_of context.entry.scope.now)) word.now (tokens_of tokens.now)) }
+    ensures { Gives (got_of operand_of) result
+        (at_name (names_of context.entry.scope.now) (inside room (names_of context.entry.scope.now))
+        word.now (tokens_of tokens.now)) }
 {
     let entity = find(context.scope, word);
     if entity.is_none() && is_reserved(word) {
         return Err(Stop::Syntax(place));
     }
     let subscripts = subscripts(context, room, place, tokens)?;
-    named(context.alloc, entity, word, place, subscripts)
+    named_operand(context.alloc, entity, word, place, subscripts)
 }
 
 /// A literal, a name, or an expression in parentheses (C11 6.5.1).
@@ -101,15 +109,17 @@ fn primary<'s, 't>(
     room: u32,
     tokens: &'s [Lexeme<'t>],
 ) -> Outcome<'s, 't, Operand>
-    ensures { Gives (got_of operand_of) result (primary (names_of context.entry.scope.now) (inside room (names_of context.entry.scope.now)) (tokens_of tokens.now)) }
+    ensures { Gives (got_of operand_of) result
+        (primary (names_of context.entry.scope.now) (inside room (names_of context.entry.scope.now))
+        (tokens_of tokens.now)) }
 {
     let Some((first, rest)) = tokens.split_first() else {
         return Err(Stop::Syntax(context.end));
     };
     match first.kind {
-        Kind::Digits(value, suffix) => Ok(literal(value, suffix, first.place, rest)),
+        Kind::IntegerConstant(value, suffix) => Ok(literal(value, suffix, first.place, rest)),
         Kind::Word(word) => name(context, room, word, first.place, rest),
-        Kind::Sign(Symbol::OpenParen) => {
+        Kind::Punctuator(Symbol::OpenParen) => {
             let inner = whole_inside(context, room, first.place, rest)?;
             let rest = close_paren(inner.rest, context.end)?;
             Ok(Parsed {
@@ -130,33 +140,35 @@ fn unary<'s, 't>(
     room: u32,
     tokens: &'s [Lexeme<'t>],
 ) -> Outcome<'s, 't, Operand>
-    ensures { Gives (got_of operand_of) result (unary (names_of context.entry.scope.now) (inside room (names_of context.entry.scope.now)) (tokens_of tokens.now)) }
+    ensures { Gives (got_of operand_of) result
+        (unary (names_of context.entry.scope.now) (inside room (names_of context.entry.scope.now))
+        (tokens_of tokens.now)) }
 {
     let alloc = context.alloc;
     match tokens {
         [
             Lexeme {
-                kind: Kind::Sign(Symbol::MinusSign),
+                kind: Kind::Punctuator(Symbol::MinusSign),
                 place,
             },
             rest @ ..,
         ] => {
             let operand = operand_inside(context, room, *place, rest)?;
-            changed(alloc, UnaryOp::Negate, *place, operand)
+            apply_unary(alloc, UnaryOp::Negate, *place, operand)
         }
         [
             Lexeme {
-                kind: Kind::Sign(Symbol::Tilde),
+                kind: Kind::Punctuator(Symbol::Tilde),
                 place,
             },
             rest @ ..,
         ] => {
             let operand = operand_inside(context, room, *place, rest)?;
-            changed(alloc, UnaryOp::Complement, *place, operand)
+            apply_unary(alloc, UnaryOp::Complement, *place, operand)
         }
         [
             Lexeme {
-                kind: Kind::Sign(Symbol::Bang),
+                kind: Kind::Punctuator(Symbol::Bang),
                 place,
             },
             rest @ ..,
@@ -173,13 +185,15 @@ fn unary<'s, 't>(
 fn binary<'s, 't>(
     context: Context<'_, 't>,
     room: u32,
-    reach: u32,
+    precedence: u32,
     tokens: &'s [Lexeme<'t>],
 ) -> Outcome<'s, 't, Operand>
-    requires { reach ≤ 10 }
-    ensures { Gives (got_of operand_of) result (binary reach (names_of context.entry.scope.now) (inside room (names_of context.entry.scope.now)) (tokens_of tokens.now)) }
+    requires { precedence ≤ 10 }
+    ensures { Gives (got_of operand_of) result
+        (binary precedence (names_of context.entry.scope.now)
+        (inside room (names_of context.entry.scope.now)) (tokens_of tokens.now)) }
 {
-    match tighter(reach) {
+    match tighter(precedence) {
         None => unary(context, room, tokens),
         Some(tighter) => {
             let left = binary(context, room, tighter, tokens)?;
@@ -198,7 +212,9 @@ fn further<'s, 't>(
 ) -> Outcome<'s, 't, Operand>
     requires { suc tighter ≤ 10 }
     ensures { Gives (got_of operand_of) result
-        (further (length (tokens_of left.entry.rest.now)) (suc tighter) (binary tighter (names_of context.entry.scope.now) (inside room (names_of context.entry.scope.now))) (got_of operand_of left.entry)) }
+        (further (length (tokens_of left.entry.rest.now)) (suc tighter)
+        (binary tighter (names_of context.entry.scope.now)
+        (inside room (names_of context.entry.scope.now))) (got_of operand_of left.entry)) }
 {
     let mut left = left;
     for _turn in 0..left.rest.len() {
@@ -227,7 +243,8 @@ fn second_arm<'s, 't>(
     place: Place,
     tokens: &'s [Lexeme<'t>],
 ) -> Outcome<'s, 't, Operand>
-    ensures { Gives (got_of operand_of) result (second_arm (inside room (names_of context.entry.scope.now)) (tokens_of tokens.now)) }
+    ensures { Gives (got_of operand_of) result
+        (second_arm (inside room (names_of context.entry.scope.now)) (tokens_of tokens.now)) }
 {
     let behind = colon(tokens, context.end)?;
     whole_inside(context, room, place, behind)
@@ -242,7 +259,9 @@ fn arms<'s, 't>(
     condition: Parsed<'s, 't, Operand>,
     tokens: &'s [Lexeme<'t>],
 ) -> Outcome<'s, 't, Operand>
-    ensures { Gives (got_of operand_of) result (arms_behind (inside room (names_of context.entry.scope.now)) (got_of operand_of condition.entry) (tokens_of tokens.now)) }
+    ensures { Gives (got_of operand_of) result
+        (arms_behind (inside room (names_of context.entry.scope.now))
+        (got_of operand_of condition.entry) (tokens_of tokens.now)) }
 {
     let first = whole_inside(context, room, place, tokens)?;
     let second = second_arm(context, room, place, first.rest)?;
@@ -257,7 +276,9 @@ pub fn whole<'s, 't>(
     room: u32,
     tokens: &'s [Lexeme<'t>],
 ) -> Outcome<'s, 't, Operand>
-    ensures { Gives (got_of operand_of) result (whole (names_of context.entry.scope.now) (inside room (names_of context.entry.scope.now)) (tokens_of tokens.now)) }
+    ensures { Gives (got_of operand_of) result
+        (whole (names_of context.entry.scope.now) (inside room (names_of context.entry.scope.now))
+        (tokens_of tokens.now)) }
 {
     let condition = binary(context, room, 10, tokens)?;
     match question_mark(condition.rest) {

@@ -6,7 +6,7 @@ use Rattle.semantics.specs.Source.Typing.{constant}
 use Rattle.semantics.specs.Source.Scope.{Scope, Entity, AVariable, AConstant, with_constants}
 use Rattle.cparse_grammar.specs.Reading.{Got, Reader, ◌>>=◌, got}
 use Rattle.cparse_grammar.specs.Operators.{number_in, is_number}
-use Rattle.cparse_grammar.specs.NextTokens.{close_bracket, becomes, new_name}
+use Rattle.cparse_grammar.specs.NextTokens.{close_bracket, equal_sign, new_name}
 use Rattle.cparse_grammar.specs.ExpressionReader.{expression}
 use Rattle.cparse_grammar.specs.StatementReader.{is_unused}
 use Rattle.cparse_grammar.specs.TextReader.{length_of, is_length, value_of, has_value, enumeration, variable, Decls}
@@ -26,7 +26,7 @@ and_then row one = record { tree = row.tree ++ one.tree ∷ []; sound = row.soun
 -- an enum constant with its value
 abbrev pub one_constant : Scope → Reader (Name × ℕ)
 one_constant scope ts =
-    new_name ts >>= λ name. becomes name.1 >>= λ behind. constant_read scope behind >>= λ v.
+    new_name ts >>= λ name. equal_sign name.1 >>= λ behind. constant_read scope behind >>= λ v.
     got (name.0, value_of v.tree) (is_unused scope name.0 && (v.sound && has_value v.tree)) v.rest
 
 -- an enum constant as it is visible

@@ -1,12 +1,12 @@
 -- The reading of expressions from the front of a list of tokens, with how much may still be opened.
 use Rattle.std.specs.Prelude.{ℕ, zero, suc, Bool, true, false, ◌&&◌, ◌==◌, if◌then◌else◌, List, ◌∷◌, length, Option, Some, None}
-use Rattle.semantics.specs.Tree.{Name, Suffix, UnaryOp, Negate, Complement, Expr, Literal, Constant, Object, Unary, Choose, Exprs, no_exprs, more_exprs, Not, Source, Number, Truth}
-use Rattle.semantics.specs.Source.Token.{Token, Word, Digits, Sign, OpenParen, OpenBracket, MinusSign, Tilde, Bang}
+use Rattle.semantics.specs.Tree.{Name, Suffix, UnaryOp, Negate, Complement, Expr, Literal, Constant, Object, Unary, Conditional, Exprs, no_exprs, more_exprs, Not, Source, Number, Truth}
+use Rattle.semantics.specs.Source.Token.{Token, Word, IntegerConstant, Punctuator, OpenParen, OpenBracket, MinusSign, Tilde, Bang}
 use Rattle.semantics.specs.Source.Typing.{in_range, typed}
 use Rattle.semantics.specs.Source.Scope.{Scope, Entity, AVariable, AConstant, find, count}
 use Rattle.cparse_grammar.specs.Reading.{Got, Reader, ◌>>=◌, got, chosen}
 use Rattle.cparse_grammar.specs.NextTokens.{close_paren, close_bracket, question_mark, colon, may_be_named}
-use Rattle.cparse_grammar.specs.Operators.{Infix, reach, infix_of, stand_in, number_in, is_number, cond_in, joined, joins}
+use Rattle.cparse_grammar.specs.Operators.{Infix, precedence, infix_of, stand_in, number_in, is_number, cond_in, joined, joins}
 
 -- what is read inside something opened: a whole expression, and the operand of a unary operator
 pub record Inner : Type 0 where
@@ -15,7 +15,7 @@ pub record Inner : Type 0 where
 
 -- subscripts, so many at most
 abbrev pub subscripts : ℕ → Inner → Reader Exprs
-subscripts (suc n) inner (Sign OpenBracket ∷ ts) =
+subscripts (suc n) inner (Punctuator OpenBracket ∷ ts) =
     inner.whole ts >>= λ e. close_bracket e.rest >>= λ behind. subscripts n inner behind >>= λ es.
     got (more_exprs (number_in e.tree) es.tree) (e.sound && (is_number e.tree && es.sound)) es.rest
 subscripts n inner ts = got no_exprs true ts
@@ -42,12 +42,12 @@ named entity name is = got (Number (name_tree entity name is.tree)) (is.sound &&
 
 -- C11 6.5.1 and 6.5.2.1
 unfoldable pub primary : Scope → Inner → Reader Source
-primary scope inner (Digits n suffix ∷ ts) = got (Number (literal_tree n suffix)) (in_range suffix n) ts
+primary scope inner (IntegerConstant n suffix ∷ ts) = got (Number (literal_tree n suffix)) (in_range suffix n) ts
 primary scope inner (Word name ∷ ts) =
     if may_be_named (find scope name) name
     then (subscripts (length ts) inner ts >>= λ is. named (find scope name) name is)
     else None
-primary scope inner (Sign OpenParen ∷ ts) = inner.whole ts >>= λ e. close_paren e.rest >>= λ behind. got e.tree e.sound behind
+primary scope inner (Punctuator OpenParen ∷ ts) = inner.whole ts >>= λ e. close_paren e.rest >>= λ behind. got e.tree e.sound behind
 primary scope inner _ = None
 
 -- a unary operator has a typed operand
@@ -56,18 +56,18 @@ unary_of op e = got (Number (Unary op (number_in e.tree))) (e.sound && (is_numbe
 
 -- C11 6.5.3.3
 unfoldable pub unary : Scope → Inner → Reader Source
-unary scope inner (Sign MinusSign ∷ ts) = inner.operand ts >>= λ e. unary_of Negate e
-unary scope inner (Sign Tilde ∷ ts) = inner.operand ts >>= λ e. unary_of Complement e
-unary scope inner (Sign Bang ∷ ts) = inner.operand ts >>= λ e. got (Truth (Not (cond_in e.tree))) e.sound e.rest
+unary scope inner (Punctuator MinusSign ∷ ts) = inner.operand ts >>= λ e. unary_of Negate e
+unary scope inner (Punctuator Tilde ∷ ts) = inner.operand ts >>= λ e. unary_of Complement e
+unary scope inner (Punctuator Bang ∷ ts) = inner.operand ts >>= λ e. got (Truth (Not (cond_in e.tree))) e.sound e.rest
 unary scope inner ts = primary scope inner ts
 
 -- an operator of this reach, and the tokens behind it
-abbrev pub reaching : ℕ → List Token → Option Infix → Option (Infix × List Token)
-reaching k ts None = None
-reaching k ts (Some op) = if reach op == k then Some (op, ts) else None
+abbrev pub of_precedence : ℕ → List Token → Option Infix → Option (Infix × List Token)
+of_precedence k ts None = None
+of_precedence k ts (Some op) = if precedence op == k then Some (op, ts) else None
 
 abbrev pub next_infix : ℕ → List Token → Option (Infix × List Token)
-next_infix k (Sign s ∷ ts) = reaching k ts (infix_of s)
+next_infix k (Punctuator s ∷ ts) = of_precedence k ts (infix_of s)
 next_infix k _ = None
 
 -- the left operand, the operator and the right one
@@ -87,7 +87,7 @@ binary (suc k) scope inner ts = binary k scope inner ts >>= λ a. further (lengt
 -- both arms are arithmetic (C11 6.5.15)
 abbrev pub choice : Got Source → Got Source → Got Source → Option (Got Source)
 choice c a b =
-    got (Number (Choose (cond_in c.tree) (number_in a.tree) (number_in b.tree)))
+    got (Number (Conditional (cond_in c.tree) (number_in a.tree) (number_in b.tree)))
     (c.sound && ((a.sound && is_number a.tree) && (b.sound && is_number b.tree))) b.rest
 
 -- a whole expression: `?:` reaches furthest

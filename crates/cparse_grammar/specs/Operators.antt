@@ -1,7 +1,7 @@
 -- Operators between two operands, by how far they reach, and what becomes of their operands.
 use Rattle.std.specs.Prelude.{ℕ, Bool, true, false, ◌||◌, Option, Some, None}
-use Rattle.semantics.specs.Tree.{Ull, BinaryOp, Plus, Minus, Times, Divide, Remainder, BitAnd, BitOr, BitXor, ShiftLeft, ShiftRight, CompareOp, Less, LessEqual, Greater, GreaterEqual, Equal, NotEqual, Expr, Literal, Binary, Cond, NotZero, Compare, Both, Either, Source, Number, Truth}
-use Rattle.semantics.specs.Source.Token.{Symbol, PlusBecomes, MinusBecomes, TimesBecomes, AndBecomes, OrBecomes, XorBecomes, PlusSign, MinusSign, Star, Slash, Percent, Amp, Bar, Caret, DoubleLess, DoubleGreater, LessSign, LessEqualSign, GreaterSign, GreaterEqualSign, DoubleEqual, BangEqual, DoubleAmp, DoubleBar}
+use Rattle.semantics.specs.Tree.{Ull, BinaryOp, Plus, Minus, Times, Divide, Remainder, BitAnd, BitOr, BitXor, ShiftLeft, ShiftRight, CompareOp, Less, LessEqual, Greater, GreaterEqual, Equal, NotEqual, Expr, Literal, Binary, Cond, NotZero, Compare, LogicalAnd, LogicalOr, Source, Number, Truth}
+use Rattle.semantics.specs.Source.Token.{Symbol, PlusEqual, MinusEqual, TimesEqual, AmpEqual, BarEqual, CaretEqual, PlusSign, MinusSign, Star, Slash, Percent, Amp, Bar, Caret, DoubleLess, DoubleGreater, LessSign, LessEqualSign, GreaterSign, GreaterEqualSign, DoubleEqual, BangEqual, DoubleAmp, DoubleBar}
 use Rattle.semantics.specs.Source.Typing.{typed, fit}
 
 -- an operator between two operands
@@ -11,25 +11,25 @@ pub data Infix : Type 0 where
   AndAlso OrElse : Infix
 
 -- the tightest reach 1 (C11 6.5.5), the loosest 10 (6.5.14)
-abbrev pub reach : Infix → ℕ
-reach (Arithmetic Times) = 1
-reach (Arithmetic Divide) = 1
-reach (Arithmetic Remainder) = 1
-reach (Arithmetic Plus) = 2
-reach (Arithmetic Minus) = 2
-reach (Arithmetic ShiftLeft) = 3
-reach (Arithmetic ShiftRight) = 3
-reach (Comparing Less) = 4
-reach (Comparing LessEqual) = 4
-reach (Comparing Greater) = 4
-reach (Comparing GreaterEqual) = 4
-reach (Comparing Equal) = 5
-reach (Comparing NotEqual) = 5
-reach (Arithmetic BitAnd) = 6
-reach (Arithmetic BitXor) = 7
-reach (Arithmetic BitOr) = 8
-reach AndAlso = 9
-reach OrElse = 10
+abbrev pub precedence : Infix → ℕ
+precedence (Arithmetic Times) = 1
+precedence (Arithmetic Divide) = 1
+precedence (Arithmetic Remainder) = 1
+precedence (Arithmetic Plus) = 2
+precedence (Arithmetic Minus) = 2
+precedence (Arithmetic ShiftLeft) = 3
+precedence (Arithmetic ShiftRight) = 3
+precedence (Comparing Less) = 4
+precedence (Comparing LessEqual) = 4
+precedence (Comparing Greater) = 4
+precedence (Comparing GreaterEqual) = 4
+precedence (Comparing Equal) = 5
+precedence (Comparing NotEqual) = 5
+precedence (Arithmetic BitAnd) = 6
+precedence (Arithmetic BitXor) = 7
+precedence (Arithmetic BitOr) = 8
+precedence AndAlso = 9
+precedence OrElse = 10
 
 -- the operator that a symbol is
 abbrev pub infix_of : Symbol → Option Infix
@@ -55,12 +55,12 @@ infix_of _ = None
 
 -- the operator of `op=` (C11 6.5.16.2)
 abbrev pub update_of : Symbol → Option BinaryOp
-update_of PlusBecomes = Some Plus
-update_of MinusBecomes = Some Minus
-update_of TimesBecomes = Some Times
-update_of AndBecomes = Some BitAnd
-update_of OrBecomes = Some BitOr
-update_of XorBecomes = Some BitXor
+update_of PlusEqual = Some Plus
+update_of MinusEqual = Some Minus
+update_of TimesEqual = Some Times
+update_of AmpEqual = Some BitAnd
+update_of BarEqual = Some BitOr
+update_of CaretEqual = Some BitXor
 update_of _ = None
 
 -- an expression with a type of its own, which stands where one is missing
@@ -85,8 +85,8 @@ cond_in (Truth c) = c
 abbrev pub joined : Infix → Source → Source → Source
 joined (Arithmetic op) (Number a) (Number b) = Number (Binary op a b)
 joined (Comparing op) (Number a) (Number b) = Truth (Compare op a b)
-joined AndAlso a b = Truth (Both (cond_in a) (cond_in b))
-joined OrElse a b = Truth (Either (cond_in a) (cond_in b))
+joined AndAlso a b = Truth (LogicalAnd (cond_in a) (cond_in b))
+joined OrElse a b = Truth (LogicalOr (cond_in a) (cond_in b))
 joined _ a b = Number stand_in
 
 -- whether it may have them

@@ -1,7 +1,7 @@
 -- The reading of printf from the front of a list of tokens.
 use Rattle.std.specs.Prelude.{ℕ, zero, suc, Bool, true, false, ◌&&◌, if◌then◌else◌, List, [], ◌∷◌, length, Option, Some, None, codes}
 use Rattle.semantics.specs.Tree.{Expr, Source, PrintPart, Characters, Decimal, Stmt, Print}
-use Rattle.semantics.specs.Source.Token.{Token, Quoted, Sign, Comma}
+use Rattle.semantics.specs.Source.Token.{Token, StringLiteral, Punctuator, Comma}
 use Rattle.semantics.specs.Source.Typing.{typed, plain}
 use Rattle.semantics.specs.Source.Scope.{Scope}
 use Rattle.cparse_grammar.specs.Reading.{Reader, ◌>>=◌, got}
@@ -11,20 +11,20 @@ use Rattle.cparse_grammar.specs.ExpressionReader.{expression}
 
 -- a string comes next
 abbrev pub starts_quoted : List Token → Bool
-starts_quoted (Quoted bs open' ∷ ts) = true
+starts_quoted (StringLiteral bs open' ∷ ts) = true
 starts_quoted _ = false
 
 -- a format, of so many strings at most (C11 7.21.6.1, 7.8.1)
 abbrev pub format : ℕ → Reader (List (Option (List ℕ)))
-format (suc n) (Quoted bs false ∷ ts) = got (Some bs ∷ []) true ts
-format (suc n) (Quoted bs true ∷ ts) =
+format (suc n) (StringLiteral bs false ∷ ts) = got (Some bs ∷ []) true ts
+format (suc n) (StringLiteral bs true ∷ ts) =
     word (codes "PRIu64") ts >>= λ behind.
     (if starts_quoted behind then (format n behind >>= λ more. got (Some bs ∷ None ∷ more.tree) true more.rest) else got (Some bs ∷ None ∷ []) true behind)
 format n ts = None
 
 -- the arguments behind it, so many at most
 abbrev pub arguments : ℕ → Reader Source → Reader (List Expr)
-arguments (suc n) whole (Sign Comma ∷ ts) =
+arguments (suc n) whole (Punctuator Comma ∷ ts) =
     whole ts >>= λ e. arguments n whole e.rest >>= λ es.
     got (number_in e.tree ∷ es.tree) ((e.sound && is_number e.tree) && ((typed (number_in e.tree) && plain (number_in e.tree)) && es.sound)) es.rest
 arguments n whole ts = got [] true ts

@@ -1,7 +1,7 @@
 -- Formats and arguments, turn by turn.
 use Rattle.std.specs.Prelude.{ℕ, Bool, true, false, ◌&&◌, if◌then◌else◌, List, [], ◌∷◌, ◌++◌, length, Option, Some, None, codes}
 use Rattle.semantics.specs.Tree.{Expr, Source, PrintPart, Characters, Decimal, Stmt, Print}
-use Rattle.semantics.specs.Source.Token.{Token, Quoted}
+use Rattle.semantics.specs.Source.Token.{Token, StringLiteral}
 use Rattle.semantics.specs.Source.Scope.{Scope}
 use Rattle.semantics.specs.Source.Typing.{typed, plain}
 use Rattle.cparse_grammar.specs.Reading.{Got, Reader, ◌>>=◌, got}
@@ -18,8 +18,8 @@ pub record Turn : Type 0 where
   pub rest : List Token
 
 abbrev pub format_turn : List Token → Option Turn
-format_turn (Quoted bs false ∷ ts) = Some (record { characters = bs; placed = false; more = false; rest = ts })
-format_turn (Quoted bs true ∷ ts) =
+format_turn (StringLiteral bs false ∷ ts) = Some (record { characters = bs; placed = false; more = false; rest = ts })
+format_turn (StringLiteral bs true ∷ ts) =
     word (codes "PRIu64") ts >>= λ behind. Some (record { characters = bs; placed = true; more = starts_quoted behind; rest = behind })
 format_turn _ = None
 

@@ -1,10 +1,10 @@
 -- Tokens that are the same but for literals that are too great, whose value nobody keeps.
 use Rattle.std.specs.Prelude.{◌≡◌, ◌⊎◌, ◌≤◌, ◌^◌, List, [], ◌∷◌}
-use Rattle.semantics.specs.Source.Token.{Token, Digits}
+use Rattle.semantics.specs.Source.Token.{Token, IntegerConstant}
 
 -- two literals of one value, or of values past 2^64
 abbrev pub IsSame : Token → Token → Type 0
-IsSame (Digits m s) (Digits n u) = (s ≡ u) × ((m ≡ n) ⊎ ((2 ^ 64 ≤ m) × (2 ^ 64 ≤ n)))
+IsSame (IntegerConstant m s) (IntegerConstant n u) = (s ≡ u) × ((m ≡ n) ⊎ ((2 ^ 64 ≤ m) × (2 ^ 64 ≤ n)))
 IsSame t u = t ≡ u
 
 -- one by one

@@ -1,14 +1,14 @@
 -- Statements, as the code takes them apart.
 use Rattle.std.specs.Prelude.{ℕ, zero, suc, Bool, true, false, ◌&&◌, if◌then◌else◌, List, ◌∷◌, Option, Some, codes}
 use Rattle.semantics.specs.Tree.{Name, Source, Increment, Stmt, If, IfElse, Items, no_items, mark, local, stmt}
-use Rattle.semantics.specs.Source.Token.{Token, Word, Sign, Line, OpenBrace}
+use Rattle.semantics.specs.Source.Token.{Token, Word, Punctuator, Line, OpenBrace}
 use Rattle.semantics.specs.Source.Scope.{Scope, same_name}
 use Rattle.cparse_grammar.specs.Reading.{Got, Reader, ◌>>=◌, got, chosen}
 use Rattle.cparse_grammar.specs.Operators.{cond_in}
 use Rattle.cparse_grammar.specs.ExpressionReader.{expression}
 use Rattle.cparse_grammar.specs.StatementReader.{Tally, Told, StmtReader, Heading, told, no_stmt, declared, with_local, step, assignment, ended, initial, is_unused, statement, selection, iteration}
 use Rattle.cparse_grammar.specs.PrintfReader.{printed}
-use Rattle.cparse_grammar.specs.NextTokens.{new_name, open_paren, close_paren, word, becomes, semicolon}
+use Rattle.cparse_grammar.specs.NextTokens.{new_name, open_paren, close_paren, word, equal_sign, semicolon}
 
 -- behind a word that is neither `if` nor `for`
 abbrev pub simple : ℕ → Scope → Tally → Name → List Token → Option (Told Stmt)
@@ -42,7 +42,7 @@ pub record Row : Type 0 where
 -- an item begins
 abbrev pub begins_item : List Token → Bool
 begins_item (Line n ∷ ts) = true
-begins_item (Sign OpenBrace ∷ ts) = true
+begins_item (Punctuator OpenBrace ∷ ts) = true
 begins_item (Word w ∷ ts) = true
 begins_item _ = false
 
@@ -80,7 +80,7 @@ with_item row one = record { tree = append_items row.tree one.tree; sound = row.
 
 -- a loop's variable, up to the `=` behind it
 abbrev pub counter : List Token → Option (Name × List Token)
-counter ts = open_paren ts >>= λ inner. word (codes "uint64_t") inner >>= λ typed. new_name typed >>= λ name. becomes name.1 >>= λ behind. Some (name.0, behind)
+counter ts = open_paren ts >>= λ inner. word (codes "uint64_t") inner >>= λ typed. new_name typed >>= λ name. equal_sign name.1 >>= λ behind. Some (name.0, behind)
 
 -- an expression and the semicolon behind it
 abbrev pub ended_source : Reader Source → Reader Source

@@ -1,10 +1,10 @@
 -- The reading of statements from the front of a list of tokens.
 use Rattle.std.specs.Prelude.{ℕ, zero, suc, Bool, true, false, ◌&&◌, ◌==◌, if◌then◌else◌, List, ◌∷◌, length, Option, Some, None, is_none, codes}
 use Rattle.semantics.specs.Tree.{Name, Variable, Exprs, Source, Increment, Up, Down, Set, Change, Stmt, Assign, Update, If, IfElse, For, Block, Items, no_items, mark, local, stmt}
-use Rattle.semantics.specs.Source.Token.{Token, Word, Sign, Line, Symbol, Semicolon, OpenBrace, PlusPlus, MinusMinus, Becomes}
+use Rattle.semantics.specs.Source.Token.{Token, Word, Punctuator, Line, Symbol, Semicolon, OpenBrace, PlusPlus, MinusMinus, EqualSign}
 use Rattle.semantics.specs.Source.Scope.{Scope, Entity, AVariable, find, count, same_name}
 use Rattle.cparse_grammar.specs.Reading.{Got, Reader, ◌>>=◌, got, chosen}
-use Rattle.cparse_grammar.specs.NextTokens.{semicolon, open_paren, close_paren, becomes, close_brace, sign, word, new_name, may_be_named}
+use Rattle.cparse_grammar.specs.NextTokens.{semicolon, open_paren, close_paren, equal_sign, close_brace, sign, word, new_name, may_be_named}
 use Rattle.cparse_grammar.specs.Operators.{update_of, number_in, is_number, cond_in}
 use Rattle.cparse_grammar.specs.ExpressionReader.{subscripts, inside, expression}
 use Rattle.cparse_grammar.specs.PrintfReader.{printed}
@@ -31,7 +31,7 @@ may_step _ = false
 abbrev pub step_behind : Reader Source → Option Entity → Symbol → Reader Increment
 step_behind whole entity PlusPlus ts = got (Up (target_of entity)) (may_step entity) ts
 step_behind whole entity MinusMinus ts = got (Down (target_of entity)) (may_step entity) ts
-step_behind whole entity Becomes ts = whole ts >>= λ e. got (Set (target_of entity) e.tree) (may_step entity && e.sound) e.rest
+step_behind whole entity EqualSign ts = whole ts >>= λ e. got (Set (target_of entity) e.tree) (may_step entity && e.sound) e.rest
 step_behind whole entity s ts =
     chosen (update_of s) None
     (λ op. whole ts >>= λ e. got (Change (target_of entity) op (number_in e.tree)) (may_step entity && (e.sound && is_number e.tree)) e.rest)
@@ -42,9 +42,9 @@ if_named scope name read = if may_be_named (find scope name) name then read else
 
 -- C11 6.5.2.4, 6.5.3.1 and 6.5.16
 unfoldable pub step : Reader Source → Scope → Reader Increment
-step whole scope (Sign PlusPlus ∷ Word name ∷ ts) = if_named scope name (got (Up (target_of (find scope name))) (may_step (find scope name)) ts)
-step whole scope (Sign MinusMinus ∷ Word name ∷ ts) = if_named scope name (got (Down (target_of (find scope name))) (may_step (find scope name)) ts)
-step whole scope (Word name ∷ Sign s ∷ ts) = if_named scope name (step_behind whole (find scope name) s ts)
+step whole scope (Punctuator PlusPlus ∷ Word name ∷ ts) = if_named scope name (got (Up (target_of (find scope name))) (may_step (find scope name)) ts)
+step whole scope (Punctuator MinusMinus ∷ Word name ∷ ts) = if_named scope name (got (Down (target_of (find scope name))) (may_step (find scope name)) ts)
+step whole scope (Word name ∷ Punctuator s ∷ ts) = if_named scope name (step_behind whole (find scope name) s ts)
 step whole scope _ = None
 
 -- the number of the next variable, and how many statements may still follow
@@ -87,7 +87,7 @@ with_local scope name t = (name, AVariable t.next 0) ∷ scope
 
 -- the right side behind `=` or `op=`
 abbrev pub assigned : Reader Source → Option Entity → Exprs → Bool → Symbol → Reader Stmt
-assigned whole entity is sound Becomes ts = whole ts >>= λ e. got (Assign (target_of entity) is e.tree) (sound && (may_set entity is && e.sound)) e.rest
+assigned whole entity is sound EqualSign ts = whole ts >>= λ e. got (Assign (target_of entity) is e.tree) (sound && (may_set entity is && e.sound)) e.rest
 assigned whole entity is sound s ts =
     chosen (update_of s) None
     (λ op. whole ts >>= λ e. got (Update (target_of entity) is op (number_in e.tree)) (sound && (may_set entity is && (e.sound && is_number e.tree))) e.rest)
@@ -104,8 +104,8 @@ ended tally s = semicolon s.rest >>= λ behind. told s.tree s.sound tally behind
 
 -- a local's first value, if it has one
 abbrev pub initial : Reader Source → Reader (Option Source)
-initial whole (Sign Semicolon ∷ ts) = got None true ts
-initial whole (Sign Becomes ∷ ts) = whole ts >>= λ e. semicolon e.rest >>= λ behind. got (Some e.tree) e.sound behind
+initial whole (Punctuator Semicolon ∷ ts) = got None true ts
+initial whole (Punctuator EqualSign ∷ ts) = whole ts >>= λ e. semicolon e.rest >>= λ behind. got (Some e.tree) e.sound behind
 initial whole _ = None
 
 -- an item in front of others
@@ -116,8 +116,8 @@ with_stmt s more = told (stmt s.tree more.tree) (s.sound && more.sound) more.tal
 abbrev pub items : ℕ → ℕ → StmtReader → Scope → Tally → List Token → Option (Told Items)
 items (suc n) room read scope tally (Line line ∷ ts) =
     items n room read scope tally ts >>= λ more. told (mark line more.tree) more.sound more.tally more.rest
-items (suc n) room read scope tally (Sign OpenBrace ∷ ts) =
-    read scope tally (Sign OpenBrace ∷ ts) >>= λ s. items n room read scope s.tally s.rest >>= λ more. with_stmt s more
+items (suc n) room read scope tally (Punctuator OpenBrace ∷ ts) =
+    read scope tally (Punctuator OpenBrace ∷ ts) >>= λ s. items n room read scope s.tally s.rest >>= λ more. with_stmt s more
 items (suc n) room read scope tally (Word w ∷ ts) =
     if same_name w (codes "uint64_t")
     then (new_name ts >>= λ name. initial (expression room (with_local scope name.0 tally)) name.1 >>= λ start.
@@ -152,7 +152,7 @@ pub record Heading : Type 0 where
 -- behind the word for, up to the parenthesis that closes (C11 6.8.5.3)
 unfoldable pub heading : ℕ → Scope → Tally → List Token → Option Heading
 heading room scope tally ts =
-    open_paren ts >>= λ inner. word (codes "uint64_t") inner >>= λ typed'. new_name typed' >>= λ name. becomes name.1 >>= λ behind.
+    open_paren ts >>= λ inner. word (codes "uint64_t") inner >>= λ typed'. new_name typed' >>= λ name. equal_sign name.1 >>= λ behind.
     expression room (with_local scope name.0 tally) behind >>= λ start. semicolon start.rest >>= λ first.
     expression room (with_local scope name.0 tally) first >>= λ test. semicolon test.rest >>= λ second.
     step (expression room (with_local scope name.0 tally)) (with_local scope name.0 tally) second >>= λ turn. close_paren turn.rest >>= λ body.
@@ -173,7 +173,7 @@ iteration room read scope tally ts = None
 
 -- by the first token, with the readers of what is nested once and twice
 abbrev pub by_head : ℕ → StmtReader → StmtReader → StmtReader
-by_head room once twice scope tally (Sign OpenBrace ∷ ts) = block room once scope tally ts
+by_head room once twice scope tally (Punctuator OpenBrace ∷ ts) = block room once scope tally ts
 by_head room once twice scope tally (Word w ∷ ts) =
     if same_name w (codes "if") then selection room once twice scope tally ts
     else (if same_name w (codes "for") then iteration room once scope tally ts

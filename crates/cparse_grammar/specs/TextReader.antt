@@ -1,13 +1,13 @@
 -- The reading of declarations and of a whole list of tokens.
 use Rattle.std.specs.Prelude.{ℕ, zero, suc, Bool, true, false, ◌&&◌, ◌^◌, nat_le, if◌then◌else◌, List, [], ◌∷◌, ◌++◌, length, Option, Some, None, codes}
 use Rattle.semantics.specs.Tree.{Name, Declaration, Kernel}
-use Rattle.semantics.specs.Source.Token.{Token, Word, Sign, Header, OpenBracket}
+use Rattle.semantics.specs.Source.Token.{Token, Word, Punctuator, Header, OpenBracket}
 use Rattle.semantics.specs.Source.Typing.{constant}
 use Rattle.semantics.specs.Source.Scope.{Scope, AVariable, AConstant, with_constants, same_name}
 use Rattle.semantics.specs.Source.Grammar.{elements}
 use Rattle.cparse_grammar.specs.Reading.{Reader, ◌>>=◌, got, chosen}
 use Rattle.cparse_grammar.specs.Operators.{number_in, is_number}
-use Rattle.cparse_grammar.specs.NextTokens.{close_paren, close_bracket, semicolon, open_paren, becomes, open_brace, close_brace, comma, word, new_name}
+use Rattle.cparse_grammar.specs.NextTokens.{close_paren, close_bracket, semicolon, open_paren, equal_sign, open_brace, close_brace, comma, word, new_name}
 use Rattle.cparse_grammar.specs.ExpressionReader.{expression}
 use Rattle.cparse_grammar.specs.StatementReader.{is_unused, items, statement}
 
@@ -24,7 +24,7 @@ is_length (Some (suc n)) = true
 
 -- the lengths of a declared array, so many at most
 abbrev pub lengths : ℕ → Scope → Reader (List ℕ)
-lengths (suc n) scope (Sign OpenBracket ∷ ts) =
+lengths (suc n) scope (Punctuator OpenBracket ∷ ts) =
     expression 64 scope ts >>= λ e. close_bracket e.rest >>= λ behind. lengths n scope behind >>= λ more.
     got (length_of (constant (number_in e.tree)) ∷ more.tree) ((e.sound && is_number e.tree) && (is_length (constant (number_in e.tree)) && more.sound)) more.rest
 lengths n scope ts = got [] true ts
@@ -42,7 +42,7 @@ has_value (Some n) = true
 abbrev pub constants : ℕ → Scope → Reader (List (Name × ℕ))
 constants zero scope ts = None
 constants (suc n) scope ts =
-    new_name ts >>= λ name. becomes name.1 >>= λ behind. expression 64 scope behind >>= λ e.
+    new_name ts >>= λ name. equal_sign name.1 >>= λ behind. expression 64 scope behind >>= λ e.
     chosen (comma e.rest)
     (got ((name.0, value_of (constant (number_in e.tree))) ∷ []) (is_unused scope name.0 && ((e.sound && is_number e.tree) && has_value (constant (number_in e.tree)))) e.rest)
     (λ next. constants n ((name.0, AConstant (value_of (constant (number_in e.tree)))) ∷ scope) next >>= λ more.

@@ -1,7 +1,7 @@
 //! What follows from parts that were read.
 
 ghost use Rattle.std.specs.Prelude.{◌≡◌, ◌&&◌, true, Some, is_none};
-ghost use Rattle.semantics.specs.Tree.{Number, Truth, Not, Choose, no_exprs};
+ghost use Rattle.semantics.specs.Tree.{Number, Truth, Not, Conditional, no_exprs};
 ghost use Rattle.ktree.specs.View.{unary_of, expr_of};
 ghost use Rattle.cparse_grammar.specs.Reading.{got};
 ghost use Rattle.cparse_grammar.specs.Operators.{cond_in};
@@ -12,7 +12,7 @@ ghost use Rattle.cparse_cursor.specs.Lexemes.{tokens_of};
 ghost use Rattle.cparse_cursor.specs.Outcome.{Gives, got_of, subscripts_of};
 ghost use Rattle.cparse_operand.specs.OperandViews.{operand_of};
 
-use crate::joining::{Union, joined, truth};
+use crate::joining::{Union, join_operands, truth};
 use crate::numeric::Numeric;
 use crate::operand::Operand;
 use crate::operator::Infix;
@@ -20,7 +20,7 @@ use crate::wanted::{cond_in, number_in};
 use cparse_cursor::context::Outcome;
 use cparse_cursor::lexeme::Lexeme;
 use cparse_cursor::parsed::{Parsed, Subscripts};
-use cparse_cursor::stop::{Stop, earlier, told, told_sort};
+use cparse_cursor::stop::{Stop, earlier, operand_fault, told_sort};
 use cparse_cursor::written::{Sort, Written};
 use ktree::{Cond, Expr, Place, Source, UnaryOp};
 use std::alloc::Global;
@@ -34,7 +34,9 @@ pub fn join<'s, 't>(
     left: Parsed<'s, 't, Operand>,
     right: Parsed<'s, 't, Operand>,
 ) -> Outcome<'s, 't, Operand>
-    ensures { Gives (got_of operand_of) result (Some (join (got_of operand_of left.entry) (infix_in operator) (got_of operand_of right.entry))) }
+    ensures { Gives (got_of operand_of) result
+        (Some (join (got_of operand_of left.entry) (infix_in operator)
+        (got_of operand_of right.entry))) }
 {
     let Parsed {
         tree: a,
@@ -50,8 +52,8 @@ pub fn join<'s, 't>(
         operand,
         fits,
         misfit,
-    } = joined(alloc, operator, place, begin, a, b)?;
-    let fault = told(earlier(left_fault, right_fault), fits, misfit, place);
+    } = join_operands(alloc, operator, place, begin, a, b)?;
+    let fault = operand_fault(earlier(left_fault, right_fault), fits, misfit, place);
     Ok(Parsed {
         tree: operand,
         fault,
@@ -60,13 +62,14 @@ pub fn join<'s, 't>(
 }
 
 /// `-` or `~` in front of a typed operand (C11 6.5.3.3).
-pub fn changed<'s, 't>(
+pub fn apply_unary<'s, 't>(
     alloc: Global,
     operator: UnaryOp,
     place: Place,
     operand: Parsed<'s, 't, Operand>,
 ) -> Outcome<'s, 't, Operand>
-    ensures { Gives (got_of operand_of) result (unary_reading (unary_of operator) (got_of operand_of operand.entry)) }
+    ensures { Gives (got_of operand_of) result
+        (unary_reading (unary_of operator) (got_of operand_of operand.entry)) }
 {
     let Parsed { tree, fault, rest } = operand;
     let Numeric {
@@ -98,7 +101,9 @@ pub fn opposite<'s, 't>(
     place: Place,
     operand: Parsed<'s, 't, Operand>,
 ) -> Outcome<'s, 't, Operand>
-    ensures { Gives (got_of operand_of) result (got (Truth (Not (cond_in (operand_of operand.entry.tree)))) (is_none operand.entry.fault) (tokens_of operand.entry.rest.now)) }
+    ensures { Gives (got_of operand_of) result
+        (got (Truth (Not (cond_in (operand_of operand.entry.tree)))) (is_none operand.entry.fault)
+        (tokens_of operand.entry.rest.now)) }
 {
     let Parsed { tree, fault, rest } = operand;
     let plain = tree.plain;
@@ -123,7 +128,9 @@ pub fn choice<'s, 't>(
     first: Parsed<'s, 't, Operand>,
     second: Parsed<'s, 't, Operand>,
 ) -> Outcome<'s, 't, Operand>
-    ensures { Gives (got_of operand_of) result (choice (got_of operand_of condition.entry) (got_of operand_of first.entry) (got_of operand_of second.entry)) }
+    ensures { Gives (got_of operand_of) result
+        (choice (got_of operand_of condition.entry) (got_of operand_of first.entry)
+        (got_of operand_of second.entry)) }
 {
     let Parsed {
         tree: c,
@@ -145,7 +152,7 @@ pub fn choice<'s, 't>(
     let arms = earlier(first_fault, second_fault);
     let arms = told_sort(arms, a.is_number && b.is_number, numbers, place);
     let fault = earlier(condition_fault, arms);
-    let tree = chosen(alloc, c, a, b, place)?;
+    let tree = conditional(alloc, c, a, b, place)?;
     Ok(Parsed { tree, fault, rest })
 }
 
@@ -160,21 +167,23 @@ fn written_choice(condition: Written, a: Written, b: Written, place: Place) -> W
 }
 
 /// `c ? a : b` of a condition and two arithmetic expressions.
-fn chosen(
+fn conditional(
     alloc: Global,
     condition: Operand,
     a: Numeric,
     b: Numeric,
     place: Place,
 ) -> Result<Operand, Stop>
-    ensures { Gives operand_of result (Some (Number (Choose (cond_in (operand_of condition)) (expr_of a.expr) (expr_of b.expr)))) }
+    ensures { Gives operand_of result
+        (Some (Number (Conditional (cond_in (operand_of condition)) (expr_of a.expr)
+        (expr_of b.expr)))) }
 {
     let typed = a.typed || b.typed;
     let plain = condition.plain && a.plain && b.plain;
     let written = written_choice(condition.written, a.written, b.written, place);
     let c = Box::new(alloc, cond_in(alloc, condition.source)?)?;
     let (a, b) = (Box::new(alloc, a.expr)?, Box::new(alloc, b.expr)?);
-    let source = Source::Number(Expr::Choose(c, a, b));
+    let source = Source::Number(Expr::Conditional(c, a, b));
     Ok(Operand {
         source,
         typed,
@@ -208,7 +217,9 @@ pub fn with_subscript<'s, 't>(
     begin: Place,
     behind: &'s [Lexeme<'t>],
 ) -> Outcome<'s, 't, Subscripts>
-    ensures { Gives (got_of subscripts_of) result (Some (with_subscript (got_of subscripts_of row.entry) (got_of operand_of subscript.entry) (tokens_of behind.now))) }
+    ensures { Gives (got_of subscripts_of) result
+        (Some (with_subscript (got_of subscripts_of row.entry) (got_of operand_of subscript.entry)
+        (tokens_of behind.now))) }
 {
     let Parsed {
         tree: subscripts,

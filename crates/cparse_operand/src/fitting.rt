@@ -26,7 +26,8 @@ fn may_divide(divisor: &Operand) -> bool
 
 /// Whether operands fit their operator.
 pub fn fit(operator: BinaryOp, left: &Operand, right: &Operand) -> bool
-    ensures { result ≡ fit (binary_of operator) (number_in (operand_of left.now)) (number_in (operand_of right.now)) }
+    ensures { result ≡ fit (binary_of operator) (number_in (operand_of left.now))
+        (number_in (operand_of right.now)) }
 {
     let typed = left.typed || right.typed;
     match operator {
@@ -41,7 +42,9 @@ pub fn fit(operator: BinaryOp, left: &Operand, right: &Operand) -> bool
 
 /// Whether an operation is typed: a shift by its left operand alone (C11 6.3.1.8, 6.5.7).
 pub fn is_typed(operator: BinaryOp, left: &Operand, right: &Operand) -> bool
-    ensures { result ≡ typed (Binary (binary_of operator) (number_in (operand_of left.now)) (number_in (operand_of right.now))) }
+    ensures { result ≡ typed
+        (Binary (binary_of operator) (number_in (operand_of left.now))
+        (number_in (operand_of right.now))) }
 {
     match operator {
         BinaryOp::ShiftLeft | BinaryOp::ShiftRight => left.typed,
@@ -60,7 +63,12 @@ fn is_shift(operator: BinaryOp) -> bool {
 }
 
 /// An operation as it was written. One at fault counts as typed (C11 6.3.1.8).
-pub fn written(operator: BinaryOp, place: Place, left: Written, right: Written) -> Written {
+pub fn written_operation(
+    operator: BinaryOp,
+    place: Place,
+    left: Written,
+    right: Written,
+) -> Written {
     let sort = match (left.sort, right.sort) {
         (Sort::Constant(a), Sort::Constant(b)) if may_be_constant(operator) => {
             Sort::Constant(constant(operator, a, b))

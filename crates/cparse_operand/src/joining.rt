@@ -9,7 +9,7 @@ ghost use Rattle.cparse_operand.specs.Infixes.{infix_in};
 ghost use Rattle.cparse_cursor.specs.Outcome.{Gives};
 ghost use Rattle.cparse_operand.specs.OperandViews.{operand_of, union_of};
 
-use crate::fitting::{fit, is_typed, misfit, written};
+use crate::fitting::{fit, is_typed, misfit, written_operation};
 use crate::leaf::stand_in;
 use crate::operand::Operand;
 use crate::operator::Infix;
@@ -75,14 +75,19 @@ fn arithmetic(
     left: Operand,
     right: Operand,
 ) -> Result<Union, Stop>
-    ensures { Gives union_of result (Some (joined (Arithmetic (binary_of operator)) (operand_of left) (operand_of right), joins (Arithmetic (binary_of operator)) (operand_of left) (operand_of right))) }
+    ensures { Gives union_of result
+        (Some (
+          joined (Arithmetic (binary_of operator)) (operand_of left) (operand_of right),
+          joins
+              (Arithmetic (binary_of operator)) (operand_of left) (operand_of right),
+        )) }
 {
     let misfit = misfit(operator, place, &left, &right);
     let fits = fit(operator, &left, &right);
     let typed = is_typed(operator, &left, &right);
     let constant = constant(operator, left.constant, right.constant);
     let plain = left.plain && right.plain;
-    let written = written(operator, place, left.written, right.written);
+    let written = written_operation(operator, place, left.written, right.written);
     match (left.source, right.source) {
         (Source::Number(a), Source::Number(b)) => {
             let source = Source::Number(Expr::Binary(
@@ -119,7 +124,12 @@ fn comparison(
     left: Operand,
     right: Operand,
 ) -> Result<Union, Stop>
-    ensures { Gives union_of result (Some (joined (Comparing (compare_of operator)) (operand_of left) (operand_of right), joins (Comparing (compare_of operator)) (operand_of left) (operand_of right))) }
+    ensures { Gives union_of result
+        (Some (
+          joined (Comparing (compare_of operator)) (operand_of left) (operand_of right),
+          joins
+              (Comparing (compare_of operator)) (operand_of left) (operand_of right),
+        )) }
 {
     let typed = left.typed || right.typed;
     let plain = left.plain && right.plain;
@@ -152,21 +162,25 @@ fn logical(
     left: Operand,
     right: Operand,
 ) -> Result<Union, Stop>
-    ensures { Gives union_of result (Some (joined (if is_and then AndAlso else OrElse) (operand_of left) (operand_of right), true)) }
+    ensures { Gives union_of result
+        (Some (
+          joined (if is_and then AndAlso else OrElse) (operand_of left) (operand_of right),
+          true,
+        )) }
 {
     let plain = left.plain && right.plain;
     let written = condition(place, left.written, right.written);
     let c = Box::new(alloc, cond_in(alloc, left.source)?)?;
     let d = Box::new(alloc, cond_in(alloc, right.source)?)?;
     if is_and {
-        Ok(fitting_truth(Cond::Both(c, d), plain, written))
+        Ok(fitting_truth(Cond::LogicalAnd(c, d), plain, written))
     } else {
-        Ok(fitting_truth(Cond::Either(c, d), plain, written))
+        Ok(fitting_truth(Cond::LogicalOr(c, d), plain, written))
     }
 }
 
 /// What an operator at a place makes of its operands, of which the right one begins somewhere.
-pub fn joined(
+pub fn join_operands(
     alloc: Global,
     operator: Infix,
     place: Place,
@@ -174,7 +188,12 @@ pub fn joined(
     left: Operand,
     right: Operand,
 ) -> Result<Union, Stop>
-    ensures { Gives union_of result (Some (joined (infix_in operator) (operand_of left) (operand_of right), joins (infix_in operator) (operand_of left) (operand_of right))) }
+    ensures { Gives union_of result
+        (Some (
+          joined (infix_in operator) (operand_of left) (operand_of right),
+          joins
+              (infix_in operator) (operand_of left) (operand_of right),
+        )) }
 {
     match operator {
         Infix::Arithmetic(op) => arithmetic(alloc, op, place, left, right),

@@ -18,7 +18,7 @@ use cparse_cursor::parsed::{Parsed, Subscripts};
 use cparse_cursor::scope::Entity;
 use cparse_cursor::stop::{Fault, Flaw, Stop, earlier, unless};
 use cparse_cursor::written::{Sort, Written};
-use ktree::{Expr, Mention, Place, Source, Suffix, VarId};
+use ktree::{Expr, NamePlaces, Place, Source, Suffix, VarId};
 use std::alloc::Global;
 
 /// A literal, of which the value is known if it is below 2^64 (C11 6.4.4.1).
@@ -29,7 +29,8 @@ pub fn literal<'s, 't>(
     rest: &'s [Lexeme<'t>],
 ) -> Parsed<'s, 't, Operand>
     ensures { Some (got_of operand_of result)
-        ≡ got (Number (literal_tree (value_of value) (suffix_of suffix))) (in_range (suffix_of suffix) (value_of value)) (tokens_of rest.now) }
+        ≡ got (Number (literal_tree (value_of value) (suffix_of suffix)))
+        (in_range (suffix_of suffix) (value_of value)) (tokens_of rest.now) }
 {
     let (n, fault) = match value {
         Some(n) if in_range(suffix, n) => (n, None),
@@ -85,7 +86,7 @@ fn object(x: VarId, place: Place, subscripts: Subscripts) -> Operand
     ensures { operand_of result ≡ Number (Object x.0 (subscripts_of subscripts)) }
 {
     let Subscripts { exprs, places } = subscripts;
-    let mention = Mention {
+    let mention = NamePlaces {
         name: place,
         subscripts: places,
     };
@@ -119,14 +120,15 @@ fn constant(alloc: Global, name: &str, n: u32, place: Place) -> Result<Operand, 
 
 /// What a name stands for, with the subscripts behind it.
 #[tactic(auto, using(crate::proofs::TreeLemmas::counted))]
-pub fn named<'s, 't>(
+pub fn named_operand<'s, 't>(
     alloc: Global,
     entity: Option<Entity>,
     name: &str,
     place: Place,
     subscripts: Parsed<'s, 't, Subscripts>,
 ) -> Result<Parsed<'s, 't, Operand>, Stop>
-    ensures { Gives (got_of operand_of) result (named (option_map entity_of entity) name.now (got_of subscripts_of subscripts.entry)) }
+    ensures { Gives (got_of operand_of) result
+        (named (option_map entity_of entity) name.now (got_of subscripts_of subscripts.entry)) }
 {
     let Parsed {
         tree: subscripts,

@@ -3,7 +3,7 @@
 ghost use Rattle.std.specs.Prelude.{◌≡◌, option_map};
 ghost use Rattle.ktree.specs.View.{binary_of};
 ghost use Rattle.ctoken.specs.Meant.{symbol_of};
-ghost use Rattle.cparse_grammar.specs.Operators.{reach, infix_of, update_of};
+ghost use Rattle.cparse_grammar.specs.Operators.{precedence, infix_of, update_of};
 ghost use Rattle.cparse_grammar.specs.ExpressionReader.{next_infix};
 ghost use Rattle.cparse_cursor.specs.Lexemes.{tokens_of};
 ghost use Rattle.cparse_operand.specs.Infixes.{infix_in};
@@ -53,19 +53,19 @@ pub fn update_of(symbol: Symbol) -> Option<BinaryOp>
     ensures { option_map binary_of result ≡ update_of (symbol_of symbol) }
 {
     Some(match symbol {
-        Symbol::PlusBecomes => BinaryOp::Plus,
-        Symbol::MinusBecomes => BinaryOp::Minus,
-        Symbol::TimesBecomes => BinaryOp::Times,
-        Symbol::AndBecomes => BinaryOp::BitAnd,
-        Symbol::OrBecomes => BinaryOp::BitOr,
-        Symbol::XorBecomes => BinaryOp::BitXor,
+        Symbol::PlusEqual => BinaryOp::Plus,
+        Symbol::MinusEqual => BinaryOp::Minus,
+        Symbol::TimesEqual => BinaryOp::Times,
+        Symbol::AmpEqual => BinaryOp::BitAnd,
+        Symbol::BarEqual => BinaryOp::BitOr,
+        Symbol::CaretEqual => BinaryOp::BitXor,
         _ => return None,
     })
 }
 
 /// How far an operator reaches: 1 for the tightest, 10 for the loosest.
-fn reach(operator: Infix) -> u32
-    ensures { result ≡ reach (infix_in operator) }
+fn precedence(operator: Infix) -> u32
+    ensures { result ≡ precedence (infix_in operator) }
 {
     match operator {
         Infix::Arithmetic(BinaryOp::Times | BinaryOp::Divide | BinaryOp::Remainder) => 1,
@@ -91,14 +91,15 @@ pub struct Found<'s, 't> {
 
 /// The operator that comes first, if it reaches so far.
 pub fn next_infix<'s, 't>(limit: u32, tokens: &'s [Lexeme<'t>]) -> Option<Found<'s, 't>>
-    ensures { option_map (λ found. (infix_in found.operator, tokens_of found.rest.now)) result ≡ next_infix limit (tokens_of tokens.now) }
+    ensures { option_map (λ found. (infix_in found.operator, tokens_of found.rest.now)) result
+        ≡ next_infix limit (tokens_of tokens.now) }
 {
     let (first, rest) = tokens.split_first()?;
-    let Kind::Sign(symbol) = first.kind else {
+    let Kind::Punctuator(symbol) = first.kind else {
         return None;
     };
     let operator = infix_of(symbol)?;
-    if reach(operator) == limit {
+    if precedence(operator) == limit {
         let place = first.place;
         Some(Found {
             operator,

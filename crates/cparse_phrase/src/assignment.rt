@@ -1,7 +1,7 @@
 //! Assignments (C11 6.5.16).
 
 ghost use Rattle.std.specs.Prelude.{◌≡◌, option_map, is_none};
-ghost use Rattle.semantics.specs.Source.Token.{Becomes};
+ghost use Rattle.semantics.specs.Source.Token.{EqualSign};
 ghost use Rattle.ctoken.specs.Meant.{symbol_of};
 ghost use Rattle.ktree.specs.View.{stmt_of, binary_of};
 ghost use Rattle.cparse_grammar.specs.ExpressionReader.{expression};
@@ -17,12 +17,12 @@ use cparse_cursor::lexeme::Lexeme;
 use cparse_cursor::parsed::{Parsed, Subscripts};
 use cparse_cursor::scope::Entity;
 use cparse_cursor::stop::{Stop, earlier, told_sort};
-use cparse_cursor::words::{NextSign, known, next_sign};
+use cparse_cursor::words::{NextSign, look_up, next_sign};
 use cparse_expr::expression::{subscripts, whole};
 use cparse_operand::operator::update_of;
 use cparse_operand::wanted::number_in;
 use ctoken::Symbol;
-use ktree::{BinaryOp, Mention, Place, Stmt, Target};
+use ktree::{BinaryOp, NamePlaces, Place, Stmt, Target};
 
 /// What is set, as it was named at a place.
 fn target(entity: Option<Entity>, place: Place, subscripts: Subscripts) -> Target
@@ -30,7 +30,7 @@ fn target(entity: Option<Entity>, place: Place, subscripts: Subscripts) -> Targe
     ensures subscripts { result.subscripts.items ≡ subscripts.exprs.items }
 {
     let Subscripts { exprs, places } = subscripts;
-    let mention = Mention {
+    let mention = NamePlaces {
         name: place,
         subscripts: places,
     };
@@ -51,7 +51,9 @@ fn assign<'s, 't>(
     tokens: &'s [Lexeme<'t>],
 ) -> Outcome<'s, 't, Stmt>
     ensures { Gives (got_of stmt_of) result
-        (assigned (expression room (names_of context.entry.scope.now)) (option_map entity_of entity) (subscripts_of row.entry.tree) (is_none row.entry.fault) Becomes (tokens_of tokens.now)) }
+        (assigned (expression room (names_of context.entry.scope.now)) (option_map entity_of entity)
+        (subscripts_of row.entry.tree) (is_none row.entry.fault) EqualSign
+        (tokens_of tokens.now)) }
 {
     let Parsed {
         tree: subscripts,
@@ -79,7 +81,9 @@ fn update<'s, 't>(
     sign: NextSign<'s, 't>,
 ) -> Outcome<'s, 't, Stmt>
     ensures { Gives (got_of stmt_of) result
-        (updated (expression room (names_of context.entry.scope.now)) (option_map entity_of entity) (subscripts_of row.entry.tree) (is_none row.entry.fault) (binary_of operator) (tokens_of sign.entry.rest.now)) }
+        (updated (expression room (names_of context.entry.scope.now)) (option_map entity_of entity)
+        (subscripts_of row.entry.tree) (is_none row.entry.fault) (binary_of operator)
+        (tokens_of sign.entry.rest.now)) }
 {
     let Parsed {
         tree: subscripts,
@@ -100,7 +104,7 @@ fn update<'s, 't>(
 }
 
 /// What is assigned behind a sign.
-fn assigned<'s, 't>(
+fn assign_behind<'s, 't>(
     context: Context<'_, 't>,
     room: u32,
     entity: Option<Entity>,
@@ -109,10 +113,12 @@ fn assigned<'s, 't>(
     sign: NextSign<'s, 't>,
 ) -> Outcome<'s, 't, Stmt>
     ensures { Gives (got_of stmt_of) result
-        (assigned (expression room (names_of context.entry.scope.now)) (option_map entity_of entity) (subscripts_of row.entry.tree) (is_none row.entry.fault) (symbol_of sign.entry.symbol) (tokens_of sign.entry.rest.now)) }
+        (assigned (expression room (names_of context.entry.scope.now)) (option_map entity_of entity)
+        (subscripts_of row.entry.tree) (is_none row.entry.fault) (symbol_of sign.entry.symbol)
+        (tokens_of sign.entry.rest.now)) }
 {
     match sign.symbol {
-        Symbol::Becomes => assign(context, room, entity, place, row, sign.rest),
+        Symbol::EqualSign => assign(context, room, entity, place, row, sign.rest),
         symbol => match update_of(symbol) {
             None => Err(Stop::Syntax(sign.place)),
             Some(operator) => update(context, room, entity, place, row, operator, sign),
@@ -129,10 +135,11 @@ pub fn assignment<'s, 't>(
     place: Place,
     tokens: &'s [Lexeme<'t>],
 ) -> Outcome<'s, 't, Stmt>
-    ensures { Gives (got_of stmt_of) result (assignment room (names_of context.entry.scope.now) name.now (tokens_of tokens.now)) }
+    ensures { Gives (got_of stmt_of) result
+        (assignment room (names_of context.entry.scope.now) name.now (tokens_of tokens.now)) }
 {
-    let entity = known(context.scope, name, place)?;
+    let entity = look_up(context.scope, name, place)?;
     let row = subscripts(context, room, place, tokens)?;
     let sign = next_sign(row.rest, context.end)?;
-    assigned(context, room, entity, place, row, sign)
+    assign_behind(context, room, entity, place, row, sign)
 }

@@ -20,7 +20,8 @@ pub fn in_parens<'s, 't>(
     room: u32,
     tokens: &'s [Lexeme<'t>],
 ) -> Outcome<'s, 't, Source>
-    ensures { Gives (got_of source_of) result (in_parens (expression room (names_of context.entry.scope.now)) (tokens_of tokens.now)) }
+    ensures { Gives (got_of source_of) result
+        (in_parens (expression room (names_of context.entry.scope.now)) (tokens_of tokens.now)) }
 {
     let inner = open_paren(tokens, context.end)?;
     let Parsed { tree, fault, rest } = whole(context, room, inner)?;
@@ -38,7 +39,8 @@ pub fn ended_source<'s, 't>(
     room: u32,
     tokens: &'s [Lexeme<'t>],
 ) -> Outcome<'s, 't, Source>
-    ensures { Gives (got_of source_of) result (ended_source (expression room (names_of context.entry.scope.now)) (tokens_of tokens.now)) }
+    ensures { Gives (got_of source_of) result
+        (ended_source (expression room (names_of context.entry.scope.now)) (tokens_of tokens.now)) }
 {
     let Parsed { tree, fault, rest } = whole(context, room, tokens)?;
     let rest = semicolon(rest, context.end)?;

@@ -17,7 +17,7 @@ use crate::tally::Tally;
 use cparse_cursor::context::{Context, Outcome, Setting};
 use cparse_cursor::lexeme::Lexeme;
 use cparse_cursor::parsed::Parsed;
-use cparse_cursor::punctuation::{becomes, close_paren, first_place, open_paren};
+use cparse_cursor::punctuation::{close_paren, equal_sign, first_place, open_paren};
 use cparse_cursor::scope::{Entity, Scope, add, find};
 use cparse_cursor::stop::{Fault, Flaw, Stop, earlier, unless};
 use cparse_cursor::words::{NextWord, new_name, word};
@@ -44,12 +44,13 @@ struct LoopName<'s, 't> {
 
 /// The parenthesis that opens, the type, and the variable with its `=`.
 fn counter<'s, 't>(tokens: &'s [Lexeme<'t>], end: Place) -> Result<LoopName<'s, 't>, Stop>
-    ensures { Gives (λ c. (c.name.name.now, tokens_of c.behind.now)) result (counter (tokens_of tokens.now)) }
+    ensures { Gives (λ c. (c.name.name.now, tokens_of c.behind.now)) result
+        (counter (tokens_of tokens.now)) }
 {
     let inner = open_paren(tokens, end)?;
     let typed = word("uint64_t", inner, end)?;
     let name = new_name(typed, end)?;
-    let behind = becomes(name.rest, end)?;
+    let behind = equal_sign(name.rest, end)?;
     Ok(LoopName { name, behind })
 }
 
@@ -59,7 +60,9 @@ fn closed_step<'s, 't>(
     room: u32,
     tokens: &'s [Lexeme<'t>],
 ) -> Outcome<'s, 't, Increment>
-    ensures { Gives (got_of increment_of) result (closed_step (expression room (names_of context.entry.scope.now)) (names_of context.entry.scope.now) (tokens_of tokens.now)) }
+    ensures { Gives (got_of increment_of) result
+        (closed_step (expression room (names_of context.entry.scope.now))
+        (names_of context.entry.scope.now) (tokens_of tokens.now)) }
 {
     let Parsed { tree, fault, rest } = step(context, room, tokens)?;
     let rest = close_paren(rest, context.end)?;
@@ -75,8 +78,10 @@ pub fn heading<'s, 't>(
     tally: Tally,
     tokens: &'s [Lexeme<'t>],
 ) -> Result<LoopHead<'s, 't>, Stop>
-    ensures heading { Gives heading_of result (heading room (names_of scope.old) (tally_of tally) (tokens_of tokens.now)) }
-    ensures visible { IfOk result (λ h. names_of scope.new ≡ with_local (names_of scope.old) h.name.now (tally_of tally)) }
+    ensures heading { Gives heading_of result
+        (heading room (names_of scope.old) (tally_of tally) (tokens_of tokens.now)) }
+    ensures visible { IfOk result (λ h. names_of scope.new
+        ≡ with_local (names_of scope.old) h.name.now (tally_of tally)) }
     ensures front { OnOk result (take (length scope.old) scope.new ≡ scope.old) }
 {
     let Setting { alloc, end } = setting;

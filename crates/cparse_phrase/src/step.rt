@@ -1,7 +1,7 @@
 //! What a loop does behind each turn (C11 6.5.2.4, 6.5.3.1, 6.5.16).
 
 ghost use Rattle.std.specs.Prelude.{◌≡◌, Some, option_map};
-ghost use Rattle.semantics.specs.Source.Token.{Becomes};
+ghost use Rattle.semantics.specs.Source.Token.{EqualSign};
 ghost use Rattle.cparse_grammar.specs.StatementSteps.{by_one, changed_by, step_before, step_of};
 ghost use Rattle.ctoken.specs.Meant.{symbol_of};
 ghost use Rattle.ktree.specs.View.{increment_of, binary_of};
@@ -17,7 +17,7 @@ use cparse_cursor::lexeme::{Kind, Lexeme};
 use cparse_cursor::parsed::Parsed;
 use cparse_cursor::scope::Entity;
 use cparse_cursor::stop::{Stop, earlier, told_sort};
-use cparse_cursor::words::{NextSign, known, next_sign, next_word};
+use cparse_cursor::words::{NextSign, look_up, next_sign, next_word};
 use cparse_expr::expression::whole;
 use cparse_operand::operator::update_of;
 use cparse_operand::wanted::number_in;
@@ -32,7 +32,9 @@ fn set_to<'s, 't>(
     place: Place,
     tokens: &'s [Lexeme<'t>],
 ) -> Outcome<'s, 't, Increment>
-    ensures { Gives (got_of increment_of) result (step_behind (expression room (names_of context.entry.scope.now)) (option_map entity_of entity) Becomes (tokens_of tokens.now)) }
+    ensures { Gives (got_of increment_of) result
+        (step_behind (expression room (names_of context.entry.scope.now))
+        (option_map entity_of entity) EqualSign (tokens_of tokens.now)) }
 {
     let Parsed { tree, fault, rest } = whole(context, room, tokens)?;
     let fault = earlier(step_fault(entity, place), fault);
@@ -52,7 +54,9 @@ fn changed_by<'s, 't>(
     operator: BinaryOp,
     sign: NextSign<'s, 't>,
 ) -> Outcome<'s, 't, Increment>
-    ensures { Gives (got_of increment_of) result (changed_by (expression room (names_of context.entry.scope.now)) (option_map entity_of entity) (binary_of operator) (tokens_of sign.entry.rest.now)) }
+    ensures { Gives (got_of increment_of) result
+        (changed_by (expression room (names_of context.entry.scope.now))
+        (option_map entity_of entity) (binary_of operator) (tokens_of sign.entry.rest.now)) }
 {
     let Parsed { tree, fault, rest } = whole(context, room, sign.rest)?;
     let number = number_in(tree);
@@ -74,12 +78,15 @@ fn step_behind<'s, 't>(
     place: Place,
     sign: NextSign<'s, 't>,
 ) -> Outcome<'s, 't, Increment>
-    ensures { Gives (got_of increment_of) result (step_behind (expression room (names_of context.entry.scope.now)) (option_map entity_of entity) (symbol_of sign.entry.symbol) (tokens_of sign.entry.rest.now)) }
+    ensures { Gives (got_of increment_of) result
+        (step_behind (expression room (names_of context.entry.scope.now))
+        (option_map entity_of entity) (symbol_of sign.entry.symbol)
+        (tokens_of sign.entry.rest.now)) }
 {
     match sign.symbol {
         Symbol::PlusPlus => Ok(by_one(entity, place, true, sign.rest)),
         Symbol::MinusMinus => Ok(by_one(entity, place, false, sign.rest)),
-        Symbol::Becomes => set_to(context, room, entity, place, sign.rest),
+        Symbol::EqualSign => set_to(context, room, entity, place, sign.rest),
         symbol => match update_of(symbol) {
             None => Err(Stop::Syntax(sign.place)),
             Some(operator) => changed_by(context, room, entity, place, operator, sign),
@@ -94,7 +101,8 @@ fn by_one<'s, 't>(
     up: bool,
     rest: &'s [Lexeme<'t>],
 ) -> Parsed<'s, 't, Increment>
-    ensures { Some (got_of increment_of result) ≡ by_one (option_map entity_of entity) up (tokens_of rest.now) }
+    ensures { Some (got_of increment_of result)
+        ≡ by_one (option_map entity_of entity) up (tokens_of rest.now) }
 {
     let variable = target_of(entity);
     let tree = if up {
@@ -115,10 +123,11 @@ fn step_before<'s, 't>(
     up: bool,
     tokens: &'s [Lexeme<'t>],
 ) -> Outcome<'s, 't, Increment>
-    ensures { Gives (got_of increment_of) result (step_before (names_of context.entry.scope.now) up (tokens_of tokens.now)) }
+    ensures { Gives (got_of increment_of) result
+        (step_before (names_of context.entry.scope.now) up (tokens_of tokens.now)) }
 {
     let word = next_word(tokens, context.end)?;
-    let entity = known(context.scope, word.name, word.place)?;
+    let entity = look_up(context.scope, word.name, word.place)?;
     Ok(by_one(entity, word.place, up, word.rest))
 }
 
@@ -130,10 +139,12 @@ fn step_of<'s, 't>(
     place: Place,
     tokens: &'s [Lexeme<'t>],
 ) -> Outcome<'s, 't, Increment>
-    ensures { Gives (got_of increment_of) result (step_of (expression room (names_of context.entry.scope.now)) (names_of context.entry.scope.now) name.now (tokens_of tokens.now)) }
+    ensures { Gives (got_of increment_of) result
+        (step_of (expression room (names_of context.entry.scope.now))
+        (names_of context.entry.scope.now) name.now (tokens_of tokens.now)) }
 {
     let sign = next_sign(tokens, context.end)?;
-    let entity = known(context.scope, name, place)?;
+    let entity = look_up(context.scope, name, place)?;
     step_behind(context, room, entity, place, sign)
 }
 
@@ -144,14 +155,16 @@ pub fn step<'s, 't>(
     room: u32,
     tokens: &'s [Lexeme<'t>],
 ) -> Outcome<'s, 't, Increment>
-    ensures { Gives (got_of increment_of) result (step (expression room (names_of context.entry.scope.now)) (names_of context.entry.scope.now) (tokens_of tokens.now)) }
+    ensures { Gives (got_of increment_of) result
+        (step (expression room (names_of context.entry.scope.now))
+        (names_of context.entry.scope.now) (tokens_of tokens.now)) }
 {
     let Some((first, rest)) = tokens.split_first() else {
         return Err(Stop::Syntax(context.end));
     };
     match first.kind {
-        Kind::Sign(Symbol::PlusPlus) => step_before(context, true, rest),
-        Kind::Sign(Symbol::MinusMinus) => step_before(context, false, rest),
+        Kind::Punctuator(Symbol::PlusPlus) => step_before(context, true, rest),
+        Kind::Punctuator(Symbol::MinusMinus) => step_before(context, false, rest),
         Kind::Word(name) => step_of(context, room, name, first.place, rest),
         _ => Err(Stop::Syntax(first.place)),
     }

@@ -27,7 +27,7 @@ pub fn spend(tally: Tally, place: Place) -> Result<Tally, Stop>
 }
 
 /// One variable more. Where no number is left for it, reading stops as for want of memory.
-pub fn declared(tally: Tally) -> Result<Tally, Stop>
+pub fn declare(tally: Tally) -> Result<Tally, Stop>
     ensures { Gives tally_of result (Some (declared (tally_of tally))) }
 {
     let Tally { next, left } = tally;

@@ -3,7 +3,7 @@ use Rattle.std.proofs.Common.{◌≡◌, ℕ, zero, suc, Bool, true, false, List
 use Rattle.std.specs.Prelude.{◌&&◌, if◌then◌else◌, codes}
 use Rattle.std.proofs.lemmas.List.{append-nil}
 use Rattle.semantics.specs.Tree.{Expr, Source}
-use Rattle.semantics.specs.Source.Token.{Token, Quoted, Sign, Comma}
+use Rattle.semantics.specs.Source.Token.{Token, StringLiteral, Punctuator, Comma}
 use Rattle.semantics.specs.Source.Typing.{typed, plain}
 use Rattle.cparse_cursor.specs.declared.stop.Stop.{Stop}
 use Rattle.cparse_cursor.specs.declared.stop.Stop.TheVariants.{Memory, Syntax, Limit}
@@ -61,8 +61,8 @@ after_turn n t = if t.more then (format n t.rest >>= λ more. got (turn_spots t 
 format_by : (n : ℕ) (ts : List Token) → format (suc n) ts ≡ format_turn ts >>= after_turn n
 unfolding after_turn
 format_by n [] = refl
-format_by n (Quoted bs false ∷ ts) = refl
-format_by n (Quoted bs true ∷ ts) = go (word (codes "PRIu64") ts)
+format_by n (StringLiteral bs false ∷ ts) = refl
+format_by n (StringLiteral bs true ∷ ts) = go (word (codes "PRIu64") ts)
   where
     go : (o : Option (List Token)) → (o >>= λ behind. (if starts_quoted behind then (format n behind >>= λ more. got (Some bs ∷ None ∷ more.tree) true more.rest) else got (Some bs ∷ None ∷ []) true behind)) ≡ (o >>= λ behind. Some (record { characters = bs; placed = true; more = starts_quoted behind; rest = behind })) >>= after_turn n
     go None = refl
@@ -124,11 +124,11 @@ after_argument whole n e = arguments n whole e.rest >>= λ es. got (number_in e.
 arguments_end : (whole : Reader Source) (n : ℕ) (ts : List Token) → comma ts ≡ None → arguments n whole ts ≡ got [] true ts
 arguments_end whole zero ts e = refl
 arguments_end whole (suc n) [] e = refl
-arguments_end whole (suc n) (Sign Comma ∷ ts) e = absurd cc
+arguments_end whole (suc n) (Punctuator Comma ∷ ts) e = absurd cc
 arguments_end whole (suc n) (t ∷ ts) e = refl
 
-parts : (us ts : List Token) → comma us ≡ Some ts → us ≡ Sign Comma ∷ ts
-parts (Sign Comma ∷ us) ts e = cc
+parts : (us ts : List Token) → comma us ≡ Some ts → us ≡ Punctuator Comma ∷ ts
+parts (Punctuator Comma ∷ us) ts e = cc
 parts _ ts e = absurd cc
 
 arguments_by : (whole : Reader Source) (n : ℕ) (us ts : List Token) → comma us ≡ Some ts → arguments (suc n) whole us ≡ whole ts >>= after_argument whole n

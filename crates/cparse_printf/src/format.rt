@@ -30,7 +30,7 @@ fn starts_quoted(tokens: &[Lexeme]) -> bool
     ensures { result ≡ starts_quoted (tokens_of tokens.now) }
 {
     match tokens.first() {
-        Some(first) => matches!(first.kind, Kind::Quoted(_, _)),
+        Some(first) => matches!(first.kind, Kind::StringLiteral(_, _)),
         None => false,
     }
 }
@@ -57,7 +57,7 @@ fn format_turn<'s, 't>(
         return Err(Stop::Syntax(end));
     };
     match first.kind {
-        Kind::Quoted(bytes, false) => {
+        Kind::StringLiteral(bytes, false) => {
             let characters = characters(alloc, bytes)?;
             Ok(Turn {
                 characters,
@@ -66,7 +66,7 @@ fn format_turn<'s, 't>(
                 rest,
             })
         }
-        Kind::Quoted(bytes, true) => {
+        Kind::StringLiteral(bytes, true) => {
             let characters = characters(alloc, bytes)?;
             let rest = word("PRIu64", rest, end)?;
             let more = starts_quoted(rest);
@@ -86,7 +86,8 @@ fn with_turn<'s, 't>(
     row: Parsed<'s, 't, Vec<Spot>>,
     turn: Turn<'s, 't>,
 ) -> Outcome<'s, 't, Vec<Spot>>
-    ensures { Gives (got_of spots_of) result (Some (with_turn (got_of spots_of row.entry) (turn_of turn.entry))) }
+    ensures { Gives (got_of spots_of) result
+        (Some (with_turn (got_of spots_of row.entry) (turn_of turn.entry))) }
 {
     let mut spots = row.tree;
     let Turn {
@@ -112,7 +113,8 @@ pub fn format<'s, 't>(
     tokens: &'s [Lexeme<'t>],
     end: Place,
 ) -> Outcome<'s, 't, Vec<Spot>>
-    ensures { Gives (got_of spots_of) result (format (length (tokens_of tokens.now)) (tokens_of tokens.now)) }
+    ensures { Gives (got_of spots_of) result
+        (format (length (tokens_of tokens.now)) (tokens_of tokens.now)) }
 {
     let mut row = Parsed {
         tree: Vec::new(alloc),

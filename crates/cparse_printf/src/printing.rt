@@ -12,7 +12,7 @@ ghost use Rattle.cparse_operand.specs.OperandViews.{operand_of};
 ghost use Rattle.cparse_printf.specs.Spots.{spot_of, spots_of, is_place, arguments_of, arguments_left, parts_of};
 
 use crate::format::{Spot, format};
-use cparse_cursor::context::{Context, Outcome, opened};
+use cparse_cursor::context::{Context, Outcome, enter_level};
 use cparse_cursor::lexeme::Lexeme;
 use cparse_cursor::parsed::Parsed;
 use cparse_cursor::punctuation::{close_paren, comma, open_paren};
@@ -29,7 +29,8 @@ fn with_argument<'s, 't>(
     argument: Parsed<'s, 't, Operand>,
     place: Place,
 ) -> Outcome<'s, 't, Vec<Expr>>
-    ensures { Gives (got_of arguments_of) result (Some (with_argument (got_of arguments_of row.entry) (got_of operand_of argument.entry))) }
+    ensures { Gives (got_of arguments_of) result
+        (Some (with_argument (got_of arguments_of row.entry) (got_of operand_of argument.entry))) }
 {
     let Parsed {
         tree: mut arguments,
@@ -60,7 +61,9 @@ fn arguments<'s, 't>(
     place: Place,
     tokens: &'s [Lexeme<'t>],
 ) -> Outcome<'s, 't, Vec<Expr>>
-    ensures { Gives (got_of arguments_of) result (arguments (length (tokens_of tokens.now)) (expression room (names_of context.entry.scope.now)) (tokens_of tokens.now)) }
+    ensures { Gives (got_of arguments_of) result
+        (arguments (length (tokens_of tokens.now))
+        (expression room (names_of context.entry.scope.now)) (tokens_of tokens.now)) }
 {
     let mut row = Parsed {
         tree: Vec::new(context.alloc),
@@ -98,7 +101,8 @@ fn fills(spots: &[Spot], arguments: &[Expr]) -> bool
 /// What is printed for a part of a format; a place takes the last argument.
 fn part(spot: Spot, arguments: &mut Vec<Expr>) -> PrintPart
     ensures part { part_of result ≡ part_at (spot_of spot) (arguments_left arguments.old) }
-    ensures arguments { arguments_left arguments.new ≡ arguments_behind (spot_of spot) (arguments_left arguments.old) }
+    ensures arguments { arguments_left arguments.new
+        ≡ arguments_behind (spot_of spot) (arguments_left arguments.old) }
 {
     match spot {
         Spot::Characters(characters) => PrintPart::Characters(characters),
@@ -110,7 +114,7 @@ fn part(spot: Spot, arguments: &mut Vec<Expr>) -> PrintPart
 }
 
 /// What is printed: each place has its argument.
-fn filled(
+fn fill_places(
     alloc: Global,
     mut spots: Vec<Spot>,
     mut arguments: Vec<Expr>,
@@ -133,7 +137,9 @@ fn closed_arguments<'s, 't>(
     place: Place,
     tokens: &'s [Lexeme<'t>],
 ) -> Outcome<'s, 't, Vec<Expr>>
-    ensures { Gives (got_of arguments_of) result (closed_arguments (expression room (names_of context.entry.scope.now)) (tokens_of tokens.now)) }
+    ensures { Gives (got_of arguments_of) result
+        (closed_arguments (expression room (names_of context.entry.scope.now))
+        (tokens_of tokens.now)) }
 {
     let Parsed { tree, fault, rest } = arguments(context, room, place, tokens)?;
     let rest = close_paren(rest, context.end)?;
@@ -147,11 +153,12 @@ fn print_of<'s, 't>(
     spots: Vec<Spot>,
     arguments: Parsed<'s, 't, Vec<Expr>>,
 ) -> Outcome<'s, 't, Stmt>
-    ensures { Gives (got_of stmt_of) result (print_of (spots_of spots) (got_of arguments_of arguments.entry)) }
+    ensures { Gives (got_of stmt_of) result
+        (print_of (spots_of spots) (got_of arguments_of arguments.entry)) }
 {
     let own = unless(fills(&spots, &arguments.tree), Flaw::Operands, place);
     let fault = earlier(arguments.fault, own);
-    let parts = filled(alloc, spots, arguments.tree)?;
+    let parts = fill_places(alloc, spots, arguments.tree)?;
     Ok(Parsed {
         tree: Stmt::Print(parts, place),
         fault,
@@ -161,15 +168,16 @@ fn print_of<'s, 't>(
 
 /// What stands behind the word printf, whose place this is.
 #[tactic(auto, using(cparse_grammar::proofs::PrintedLemmas::printed_by_parts), unfolding(cparse_grammar::specs::PrintfReader::printed))]
-pub fn printed<'s, 't>(
+pub fn print_behind<'s, 't>(
     context: Context<'_, 't>,
     room: u32,
     place: Place,
     tokens: &'s [Lexeme<'t>],
 ) -> Outcome<'s, 't, Stmt>
-    ensures { Gives (got_of stmt_of) result (printed room (names_of context.entry.scope.now) (tokens_of tokens.now)) }
+    ensures { Gives (got_of stmt_of) result
+        (printed room (names_of context.entry.scope.now) (tokens_of tokens.now)) }
 {
-    let room = opened(room, place)?;
+    let room = enter_level(room, place)?;
     let inner = open_paren(tokens, context.end)?;
     let spots = format(context.alloc, inner, context.end)?;
     let arguments = closed_arguments(context, room, place, spots.rest)?;

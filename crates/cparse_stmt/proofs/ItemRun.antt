@@ -2,7 +2,7 @@
 use Rattle.std.proofs.Common.{◌≡◌, ℕ, zero, suc, Bool, true, false, List, [], ◌∷◌, Option, Some, None, refl, sym, ap, ◌∙◌}
 use Rattle.std.specs.Prelude.{◌&&◌, if◌then◌else◌, codes}
 use Rattle.semantics.specs.Tree.{Name, Source, Stmt, Items, no_items, mark, local, stmt}
-use Rattle.semantics.specs.Source.Token.{Token, Word, Sign, Line, OpenBrace}
+use Rattle.semantics.specs.Source.Token.{Token, Word, Punctuator, Line, OpenBrace}
 use Rattle.semantics.specs.Source.Scope.{Scope, same_name}
 use Rattle.cparse_cursor.specs.declared.stop.Stop.{Stop}
 use Rattle.cparse_cursor.specs.declared.stop.Stop.TheVariants.{Memory, Syntax, Limit}
@@ -78,7 +78,7 @@ items_by room n read scope tally (Line line ∷ ts) e = go (items n room read sc
     go : (o : Option (Told Items)) → (o >>= λ more. told (mark line more.tree) more.sound more.tally more.rest) ≡ (o >>= λ more. told (mark line more.tree) (true && more.sound) more.tally more.rest)
     go None = refl
     go (Some more) = refl
-items_by room n read scope tally (Sign OpenBrace ∷ ts) e = stated_by room n read scope tally (Sign OpenBrace ∷ ts)
+items_by room n read scope tally (Punctuator OpenBrace ∷ ts) e = stated_by room n read scope tally (Punctuator OpenBrace ∷ ts)
 items_by room n read scope tally (Word w ∷ ts) e = go (same_name w (codes "uint64_t"))
   where
     go : (b : Bool) → (if b
@@ -96,7 +96,7 @@ items_end : (room n : ℕ) (read : StmtReader) (scope : Scope) (tally : Tally) (
 items_end room zero read scope tally ts e = refl
 items_end room (suc n) read scope tally [] e = refl
 items_end room (suc n) read scope tally (Line line ∷ ts) e = absurd cc
-items_end room (suc n) read scope tally (Sign OpenBrace ∷ ts) e = absurd cc
+items_end room (suc n) read scope tally (Punctuator OpenBrace ∷ ts) e = absurd cc
 items_end room (suc n) read scope tally (Word w ∷ ts) e = absurd cc
 items_end room (suc n) read scope tally (t ∷ ts) e = refl
 

@@ -29,8 +29,10 @@ pub fn if_only<'s, 't>(
     condition: Parsed<'s, 't, Source>,
     then: Told<'s, 't, Box<Stmt>>,
 ) -> Result<Told<'s, 't, Stmt>, Stop>
-    ensures { let a = told_of boxed_of then.entry in Gives (told_of stmt_of) result
-        (told (If (cond_in (source_of condition.entry.tree)) a.tree) (is_none condition.entry.fault && a.sound) a.tally a.rest) }
+    ensures { let a = told_of boxed_of then.entry in
+        Gives (told_of stmt_of) result
+        (told (If (cond_in (source_of condition.entry.tree)) a.tree)
+        (is_none condition.entry.fault && a.sound) a.tally a.rest) }
 {
     let test = cond_in(alloc, condition.tree)?;
     Ok(Told {
@@ -48,8 +50,10 @@ pub fn if_else<'s, 't>(
     then: Told<'s, 't, Box<Stmt>>,
     other: Told<'s, 't, Box<Stmt>>,
 ) -> Result<Told<'s, 't, Stmt>, Stop>
-    ensures { let a = told_of boxed_of then.entry in let b = told_of boxed_of other.entry in Gives (told_of stmt_of) result
-        (told (IfElse (cond_in (source_of condition.entry.tree)) a.tree b.tree) (is_none condition.entry.fault && (a.sound && b.sound)) b.tally b.rest) }
+    ensures { let a = told_of boxed_of then.entry in let b = told_of boxed_of other.entry in
+        Gives (told_of stmt_of) result
+        (told (IfElse (cond_in (source_of condition.entry.tree)) a.tree b.tree)
+        (is_none condition.entry.fault && (a.sound && b.sound)) b.tally b.rest) }
 {
     let test = cond_in(alloc, condition.tree)?;
     Ok(Told {
@@ -113,15 +117,17 @@ fn head_of(
 }
 
 /// A loop whose word stands at a place, with the tally at its variable (C11 6.8.5.3).
-pub fn looped<'s, 't>(
+pub fn loop_statement<'s, 't>(
     alloc: Global,
     place: Place,
     tally: Tally,
     head: LoopHead<'s, 't>,
     body: Told<'s, 't, Box<Stmt>>,
 ) -> Result<Told<'s, 't, Stmt>, Stop>
-    ensures { let h = heading_of head.entry in let s = told_of boxed_of body.entry in Gives (told_of stmt_of) result
-        (told (For tally.next h.name h.start (cond_in h.test) h.step s.tree) (h.sound && s.sound) s.tally s.rest) }
+    ensures { let h = heading_of head.entry in let s = told_of boxed_of body.entry in
+        Gives (told_of stmt_of) result
+        (told (For tally.next h.name h.start (cond_in h.test) h.step s.tree) (h.sound && s.sound)
+        s.tally s.rest) }
 {
     let fault = earlier(head.fault, body.fault);
     let head = head_of(alloc, place, VarId(tally.next), head)?;
@@ -147,7 +153,9 @@ pub fn with_item<'s, 't>(
     row: Told<'s, 't, Vec<Item>>,
     item: Told<'s, 't, Item>,
 ) -> Result<Told<'s, 't, Vec<Item>>, Stop>
-    ensures { (outer inner : Scope) → Gives (row_of inner) result (Some (with_item (row_of outer row.entry) (item_of inner item.entry))) }
+    ensures { (outer inner : Scope)
+        → Gives (row_of inner) result
+        (Some (with_item (row_of outer row.entry) (item_of inner item.entry))) }
 {
     let fault = earlier(row.fault, item.fault);
     let tree = more_items(row.tree, item.tree)?;

@@ -18,7 +18,7 @@ use cparse_cursor::scope::{Entity, Scope, add, find};
 use cparse_cursor::stop::{Flaw, Stop, earlier, unless};
 use cparse_cursor::words::new_name;
 use cparse_phrase::delimited::ended_source;
-use cparse_phrase::tally::{Tally, declared};
+use cparse_phrase::tally::{Tally, declare};
 use cparse_phrase::told::Told;
 use ctoken::Symbol;
 use ktree::{Item, Local, Source, VarId};
@@ -30,7 +30,7 @@ pub fn begins_item(tokens: &[Lexeme]) -> bool
     match tokens.first() {
         Some(first) => matches!(
             first.kind,
-            Kind::Line | Kind::Word(_) | Kind::Sign(Symbol::OpenBrace)
+            Kind::Line | Kind::Word(_) | Kind::Punctuator(Symbol::OpenBrace)
         ),
         None => false,
     }
@@ -42,18 +42,19 @@ fn initial<'s, 't>(
     room: u32,
     tokens: &'s [Lexeme<'t>],
 ) -> Outcome<'s, 't, Option<Source>>
-    ensures { Gives (got_of start_of) result (initial (expression room (names_of context.entry.scope.now)) (tokens_of tokens.now)) }
+    ensures { Gives (got_of start_of) result
+        (initial (expression room (names_of context.entry.scope.now)) (tokens_of tokens.now)) }
 {
     let Some((first, rest)) = tokens.split_first() else {
         return Err(Stop::Syntax(context.end));
     };
     match first.kind {
-        Kind::Sign(Symbol::Semicolon) => Ok(Parsed {
+        Kind::Punctuator(Symbol::Semicolon) => Ok(Parsed {
             tree: None,
             fault: None,
             rest,
         }),
-        Kind::Sign(Symbol::Becomes) => {
+        Kind::Punctuator(Symbol::EqualSign) => {
             let Parsed { tree, fault, rest } = ended_source(context, room, rest)?;
             Ok(Parsed {
                 tree: Some(tree),
@@ -66,14 +67,15 @@ fn initial<'s, 't>(
 }
 
 /// A local behind its type; it is visible from its name on (C11 6.2.1).
-pub fn located<'s, 't>(
+pub fn local_behind<'s, 't>(
     setting: Setting,
     scope: &mut Scope<'t>,
     room: u32,
     tally: Tally,
     tokens: &'s [Lexeme<'t>],
 ) -> Result<Told<'s, 't, Item>, Stop>
-    ensures item { Gives (item_of (names_of scope.new)) result (located room (names_of scope.old) (tally_of tally) (tokens_of tokens.now)) }
+    ensures item { Gives (item_of (names_of scope.new)) result
+        (located room (names_of scope.old) (tally_of tally) (tokens_of tokens.now)) }
     ensures front { OnOk result (take (length scope.old) scope.new ≡ scope.old) }
 {
     let Setting { alloc, end } = setting;
@@ -85,7 +87,7 @@ pub fn located<'s, 't>(
     );
     let variable = VarId(tally.next);
     add(scope, name.name, Entity::Variable(variable, 0))?;
-    let tally = declared(tally)?;
+    let tally = declare(tally)?;
     let spelled = String::from_str(alloc, name.name)?;
     let start = initial(Context { alloc, scope, end }, room, name.rest)?;
     let local = Local {

@@ -17,16 +17,17 @@ use cparse_cursor::stop::Stop;
 use cparse_phrase::assignment::assignment;
 use cparse_phrase::tally::Tally;
 use cparse_phrase::told::Told;
-use cparse_printf::printing::printed;
+use cparse_printf::printing::print_behind;
 use ktree::{Place, Stmt};
 
 /// A statement that ends in a semicolon.
-fn ended<'s, 't>(
+fn end_statement<'s, 't>(
     tally: Tally,
     statement: Parsed<'s, 't, Stmt>,
     end: Place,
 ) -> Result<Told<'s, 't, Stmt>, Stop>
-    ensures { Gives (told_of stmt_of) result (ended (tally_of tally) (got_of stmt_of statement.entry)) }
+    ensures { Gives (told_of stmt_of) result
+        (ended (tally_of tally) (got_of stmt_of statement.entry)) }
 {
     let rest = semicolon(statement.rest, end)?;
     Ok(Told {
@@ -46,13 +47,15 @@ pub fn simple<'s, 't>(
     place: Place,
     tokens: &'s [Lexeme<'t>],
 ) -> Result<Told<'s, 't, Stmt>, Stop>
-    ensures { Gives (told_of stmt_of) result (simple room (names_of context.entry.scope.now) (tally_of tally) word.now (tokens_of tokens.now)) }
+    ensures { Gives (told_of stmt_of) result
+        (simple room (names_of context.entry.scope.now) (tally_of tally) word.now
+        (tokens_of tokens.now)) }
 {
     if word == "printf" {
-        let statement = printed(context, room, place, tokens)?;
-        ended(tally, statement, context.end)
+        let statement = print_behind(context, room, place, tokens)?;
+        end_statement(tally, statement, context.end)
     } else {
         let statement = assignment(context, room, word, place, tokens)?;
-        ended(tally, statement, context.end)
+        end_statement(tally, statement, context.end)
     }
 }

@@ -10,10 +10,10 @@ ghost use Rattle.cparse_cursor.specs.Names.{names_of};
 ghost use Rattle.cparse_cursor.specs.Lexemes.{tokens_of};
 ghost use Rattle.cparse_cursor.specs.Outcome.{Gives, got_of};
 
-use crate::building::{if_else, if_only, looped, with_item};
-use crate::local::{begins_item, located};
+use crate::building::{if_else, if_only, loop_statement, with_item};
+use crate::local::{begins_item, local_behind};
 use crate::simple::simple;
-use cparse_cursor::context::{Context, Setting, opened};
+use cparse_cursor::context::{Context, Setting, enter_level};
 use cparse_cursor::lexeme::{Kind, Lexeme};
 use cparse_cursor::parsed::Parsed;
 use cparse_cursor::punctuation::close_brace;
@@ -22,7 +22,7 @@ use cparse_cursor::stop::Stop;
 use cparse_cursor::words::if_word;
 use cparse_phrase::delimited::in_parens;
 use cparse_phrase::loop_head::heading;
-use cparse_phrase::tally::{Tally, declared, spend};
+use cparse_phrase::tally::{Tally, declare, spend};
 use cparse_phrase::told::Told;
 use ctoken::Symbol;
 use ktree::{Item, Place, Source, Stmt};
@@ -37,22 +37,25 @@ fn statement<'s, 't>(
     tally: Tally,
     tokens: &'s [Lexeme<'t>],
 ) -> Result<Told<'s, 't, Stmt>, Stop>
-    ensures statement { Gives (told_of stmt_of) result (statement room (names_of scope.old) (tally_of tally) (tokens_of tokens.now)) }
+    ensures statement { Gives (told_of stmt_of) result
+        (statement room (names_of scope.old) (tally_of tally) (tokens_of tokens.now)) }
     ensures names { OnOk result (scope.new ≡ scope.old) }
 {
-    counted(setting, scope, room, tally, tokens)
+    count_statement(setting, scope, room, tally, tokens)
 }
 
 /// A statement, which is one more.
 #[cycle(statement)]
-fn counted<'s, 't>(
+fn count_statement<'s, 't>(
     setting: Setting,
     scope: &mut Scope<'t>,
     room: u32,
     tally: Tally,
     tokens: &'s [Lexeme<'t>],
 ) -> Result<Told<'s, 't, Stmt>, Stop>
-    ensures statement { Gives (told_of stmt_of) result (counted room (once room) (twice room) (names_of scope.old) (tally_of tally) (tokens_of tokens.now)) }
+    ensures statement { Gives (told_of stmt_of) result
+        (counted room (once room) (twice room) (names_of scope.old) (tally_of tally)
+        (tokens_of tokens.now)) }
     ensures names { OnOk result (scope.new ≡ scope.old) }
 {
     let Some((first, rest)) = tokens.split_first() else {
@@ -61,15 +64,15 @@ fn counted<'s, 't>(
     let place = first.place;
     let tally = spend(tally, place)?;
     match first.kind {
-        Kind::Sign(Symbol::OpenBrace) => block(setting, scope, room, tally, place, rest),
-        Kind::Word(word) => headed(setting, scope, room, tally, word, place, rest),
+        Kind::Punctuator(Symbol::OpenBrace) => block(setting, scope, room, tally, place, rest),
+        Kind::Word(word) => statement_behind(setting, scope, room, tally, word, place, rest),
         _ => Err(Stop::Syntax(place)),
     }
 }
 
 /// What stands behind a word at a place.
 #[cycle(statement)]
-fn headed<'s, 't>(
+fn statement_behind<'s, 't>(
     setting: Setting,
     scope: &mut Scope<'t>,
     room: u32,
@@ -78,7 +81,8 @@ fn headed<'s, 't>(
     place: Place,
     tokens: &'s [Lexeme<'t>],
 ) -> Result<Told<'s, 't, Stmt>, Stop>
-    ensures statement { Gives (told_of stmt_of) result (headed room (names_of scope.old) (tally_of tally) word.now (tokens_of tokens.now)) }
+    ensures statement { Gives (told_of stmt_of) result
+        (headed room (names_of scope.old) (tally_of tally) word.now (tokens_of tokens.now)) }
     ensures names { OnOk result (scope.new ≡ scope.old) }
 {
     if word == "if" {
@@ -109,10 +113,11 @@ fn block<'s, 't>(
     place: Place,
     tokens: &'s [Lexeme<'t>],
 ) -> Result<Told<'s, 't, Stmt>, Stop>
-    ensures statement { Gives (told_of stmt_of) result (block room (once room) (names_of scope.old) (tally_of tally) (tokens_of tokens.now)) }
+    ensures statement { Gives (told_of stmt_of) result
+        (block room (once room) (names_of scope.old) (tally_of tally) (tokens_of tokens.now)) }
     ensures names { OnOk result (scope.new ≡ scope.old) }
 {
-    let room = opened(room, place)?;
+    let room = enter_level(room, place)?;
     let names = count(scope);
     let row = items(setting, scope, room, tally, tokens)?;
     let rest = close_brace(row.rest, setting.end)?;
@@ -134,7 +139,9 @@ pub fn items<'s, 't>(
     tally: Tally,
     tokens: &'s [Lexeme<'t>],
 ) -> Result<Told<'s, 't, Vec<Item>>, Stop>
-    ensures items { Gives (told_of items_in) result (items (length (tokens_of tokens.now)) room (statement room) (names_of scope.old) (tally_of tally) (tokens_of tokens.now)) }
+    ensures items { Gives (told_of items_in) result
+        (items (length (tokens_of tokens.now)) room (statement room) (names_of scope.old)
+        (tally_of tally) (tokens_of tokens.now)) }
     ensures front { OnOk result (take (length scope.old) scope.new ≡ scope.old) }
 {
     let mut row = Told {
@@ -162,7 +169,8 @@ fn item<'s, 't>(
     tally: Tally,
     tokens: &'s [Lexeme<'t>],
 ) -> Result<Told<'s, 't, Item>, Stop>
-    ensures item { Gives (item_of (names_of scope.new)) result (item room (statement room) (names_of scope.old) (tally_of tally) (tokens_of tokens.now)) }
+    ensures item { Gives (item_of (names_of scope.new)) result
+        (item room (statement room) (names_of scope.old) (tally_of tally) (tokens_of tokens.now)) }
     ensures front { OnOk result (take (length scope.old) scope.new ≡ scope.old) }
 {
     match tokens.split_first() {
@@ -176,10 +184,12 @@ fn item<'s, 't>(
                     rest,
                 })
             }
-            Kind::Word(word) if word == "uint64_t" => located(setting, scope, room, tally, rest),
-            _ => stated(setting, scope, room, tally, tokens),
+            Kind::Word(word) if word == "uint64_t" => local_behind(
+                setting, scope, room, tally, rest,
+            ),
+            _ => statement_item(setting, scope, room, tally, tokens),
         },
-        None => stated(setting, scope, room, tally, tokens),
+        None => statement_item(setting, scope, room, tally, tokens),
     }
 }
 
@@ -192,7 +202,8 @@ fn inner<'s, 't>(
     tally: Tally,
     tokens: &'s [Lexeme<'t>],
 ) -> Result<Told<'s, 't, Box<Stmt>>, Stop>
-    ensures statement { Gives (told_of boxed_of) result (statement room (names_of scope.old) (tally_of tally) (tokens_of tokens.now)) }
+    ensures statement { Gives (told_of boxed_of) result
+        (statement room (names_of scope.old) (tally_of tally) (tokens_of tokens.now)) }
     ensures names { OnOk result (scope.new ≡ scope.old) }
 {
     let Told {
@@ -212,14 +223,15 @@ fn inner<'s, 't>(
 
 /// A statement as an item.
 #[cycle(statement)]
-fn stated<'s, 't>(
+fn statement_item<'s, 't>(
     setting: Setting,
     scope: &mut Scope<'t>,
     room: u32,
     tally: Tally,
     tokens: &'s [Lexeme<'t>],
 ) -> Result<Told<'s, 't, Item>, Stop>
-    ensures item { Gives (item_of (names_of scope.new)) result (stated (statement room) (names_of scope.old) (tally_of tally) (tokens_of tokens.now)) }
+    ensures item { Gives (item_of (names_of scope.new)) result
+        (stated (statement room) (names_of scope.old) (tally_of tally) (tokens_of tokens.now)) }
     ensures front { OnOk result (take (length scope.old) scope.new ≡ scope.old) }
 {
     let statement = inner(setting, scope, room, tally, tokens)?;
@@ -242,12 +254,14 @@ fn selection<'s, 't>(
     place: Place,
     tokens: &'s [Lexeme<'t>],
 ) -> Result<Told<'s, 't, Stmt>, Stop>
-    ensures statement { Gives (told_of stmt_of) result (selection room (once room) (twice room) (names_of scope.old) (tally_of tally) (tokens_of tokens.now)) }
+    ensures statement { Gives (told_of stmt_of) result
+        (selection room (once room) (twice room) (names_of scope.old) (tally_of tally)
+        (tokens_of tokens.now)) }
     ensures names { OnOk result (scope.new ≡ scope.old) }
 {
     let Setting { alloc, end } = setting;
-    let outer = opened(room, place)?;
-    let room = opened(outer, place)?;
+    let outer = enter_level(room, place)?;
+    let room = enter_level(outer, place)?;
     let condition = in_parens(Context { alloc, scope, end }, room, tokens)?;
     let then = inner(setting, scope, outer, tally, condition.rest)?;
     otherwise(setting, scope, room, condition, then)
@@ -262,7 +276,9 @@ fn otherwise<'s, 't>(
     condition: Parsed<'s, 't, Source>,
     then: Told<'s, 't, Box<Stmt>>,
 ) -> Result<Told<'s, 't, Stmt>, Stop>
-    ensures statement { Gives (told_of stmt_of) result (otherwise (statement room) (names_of scope.old) (got_of source_of condition.entry) (told_of boxed_of then.entry)) }
+    ensures statement { Gives (told_of stmt_of) result
+        (otherwise (statement room) (names_of scope.old) (got_of source_of condition.entry)
+        (told_of boxed_of then.entry)) }
     ensures names { OnOk result (scope.new ≡ scope.old) }
 {
     match if_word("else", then.rest) {
@@ -285,15 +301,16 @@ fn iteration<'s, 't>(
     place: Place,
     tokens: &'s [Lexeme<'t>],
 ) -> Result<Told<'s, 't, Stmt>, Stop>
-    ensures statement { Gives (told_of stmt_of) result (iteration room (once room) (names_of scope.old) (tally_of tally) (tokens_of tokens.now)) }
+    ensures statement { Gives (told_of stmt_of) result
+        (iteration room (once room) (names_of scope.old) (tally_of tally) (tokens_of tokens.now)) }
     ensures names { OnOk result (scope.new ≡ scope.old) }
 {
-    let outer = opened(room, place)?;
-    let room = opened(outer, place)?;
+    let outer = enter_level(room, place)?;
+    let room = enter_level(outer, place)?;
     let names = count(scope);
-    let behind = declared(tally)?;
+    let behind = declare(tally)?;
     let head = heading(setting, scope, room, tally, tokens)?;
     let body = inner(setting, scope, outer, behind, head.rest)?;
     close(scope, names);
-    looped(setting.alloc, place, tally, head, body)
+    loop_statement(setting.alloc, place, tally, head, body)
 }

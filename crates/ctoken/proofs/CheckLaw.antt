@@ -9,7 +9,7 @@ use Rattle.semantics.specs.Source.Text.{starts_with}
 use Rattle.semantics.specs.Source.Token as meant
 use Rattle.semantics.specs.Source.Cuts.{Stands, word, has_trigraph, is_header, headers_first, starts_with_place, places_follow}
 use Rattle.ctoken.specs.declared.token.TokenKind.{TokenKind}
-use Rattle.ctoken.specs.declared.token.TokenKind.TheVariants.{Word, Digits, Quoted, Sign, Include, Line}
+use Rattle.ctoken.specs.declared.token.TokenKind.TheVariants.{Word, IntegerConstant, StringLiteral, Punctuator, Include, Line}
 use Rattle.ctoken.specs.declared.token.Token.{Token}
 use Rattle.ctoken.specs.Meant.{IsKind, StandFor, span_of, spans_of, CutSo, AreTokensOf, HasNoTokens}
 use Rattle.semantics.specs.Source.Spans.{IsAt, AreAt}
@@ -27,17 +27,17 @@ trigraph-step bs i whole h e s =
 -- the header of a token
 header_of_token : meant.Token → Option ℕ
 header_of_token (meant.Word w) = None
-header_of_token (meant.Digits n s) = None
-header_of_token (meant.Quoted cs o) = None
-header_of_token (meant.Sign s) = None
+header_of_token (meant.IntegerConstant n s) = None
+header_of_token (meant.StringLiteral cs o) = None
+header_of_token (meant.Punctuator s) = None
 header_of_token (meant.Header h) = Some h
 header_of_token (meant.Line n) = None
 
 none_first : (seen : List ℕ) (t : meant.Token) (ts : List meant.Token) → is_header t ≡ false → headers_first seen (t ∷ ts) ≡ not (list_any is_header ts)
 none_first seen (meant.Word w) ts h = refl
-none_first seen (meant.Digits n s) ts h = refl
-none_first seen (meant.Quoted cs o) ts h = refl
-none_first seen (meant.Sign s) ts h = refl
+none_first seen (meant.IntegerConstant n s) ts h = refl
+none_first seen (meant.StringLiteral cs o) ts h = refl
+none_first seen (meant.Punctuator s) ts h = refl
 none_first seen (meant.Header n) ts h = absurd (true_is_not_false h)
   where
     true_is_not_false : true ≡ false → ⊥
@@ -48,16 +48,16 @@ none_first seen (meant.Line n) ts h = refl
 abbrev SameHeader : TokenKind → meant.Token → Type 0
 SameHeader k (meant.Header h) = header_in k ≡ Some h
 SameHeader k (meant.Word w) = header_in k ≡ None
-SameHeader k (meant.Digits n s) = header_in k ≡ None
-SameHeader k (meant.Quoted cs o) = header_in k ≡ None
-SameHeader k (meant.Sign s) = header_in k ≡ None
+SameHeader k (meant.IntegerConstant n s) = header_in k ≡ None
+SameHeader k (meant.StringLiteral cs o) = header_in k ≡ None
+SameHeader k (meant.Punctuator s) = header_in k ≡ None
 SameHeader k (meant.Line n) = header_in k ≡ None
 
 same_header : (k : TokenKind) (m : meant.Token) → IsKind k m → SameHeader k m
 same_header Word (meant.Word w) h = refl
-same_header (Digits v s) (meant.Digits n t) h = refl
-same_header (Quoted o) (meant.Quoted cs p) h = refl
-same_header (Sign s) (meant.Sign t) h = refl
+same_header (IntegerConstant v s) (meant.IntegerConstant n t) h = refl
+same_header (StringLiteral o) (meant.StringLiteral cs p) h = refl
+same_header (Punctuator s) (meant.Punctuator t) h = refl
 same_header (Include i) (meant.Header n) h = ap Some h
 same_header Line (meant.Line n) h = refl
 same_header k m h = absurd h
@@ -68,9 +68,9 @@ step_with seen o t ts e = ap (λ x. header_step seen x (λ next. headers_from ne
 behind_step : (m : meant.Token) (ms : List meant.Token) (t : Token) (ts : List Token) → SameHeader t.kind m → headers_from None ts ≡ not (list_any is_header ms)
     → headers_from None (t ∷ ts) ≡ not (list_any is_header (m ∷ ms))
 behind_step (meant.Word w) ms t ts e ih = step_with None None t ts e ∙ ih
-behind_step (meant.Digits n s) ms t ts e ih = step_with None None t ts e ∙ ih
-behind_step (meant.Quoted cs o) ms t ts e ih = step_with None None t ts e ∙ ih
-behind_step (meant.Sign s) ms t ts e ih = step_with None None t ts e ∙ ih
+behind_step (meant.IntegerConstant n s) ms t ts e ih = step_with None None t ts e ∙ ih
+behind_step (meant.StringLiteral cs o) ms t ts e ih = step_with None None t ts e ∙ ih
+behind_step (meant.Punctuator s) ms t ts e ih = step_with None None t ts e ∙ ih
 behind_step (meant.Header h) ms t ts e ih = step_with None (Some h) t ts e
 behind_step (meant.Line n) ms t ts e ih = step_with None None t ts e ∙ ih
 
@@ -83,9 +83,9 @@ headers_behind (t ∷ ts) (m ∷ ms) h = behind_step m ms t ts (same_header t.ki
 front_step : (seen : List ℕ) (m : meant.Token) (ms : List meant.Token) (t : Token) (ts : List Token) → SameHeader t.kind m → headers_from None ts ≡ not (list_any is_header ms)
     → ((seen : List ℕ) → headers_from (Some seen) ts ≡ headers_first seen ms) → headers_from (Some seen) (t ∷ ts) ≡ headers_first seen (m ∷ ms)
 front_step seen (meant.Word w) ms t ts e b ih = step_with (Some seen) None t ts e ∙ b
-front_step seen (meant.Digits n s) ms t ts e b ih = step_with (Some seen) None t ts e ∙ b
-front_step seen (meant.Quoted cs o) ms t ts e b ih = step_with (Some seen) None t ts e ∙ b
-front_step seen (meant.Sign s) ms t ts e b ih = step_with (Some seen) None t ts e ∙ b
+front_step seen (meant.IntegerConstant n s) ms t ts e b ih = step_with (Some seen) None t ts e ∙ b
+front_step seen (meant.StringLiteral cs o) ms t ts e b ih = step_with (Some seen) None t ts e ∙ b
+front_step seen (meant.Punctuator s) ms t ts e b ih = step_with (Some seen) None t ts e ∙ b
 front_step seen (meant.Header h) ms t ts e b ih = step_with (Some seen) (Some h) t ts e ∙ ap (λ x. not (list_any (nat_eq h) seen) && x) (ih (h ∷ seen))
 front_step seen (meant.Line n) ms t ts e b ih = step_with (Some seen) None t ts e ∙ b
 
@@ -117,21 +117,21 @@ same_place : (text : List ℕ) (t : Token) (k : TokenKind) (m : meant.Token) (ms
 same_place text t Word (meant.Word w) ms e h b a =
     ap (λ k. is_word k && ((t.length == 6) && starts_with (codes "PRIu64") (drop t.start text))) e ∙ place_is text t.start t.length b
     ∙ ap (λ v. pointwise nat_eq v (codes "PRIu64")) (stands_word a)
-same_place text t (Digits v s) (meant.Digits n u) ms e h b a = ap (λ k. is_word k && ((t.length == 6) && starts_with (codes "PRIu64") (drop t.start text))) e
-same_place text t (Quoted o) (meant.Quoted cs p) ms e h b a = ap (λ k. is_word k && ((t.length == 6) && starts_with (codes "PRIu64") (drop t.start text))) e
-same_place text t (Sign s) (meant.Sign u) ms e h b a = ap (λ k. is_word k && ((t.length == 6) && starts_with (codes "PRIu64") (drop t.start text))) e
+same_place text t (IntegerConstant v s) (meant.IntegerConstant n u) ms e h b a = ap (λ k. is_word k && ((t.length == 6) && starts_with (codes "PRIu64") (drop t.start text))) e
+same_place text t (StringLiteral o) (meant.StringLiteral cs p) ms e h b a = ap (λ k. is_word k && ((t.length == 6) && starts_with (codes "PRIu64") (drop t.start text))) e
+same_place text t (Punctuator s) (meant.Punctuator u) ms e h b a = ap (λ k. is_word k && ((t.length == 6) && starts_with (codes "PRIu64") (drop t.start text))) e
 same_place text t (Include i) (meant.Header n) ms e h b a = ap (λ k. is_word k && ((t.length == 6) && starts_with (codes "PRIu64") (drop t.start text))) e
 same_place text t Line (meant.Line n) ms e h b a = ap (λ k. is_word k && ((t.length == 6) && starts_with (codes "PRIu64") (drop t.start text))) e
 same_place text t k m ms e h b a = absurd h
 
 open_step : (k : TokenKind) (m : meant.Token) (ms : List meant.Token) → IsKind k m → ((not (is_open k) || starts_with_place ms) && places_follow ms) ≡ places_follow (m ∷ ms)
 open_step Word (meant.Word w) ms h = refl
-open_step (Digits v s) (meant.Digits n u) ms h = refl
-open_step (Quoted true) (meant.Quoted cs true) ms h = refl
-open_step (Quoted false) (meant.Quoted cs false) ms h = refl
-open_step (Quoted true) (meant.Quoted cs false) ms h = cc
-open_step (Quoted false) (meant.Quoted cs true) ms h = cc
-open_step (Sign s) (meant.Sign u) ms h = refl
+open_step (IntegerConstant v s) (meant.IntegerConstant n u) ms h = refl
+open_step (StringLiteral true) (meant.StringLiteral cs true) ms h = refl
+open_step (StringLiteral false) (meant.StringLiteral cs false) ms h = refl
+open_step (StringLiteral true) (meant.StringLiteral cs false) ms h = cc
+open_step (StringLiteral false) (meant.StringLiteral cs true) ms h = cc
+open_step (Punctuator s) (meant.Punctuator u) ms h = refl
 open_step (Include i) (meant.Header n) ms h = refl
 open_step Line (meant.Line n) ms h = refl
 open_step k m ms h = absurd h

@@ -4,7 +4,7 @@ use Rattle.std.proofs.Common.{refl, sym, ap, ◌∙◌, get_or, arith}
 use Rattle.std.proofs.lemmas.Bool.{cond-true, cond-false, ne_eqb}
 use Rattle.std.proofs.lemmas.List.{at_drop_more, drop_more, take_rest}
 use Rattle.semantics.specs.Source.Text.{starts_with}
-use Rattle.semantics.specs.Source.Token.{Sign, Slash}
+use Rattle.semantics.specs.Source.Token.{Punctuator, Slash}
 use Rattle.ctoken.specs.Front.{Took, is_comment_byte, comment_end, slash}
 
 -- so many bytes further
@@ -24,8 +24,8 @@ comment-step bs i whole h e s p =
     ∙ ahead-suc i (comment_end (drop (i + 1) bs))
 
 -- a `/` that begins no comment
-pub slash-end : (rest : List ℕ) → rest ≡ [] → slash rest ≡ Some (Took 0 1 (Sign Slash))
+pub slash-end : (rest : List ℕ) → rest ≡ [] → slash rest ≡ Some (Took 0 1 (Punctuator Slash))
 slash-end rest e = ap slash e
 
-pub slash-other : (rest : List ℕ) (b : ℕ) (bs : List ℕ) → rest ≡ b ∷ bs → (b ≡ 47 → ⊥) → (b ≡ 42 → ⊥) → slash rest ≡ Some (Took 0 1 (Sign Slash))
+pub slash-other : (rest : List ℕ) (b : ℕ) (bs : List ℕ) → rest ≡ b ∷ bs → (b ≡ 47 → ⊥) → (b ≡ 42 → ⊥) → slash rest ≡ Some (Took 0 1 (Punctuator Slash))
 slash-other rest b bs e h k = ap slash e ∙ cond-false _ _ _ (ne_eqb b 47 h) ∙ cond-false _ _ _ (ne_eqb b 42 k)

@@ -160,9 +160,9 @@ stand_push (u ∷ ts) (n ∷ ms) t m h k = (h.0, stand_push ts ms t m h.1 k)
 
 line_of_token : (n lead k line : ℕ) (bs : List ℕ) (t : meant.Token) → Placed n lead k bs t → line ≡ min n 4294967295 → IsLineOf line t
 line_of_token n lead k line bs (meant.Word w) p e = tt
-line_of_token n lead k line bs (meant.Digits m s) p e = tt
-line_of_token n lead k line bs (meant.Quoted cs o) p e = tt
-line_of_token n lead k line bs (meant.Sign s) p e = tt
+line_of_token n lead k line bs (meant.IntegerConstant m s) p e = tt
+line_of_token n lead k line bs (meant.StringLiteral cs o) p e = tt
+line_of_token n lead k line bs (meant.Punctuator s) p e = tt
 line_of_token n lead k line bs (meant.Header h) p e = tt
 line_of_token n lead k line bs (meant.Line m) p e = e ∙ ap (λ x. min x 4294967295) (sym p.2)
 
@@ -181,9 +181,9 @@ token_is_at text position n lead k t e p = go t p
 
     go : (t : meant.Token) → Placed n lead k (drop position text) t → IsAt text (record { first = position + lead; count = k }) t
     go (meant.Word w) q = stands (meant.Word w) q
-    go (meant.Digits m s) q = stands (meant.Digits m s) q
-    go (meant.Quoted cs o) q = stands (meant.Quoted cs o) q
-    go (meant.Sign s) q = stands (meant.Sign s) q
+    go (meant.IntegerConstant m s) q = stands (meant.IntegerConstant m s) q
+    go (meant.StringLiteral cs o) q = stands (meant.StringLiteral cs o) q
+    go (meant.Punctuator s) q = stands (meant.Punctuator s) q
     go (meant.Header h) q = (ap (λ v. is_line (take k v)) (sym front_is) ∙ q.0, ap (λ v. header_of (take k v)) (sym front_is) ∙ q.1)
     go (meant.Line m) q = (ap (λ v. is_line (take k v)) (sym front_is) ∙ q.0, ap (λ v. is_directive_line (take k v)) (sym front_is) ∙ q.1, q.2 ∙ e)
 

@@ -7,7 +7,7 @@ use Rattle.std.proofs.lemmas.Bool.{eqb-true, cond-true, cond-false, or_parts}
 use Rattle.std.proofs.lemmas.List.{take_at, drop_at, drop-drop, append_assoc, length-append}
 use Rattle.semantics.specs.Tree.{Suffix, Bare, Ull}
 use Rattle.semantics.specs.Source.Text.{is_blank, skip_blanks, starts_with, behind, pragma_word, is_omp_rest, is_pragma_rest, is_hash_rest, is_directive_line}
-use Rattle.semantics.specs.Source.Token.{Token, Word, Digits, Quoted, Sign, Header, Line, Symbol, Semicolon, Comma, OpenParen, CloseParen, OpenBracket, CloseBracket, OpenBrace, CloseBrace, PlusPlus, MinusMinus, Becomes, PlusBecomes, MinusBecomes, TimesBecomes, AndBecomes, OrBecomes, XorBecomes, PlusSign, MinusSign, Star, Slash, Percent, Amp, Bar, Caret, Tilde, Bang, Question, Colon, DoubleLess, DoubleGreater, LessSign, LessEqualSign, GreaterSign, GreaterEqualSign, DoubleEqual, BangEqual, DoubleAmp, DoubleBar}
+use Rattle.semantics.specs.Source.Token.{Token, Word, IntegerConstant, StringLiteral, Punctuator, Header, Line, Symbol, Semicolon, Comma, OpenParen, CloseParen, OpenBracket, CloseBracket, OpenBrace, CloseBrace, PlusPlus, MinusMinus, EqualSign, PlusEqual, MinusEqual, TimesEqual, AmpEqual, BarEqual, CaretEqual, PlusSign, MinusSign, Star, Slash, Percent, Amp, Bar, Caret, Tilde, Bang, Question, Colon, DoubleLess, DoubleGreater, LessSign, LessEqualSign, GreaterSign, GreaterEqualSign, DoubleEqual, BangEqual, DoubleAmp, DoubleBar}
 use Rattle.semantics.specs.Source.Cuts.{is_digit, is_letter, is_word_byte, is_printable, is_name, stops, decimal_from, is_decimal, suffix_text, symbol_text, long_symbols, is_whole, Spells, done, percent, byte, line_feed, backslash, quote, two_percents, Stands, word, number, text, symbol, is_line, is_plain_directive, include_rest, after_hash, header_of, is_comment_text, is_comment, Cuts, end, blank, line_end, comment_line, comment, directive, header, token}
 use Rattle.semantics.proofs.EraseTokenLaw.{first_of, second_of, and_true, other, none_is_not_some, true-is_not-false, starts, line_first}
 use Rattle.semantics.proofs.SymbolLaw.{starts_plain}
@@ -84,8 +84,8 @@ number_whole ds s rest h k =
     ∙ ap (λ x. suffixed x (drop (length ds) (ds ++ (suffix_text s ++ rest)))) (take_at ds (suffix_text s ++ rest) (length ds) refl)
     ∙ ap (suffixed ds) (drop_at ds (suffix_text s ++ rest) (length ds) refl)
 
-literal_whole : (ds : List ℕ) (s : Suffix) (rest : List ℕ) → stops (λ b. is_word_byte b || (b == 46)) rest ≡ true → literal ds s rest ≡ Some (Took 0 (length (ds ++ suffix_text s)) (Digits (decimal_from 0 ds) s))
-literal_whole ds s rest h = cond-true _ _ _ h ∙ ap (λ n. Some (Took 0 n (Digits (decimal_from 0 ds) s))) (sym (length-append ds (suffix_text s)))
+literal_whole : (ds : List ℕ) (s : Suffix) (rest : List ℕ) → stops (λ b. is_word_byte b || (b == 46)) rest ≡ true → literal ds s rest ≡ Some (Took 0 (length (ds ++ suffix_text s)) (IntegerConstant (decimal_from 0 ds) s))
+literal_whole ds s rest h = cond-true _ _ _ h ∙ ap (λ n. Some (Took 0 n (IntegerConstant (decimal_from 0 ds) s))) (sym (length-append ds (suffix_text s)))
 
 suffixed_whole : (ds : List ℕ) (s : Suffix) (rest : List ℕ) → stops (λ b. is_word_byte b || (b == 46)) rest ≡ true → suffixed ds (suffix_text s ++ rest) ≡ literal ds s rest
 suffixed_whole ds Bare rest h = cond-false _ _ _ (no_ull rest h)
@@ -101,7 +101,7 @@ inside_digit (b ∷ []) rest h = cond-false (is_letter b) _ _ (digit_not_letter 
 inside_digit (b ∷ c ∷ ds) rest h =
     cond-false (is_letter b) _ _ (digit_not_letter b (first_of (is_digit b) _ h)) ∙ cond-true (is_digit b) _ _ (first_of (is_digit b) _ h)
 
-inside_number : (ds : List ℕ) (s : Suffix) (rest : List ℕ) → is_decimal ds ≡ true → stops (λ b. is_word_byte b || (b == 46)) rest ≡ true → inside ((ds ++ suffix_text s) ++ rest) ≡ Some (Took 0 (length (ds ++ suffix_text s)) (Digits (decimal_from 0 ds) s))
+inside_number : (ds : List ℕ) (s : Suffix) (rest : List ℕ) → is_decimal ds ≡ true → stops (λ b. is_word_byte b || (b == 46)) rest ≡ true → inside ((ds ++ suffix_text s) ++ rest) ≡ Some (Took 0 (length (ds ++ suffix_text s)) (IntegerConstant (decimal_from 0 ds) s))
 inside_number ds s rest h k =
     ap inside (append_assoc ds (suffix_text s) rest) ∙ inside_digit ds (suffix_text s ++ rest) h
     ∙ number_whole ds s rest h (stops_digits s rest k) ∙ suffixed_whole ds s rest k ∙ literal_whole ds s rest k
@@ -130,13 +130,13 @@ spelled_whole (backslash s) = ap (λ xs. 92 ∷ xs) (spelled_whole s)
 spelled_whole (quote s) = ap (λ xs. 34 ∷ xs) (spelled_whole s)
 spelled_whole (two_percents s) = ap (λ xs. 37 ∷ xs) (spelled_whole s)
 
-inside_string : {bs cs : List ℕ} {o : Bool} → Spells bs cs o → (rest : List ℕ) → inside ((34 ∷ (bs ++ 34 ∷ [])) ++ rest) ≡ Some (Took 0 (length (34 ∷ (bs ++ 34 ∷ []))) (Quoted cs o))
+inside_string : {bs cs : List ℕ} {o : Bool} → Spells bs cs o → (rest : List ℕ) → inside ((34 ∷ (bs ++ 34 ∷ [])) ++ rest) ≡ Some (Took 0 (length (34 ∷ (bs ++ 34 ∷ []))) (StringLiteral cs o))
 inside_string {bs} {cs} {o} s rest =
     ap (λ xs. string_of xs (string_end Plain xs)) (append_assoc bs (34 ∷ []) rest)
     ∙ ap (string_of (bs ++ 34 ∷ rest)) (string_whole s rest)
-    ∙ ap (λ xs. Some (Took 0 (length bs + 2) (Quoted (spelled false xs) o))) (take_at bs (34 ∷ rest) (length bs) refl)
-    ∙ ap (λ xs. Some (Took 0 (length bs + 2) (Quoted xs o))) (spelled_whole s)
-    ∙ ap (λ n. Some (Took 0 n (Quoted cs o))) (let e : length (bs ++ 34 ∷ []) ≡ length bs + 1 = length-append bs (34 ∷ []) in omega arith)
+    ∙ ap (λ xs. Some (Took 0 (length bs + 2) (StringLiteral (spelled false xs) o))) (take_at bs (34 ∷ rest) (length bs) refl)
+    ∙ ap (λ xs. Some (Took 0 (length bs + 2) (StringLiteral xs o))) (spelled_whole s)
+    ∙ ap (λ n. Some (Took 0 n (StringLiteral cs o))) (let e : length (bs ++ 34 ∷ []) ≡ length bs + 1 = length-append bs (34 ∷ []) in omega arith)
 
 -- a text that begins with none of these symbols
 none_of : (ss : List Symbol) (w : List ℕ) → list_any (pointwise nat_eq w) (map symbol_text ss) ≡ false → sign_of ss w ≡ None
@@ -152,11 +152,11 @@ no_long b c h =
     let comment = or_parts (pointwise nat_eq w (47 ∷ 42 ∷ [])) _ line.1 in
     none_of long_signs w comment.1
 
-short_whole : (s : Symbol) (b : ℕ) → sign_of short_signs (b ∷ []) ≡ Some s → length (symbol_text s) ≡ 1 → (rest : List ℕ) → is_whole (b ∷ []) rest ≡ true → at.sign b rest ≡ Some (Took 0 (length (symbol_text s)) (Sign s))
+short_whole : (s : Symbol) (b : ℕ) → sign_of short_signs (b ∷ []) ≡ Some s → length (symbol_text s) ≡ 1 → (rest : List ℕ) → is_whole (b ∷ []) rest ≡ true → at.sign b rest ≡ Some (Took 0 (length (symbol_text s)) (Punctuator s))
 short_whole s b e l [] h = ap (λ o. sign_or o None) e
 short_whole s b e l (c ∷ rest) h = ap (λ o. sign_or o (sign_or (sign_of short_signs (b ∷ [])) None)) (no_long b c h) ∙ ap (λ o. sign_or o None) e
 
-slash_whole : (rest : List ℕ) → is_whole (47 ∷ []) rest ≡ true → slash rest ≡ Some (Took 0 1 (Sign Slash))
+slash_whole : (rest : List ℕ) → is_whole (47 ∷ []) rest ≡ true → slash rest ≡ Some (Took 0 1 (Punctuator Slash))
 slash_whole [] h = refl
 slash_whole (c ∷ rest) h =
     let w : List ℕ = 47 ∷ c ∷ [] in
@@ -164,7 +164,7 @@ slash_whole (c ∷ rest) h =
     let comment = or_parts (pointwise nat_eq w (47 ∷ 42 ∷ [])) _ line.1 in
     cond-false (c == 47) _ _ (first_false (c == 47) line.0) ∙ cond-false (c == 42) _ _ (first_false (c == 42) comment.0)
 
-inside_symbol : (s : Symbol) (rest : List ℕ) → is_whole (symbol_text s) rest ≡ true → inside (symbol_text s ++ rest) ≡ Some (Took 0 (length (symbol_text s)) (Sign s))
+inside_symbol : (s : Symbol) (rest : List ℕ) → is_whole (symbol_text s) rest ≡ true → inside (symbol_text s ++ rest) ≡ Some (Took 0 (length (symbol_text s)) (Punctuator s))
 inside_symbol Semicolon rest h = short_whole Semicolon 59 refl refl rest h
 inside_symbol Comma rest h = short_whole Comma 44 refl refl rest h
 inside_symbol OpenParen rest h = short_whole OpenParen 40 refl refl rest h
@@ -175,13 +175,13 @@ inside_symbol OpenBrace rest h = short_whole OpenBrace 123 refl refl rest h
 inside_symbol CloseBrace rest h = short_whole CloseBrace 125 refl refl rest h
 inside_symbol PlusPlus rest h = refl
 inside_symbol MinusMinus rest h = refl
-inside_symbol Becomes rest h = short_whole Becomes 61 refl refl rest h
-inside_symbol PlusBecomes rest h = refl
-inside_symbol MinusBecomes rest h = refl
-inside_symbol TimesBecomes rest h = refl
-inside_symbol AndBecomes rest h = refl
-inside_symbol OrBecomes rest h = refl
-inside_symbol XorBecomes rest h = refl
+inside_symbol EqualSign rest h = short_whole EqualSign 61 refl refl rest h
+inside_symbol PlusEqual rest h = refl
+inside_symbol MinusEqual rest h = refl
+inside_symbol TimesEqual rest h = refl
+inside_symbol AmpEqual rest h = refl
+inside_symbol BarEqual rest h = refl
+inside_symbol CaretEqual rest h = refl
 inside_symbol PlusSign rest h = short_whole PlusSign 43 refl refl rest h
 inside_symbol MinusSign rest h = short_whole MinusSign 45 refl refl rest h
 inside_symbol Star rest h = short_whole Star 42 refl refl rest h

@@ -7,7 +7,7 @@ use Rattle.std.proofs.lemmas.Bool.{eqb-true, cond-true, cond-false, cond_both, a
 use Rattle.std.proofs.lemmas.List.{take_at, drop_at, append_assoc, append-nil, length-append, length-take-le, take-append-drop}
 use Rattle.semantics.specs.Tree.{Suffix, Bare, Ull}
 use Rattle.semantics.specs.Source.Text.{is_blank, skip_blanks, first_line, starts_with, behind, is_hash_rest, is_directive_line}
-use Rattle.semantics.specs.Source.Token.{Token, Word, Sign, Header, Line, Symbol, Slash}
+use Rattle.semantics.specs.Source.Token.{Token, Word, Punctuator, Header, Line, Symbol, Slash}
 use Rattle.semantics.specs.Source.Cuts.{is_digit, is_letter, is_word_byte, is_printable, stops, is_decimal, suffix_text, symbol_text, is_whole, Spells, done, percent, byte, line_feed, backslash, quote, two_percents, Stands, word, number, text, symbol, is_line, is_plain_directive, after_hash, header_of, is_comment_text, is_comment, Cuts, blank, line_end, comment_line, comment, directive, header, token}
 use Rattle.semantics.proofs.EraseTokenLaw.{first_of, second_of, and_true, other, true-is_not-false, line_of, token_line}
 use Rattle.ctoken.specs.Front.{run, digits_length, Piece, Gap, Turn, Took, literal, suffixed, Mode, Plain, Escape, Percented, one_more, string_end, spelled, string_of, is_comment_byte, comment_end, slash, long_signs, short_signs, sign_of, sign_or, sign, inside, begins_hash, header_piece, hash_line, front}
@@ -355,8 +355,8 @@ says_block_comment f n bs = go (comment_end bs) (comment_closes bs)
             (let l : length (take k bs) ≡ k = length-take-le k bs (let w = h.within in omega arith) in omega (arith, l, length-append (take k bs) (42 ∷ 47 ∷ [])))
 
 -- a symbol at the front
-takes_sign : (f : Bool) (n : ℕ) (s : Symbol) (rest bs : List ℕ) → bs ≡ symbol_text s ++ rest → 0 < length (symbol_text s) → is_whole (symbol_text s) rest ≡ true → Takes f n 0 (length (symbol_text s)) bs (Sign s)
-takes_sign f n s rest bs e p h = takes_token f n (length (symbol_text s)) (symbol_text s) rest bs (Sign s) e refl p (symbol {s = s} h) (λ k. k)
+takes_sign : (f : Bool) (n : ℕ) (s : Symbol) (rest bs : List ℕ) → bs ≡ symbol_text s ++ rest → 0 < length (symbol_text s) → is_whole (symbol_text s) rest ≡ true → Takes f n 0 (length (symbol_text s)) bs (Punctuator s)
+takes_sign f n s rest bs e p h = takes_token f n (length (symbol_text s)) (symbol_text s) rest bs (Punctuator s) e refl p (symbol {s = s} h) (λ k. k)
 
 says_slash : (f : Bool) (n : ℕ) (bs : List ℕ) → Says f n (47 ∷ bs) (slash bs)
 says_slash f n [] = takes_sign f n Slash [] (47 ∷ []) refl (omega arith) refl

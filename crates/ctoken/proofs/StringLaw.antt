@@ -2,7 +2,7 @@
 use Rattle.std.specs.Prelude.{ℕ, Bool, true, false, ◌≡◌, ◌+◌, ◌-◌, ◌<◌, ◌≤◌, List, [], ◌∷◌, ◌++◌, length, take, drop, Option, Some, None}
 use Rattle.std.proofs.Common.{refl, sym, ap, ◌∙◌, arith}
 use Rattle.std.proofs.lemmas.List.{append-nil, at_drop_all, length-append, take_at}
-use Rattle.semantics.specs.Source.Token.{Quoted}
+use Rattle.semantics.specs.Source.Token.{StringLiteral}
 use Rattle.semantics.specs.Source.Cuts.{Spells, Stands, text}
 use Rattle.ctoken.specs.Front as front
 use Rattle.ctoken.specs.Front.{one_more, spelled}
@@ -31,7 +31,7 @@ further-one_more i None = refl
 further-one_more i (Some r) = ap (λ n. Some (n, r.1)) (omega arith)
 
 -- a string literal's bytes
-pub stands_string : {w rest cs : List ℕ} {o : Bool} → Stands w rest (Quoted cs o) → (bs : List ℕ) × (w ≡ 34 ∷ (bs ++ 34 ∷ [])) × Spells bs cs o
+pub stands_string : {w rest cs : List ℕ} {o : Bool} → Stands w rest (StringLiteral cs o) → (bs : List ℕ) × (w ≡ 34 ∷ (bs ++ 34 ∷ [])) × Spells bs cs o
 stands_string (text {bs = bs} s) = (bs, refl, s)
 
 spelled-nil : (escaped : Bool) → spelled escaped [] ≡ []
@@ -41,7 +41,7 @@ spelled-nil false = refl
 -- what is decoded between the quotes
 pub spelled-literal : (w : List ℕ) (q : ℕ) (bytes done part : List ℕ) (i : ℕ) (escaped : Bool) → w ≡ q ∷ bytes → part ≡ take (length bytes - 1) bytes → length part ≤ i
     → done ++ spelled escaped (drop i part) ≡ spelled false part
-    → (rest cs : List ℕ) (o : Bool) → Stands w rest (Quoted cs o) → done ≡ cs
+    → (rest cs : List ℕ) (o : Bool) → Stands w rest (StringLiteral cs o) → done ≡ cs
 spelled-literal w q bytes done part i escaped e p l h rest cs o s =
     let string = stands_string s in
     let bs : List ℕ = string.0 in

@@ -3,7 +3,7 @@ use Rattle.std.specs.Prelude.{ℕ, suc, Bool, true, false, not, ◌&&◌, ◌||�
 use lib.Pointwise.{pointwise}
 use Rattle.semantics.specs.Tree.{Suffix, Bare, Ull}
 use Rattle.semantics.specs.Source.Text.{is_blank, skip_blanks, first_line, starts_with, behind, is_directive_line}
-use Rattle.semantics.specs.Source.Token.{Token, Word, Digits, Quoted, Sign, Header, Line, Symbol, Semicolon, Comma, OpenParen, CloseParen, OpenBracket, CloseBracket, OpenBrace, CloseBrace, PlusPlus, MinusMinus, Becomes, PlusBecomes, MinusBecomes, TimesBecomes, AndBecomes, OrBecomes, XorBecomes, PlusSign, MinusSign, Star, Slash, Percent, Amp, Bar, Caret, Tilde, Bang, Question, Colon, DoubleLess, DoubleGreater, LessSign, LessEqualSign, GreaterSign, GreaterEqualSign, DoubleEqual, BangEqual, DoubleAmp, DoubleBar}
+use Rattle.semantics.specs.Source.Token.{Token, Word, IntegerConstant, StringLiteral, Punctuator, Header, Line, Symbol, Semicolon, Comma, OpenParen, CloseParen, OpenBracket, CloseBracket, OpenBrace, CloseBrace, PlusPlus, MinusMinus, EqualSign, PlusEqual, MinusEqual, TimesEqual, AmpEqual, BarEqual, CaretEqual, PlusSign, MinusSign, Star, Slash, Percent, Amp, Bar, Caret, Tilde, Bang, Question, Colon, DoubleLess, DoubleGreater, LessSign, LessEqualSign, GreaterSign, GreaterEqualSign, DoubleEqual, BangEqual, DoubleAmp, DoubleBar}
 use Rattle.semantics.specs.Source.Cuts.{is_digit, is_letter, is_word_byte, is_printable, stops, decimal_from, suffix_text, symbol_text, is_plain_directive, header_of}
 
 -- how many bytes of a kind a text begins with
@@ -26,7 +26,7 @@ pub data Piece : Type 0 where
 abbrev pub literal : List ℕ → Suffix → List ℕ → Option Piece
 literal ds suffix rest =
     if stops (λ b. is_word_byte b || (b == 46)) rest
-    then Some (Took 0 (length ds + length (suffix_text suffix)) (Digits (decimal_from 0 ds) suffix))
+    then Some (Took 0 (length ds + length (suffix_text suffix)) (IntegerConstant (decimal_from 0 ds) suffix))
     else None
 
 abbrev pub suffixed : List ℕ → List ℕ → Option Piece
@@ -62,7 +62,7 @@ spelled false (b ∷ bs) = if (b == 92) || (b == 37) then spelled true bs else b
 
 abbrev pub string_of : List ℕ → Option (ℕ × Bool) → Option Piece
 string_of bs None = None
-string_of bs (Some r) = Some (Took 0 (r.0 + 2) (Quoted (spelled false (take r.0 bs)) r.1))
+string_of bs (Some r) = Some (Took 0 (r.0 + 2) (StringLiteral (spelled false (take r.0 bs)) r.1))
 
 -- what a comment may hold
 abbrev pub is_comment_byte : ℕ → Bool
@@ -76,21 +76,21 @@ comment_end (b ∷ bs) =
     else (if is_comment_byte b then option_map suc (comment_end bs) else None)
 
 abbrev pub slash : List ℕ → Option Piece
-slash [] = Some (Took 0 1 (Sign Slash))
+slash [] = Some (Took 0 1 (Punctuator Slash))
 slash (c ∷ bs) =
     if c == 47 then Some (Gap (run is_comment_byte bs + 2))
     else (if c == 42 then option_map (λ k. Gap (k + 4)) (comment_end bs)
-    else Some (Took 0 1 (Sign Slash)))
+    else Some (Took 0 1 (Punctuator Slash)))
 
 -- the symbols of two bytes, and those of one but for `/`
 abbrev pub long_signs : List Symbol
 long_signs =
-    PlusPlus ∷ MinusMinus ∷ PlusBecomes ∷ MinusBecomes ∷ TimesBecomes ∷ AndBecomes ∷ OrBecomes ∷ XorBecomes
+    PlusPlus ∷ MinusMinus ∷ PlusEqual ∷ MinusEqual ∷ TimesEqual ∷ AmpEqual ∷ BarEqual ∷ CaretEqual
     ∷ DoubleLess ∷ DoubleGreater ∷ LessEqualSign ∷ GreaterEqualSign ∷ DoubleEqual ∷ BangEqual ∷ DoubleAmp ∷ DoubleBar ∷ []
 
 abbrev pub short_signs : List Symbol
 short_signs =
-    Semicolon ∷ Comma ∷ OpenParen ∷ CloseParen ∷ OpenBracket ∷ CloseBracket ∷ OpenBrace ∷ CloseBrace ∷ Becomes ∷ PlusSign ∷ MinusSign
+    Semicolon ∷ Comma ∷ OpenParen ∷ CloseParen ∷ OpenBracket ∷ CloseBracket ∷ OpenBrace ∷ CloseBrace ∷ EqualSign ∷ PlusSign ∷ MinusSign
     ∷ Star ∷ Percent ∷ Amp ∷ Bar ∷ Caret ∷ Tilde ∷ Bang ∷ Question ∷ Colon ∷ LessSign ∷ GreaterSign ∷ []
 
 -- the symbol that is spelled so
@@ -100,7 +100,7 @@ sign_of (s ∷ ss) bs = if pointwise nat_eq bs (symbol_text s) then Some s else 
 
 abbrev pub sign_or : Option Symbol → Option Piece → Option Piece
 sign_or None other = other
-sign_or (Some s) other = Some (Took 0 (length (symbol_text s)) (Sign s))
+sign_or (Some s) other = Some (Took 0 (length (symbol_text s)) (Punctuator s))
 
 -- the longest symbol is taken
 abbrev pub sign : ℕ → List ℕ → Option Piece

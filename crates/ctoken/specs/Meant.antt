@@ -8,11 +8,11 @@ use Rattle.ktree.specs.declared.refusal.Refusal.{Refusal}
 use Rattle.ktree.specs.declared.refusal.Refusal.TheVariants.{OutOfMemory, Syntax}
 use Rattle.ktree.specs.View.{suffix_of}
 use Rattle.ctoken.specs.declared.token.Symbol.{Symbol}
-use Rattle.ctoken.specs.declared.token.Symbol.TheVariants.{Semicolon, Comma, OpenParen, CloseParen, OpenBracket, CloseBracket, OpenBrace, CloseBrace, PlusPlus, MinusMinus, Becomes, PlusBecomes, MinusBecomes, TimesBecomes, AndBecomes, OrBecomes, XorBecomes, PlusSign, MinusSign, Star, Slash, Percent, Amp, Bar, Caret, Tilde, Bang, Question, Colon, DoubleLess, DoubleGreater, LessSign, LessEqualSign, GreaterSign, GreaterEqualSign, DoubleEqual, BangEqual, DoubleAmp, DoubleBar}
+use Rattle.ctoken.specs.declared.token.Symbol.TheVariants.{Semicolon, Comma, OpenParen, CloseParen, OpenBracket, CloseBracket, OpenBrace, CloseBrace, PlusPlus, MinusMinus, EqualSign, PlusEqual, MinusEqual, TimesEqual, AmpEqual, BarEqual, CaretEqual, PlusSign, MinusSign, Star, Slash, Percent, Amp, Bar, Caret, Tilde, Bang, Question, Colon, DoubleLess, DoubleGreater, LessSign, LessEqualSign, GreaterSign, GreaterEqualSign, DoubleEqual, BangEqual, DoubleAmp, DoubleBar}
 use Rattle.ctoken.specs.declared.token.Header.{Header}
 use Rattle.ctoken.specs.declared.token.Header.TheVariants.{Stdint, Inttypes, Stdio}
 use Rattle.ctoken.specs.declared.token.TokenKind.{TokenKind}
-use Rattle.ctoken.specs.declared.token.TokenKind.TheVariants.{Word, Digits, Quoted, Sign, Include, Line}
+use Rattle.ctoken.specs.declared.token.TokenKind.TheVariants.{Word, IntegerConstant, StringLiteral, Punctuator, Include, Line}
 use Rattle.ctoken.specs.declared.token.Token.{Token}
 
 abbrev pub symbol_of : Symbol → meant.Symbol
@@ -26,13 +26,13 @@ symbol_of OpenBrace = meant.OpenBrace
 symbol_of CloseBrace = meant.CloseBrace
 symbol_of PlusPlus = meant.PlusPlus
 symbol_of MinusMinus = meant.MinusMinus
-symbol_of Becomes = meant.Becomes
-symbol_of PlusBecomes = meant.PlusBecomes
-symbol_of MinusBecomes = meant.MinusBecomes
-symbol_of TimesBecomes = meant.TimesBecomes
-symbol_of AndBecomes = meant.AndBecomes
-symbol_of OrBecomes = meant.OrBecomes
-symbol_of XorBecomes = meant.XorBecomes
+symbol_of EqualSign = meant.EqualSign
+symbol_of PlusEqual = meant.PlusEqual
+symbol_of MinusEqual = meant.MinusEqual
+symbol_of TimesEqual = meant.TimesEqual
+symbol_of AmpEqual = meant.AmpEqual
+symbol_of BarEqual = meant.BarEqual
+symbol_of CaretEqual = meant.CaretEqual
 symbol_of PlusSign = meant.PlusSign
 symbol_of MinusSign = meant.MinusSign
 symbol_of Star = meant.Star
@@ -65,9 +65,9 @@ number_of Stdio = 2
 -- what a token is; of a literal, its value where it is below 2^64
 abbrev pub IsKind : TokenKind → meant.Token → Type 0
 IsKind Word (meant.Word w) = Unit {0}
-IsKind (Digits value suffix) (meant.Digits n s) = SomeIff value (n < 2 ^ 64) n × (suffix_of suffix ≡ s)
-IsKind (Quoted single) (meant.Quoted cs open') = single ≡ open'
-IsKind (Sign symbol) (meant.Sign s) = symbol_of symbol ≡ s
+IsKind (IntegerConstant value suffix) (meant.IntegerConstant n s) = SomeIff value (n < 2 ^ 64) n × (suffix_of suffix ≡ s)
+IsKind (StringLiteral single) (meant.StringLiteral cs open') = single ≡ open'
+IsKind (Punctuator symbol) (meant.Punctuator s) = symbol_of symbol ≡ s
 IsKind (Include header) (meant.Header h) = number_of header ≡ h
 IsKind Line (meant.Line n) = Unit {0}
 IsKind _ _ = ⊥

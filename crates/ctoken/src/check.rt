@@ -53,8 +53,10 @@ struct Included {
 impl Included {
     /// With one more header, if it is not there.
     fn with(self, header: Header) -> Option<Included>
-        ensures { (seen : List ℕ) → AreIncluded self seen → MatchOption result (list_any (nat_eq (number_of header)) seen ≡ true)
-            (λ more. (list_any (nat_eq (number_of header)) seen ≡ false) × AreIncluded more (number_of header ∷ seen)) }
+        ensures { (seen : List ℕ) → AreIncluded self seen
+            → MatchOption result (list_any (nat_eq (number_of header)) seen ≡ true)
+            (λ more. (list_any (nat_eq (number_of header)) seen ≡ false)
+            × AreIncluded more (number_of header ∷ seen)) }
     {
         match header {
             Header::Stdint if !self.stdint => Some(Included {
@@ -115,7 +117,7 @@ pub fn missing_place(text: &[u8], tokens: &[Token]) -> Option<usize>
         if is_due && !is_place(text, *token) {
             return Some(token.start);
         }
-        is_due = matches!(token.kind, TokenKind::Quoted(true));
+        is_due = matches!(token.kind, TokenKind::StringLiteral(true));
     }
     if is_due { Some(text.len()) } else { None }
 }

@@ -49,10 +49,11 @@ fn comment_fault(bytes: &[u8]) -> usize
 
 /// A comment or the symbol `/`, whose bytes follow its `/`, or the place of a comment's fault, counted from there.
 pub fn slash(rest: &[u8]) -> Result<Piece, usize>
-    ensures { MatchResult result (λ p. IsFront p (slash rest.now)) (λ at. (at ≤ length rest.now + 1) × (slash rest.now ≡ None)) }
+    ensures { MatchResult result (λ p. IsFront p (slash rest.now))
+        (λ at. (at ≤ length rest.now + 1) × (slash rest.now ≡ None)) }
 {
     let Some((second, comment)) = rest.split_first() else {
-        return Ok(Piece::Token(TokenKind::Sign(Symbol::Slash), 0, 1));
+        return Ok(Piece::Token(TokenKind::Punctuator(Symbol::Slash), 0, 1));
     };
     if *second == b'/' {
         Ok(Piece::Gap(Class::Comment.run(comment) + 2))
@@ -62,6 +63,6 @@ pub fn slash(rest: &[u8]) -> Result<Piece, usize>
             None => Err(comment_fault(comment)),
         }
     } else {
-        Ok(Piece::Token(TokenKind::Sign(Symbol::Slash), 0, 1))
+        Ok(Piece::Token(TokenKind::Punctuator(Symbol::Slash), 0, 1))
     }
 }

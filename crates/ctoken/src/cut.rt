@@ -17,7 +17,7 @@ pub struct Cut {
 }
 
 /// A line or a column, the greatest that a place can name at most.
-fn capped(number: usize) -> u32
+fn cap(number: usize) -> u32
     ensures { result ≡ min number 4294967295 }
 {
     number.min(4294967295) as u32
@@ -28,8 +28,8 @@ pub fn place(line: usize, column: usize) -> Place
     ensures { result.line ≡ min line 4294967295 }
 {
     Place {
-        line: capped(line),
-        column: capped(column),
+        line: cap(line),
+        column: cap(column),
     }
 }
 

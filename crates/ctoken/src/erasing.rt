@@ -10,7 +10,8 @@ use std::alloc::{AllocError, Global};
 
 /// Appends a line, if it is no directive.
 fn keep_line(kept: &mut Vec<u8>, line: &[u8]) -> Result<(), AllocError>
-    ensures { OnOk result (kept.new.items ≡ kept.old.items ++ (if is_directive_line line.now then [] else line.now)) }
+    ensures { OnOk result (kept.new.items
+        ≡ kept.old.items ++ (if is_directive_line line.now then [] else line.now)) }
 {
     if is_directive_line(line) {
         return Ok(());
@@ -19,7 +20,7 @@ fn keep_line(kept: &mut Vec<u8>, line: &[u8]) -> Result<(), AllocError>
 }
 
 /// The text with the bytes of each directive line dropped and its line end kept.
-fn erased(alloc: Global, text: &[u8]) -> Result<Vec<u8>, AllocError>
+fn erase_lines(alloc: Global, text: &[u8]) -> Result<Vec<u8>, AllocError>
     ensures { IfOk result (λ kept. kept.items ≡ erase text.now) }
 {
     let mut kept = Vec::with_capacity(alloc, text.len())?;
@@ -39,9 +40,10 @@ fn erased(alloc: Global, text: &[u8]) -> Result<Vec<u8>, AllocError>
 /// ends a line too). Only want of memory refuses it, and then the vector has the same bytes as before.
 pub fn erase(alloc: Global, text: &[u8], out: &mut Vec<u8>) -> Result<(), Refusal>
     ensures ok { OnOk result (out.new.items ≡ out.old.items ++ erase text.now) }
-    ensures err { IfErr result (λ refusal. (refusal ≡ OutOfMemory) × (out.new.items ≡ out.old.items)) }
+    ensures err { IfErr result
+        (λ refusal. (refusal ≡ OutOfMemory) × (out.new.items ≡ out.old.items)) }
 {
-    let kept = erased(alloc, text)?;
+    let kept = erase_lines(alloc, text)?;
     out.extend_from_slice(kept.as_slice())?;
     Ok(())
 }

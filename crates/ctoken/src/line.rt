@@ -63,7 +63,8 @@ pub fn is_directive_line(line: &[u8]) -> bool
 
 /// Whether a word and blanks stand here alone.
 fn is_only(bytes: &[u8], word: &[u8]) -> bool
-    ensures { result ≡ (starts_with word.now bytes.now && is_end (skip_blanks (behind word.now bytes.now))) }
+    ensures { result ≡ (starts_with word.now bytes.now
+        && is_end (skip_blanks (behind word.now bytes.now))) }
 {
     match behind(bytes, word) {
         None => false,
@@ -101,7 +102,8 @@ fn header_of(line: &[u8]) -> Option<Header>
 
 /// Where a `#` or a backslash stands behind the first byte, if one does.
 fn stray(bytes: &[u8]) -> Option<usize>
-    ensures none { is_none result ≡ list_all (λ b. not ((b == 35) || (b == 92))) (drop 1 bytes.now) }
+    ensures none { is_none result
+        ≡ list_all (λ b. not ((b == 35) || (b == 92))) (drop 1 bytes.now) }
     ensures within { IfSome result (λ at. at < length bytes.now) }
 {
     let Some((_first, rest)) = bytes.split_first() else {

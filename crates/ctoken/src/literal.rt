@@ -58,13 +58,14 @@ fn suffix_length(suffix: Suffix) -> usize
 }
 
 /// The literal of these digits, or `Err` with its length where what follows breaks it off.
-fn closed(digits: &[u8], suffix: Suffix, rest: &[u8]) -> Result<Piece, usize>
+fn close_literal(digits: &[u8], suffix: Suffix, rest: &[u8]) -> Result<Piece, usize>
     ensures { MatchResult result (λ p. IsFront p (literal digits.now (suffix_of suffix) rest.now))
-        (λ at. (at ≡ length digits.now + length (suffix_text (suffix_of suffix))) × (literal digits.now (suffix_of suffix) rest.now ≡ None)) }
+        (λ at. (at ≡ length digits.now + length (suffix_text (suffix_of suffix)))
+        × (literal digits.now (suffix_of suffix) rest.now ≡ None)) }
 {
     let length = digits.len() + suffix_length(suffix);
     if may_end(rest) {
-        Ok(Piece::Token(TokenKind::Digits(value(digits), suffix), 0, length))
+        Ok(Piece::Token(TokenKind::IntegerConstant(value(digits), suffix), 0, length))
     } else {
         Err(length)
     }
@@ -76,7 +77,7 @@ pub fn literal(bytes: &[u8]) -> Result<Piece, usize>
 {
     let (digits, rest) = bytes.split_at(digits_length(bytes));
     match behind(rest, b"ull") {
-        Some(rest) => closed(digits, Suffix::Ull, rest),
-        None => closed(digits, Suffix::Bare, rest),
+        Some(rest) => close_literal(digits, Suffix::Ull, rest),
+        None => close_literal(digits, Suffix::Bare, rest),
     }
 }

@@ -60,7 +60,8 @@ fn count_before(tokens: &[Token], at: usize) -> usize {
 
 /// The tokens of a text by C11 5.1.1.2 and 6.4, up to its first fault.
 pub fn scan(alloc: Global, text: &[u8]) -> Result<Scanned, AllocError>
-    ensures { IfOk result (λ scanned. MatchOption scanned.fault (AreTokensOf text.now scanned.tokens) (λ place. HasNoTokens text.now)) }
+    ensures { IfOk result (λ scanned. MatchOption scanned.fault
+        (AreTokensOf text.now scanned.tokens) (λ place. HasNoTokens text.now)) }
 {
     let Cut { mut tokens, fault } = cut_text(alloc, text)?;
     match earlier(fault, first_failure(text, tokens.as_slice())) {

@@ -15,12 +15,12 @@ fn long_symbol(first: u8, second: u8) -> Option<Symbol>
     Some(match (first, second) {
         (b'+', b'+') => Symbol::PlusPlus,
         (b'-', b'-') => Symbol::MinusMinus,
-        (b'+', b'=') => Symbol::PlusBecomes,
-        (b'-', b'=') => Symbol::MinusBecomes,
-        (b'*', b'=') => Symbol::TimesBecomes,
-        (b'&', b'=') => Symbol::AndBecomes,
-        (b'|', b'=') => Symbol::OrBecomes,
-        (b'^', b'=') => Symbol::XorBecomes,
+        (b'+', b'=') => Symbol::PlusEqual,
+        (b'-', b'=') => Symbol::MinusEqual,
+        (b'*', b'=') => Symbol::TimesEqual,
+        (b'&', b'=') => Symbol::AmpEqual,
+        (b'|', b'=') => Symbol::BarEqual,
+        (b'^', b'=') => Symbol::CaretEqual,
         (b'<', b'<') => Symbol::DoubleLess,
         (b'>', b'>') => Symbol::DoubleGreater,
         (b'<', b'=') => Symbol::LessEqualSign,
@@ -46,7 +46,7 @@ fn short_symbol(byte: u8) -> Option<Symbol>
         b']' => Symbol::CloseBracket,
         b'{' => Symbol::OpenBrace,
         b'}' => Symbol::CloseBrace,
-        b'=' => Symbol::Becomes,
+        b'=' => Symbol::EqualSign,
         b'+' => Symbol::PlusSign,
         b'-' => Symbol::MinusSign,
         b'*' => Symbol::Star,
@@ -66,15 +66,16 @@ fn short_symbol(byte: u8) -> Option<Symbol>
 
 /// The longest symbol that begins with this byte before these, if one does (C11 6.4); `/` is none.
 pub fn sign(first: u8, rest: &[u8]) -> Option<Piece>
-    ensures { MatchOption result (sign first rest.now ≡ None) (λ p. IsFront p (sign first rest.now)) }
+    ensures { MatchOption result (sign first rest.now ≡ None)
+        (λ p. IsFront p (sign first rest.now)) }
 {
     if let Some((second, _more)) = rest.split_first() {
         if let Some(symbol) = long_symbol(first, *second) {
-            return Some(Piece::Token(TokenKind::Sign(symbol), 0, 2));
+            return Some(Piece::Token(TokenKind::Punctuator(symbol), 0, 2));
         }
     }
     match short_symbol(first) {
-        Some(symbol) => Some(Piece::Token(TokenKind::Sign(symbol), 0, 1)),
+        Some(symbol) => Some(Piece::Token(TokenKind::Punctuator(symbol), 0, 1)),
         None => None,
     }
 }

@@ -1,7 +1,7 @@
 //! String literals of printf (C11 6.4.5, 7.21.6.1).
 
 ghost use Rattle.std.specs.Prelude.{ℕ, Bool, ◌≡◌, ◌+◌, ◌<◌, ◌≤◌, List, length, Some, None, MatchResult, IfOk};
-ghost use Rattle.semantics.specs.Source.Token.{Quoted};
+ghost use Rattle.semantics.specs.Source.Token.{StringLiteral};
 ghost use Rattle.semantics.specs.Source.Cuts.{Stands};
 ghost use Rattle.ctoken.specs.Front.{Plain, string_end, string_of, spelled};
 ghost use Rattle.ctoken.specs.Pieces.{IsFront};
@@ -22,7 +22,8 @@ enum Mode {
 /// Where the string ends whose bytes these are, and whether a single `%` stands there; or the place of its fault: a byte
 /// that it may not hold, a backslash or a `%` that begins nothing, or the end.
 fn string_end(bytes: &[u8]) -> Result<(usize, bool), usize>
-    ensures { MatchResult result (λ end. (end.0 < length bytes.now) × (string_end Plain bytes.now ≡ Some end))
+    ensures { MatchResult result
+        (λ end. (end.0 < length bytes.now) × (string_end Plain bytes.now ≡ Some end))
         (λ at. (at ≤ length bytes.now) × (string_end Plain bytes.now ≡ None)) }
 {
     let mut mode = Mode::Plain;
@@ -48,10 +49,11 @@ fn string_end(bytes: &[u8]) -> Result<(usize, bool), usize>
 /// The string whose bytes follow its opening quote, or the place of its fault, counted from that quote.
 pub fn string(bytes: &[u8]) -> Result<Piece, usize>
     ensures { MatchResult result (λ p. IsFront p (string_of bytes.now (string_end Plain bytes.now)))
-        (λ at. (at ≤ length bytes.now + 1) × (string_of bytes.now (string_end Plain bytes.now) ≡ None)) }
+        (λ at. (at ≤ length bytes.now + 1)
+        × (string_of bytes.now (string_end Plain bytes.now) ≡ None)) }
 {
     match string_end(bytes) {
-        Ok((length, single)) => Ok(Piece::Token(TokenKind::Quoted(single), 0, length + 2)),
+        Ok((length, single)) => Ok(Piece::Token(TokenKind::StringLiteral(single), 0, length + 2)),
         Err(at) => Err(at + 1),
     }
 }
@@ -60,7 +62,7 @@ pub fn string(bytes: &[u8]) -> Result<Piece, usize>
 /// and a single `%` at the end left out.
 pub fn characters(alloc: Global, literal: &[u8]) -> Result<Vec<u8>, AllocError>
     ensures { IfOk result (λ characters. (rest meant : List ℕ) (single : Bool)
-        → Stands literal.now rest (Quoted meant single) → characters.items ≡ meant) }
+        → Stands literal.now rest (StringLiteral meant single) → characters.items ≡ meant) }
 {
     let mut characters = Vec::new(alloc);
     let Some((_quote, bytes)) = literal.split_first() else {

@@ -17,13 +17,13 @@ pub enum Symbol {
     CloseBrace,
     PlusPlus,
     MinusMinus,
-    Becomes,
-    PlusBecomes,
-    MinusBecomes,
-    TimesBecomes,
-    AndBecomes,
-    OrBecomes,
-    XorBecomes,
+    EqualSign,
+    PlusEqual,
+    MinusEqual,
+    TimesEqual,
+    AmpEqual,
+    BarEqual,
+    CaretEqual,
     PlusSign,
     MinusSign,
     Star,
@@ -62,10 +62,10 @@ pub enum TokenKind {
     /// A name or a reserved word: the token's own bytes.
     Word,
     /// A literal: its value if that is below 2^64, and its suffix.
-    Digits(Option<u64>, Suffix),
+    IntegerConstant(Option<u64>, Suffix),
     /// A string literal, and whether it ends in a single `%`.
-    Quoted(bool),
-    Sign(Symbol),
+    StringLiteral(bool),
+    Punctuator(Symbol),
     /// An include line.
     Include(Header),
     /// A directive line.

@@ -67,7 +67,7 @@ impl Checked {
 }
 
 /// Tests the parallel loops of a kernel behind the directive lines of a text.
-fn tested(alloc: Global, text: &[u8], kernel: &Kernel) -> Result<(), Refusal>
+fn test_kernel(alloc: Global, text: &[u8], kernel: &Kernel) -> Result<(), Refusal>
     requires { HasPassed text.now (kernel_of kernel.now) }
     ensures ok { IfOk result (λ _. AreIndependent text.now (kernel_of kernel.now)) }
     ensures err { IfErr result (RefusesLoops text.now (kernel_of kernel.now)) }
@@ -94,7 +94,7 @@ pub fn accept(
     ensures is { IfOk result (λ checked. checked ≡ record { text = text.items; kernel = kernel }) }
     ensures err { IfErr result (RefusesLoops text.items (kernel_of kernel)) }
 {
-    tested(alloc, text.as_slice(), &kernel)?;
+    test_kernel(alloc, text.as_slice(), &kernel)?;
     Ok(Checked {
         text,
         kernel,

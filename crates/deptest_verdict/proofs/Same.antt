@@ -12,7 +12,7 @@ use Rattle.nest_loop.specs.declared.head.Canonical.{Canonical}
 use Rattle.nest_loop.specs.Loops.{inside}
 use Rattle.nest_loop.specs.Most.{IsMost, somewhere, nowhere}
 use Rattle.nest_loop.proofs.Laws.{loop_is_unique}
-use Rattle.pairtest_counter.specs.declared.level.Level.{Level}
+use Rattle.pairtest_counter.specs.declared.level.EnclosingLoop.{EnclosingLoop}
 use Rattle.pairtest_counter.specs.declared.level.Forms.{Forms}
 use Rattle.pairtest_counter.specs.Counters.{AreForms, Given, stepped, reached}
 use Rattle.pairtest_counter.specs.Levels.{Nesting, IsLevel, AreLevels}
@@ -36,7 +36,7 @@ one_most box l m n (nowhere e) (somewhere v p t f) = absurd (never_empty box v p
 one_most box l m n (nowhere e) (nowhere f) = refl
 
 -- its forms in the counters are one
-one_forms : (outer : List Level) (l : Canonical) (f g : Forms) → AreForms outer l f → AreForms outer l g → f ≡ g
+one_forms : (outer : List EnclosingLoop) (l : Canonical) (f g : Forms) → AreForms outer l f → AreForms outer l g → f ≡ g
 one_forms outer l f g a b =
     let starts = same_sum outer l.start.terms (constant_form l.start.constant) a.start b.start a.starts b.starts in
     let limits = same_sum outer l.limit.terms (constant_form l.limit.constant) a.limit b.limit a.limits b.limits in
@@ -44,13 +44,13 @@ one_forms outer l f g a b =
     let reach : f.reach ≡ g.reach = a.reach ∙ ap (λ (s : Affine). reached l s a.limit) starts ∙ ap (reached l b.start) limits ∙ sym b.reach in
     ap (λ (p : Affine). record { place = p; reach = f.reach }) place ∙ ap (λ (p : Affine). record { place = g.place; reach = p }) reach
 
-one_given : (outer : List Level) (l : Canonical) (o p : Option Forms) → Given (AreForms outer l) o → Given (AreForms outer l) p → o ≡ p
+one_given : (outer : List EnclosingLoop) (l : Canonical) (o p : Option Forms) → Given (AreForms outer l) o → Given (AreForms outer l) p → o ≡ p
 one_given outer l None None h k = refl
 one_given outer l None (Some g) h k = absurd (h g k)
 one_given outer l (Some f) None h k = absurd (k f h)
 one_given outer l (Some f) (Some g) h k = ap Some (one_forms outer l f g h k)
 
-one_level : (box : List Side) (outer : List Level) (s t : Side) (v w : Level) → v.canonical ≡ w.canonical → IsLevel box outer s v → IsLevel box outer t w → v ≡ w
+one_level : (box : List Side) (outer : List EnclosingLoop) (s t : Side) (v w : EnclosingLoop) → v.canonical ≡ w.canonical → IsLevel box outer s v → IsLevel box outer t w → v ≡ w
 one_level box outer s t v w same h k =
     let most : v.most ≡ w.most = one_most box w.canonical v.most w.most (subst (λ (l : Canonical). IsMost box l v.most) same h.most) k.most in
     let forms : v.forms ≡ w.forms = one_given outer w.canonical v.forms w.forms (subst (λ (l : Canonical). Given (AreForms outer l) v.forms) same h.forms) k.forms in
@@ -66,7 +66,7 @@ inside_is_unique n m o x start test step body h k =
     let other : AreLevels (inside n.box x k.numbers) (k.level ∷ n.levels) = subst (λ (p : Nesting). AreLevels p.box p.levels) k.now k.sound in
     let level : h.level ≡ k.level = one_level n.box n.levels _ _ h.level k.level same.0 one.0 other.0 in
     h.now ∙ ap (λ (i : Interval). record { box = inside n.box x i; levels = h.level ∷ n.levels }) same.1
-    ∙ ap (λ (v : Level). record { box = inside n.box x k.numbers; levels = v ∷ n.levels }) level ∙ sym k.now
+    ∙ ap (λ (v : EnclosingLoop). record { box = inside n.box x k.numbers; levels = v ∷ n.levels }) level ∙ sym k.now
 
 -- ---- the accesses
 

@@ -11,7 +11,7 @@ use Rattle.std.proofs.lemmas.Result.{IfOk-weaker}
 use Rattle.pairtest.specs.declared.access.Access.{Access}
 use Rattle.pairtest.specs.declared.access.Nest.{Nest}
 use Rattle.ktree.specs.declared.place.Place.{Place}
-use Rattle.pairtest.specs.Cases.{AllRefuted, AllWithin}
+use Rattle.pairtest.specs.DirectionVectors.{AllRefuted, AllWithin}
 use Rattle.deptest_verdict.specs.declared.pairs.Behind.{Behind}
 use Rattle.deptest_verdict.specs.declared.pairs.Pair.{Pair}
 use Rattle.deptest_verdict.specs.Pairs.{IsPair, IsShown, AreShownBefore, IsFirstBehind, IsFirstPair, IsLargeBehind, AreNamed, StandsAt}

@@ -8,7 +8,7 @@ use Rattle.ktree.specs.declared.refusal.Refusal.TheVariants as refusals
 use Rattle.ktree.specs.declared.refusal.NotShown as not_shown
 use Rattle.affine.specs.Affine.{Affine}
 use Rattle.nest_loop.specs.declared.head.Canonical.{Canonical}
-use Rattle.pairtest_counter.specs.declared.level.Level.{Level}
+use Rattle.pairtest_counter.specs.declared.level.EnclosingLoop.{EnclosingLoop}
 use Rattle.pairtest_counter.specs.Levels.{Nesting}
 use Rattle.nest_space.specs.Space.{IsSpace}
 use Rattle.pairtest_access.specs.declared.told.Touched.{Touched}
@@ -54,7 +54,7 @@ never_as o ss ss' ns ns' fs fs' gs gs' is is' js js' a b c d e f h =
 all_loops : (now : Nesting) (loops : List Canonical) → loops ≡ map (λ v. v.canonical) (inner_loops 0 now.levels) → loops ≡ map (λ v. v.canonical) (reverse now.levels)
 all_loops now loops e =
     let whole : take (length now.levels - 0) now.levels ≡ now.levels = ap (λ (n : ℕ). take n now.levels) (the_whole (length now.levels)) ∙ take-length now.levels in
-    e ∙ ap (λ (vs : List Level). map (λ v. v.canonical) (reverse vs)) whole
+    e ∙ ap (λ (vs : List EnclosingLoop). map (λ v. v.canonical) (reverse vs)) whole
   where
     the_whole : (n : ℕ) → n - 0 ≡ n
     the_whole n = omega arith

@@ -7,7 +7,7 @@ use Rattle.std.proofs.lemmas.Bool.Decides.{Decides-ltb, nat_tests}
 use Rattle.pairtest.specs.declared.access.Access.{Access}
 use Rattle.pairtest.specs.declared.access.Mode.TheVariants.{Writes}
 use Rattle.pairtest.specs.declared.access.Nest.{Nest}
-use Rattle.pairtest.specs.Cases.{AllRefuted, AllWithin}
+use Rattle.pairtest.specs.DirectionVectors.{AllRefuted, AllWithin}
 use Rattle.deptest_verdict.specs.Pairs.{IsPair, IsShown, IsFirstBehind, IsLargeBehind, AreWritesBefore, AreWrites}
 use Rattle.deptest_verdict.proofs.Showing.{from_on}
 

@@ -4,7 +4,7 @@ use Rattle.ktree.specs.declared.place.Place.{Place}
 use Rattle.pairtest.specs.declared.access.Mode.TheVariants.{Writes}
 use Rattle.pairtest.specs.declared.access.Access.{Access}
 use Rattle.pairtest.specs.declared.access.Nest.{Nest}
-use Rattle.pairtest.specs.Cases.{AllRefuted, AllWithin}
+use Rattle.pairtest.specs.DirectionVectors.{AllRefuted, AllWithin}
 use Rattle.deptest_verdict.specs.declared.pairs.Pair.{Pair}
 
 -- two accesses of one array, of which one writes, and both are counted

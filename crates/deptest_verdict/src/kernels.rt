@@ -9,20 +9,24 @@ ghost use Rattle.deptest_verdict.specs.Telling.{OrMemory, FirstLineRefused, Firs
 
 use crate::nests::{Given, enter, line_shown};
 use ktree::{Item, Kernel, Refusal, Stmt};
-use pairtest_counter::Chain;
+use pairtest_counter::EnclosingLoops;
 use pragma::Directives;
 use std::alloc::Global;
 
 /// Tests the parallel loop behind an item, where this is a directive line.
 fn item_line_shown(
     alloc: Global,
-    chain: &mut Chain,
+    chain: &mut EnclosingLoops,
     item: &Item,
     rest: &[Item],
     given: Given<'_>,
 ) -> Result<(), Refusal>
-    ensures err { IfErr result (OrMemory (FirstLineRefused given.entry.directives.now (map declaration_of given.entry.variables.now) chain.old (with_item item.now no_items) (items_of rest.now))) }
-    ensures ok { OnOk result (FirstLineShown given.entry.directives.now chain.old (with_item item.now no_items) (items_of rest.now)) }
+    ensures err { IfErr result
+        (OrMemory (FirstLineRefused given.entry.directives.now
+        (map declaration_of given.entry.variables.now) chain.old
+        (with_item item.now no_items) (items_of rest.now))) }
+    ensures ok { OnOk result (FirstLineShown given.entry.directives.now chain.old
+        (with_item item.now no_items) (items_of rest.now)) }
     ensures back { OnOk result (chain.new ≡ chain.old) }
 {
     match item {
@@ -36,12 +40,15 @@ fn item_line_shown(
 #[cycle(shown)]
 fn statement(
     alloc: Global,
-    chain: &mut Chain,
+    chain: &mut EnclosingLoops,
     walked: &Stmt,
     given: Given<'_>,
 ) -> Result<(), Refusal>
-    ensures err { IfErr result (OrMemory (LoopsRefused given.entry.directives.now (map declaration_of given.entry.variables.now) chain.old (stmt_of walked.now))) }
-    ensures ok { OnOk result (LoopsShown given.entry.directives.now chain.old (stmt_of walked.now)) }
+    ensures err { IfErr result
+        (OrMemory (LoopsRefused given.entry.directives.now
+        (map declaration_of given.entry.variables.now) chain.old (stmt_of walked.now))) }
+    ensures ok { OnOk result (LoopsShown given.entry.directives.now chain.old
+        (stmt_of walked.now)) }
     ensures back { OnOk result (chain.new ≡ chain.old) }
 {
     match walked {
@@ -76,9 +83,17 @@ fn statement(
 
 /// Tests those among a block's items.
 #[cycle(shown)]
-fn block(alloc: Global, chain: &mut Chain, items: &[Item], given: Given<'_>) -> Result<(), Refusal>
-    ensures err { IfErr result (OrMemory (ItemsRefused given.entry.directives.now (map declaration_of given.entry.variables.now) chain.old (items_of items.now))) }
-    ensures ok { OnOk result (ItemsShown given.entry.directives.now chain.old (items_of items.now)) }
+fn block(
+    alloc: Global,
+    chain: &mut EnclosingLoops,
+    items: &[Item],
+    given: Given<'_>,
+) -> Result<(), Refusal>
+    ensures err { IfErr result
+        (OrMemory (ItemsRefused given.entry.directives.now
+        (map declaration_of given.entry.variables.now) chain.old (items_of items.now))) }
+    ensures ok { OnOk result (ItemsShown given.entry.directives.now chain.old
+        (items_of items.now)) }
     ensures back { OnOk result (chain.new ≡ chain.old) }
 {
     for (i, item) in items.iter().enumerate() {
@@ -96,9 +111,18 @@ fn block(alloc: Global, chain: &mut Chain, items: &[Item], given: Given<'_>) -> 
 
 /// Tests those in an item.
 #[cycle(shown)]
-fn one_item(alloc: Global, chain: &mut Chain, item: &Item, given: Given<'_>) -> Result<(), Refusal>
-    ensures err { IfErr result (OrMemory (FirstLoopsRefused given.entry.directives.now (map declaration_of given.entry.variables.now) chain.old (with_item item.now no_items))) }
-    ensures ok { OnOk result (FirstLoopsShown given.entry.directives.now chain.old (with_item item.now no_items)) }
+fn one_item(
+    alloc: Global,
+    chain: &mut EnclosingLoops,
+    item: &Item,
+    given: Given<'_>,
+) -> Result<(), Refusal>
+    ensures err { IfErr result
+        (OrMemory (FirstLoopsRefused given.entry.directives.now
+        (map declaration_of given.entry.variables.now) chain.old
+        (with_item item.now no_items))) }
+    ensures ok { OnOk result (FirstLoopsShown given.entry.directives.now chain.old
+        (with_item item.now no_items)) }
     ensures back { OnOk result (chain.new ≡ chain.old) }
 {
     match item {
@@ -120,7 +144,7 @@ pub fn judge(alloc: Global, kernel: &Kernel, directives: &Directives) -> Result<
     ensures ok { OnOk result (AreShownLoops directives.now (kernel_of kernel.now)) }
     ensures err { IfErr result (IsRefused directives.now (kernel_of kernel.now)) }
 {
-    let mut chain = Chain::new(alloc);
+    let mut chain = EnclosingLoops::new(alloc);
     let given = Given {
         directives,
         variables: kernel.variables.as_slice(),

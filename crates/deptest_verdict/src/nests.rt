@@ -3,7 +3,6 @@
 ghost use Rattle.std.specs.Prelude.{◌≡◌, OnOk, IfOk, IfErr, length, map};
 ghost use Rattle.semantics.specs.Source.Text.{line_at};
 ghost use Rattle.ktree.specs.View.{stmt_of, items_of, source_of, cond_of, increment_of, declaration_of};
-ghost use Rattle.pragma.specs.Parallel.{associated};
 ghost use Rattle.pairtest_access.specs.Sites.{IsInside};
 ghost use Rattle.pairtest_access.specs.Found.{inner_loops};
 ghost use Rattle.nest.specs.Heads.{head_of};
@@ -12,13 +11,13 @@ ghost use Rattle.deptest_verdict.specs.Refused.{EntryRefused, BodyRefused, NestR
 ghost use Rattle.deptest_verdict.specs.Telling.{HasSite, OrMemory, PairRefused};
 
 use crate::pairs::{Pair, first_pair, with_writes};
-use crate::telling::told;
+use crate::telling::verdict_on;
 use ktree::{Declaration, Head, Item, Place, Refusal, Stmt};
 use nest::as_loop;
 use pairtest::Nest;
-use pairtest_access::{accesses, entered, inner_counts};
-use pairtest_counter::Chain;
-use pragma::{Collapse, Directives};
+use pairtest_access::{accesses, enter_loop, inner_counts};
+use pairtest_counter::EnclosingLoops;
+use pragma::Directives;
 use std::alloc::Global;
 
 /// What a walk needs: the directive lines, and the variables of file scope.
@@ -31,14 +30,16 @@ pub(crate) struct Given<'k> {
 /// Goes into a loop.
 pub(crate) fn enter(
     alloc: Global,
-    chain: &mut Chain,
+    chain: &mut EnclosingLoops,
     head: &Head,
     body: &Stmt,
 ) -> Result<(), Refusal>
-    ensures err { IfErr result (OrMemory (EntryRefused chain.old (head_of head.now) (stmt_of body.now))) }
-    ensures ok { OnOk result (IsInside chain.old head.now.variable.0 (source_of head.now.start) (cond_of head.now.test) (increment_of head.now.step) (stmt_of body.now) chain.new) }
+    ensures err { IfErr result
+        (OrMemory (EntryRefused chain.old (head_of head.now) (stmt_of body.now))) }
+    ensures ok { OnOk result (IsInside chain.old head.now.variable.0 (source_of head.now.start)
+        (cond_of head.now.test) (increment_of head.now.step) (stmt_of body.now) chain.new) }
 {
-    match entered(alloc, chain, head, body) {
+    match enter_loop(alloc, chain, head, body) {
         Ok(()) => Ok(()),
         Err(fault) => Err(fault.refusal()),
     }
@@ -47,7 +48,7 @@ pub(crate) fn enter(
 /// Refuses a body for a pair of its accesses.
 fn pair_refused(
     alloc: Global,
-    chain: &mut Chain,
+    chain: &mut EnclosingLoops,
     outer: usize,
     body: &Stmt,
     pair: Pair,
@@ -55,9 +56,10 @@ fn pair_refused(
 ) -> Refusal
     requires one { HasSite chain.old (stmt_of body.now) pair.first }
     requires other { HasSite chain.old (stmt_of body.now) pair.second }
-    ensures { OrMemory (PairRefused (map declaration_of variables.now) chain.old outer (stmt_of body.now) pair) result }
+    ensures { OrMemory (PairRefused (map declaration_of variables.now) chain.old outer
+        (stmt_of body.now) pair) result }
 {
-    match told(alloc, chain, outer, body, pair, variables) {
+    match verdict_on(alloc, chain, outer, body, pair, variables) {
         Ok(refusal) => refusal,
         Err(fault) => fault.refusal(),
     }
@@ -67,13 +69,15 @@ fn pair_refused(
 /// are serial, with these greatest counts.
 fn body_shown(
     alloc: Global,
-    chain: &mut Chain,
+    chain: &mut EnclosingLoops,
     outer: usize,
     serial: Vec<u64>,
     body: &Stmt,
     variables: &[Declaration],
 ) -> Result<(), Refusal>
-    ensures err { IfErr result (OrMemory (BodyRefused (map declaration_of variables.now) chain.old outer serial.items (stmt_of body.now))) }
+    ensures err { IfErr result
+        (OrMemory (BodyRefused (map declaration_of variables.now) chain.old outer serial.items
+        (stmt_of body.now))) }
     ensures ok { OnOk result (IsShownBody chain.old outer serial.items (stmt_of body.now)) }
     ensures back { OnOk result (chain.new ≡ chain.old) }
 {
@@ -102,7 +106,7 @@ fn body_shown(
 /// Refuses a nest of so many loops more with such a body.
 fn nest_shown(
     alloc: Global,
-    chain: &mut Chain,
+    chain: &mut EnclosingLoops,
     outer: usize,
     serial: Vec<u64>,
     depth: u64,
@@ -110,8 +114,11 @@ fn nest_shown(
     given: Given<'_>,
     line: Place,
 ) -> Result<(), Refusal>
-    ensures err { IfErr result (OrMemory (NestRefused (map declaration_of given.entry.variables.now) chain.old outer serial.items depth (stmt_of statement.now))) }
-    ensures ok { OnOk result (IsShownNest chain.old outer serial.items depth (stmt_of statement.now)) }
+    ensures err { IfErr result
+        (OrMemory (NestRefused (map declaration_of given.entry.variables.now) chain.old outer
+        serial.items depth (stmt_of statement.now))) }
+    ensures ok { OnOk result (IsShownNest chain.old outer serial.items depth
+        (stmt_of statement.now)) }
     ensures back { OnOk result (chain.new ≡ chain.old) }
 {
     if depth == 0 {
@@ -144,13 +151,15 @@ fn nest_shown(
 /// Refuses a parallel loop of so many associated loops inside serial loops, if its iterations are not shown to be independent.
 fn loop_shown(
     alloc: Global,
-    chain: &mut Chain,
+    chain: &mut EnclosingLoops,
     depth: u64,
     statement: &Stmt,
     given: Given<'_>,
     line: Place,
 ) -> Result<(), Refusal>
-    ensures err { IfErr result (OrMemory (LoopRefused (map declaration_of given.entry.variables.now) chain.old depth (stmt_of statement.now))) }
+    ensures err { IfErr result
+        (OrMemory (LoopRefused (map declaration_of given.entry.variables.now) chain.old depth
+        (stmt_of statement.now))) }
     ensures ok { OnOk result (IsShownLoop chain.old depth (stmt_of statement.now)) }
     ensures back { OnOk result (chain.new ≡ chain.old) }
 {
@@ -162,26 +171,18 @@ fn loop_shown(
     nest_shown(alloc, chain, outer, serial, depth, statement, given, line)
 }
 
-/// How many loops a directive line associates (OpenMP 5.2, 4.4.3).
-fn associated(collapse: Option<Collapse>) -> u64
-    ensures { result ≡ associated collapse }
-{
-    match collapse {
-        None => 1,
-        Some(collapse) => collapse.get(),
-    }
-}
-
 /// The same of the loop that stands first.
 fn first_shown(
     alloc: Global,
-    chain: &mut Chain,
+    chain: &mut EnclosingLoops,
     depth: u64,
     items: &[Item],
     given: Given<'_>,
     line: Place,
 ) -> Result<(), Refusal>
-    ensures err { IfErr result (OrMemory (RefusedFirst (map declaration_of given.entry.variables.now) chain.old depth (items_of items.now))) }
+    ensures err { IfErr result
+        (OrMemory (RefusedFirst (map declaration_of given.entry.variables.now) chain.old depth
+        (items_of items.now))) }
     ensures ok { OnOk result (ShownFirst chain.old depth (items_of items.now)) }
     ensures back { OnOk result (chain.new ≡ chain.old) }
 {
@@ -196,18 +197,22 @@ fn first_shown(
 /// The same of the loop behind the directive line at a place.
 pub(crate) fn line_shown(
     alloc: Global,
-    chain: &mut Chain,
+    chain: &mut EnclosingLoops,
     place: Place,
     rest: &[Item],
     given: Given<'_>,
 ) -> Result<(), Refusal>
-    ensures err { IfErr result (OrMemory (LineRefused given.entry.directives.now (map declaration_of given.entry.variables.now) chain.old place.line (items_of rest.now))) }
-    ensures ok { OnOk result (LineShown given.entry.directives.now chain.old place.line (items_of rest.now)) }
+    ensures err { IfErr result
+        (OrMemory (LineRefused given.entry.directives.now
+        (map declaration_of given.entry.variables.now) chain.old place.line
+        (items_of rest.now))) }
+    ensures ok { OnOk result (LineShown given.entry.directives.now chain.old place.line
+        (items_of rest.now)) }
     ensures back { OnOk result (chain.new ≡ chain.old) }
 {
     let line = match given.directives.at(place) {
         Ok(line) => line,
         Err(refusal) => return Err(refusal),
     };
-    first_shown(alloc, chain, associated(line.collapse), rest, given, place)
+    first_shown(alloc, chain, line.associated_loops(), rest, given, place)
 }

@@ -2,7 +2,7 @@
 
 ghost use Rattle.std.specs.Prelude.{◌≡◌, ◌≢◌, ◌↔◌, ◌+◌, ◌<◌, IsTrue, IfOk, IfErr, IfSome, MatchOption, All, drop, length, slice_get};
 ghost use Rattle.pairtest.specs.declared.access.Mode.TheVariants.{Writes};
-ghost use Rattle.pairtest.specs.Cases.{AllWithin};
+ghost use Rattle.pairtest.specs.DirectionVectors.{AllWithin};
 ghost use Rattle.deptest_verdict.specs.Pairs.{IsPair, IsShown, AreShown, IsFirstBehind, IsFirstPair, IsLargeBehind, AreNamed, StandsAt, AreWrites};
 ghost use Rattle.deptest_verdict.specs.Refused.{IsTooLarge};
 
@@ -84,8 +84,10 @@ fn is_shown(x: &Access, y: &Access, nest: &Nest) -> Result<bool, PastLimit>
 
 /// The first of some accesses that is not shown to be independent of another.
 fn first_behind(x: &Access, others: &[Access], nest: &Nest) -> Result<Option<Behind>, PastLimit>
-    ensures ok { IfOk result (λ found. MatchOption found (All (IsShown nest.now x.now) others.now) (λ y. IsFirstBehind nest.now x.now others.now y.number)) }
-    ensures there { IfOk result (λ found. IfSome found (λ y. StandsAt others.now y.number y.place)) }
+    ensures ok { IfOk result (λ found. MatchOption found (All (IsShown nest.now x.now) others.now)
+        (λ y. IsFirstBehind nest.now x.now others.now y.number)) }
+    ensures there { IfOk result (λ found. IfSome found
+        (λ y. StandsAt others.now y.number y.place)) }
     ensures err { IfErr result (λ _. IsLargeBehind nest.now x.now others.now) }
 {
     for (j, y) in others.iter().enumerate() {
@@ -112,9 +114,13 @@ fn first_write_behind(
 ) -> Result<Option<Behind>, PastLimit>
     requires reads { x.now.mode ≢ Writes }
     requires writes { AreWrites accesses.now.all.items accesses.now.writes.items }
-    ensures ok { IfOk result (λ found. MatchOption found (All (IsShown nest.now x.now) (drop from accesses.now.all.items)) (λ y. IsFirstBehind nest.now x.now (drop from accesses.now.all.items) y.number)) }
-    ensures there { IfOk result (λ found. IfSome found (λ y. StandsAt (drop from accesses.now.all.items) y.number y.place)) }
-    ensures err { IfErr result (λ _. IsLargeBehind nest.now x.now (drop from accesses.now.all.items)) }
+    ensures ok { IfOk result (λ found. MatchOption found
+        (All (IsShown nest.now x.now) (drop from accesses.now.all.items))
+        (λ y. IsFirstBehind nest.now x.now (drop from accesses.now.all.items) y.number)) }
+    ensures there { IfOk result (λ found. IfSome found
+        (λ y. StandsAt (drop from accesses.now.all.items) y.number y.place)) }
+    ensures err { IfErr result
+        (λ _. IsLargeBehind nest.now x.now (drop from accesses.now.all.items)) }
 {
     for number in accesses.writes.iter() {
         if *number < from {
@@ -144,9 +150,13 @@ fn first_from(
 ) -> Result<Option<Behind>, PastLimit>
     requires within { from < length accesses.now.all.items }
     requires writes { AreWrites accesses.now.all.items accesses.now.writes.items }
-    ensures ok { IfOk result (λ found. MatchOption found (All (IsShown nest.now x.now) (drop from accesses.now.all.items)) (λ y. IsFirstBehind nest.now x.now (drop from accesses.now.all.items) y.number)) }
-    ensures there { IfOk result (λ found. IfSome found (λ y. StandsAt (drop from accesses.now.all.items) y.number y.place)) }
-    ensures err { IfErr result (λ _. IsLargeBehind nest.now x.now (drop from accesses.now.all.items)) }
+    ensures ok { IfOk result (λ found. MatchOption found
+        (All (IsShown nest.now x.now) (drop from accesses.now.all.items))
+        (λ y. IsFirstBehind nest.now x.now (drop from accesses.now.all.items) y.number)) }
+    ensures there { IfOk result (λ found. IfSome found
+        (λ y. StandsAt (drop from accesses.now.all.items) y.number y.place)) }
+    ensures err { IfErr result
+        (λ _. IsLargeBehind nest.now x.now (drop from accesses.now.all.items)) }
 {
     if x.mode == Mode::Writes {
         first_behind(x, &accesses.all.as_slice()[from..], nest)
@@ -163,7 +173,8 @@ fn first_from(
 /// Where an access before is not counted, or an equation of a pair before has a number above 2^62 in absolute value.
 pub fn first_pair(accesses: &Accesses, nest: &Nest) -> Result<Option<Pair>, TooLarge>
     requires { AreWrites accesses.now.all.items accesses.now.writes.items }
-    ensures ok { IfOk result (λ found. MatchOption found (AreShown nest.now accesses.now.all.items) (λ pair. IsFirstPair nest.now accesses.now.all.items pair.first pair.second)) }
+    ensures ok { IfOk result (λ found. MatchOption found (AreShown nest.now accesses.now.all.items)
+        (λ pair. IsFirstPair nest.now accesses.now.all.items pair.first pair.second)) }
     ensures named { IfOk result (λ found. IfSome found (AreNamed accesses.now.all.items)) }
     ensures err { IfErr result (λ large. IsTooLarge nest.now accesses.now.all.items large.place) }
 {

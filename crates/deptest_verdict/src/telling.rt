@@ -15,13 +15,14 @@ use affine_expr::Fault;
 use deptest_witness::{Meeting, Touch, first_meeting};
 use ktree::{Conflict, Declaration, NotShown, Refusal, Stmt, VarId};
 use nest_loop::Canonical;
-use pairtest_access::{Touched, inner_canonicals, touched};
-use pairtest_counter::Chain;
+use pairtest_access::{Touched, access_at, inner_canonicals};
+use pairtest_counter::EnclosingLoops;
 use std::alloc::Global;
 
 /// The name of a variable of file scope.
 fn name_of(alloc: Global, variables: &[Declaration], variable: VarId) -> Result<String, Fault>
-    ensures ok { IfOk result (λ name. IsNameOf (map declaration_of variables.now) variable.0 (string_bytes name)) }
+    ensures ok { IfOk result (λ name. IsNameOf (map declaration_of variables.now) variable.0
+        (string_bytes name)) }
     ensures err { IfErr result (λ fault. fault ≡ OutOfMemory) }
 {
     match variables.get(variable.0 as usize) {
@@ -31,7 +32,7 @@ fn name_of(alloc: Global, variables: &[Declaration], variable: VarId) -> Result<
 }
 
 /// A pair by its array's name and its places.
-fn named(alloc: Global, variables: &[Declaration], pair: Pair) -> Result<NotShown, Fault>
+fn name_pair(alloc: Global, variables: &[Declaration], pair: Pair) -> Result<NotShown, Fault>
     ensures ok { IfOk result (λ told. IsNamed (map declaration_of variables.now) pair told) }
     ensures err { IfErr result (λ fault. fault ≡ OutOfMemory) }
 {
@@ -45,7 +46,7 @@ fn named(alloc: Global, variables: &[Declaration], pair: Pair) -> Result<NotShow
 /// What the access of a body that has so many before it touches.
 fn touched_by(
     alloc: Global,
-    chain: &mut Chain,
+    chain: &mut EnclosingLoops,
     body: &Stmt,
     number: usize,
 ) -> Result<Touched, Fault>
@@ -54,7 +55,7 @@ fn touched_by(
     ensures err { IfErr result (Because (IsStuck chain.old (stmt_of body.now))) }
     ensures back { OnOk result (chain.new ≡ chain.old) }
 {
-    match touched(alloc, chain, body, number) {
+    match access_at(alloc, chain, body, number) {
         Ok(found) => match found {
             Some(found) => Ok(found),
             None => unreachable!(),
@@ -64,17 +65,21 @@ fn touched_by(
 }
 
 /// The first two iterations at which two accesses touch one element, of a nest inside the first so many of these loops.
-fn meeting(
+fn find_meeting(
     alloc: Global,
     loops: &[Canonical],
     outer: usize,
     x: &Touched,
     y: &Touched,
 ) -> Result<Option<Meeting>, Fault>
-    ensures none { IfOk result (λ found. IfNone found ((at : NestAt) → IsEntered (take outer loops.now) (drop outer loops.now) at → IsSpace at.turns
-        → NeverMeet (TouchesAt at (touch_of x.now)) (TouchesAt at (touch_of y.now)))) }
-    ensures some { IfOk result (λ found. IfSome found (λ m. (at : NestAt) × IsEntered (take outer loops.now) (drop outer loops.now) at
-        × IsFirst (TouchesAt at (touch_of x.now)) (TouchesAt at (touch_of y.now)) m.earlier m.later m.indexes.items)) }
+    ensures none { IfOk result (λ found. IfNone found
+        ((at : NestAt) → IsEntered (take outer loops.now) (drop outer loops.now) at
+        → IsSpace at.turns → NeverMeet (TouchesAt at (touch_of x.now))
+        (TouchesAt at (touch_of y.now)))) }
+    ensures some { IfOk result (λ found. IfSome found
+        (λ m. (at : NestAt) × IsEntered (take outer loops.now) (drop outer loops.now) at
+        × IsFirst (TouchesAt at (touch_of x.now)) (TouchesAt at (touch_of y.now)) m.earlier
+        m.later m.indexes.items)) }
     ensures err { IfErr result (λ fault. fault ≡ OutOfMemory) }
 {
     let (serial, nest) = loops.split_at(outer.min(loops.len()));
@@ -98,9 +103,9 @@ fn meeting(
 /// # Errors
 ///
 /// `OutOfMemory`.
-pub(crate) fn told(
+pub(crate) fn verdict_on(
     alloc: Global,
-    chain: &mut Chain,
+    chain: &mut EnclosingLoops,
     outer: usize,
     body: &Stmt,
     pair: Pair,
@@ -108,10 +113,11 @@ pub(crate) fn told(
 ) -> Result<Refusal, Fault>
     requires one { HasSite chain.old (stmt_of body.now) pair.first }
     requires other { HasSite chain.old (stmt_of body.now) pair.second }
-    ensures ok { IfOk result (λ refusal. IsPairVerdict (map declaration_of variables.now) chain.old outer (stmt_of body.now) pair refusal) }
+    ensures ok { IfOk result (λ refusal. IsPairVerdict (map declaration_of variables.now) chain.old
+        outer (stmt_of body.now) pair refusal) }
     ensures err { IfErr result (Because (IsStuck chain.old (stmt_of body.now))) }
 {
-    let accesses = named(alloc, variables, pair)?;
+    let accesses = name_pair(alloc, variables, pair)?;
     let loops = inner_canonicals(alloc, chain, 0)?;
     let x = match touched_by(alloc, chain, body, pair.first) {
         Ok(x) => x,
@@ -121,7 +127,7 @@ pub(crate) fn told(
         Ok(y) => y,
         Err(fault) => return Err(fault),
     };
-    let found = match meeting(alloc, loops.as_slice(), outer, &x, &y) {
+    let found = match find_meeting(alloc, loops.as_slice(), outer, &x, &y) {
         Ok(found) => found,
         Err(fault) => return Err(fault),
     };

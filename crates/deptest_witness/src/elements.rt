@@ -7,7 +7,7 @@ ghost use Rattle.nest_space.specs.Nests.{given, AreModest};
 ghost use Rattle.deptest_witness.specs.Touching.{AreIndexes, TouchesAt};
 ghost use Rattle.deptest_witness.specs.Elements.{access_of, region_of, IsKnown, IsAtNumber, Names, AreElements};
 
-use crate::entered::{entered, hold};
+use crate::first_turns::{first_turns, hold};
 use affine::Form;
 use nest_loop::Canonical;
 use nest_space::{Space, Value, value_at};
@@ -32,7 +32,9 @@ pub(crate) struct Region<'a> {
 /// The form's value at these values, where it is a number of `uint64_t`.
 fn index_at(form: &Form, values: &[Value]) -> Option<u64>
     requires { AreModest values.now }
-    ensures { MatchOption result ((i : ℕ) → value form.now (given values.now) ≡ pos i → i < 2 ^ 64 → ⊥) (λ i. value form.now (given values.now) ≡ pos i) }
+    ensures { MatchOption result
+        ((i : ℕ) → value form.now (given values.now) ≡ pos i → i < 2 ^ 64 → ⊥)
+        (λ i. value form.now (given values.now) ≡ pos i) }
 {
     u64::try_from(value_at(form, values)).ok()
 }
@@ -48,7 +50,9 @@ fn indexes(
     values: &[Value],
 ) -> Result<Option<Vec<u64>>, AllocError>
     requires { AreModest values.now }
-    ensures { IfOk result (λ found. MatchOption found ((is : List ℕ) → AreIndexes subscripts.now (given values.now) is → ⊥) (λ is. AreIndexes subscripts.now (given values.now) is.items)) }
+    ensures { IfOk result (λ found. MatchOption found
+        ((is : List ℕ) → AreIndexes subscripts.now (given values.now) is → ⊥)
+        (λ is. AreIndexes subscripts.now (given values.now) is.items)) }
 {
     let mut indexes = Vec::new(alloc);
     for form in subscripts {
@@ -92,10 +96,11 @@ fn element(
 ) -> Result<Option<Vec<u64>>, AllocError>
     requires known { IsKnown (region_of region.now) }
     requires number { number < length (vectors region.now.space.now) }
-    ensures { IfOk result (λ found. (is : List ℕ) → TouchesAt (region_of region.now) (access_of touch.now) number is ↔ Names found is) }
+    ensures { IfOk result (λ found. (is : List ℕ)
+        → TouchesAt (region_of region.now) (access_of touch.now) number is ↔ Names found is) }
 {
     let values = values_at(alloc, region, number)?;
-    match entered(touch.inner, values)? {
+    match first_turns(touch.inner, values)? {
         None => Ok(None),
         Some(there) => indexes(alloc, touch.subscripts, &there),
     }
@@ -115,7 +120,8 @@ pub(crate) fn elements(
     requires known { IsKnown (region_of region.now) }
     requires count { count ≤ length (vectors region.now.space.now) }
     ensures length { IfOk result (λ found. length found.items ≡ count) }
-    ensures elements { IfOk result (λ found. AreElements (region_of region.now) (access_of touch.now) found.items) }
+    ensures elements { IfOk result (λ found. AreElements (region_of region.now)
+        (access_of touch.now) found.items) }
 {
     let mut elements = Vec::new(alloc);
     for number in 0..count {

@@ -2,7 +2,7 @@
 #![tactic(auto)]
 
 mod elements;
-mod entered;
+mod first_turns;
 mod meeting;
 
 pub use elements::Touch;

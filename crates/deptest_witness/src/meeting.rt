@@ -7,7 +7,7 @@ ghost use Rattle.deptest_witness.specs.Pairs.{Share, Meet, IsTaken, IsLeastAt, I
 ghost use Rattle.deptest_witness.specs.Elements.{access_of, region_of, IsKnown, Names, NamesAt};
 
 use crate::elements::{Region, Touch, elements};
-use crate::entered::entered;
+use crate::first_turns::first_turns;
 use nest_loop::Canonical;
 use nest_space::Space;
 use std::alloc::{AllocError, Global};
@@ -32,7 +32,9 @@ fn common(
     first: &Option<Vec<u64>>,
     second: &Option<Vec<u64>>,
 ) -> Result<Option<Vec<u64>>, AllocError>
-    ensures { IfOk result (λ found. MatchOption found ((is : List ℕ) → Names first.now is → Names second.now is → ⊥) (λ is. Names first.now is.items × Names second.now is.items)) }
+    ensures { IfOk result (λ found. MatchOption found
+        ((is : List ℕ) → Names first.now is → Names second.now is → ⊥)
+        (λ is. Names first.now is.items × Names second.now is.items)) }
 {
     let Some(first) = first else {
         return Ok(None);
@@ -52,7 +54,7 @@ fn common(
 /// # Errors
 ///
 /// Where memory runs out.
-fn shared(
+fn shared_element(
     firsts: &[Option<Vec<u64>>],
     seconds: &[Option<Vec<u64>>],
     one: u64,
@@ -60,7 +62,8 @@ fn shared(
 ) -> Result<Option<Vec<u64>>, AllocError>
     requires one { one < length firsts.now }
     requires other { other < length seconds.now }
-    ensures { IfOk result (λ found. MatchOption found ((is : List ℕ) → Share (NamesAt firsts.now) (NamesAt seconds.now) one other is → ⊥)
+    ensures { IfOk result (λ found. MatchOption found
+        ((is : List ℕ) → Share (NamesAt firsts.now) (NamesAt seconds.now) one other is → ⊥)
         (λ is. Share (NamesAt firsts.now) (NamesAt seconds.now) one other is.items)) }
 {
     common(&firsts[one as usize], &seconds[other as usize])
@@ -71,7 +74,7 @@ fn shared(
 /// # Errors
 ///
 /// Where memory runs out.
-fn taken(
+fn conflicting_element(
     firsts: &[Option<Vec<u64>>],
     seconds: &[Option<Vec<u64>>],
     earlier: u64,
@@ -80,12 +83,13 @@ fn taken(
     requires same { length firsts.now ≡ length seconds.now }
     requires earlier { earlier < length firsts.now }
     requires later { later < length firsts.now }
-    ensures { IfOk result (λ found. MatchOption found ((is : List ℕ) → Meet (NamesAt firsts.now) (NamesAt seconds.now) earlier later is → ⊥)
+    ensures { IfOk result (λ found. MatchOption found
+        ((is : List ℕ) → Meet (NamesAt firsts.now) (NamesAt seconds.now) earlier later is → ⊥)
         (λ is. IsTaken (NamesAt firsts.now) (NamesAt seconds.now) earlier later is.items)) }
 {
-    match shared(firsts, seconds, earlier, later)? {
+    match shared_element(firsts, seconds, earlier, later)? {
         Some(indexes) => Ok(Some(indexes)),
-        None => shared(seconds, firsts, earlier, later),
+        None => shared_element(seconds, firsts, earlier, later),
     }
 }
 
@@ -101,11 +105,14 @@ fn met_at(
 ) -> Result<Option<Meeting>, AllocError>
     requires same { length firsts.now ≡ length seconds.now }
     requires later { later < length firsts.now }
-    ensures { IfOk result (λ found. MatchOption found ((u : ℕ) (is : List ℕ) → u < later → Meet (NamesAt firsts.now) (NamesAt seconds.now) u later is → ⊥)
-        (λ m. IsLeastAt (NamesAt firsts.now) (NamesAt seconds.now) later m.earlier m.later m.indexes.items)) }
+    ensures { IfOk result (λ found. MatchOption found
+        ((u : ℕ) (is : List ℕ) → u < later
+        → Meet (NamesAt firsts.now) (NamesAt seconds.now) u later is → ⊥)
+        (λ m. IsLeastAt (NamesAt firsts.now) (NamesAt seconds.now) later m.earlier m.later
+        m.indexes.items)) }
 {
     for earlier in 0..later {
-        if let Some(indexes) = taken(firsts, seconds, earlier, later)? {
+        if let Some(indexes) = conflicting_element(firsts, seconds, earlier, later)? {
             return Ok(Some(Meeting {
                 earlier,
                 later,
@@ -129,9 +136,13 @@ fn first_met(
     requires firsts { length firsts.now ≡ count }
     requires seconds { length seconds.now ≡ count }
     requires few { count ≤ 64 }
-    ensures never { IfOk result (λ found. IfNone found ((u v : ℕ) (is : List ℕ) → u < v → v < count → Meet (NamesAt firsts.now) (NamesAt seconds.now) u v is → ⊥)) }
+    ensures never { IfOk result (λ found. IfNone found
+        ((u v : ℕ) (is : List ℕ) → u < v → v < count
+        → Meet (NamesAt firsts.now) (NamesAt seconds.now) u v is → ⊥)) }
     ensures below { IfOk result (λ found. IfSome found (λ m. m.later < count)) }
-    ensures first { IfOk result (λ found. IfSome found (λ m. IsFirst (NamesAt firsts.now) (NamesAt seconds.now) m.earlier m.later m.indexes.items)) }
+    ensures first { IfOk result (λ found. IfSome found
+        (λ m. IsFirst (NamesAt firsts.now) (NamesAt seconds.now) m.earlier m.later
+        m.indexes.items)) }
 {
     for later in 0..count {
         if let Some(meeting) = met_at(firsts, seconds, later)? {
@@ -153,8 +164,12 @@ fn meeting_in(
     y: &Touch<'_>,
 ) -> Result<Option<Meeting>, AllocError>
     requires { IsKnown (region_of region.now) }
-    ensures { IfOk result (λ found. MatchOption found (NeverMeet (TouchesAt (region_of region.now) (access_of x.now)) (TouchesAt (region_of region.now) (access_of y.now)))
-        (λ m. IsFirst (TouchesAt (region_of region.now) (access_of x.now)) (TouchesAt (region_of region.now) (access_of y.now)) m.earlier m.later m.indexes.items)) }
+    ensures { IfOk result (λ found. MatchOption found
+        (NeverMeet (TouchesAt (region_of region.now) (access_of x.now))
+        (TouchesAt (region_of region.now) (access_of y.now)))
+        (λ m. IsFirst (TouchesAt (region_of region.now) (access_of x.now))
+        (TouchesAt (region_of region.now) (access_of y.now)) m.earlier m.later
+        m.indexes.items)) }
 {
     let count = region.space.count().min(SEARCHED);
     let firsts = elements(alloc, region, x, count)?;
@@ -179,12 +194,15 @@ pub fn first_meeting(
     x: &Touch<'_>,
     y: &Touch<'_>,
 ) -> Result<Option<Meeting>, AllocError>
-    ensures none { IfOk result (λ found. IfNone found ((at : NestAt) → IsEntered serial.now nest.now at → IsSpace at.turns
+    ensures none { IfOk result (λ found. IfNone found
+        ((at : NestAt) → IsEntered serial.now nest.now at → IsSpace at.turns
         → NeverMeet (TouchesAt at (access_of x.now)) (TouchesAt at (access_of y.now)))) }
-    ensures some { IfOk result (λ found. IfSome found (λ m. (at : NestAt) × IsEntered serial.now nest.now at
-        × IsFirst (TouchesAt at (access_of x.now)) (TouchesAt at (access_of y.now)) m.earlier m.later m.indexes.items)) }
+    ensures some { IfOk result (λ found. IfSome found
+        (λ m. (at : NestAt) × IsEntered serial.now nest.now at
+        × IsFirst (TouchesAt at (access_of x.now)) (TouchesAt at (access_of y.now)) m.earlier
+        m.later m.indexes.items)) }
 {
-    let Some(outer) = entered(serial, Vec::new(alloc))? else {
+    let Some(outer) = first_turns(serial, Vec::new(alloc))? else {
         return Ok(None);
     };
     let Some(space) = Space::at(alloc, nest, &outer) else {

@@ -79,7 +79,8 @@ impl Drawing {
         requires count { count ≤ 2 ^ 24 }
         requires seats { (1 ≤ seats) × (seats ≤ 65) }
         ensures drawing { IfOk result (λ r. (r.0.count ≡ count) × (r.0.seats ≡ seats)) }
-        ensures seats { IfOk result (λ r. (vec_len r.1 ≡ seats) × All (λ s. s ≡ fresh r.0) r.1.items) }
+        ensures seats { IfOk result (λ r. (vec_len r.1 ≡ seats)
+            × All (λ s. s ≡ fresh r.0) r.1.items) }
     {
         let size = Size { count, seats };
         let (table, mut first) = Table::of_words(alloc, &[0], &size)?;
@@ -109,11 +110,13 @@ impl Drawing {
     /// are drawn; a seat that was told so answers `None` from then on without a step.
     pub fn next(&self, seat: &mut DrawSeat) -> Option<u64>
         requires { seat.old.of ≡ self.now }
-        ensures ticket { IfSome result (λ t. (t < self.now.count) × All (λ earlier. earlier < t) seat.old.tickets) }
+        ensures ticket { IfSome result
+            (λ t. (t < self.now.count) × All (λ earlier. earlier < t) seat.old.tickets) }
         ensures seat { seat.new ≡ after_draw seat.old result }
 
         // the event machine's step, which a seat that met the end takes no more
-        ensures draw { seat.old.ended ≡ false → IsDraw self.now.count seat.old.tickets result seat.new.tickets }
+        ensures draw { seat.old.ended ≡ false
+            → IsDraw self.now.count seat.old.tickets result seat.new.tickets }
         ensures over { seat.old.ended ≡ true → result ≡ None }
     {
         if seat.ended {

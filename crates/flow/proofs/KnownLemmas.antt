@@ -3,7 +3,7 @@ use Rattle.std.proofs.Common.{◌≡◌, ◌≢◌, ℕ, zero, suc, ◌+◌, ◌
 use Rattle.std.specs.Prelude.{◌==◌, ◌&&◌, nat_lt, slice_set, replicate}
 use Rattle.std.proofs.Math.Path.{fun_ext}
 use Rattle.std.proofs.lemmas.Bool.{eqb-true, eqb-false, ltb-true, ltb-false, lt-ltb, le-ltb}
-use Rattle.semantics.specs.Meaning.Definite.{Known, known_with}
+use Rattle.semantics.specs.Meaning.Definite.{DefinitelyAssigned, known_with}
 use Rattle.flow.specs.Judged.{known_of}
 
 pushed_at : (bs : List Bool) (x : ℕ) → known_of (bs ++ false ∷ []) x ≡ known_of bs x
@@ -57,13 +57,13 @@ pub past_forgotten : (bs : List Bool) (i : ℕ) → length bs ≤ i → known_of
 past_forgotten bs i le = fun_ext (past_at bs i le)
 
 -- the first of these are known only where those are
-abbrev pub met_below : Known → Known → ℕ → Known
+abbrev pub met_below : DefinitelyAssigned → DefinitelyAssigned → ℕ → DefinitelyAssigned
 met_below a b n y = cond (nat_lt y n) (a y && b y) (a y)
 
-pub met_none : (a b : Known) → a ≡ met_below a b 0
+pub met_none : (a b : DefinitelyAssigned) → a ≡ met_below a b 0
 met_none a b = fun_ext (λ y. ap (λ t. cond t (a y && b y) (a y)) (sym (le-ltb y 0 (omega arith))))
 
-met_at : (a b : Known) (i : ℕ) (y : ℕ) (t u : Bool) → nat_lt y i ≡ t → (y == i) ≡ u → met_below a b (i + 1) y ≡ cond u (a i && b i) (cond t (a y && b y) (a y))
+met_at : (a b : DefinitelyAssigned) (i : ℕ) (y : ℕ) (t u : Bool) → nat_lt y i ≡ t → (y == i) ≡ u → met_below a b (i + 1) y ≡ cond u (a i && b i) (cond t (a y && b y) (a y))
 met_at a b i y true true e f =
     let lt : y < i = ltb-true y i e in
     let is : y ≡ i = eqb-true y i f in
@@ -80,7 +80,7 @@ met_at a b i y false false e f =
     ap (λ v. cond v (a y && b y) (a y)) (le-ltb y (i + 1) (omega arith))
 
 -- one more
-met_on : (a b : Known) (i : ℕ) → known_with (met_below a b i) i (met_below a b i i && b i) ≡ met_below a b (i + 1)
+met_on : (a b : DefinitelyAssigned) (i : ℕ) → known_with (met_below a b i) i (met_below a b i i && b i) ≡ met_below a b (i + 1)
 met_on a b i = fun_ext (λ y. go y (nat_lt y i) (y == i) refl refl)
   where
     here : met_below a b i i ≡ a i
@@ -96,13 +96,13 @@ held (b ∷ bs) zero v lt is = sym is
 held (b ∷ bs) (suc i) v lt is = held bs i v (omega arith) is
 
 -- a slot that is set to what is known here and there
-pub met_set : (bs : List Bool) (a b : Known) (i : ℕ) (v w : Bool) → i < length bs → v ≡ get_or bs i v → w ≡ b i → known_of bs ≡ met_below a b i → known_of (slice_set bs i (v && w)) ≡ met_below a b (i + 1)
+pub met_set : (bs : List Bool) (a b : DefinitelyAssigned) (i : ℕ) (v w : Bool) → i < length bs → v ≡ get_or bs i v → w ≡ b i → known_of bs ≡ met_below a b i → known_of (slice_set bs i (v && w)) ≡ met_below a b (i + 1)
 met_set bs a b i v w lt is known so_far =
     let at : v ≡ met_below a b i i = sym (held bs i v lt is) ∙ ap (λ k. k i) so_far in
     set bs i (v && w) lt ∙ ap (λ k. known_with k i (v && w)) so_far ∙ ap (λ x. known_with (met_below a b i) i (x && w)) at ∙ ap (λ x. known_with (met_below a b i) i (met_below a b i i && x)) known ∙ met_on a b i
 
 -- all of them
-pub met_all : (bs : List Bool) (b : Known) (n : ℕ) → length bs ≤ n → met_below (known_of bs) b n ≡ (λ y. known_of bs y && b y)
+pub met_all : (bs : List Bool) (b : DefinitelyAssigned) (n : ℕ) → length bs ≤ n → met_below (known_of bs) b n ≡ (λ y. known_of bs y && b y)
 met_all bs b n le = fun_ext (λ y. go y (nat_lt y n) refl)
   where
     go : (y : ℕ) (t : Bool) → nat_lt y n ≡ t → met_below (known_of bs) b n y ≡ (known_of bs y && b y)

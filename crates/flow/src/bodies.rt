@@ -38,7 +38,8 @@ fn only_body(items: &[Item]) -> Option<&Stmt>
 /// The same of an item that stands alone.
 #[cycle(looping)]
 fn item_body(item: &Item) -> Option<&Stmt>
-    ensures { option_map (λ body. stmt_of body.now) result ≡ only_body_of (with_item item.now no_items) }
+    ensures { option_map (λ body. stmt_of body.now) result
+        ≡ only_body_of (with_item item.now no_items) }
 {
     match item {
         Item::Directive(_) => None,
@@ -49,7 +50,8 @@ fn item_body(item: &Item) -> Option<&Stmt>
 
 /// What the innermost of so many nested loops runs (OpenMP 5.2, 4.4.3).
 pub(crate) fn nest_body(statement: &Stmt, depth: u64) -> Option<&Stmt>
-    ensures { option_map (λ body. stmt_of body.now) result ≡ nest_body_of depth (stmt_of statement.now) }
+    ensures { option_map (λ body. stmt_of body.now) result
+        ≡ nest_body_of depth (stmt_of statement.now) }
 {
     let mut body = statement;
     for _ in 0..depth {

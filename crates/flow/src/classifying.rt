@@ -3,7 +3,7 @@
 ghost use Rattle.std.specs.Prelude.{◌≡◌, ◌⊎◌, ℕ, [], Option, option_map, IfSome, OnOk, IfOk, IfErr};
 ghost use Rattle.semantics.specs.Tree.{no_items};
 ghost use Rattle.ktree.specs.View.{stmt_of, with_item, items_of, kernel_of};
-ghost use Rattle.pragma.specs.Parallel.{associated, LineHas, LoopsHave, ItemsHave};
+ghost use Rattle.pragma.specs.Parallel.{LineHas, LoopsHave, ItemsHave};
 ghost use Rattle.pragma.specs.Plain.{Judges};
 ghost use Rattle.flow.specs.Private.{IsPrivate, FirstLineIsPrivate, FirstLoopsArePrivate, TellsOfLine, TellsOfLoops, TellsOfItems, TellsOfFirstLine, TellsOfFirstLoops};
 ghost use Rattle.flow.specs.Parallel.{AreParallelLoops};
@@ -15,23 +15,15 @@ use crate::fault::DataFault;
 use crate::listing::add_items;
 use crate::sharing::body_fault;
 use ktree::{Item, Kernel, Place, Stmt};
-use pragma::{Collapse, Directives};
+use pragma::Directives;
 use std::alloc::Global;
-
-/// How many loops a directive associates (OpenMP 5.2, 4.4.3).
-fn depth(collapse: Option<Collapse>) -> u64
-    ensures { result ≡ associated collapse }
-{
-    match collapse {
-        None => 1,
-        Some(loops) => loops.get(),
-    }
-}
 
 /// What is wrong with the parallel loop of the directive line at a place, before these items.
 fn loop_fault(directives: &Directives, place: Place, rest: &[Item]) -> Option<DataFault>
-    ensures judged { Judges result (LineHas directives.now IsPrivate [] place.line (items_of rest.now)) }
-    ensures cause { IfSome result (λ f. TellsOfLine f directives.now place.line (items_of rest.now)) }
+    ensures judged { Judges result
+        (LineHas directives.now IsPrivate [] place.line (items_of rest.now)) }
+    ensures cause { IfSome result
+        (λ f. TellsOfLine f directives.now place.line (items_of rest.now)) }
 {
     let Ok(said) = directives.at(place) else {
         return Some(DataFault::Directive(place));
@@ -39,7 +31,7 @@ fn loop_fault(directives: &Directives, place: Place, rest: &[Item]) -> Option<Da
     let Some(statement) = first_statement(rest) else {
         return Some(DataFault::Directive(place));
     };
-    let Some(body) = nest_body(statement, depth(said.collapse)) else {
+    let Some(body) = nest_body(statement, said.associated_loops()) else {
         return Some(DataFault::Directive(place));
     };
     body_fault(body)
@@ -47,8 +39,10 @@ fn loop_fault(directives: &Directives, place: Place, rest: &[Item]) -> Option<Da
 
 /// What is wrong with an item that is a directive line, before these items.
 fn line_fault(directives: &Directives, item: &Item, rest: &[Item]) -> Option<DataFault>
-    ensures judged { Judges result (FirstLineIsPrivate directives.now (with_item item.now no_items) (items_of rest.now)) }
-    ensures cause { IfSome result (λ f. TellsOfFirstLine f directives.now (with_item item.now no_items) (items_of rest.now)) }
+    ensures judged { Judges result
+        (FirstLineIsPrivate directives.now (with_item item.now no_items) (items_of rest.now)) }
+    ensures cause { IfSome result
+        (λ f. TellsOfFirstLine f directives.now (with_item item.now no_items) (items_of rest.now)) }
 {
     match item {
         Item::Directive(place) => loop_fault(directives, *place, rest),
@@ -101,8 +95,10 @@ fn items_fault(directives: &Directives, items: &[Item]) -> Option<DataFault>
 /// What is wrong with those in an item.
 #[cycle(classifying)]
 fn item_fault(directives: &Directives, item: &Item) -> Option<DataFault>
-    ensures judged { Judges result (FirstLoopsArePrivate directives.now (with_item item.now no_items)) }
-    ensures cause { IfSome result (λ f. TellsOfFirstLoops f directives.now (with_item item.now no_items)) }
+    ensures judged { Judges result
+        (FirstLoopsArePrivate directives.now (with_item item.now no_items)) }
+    ensures cause { IfSome result
+        (λ f. TellsOfFirstLoops f directives.now (with_item item.now no_items)) }
 {
     match item {
         Item::Directive(_) => None,
@@ -123,10 +119,15 @@ pub fn classify(
     kernel: &Kernel,
     directives: &Directives,
 ) -> Result<Vec<ParallelLoop>, DataFault>
-    ensures ok { IfOk result (λ loops. AreParallelLoops directives.now (kernel_of kernel.now) loops.items) }
-    ensures private { OnOk result (ItemsHave directives.now IsPrivate [] (kernel_of kernel.now).body) }
-    ensures err { IfErr result (λ f. (f ≡ OutOfMemory) ⊎ (ItemsHave directives.now IsPrivate [] (kernel_of kernel.now).body → ⊥)) }
-    ensures cause { IfErr result (λ f. (f ≡ OutOfMemory) ⊎ TellsOfItems f directives.now (kernel_of kernel.now).body) }
+    ensures ok { IfOk result (λ loops. AreParallelLoops directives.now (kernel_of kernel.now)
+        loops.items) }
+    ensures private { OnOk result (ItemsHave directives.now IsPrivate []
+        (kernel_of kernel.now).body) }
+    ensures err { IfErr result
+        (λ f. (f ≡ OutOfMemory) ⊎ (ItemsHave directives.now IsPrivate [] (kernel_of kernel.now).body
+        → ⊥)) }
+    ensures cause { IfErr result
+        (λ f. (f ≡ OutOfMemory) ⊎ TellsOfItems f directives.now (kernel_of kernel.now).body) }
 {
     if let Some(fault) = items_fault(directives, kernel.body.as_slice()) {
         return Err(fault);

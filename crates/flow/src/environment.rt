@@ -26,7 +26,8 @@ pub struct ParallelLoop {
 /// Where memory runs out; so for all below.
 #[cycle(adding)]
 fn add_declared(statement: &Stmt, variables: &mut Vec<VarId>) -> Result<(), AllocError>
-    ensures { OnOk result (numbers variables.new.items ≡ numbers variables.old.items ++ declared_in (stmt_of statement.now)) }
+    ensures { OnOk result (numbers variables.new.items
+        ≡ numbers variables.old.items ++ declared_in (stmt_of statement.now)) }
 {
     match statement {
         Stmt::Assign(_, _) => Ok(()),
@@ -50,7 +51,8 @@ fn add_declared(statement: &Stmt, variables: &mut Vec<VarId>) -> Result<(), Allo
 /// Puts what a block's items declare there.
 #[cycle(adding)]
 fn add_declared_among(items: &[Item], variables: &mut Vec<VarId>) -> Result<(), AllocError>
-    ensures { OnOk result (numbers variables.new.items ≡ numbers variables.old.items ++ declared_among (items_of items.now)) }
+    ensures { OnOk result (numbers variables.new.items
+        ≡ numbers variables.old.items ++ declared_among (items_of items.now)) }
 {
     for item in items {
         add_item(item, variables)?;
@@ -61,7 +63,8 @@ fn add_declared_among(items: &[Item], variables: &mut Vec<VarId>) -> Result<(), 
 /// Puts what an item declares there.
 #[cycle(adding)]
 fn add_item(item: &Item, variables: &mut Vec<VarId>) -> Result<(), AllocError>
-    ensures { OnOk result (numbers variables.new.items ≡ numbers variables.old.items ++ declared_among (with_item item.now no_items)) }
+    ensures { OnOk result (numbers variables.new.items
+        ≡ numbers variables.old.items ++ declared_among (with_item item.now no_items)) }
 {
     match item {
         Item::Directive(_) => Ok(()),
@@ -74,8 +77,9 @@ fn add_item(item: &Item, variables: &mut Vec<VarId>) -> Result<(), AllocError>
 }
 
 /// What a statement declares, in the order of the text (OpenMP 5.2, 5.1.1).
-pub(crate) fn declared(alloc: Global, statement: &Stmt) -> Result<Vec<VarId>, AllocError>
-    ensures { IfOk result (λ variables. numbers variables.items ≡ declared_in (stmt_of statement.now)) }
+pub(crate) fn declared_variables(alloc: Global, statement: &Stmt) -> Result<Vec<VarId>, AllocError>
+    ensures { IfOk result (λ variables. numbers variables.items
+        ≡ declared_in (stmt_of statement.now)) }
 {
     let mut variables = Vec::new(alloc);
     add_declared(statement, &mut variables)?;

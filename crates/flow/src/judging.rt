@@ -6,7 +6,7 @@ ghost use Rattle.semantics.specs.Meaning.Definite.{IsDefinite, no_privates, defi
 ghost use Rattle.ktree.specs.View.{kernel_of, stmt_of, items_of, with_item, start_of, source_of, cond_of, expr_of, exprs_of};
 ghost use Rattle.flow.specs.Judged.{MayBeUnassigned, Refuses, known_of};
 
-use crate::known::Known;
+use crate::known::DefinitelyAssigned;
 use crate::reading::{read, read_all, read_parts, read_source, read_step, read_test};
 use ktree::{Expr, Head, Item, Kernel, Local, Refusal, Source, Stmt, Target};
 use std::alloc::Global;
@@ -20,7 +20,7 @@ pub fn definite(alloc: Global, kernel: &Kernel) -> Result<(), Refusal>
     ensures ok { OnOk result (IsDefinite no_privates (kernel_of kernel.now)) }
     ensures err { IfErr result (MayBeUnassigned kernel.now) }
 {
-    let mut known = Known::first(alloc, kernel.variables.len())?;
+    let mut known = DefinitelyAssigned::first(alloc, kernel.variables.len())?;
     block(&kernel.body, &mut known)
 }
 
@@ -30,9 +30,11 @@ pub fn definite(alloc: Global, kernel: &Kernel) -> Result<(), Refusal>
 ///
 /// `MayBeUnassigned` at the first name that may not be read, and `OutOfMemory`; so for all below.
 #[cycle(judging)]
-fn statement(stmt: &Stmt, known: &mut Known) -> Result<(), Refusal>
-    ensures after { OnOk result (definite no_privates (stmt_of stmt.now) (known_of known.old) ≡ Some (known_of known.new)) }
-    ensures refused { IfErr result (Refuses (definite no_privates (stmt_of stmt.now) (known_of known.old))) }
+fn statement(stmt: &Stmt, known: &mut DefinitelyAssigned) -> Result<(), Refusal>
+    ensures after { OnOk result (definite no_privates (stmt_of stmt.now) (known_of known.old)
+        ≡ Some (known_of known.new)) }
+    ensures refused { IfErr result
+        (Refuses (definite no_privates (stmt_of stmt.now) (known_of known.old))) }
 {
     match stmt {
         Stmt::Assign(target, source) => assign(target, source, known),
@@ -63,9 +65,11 @@ fn statement(stmt: &Stmt, known: &mut Known) -> Result<(), Refusal>
 
 /// Judges the items of a block in their order (C11 6.8.2).
 #[cycle(judging)]
-fn block(items: &[Item], known: &mut Known) -> Result<(), Refusal>
-    ensures after { OnOk result (definite_items no_privates [] (items_of items.now) (known_of known.old) ≡ Some (known_of known.new)) }
-    ensures refused { IfErr result (Refuses (definite_items no_privates [] (items_of items.now) (known_of known.old))) }
+fn block(items: &[Item], known: &mut DefinitelyAssigned) -> Result<(), Refusal>
+    ensures after { OnOk result (definite_items no_privates [] (items_of items.now)
+        (known_of known.old) ≡ Some (known_of known.new)) }
+    ensures refused { IfErr result
+        (Refuses (definite_items no_privates [] (items_of items.now) (known_of known.old))) }
 {
     for item in items {
         judge_item(item, known)?;
@@ -75,9 +79,12 @@ fn block(items: &[Item], known: &mut Known) -> Result<(), Refusal>
 
 /// Judges one item of a block; a directive line reads nothing.
 #[cycle(judging)]
-fn judge_item(item: &Item, known: &mut Known) -> Result<(), Refusal>
-    ensures after { OnOk result (definite_items no_privates [] (with_item item.now no_items) (known_of known.old) ≡ Some (known_of known.new)) }
-    ensures refused { IfErr result (Refuses (definite_items no_privates [] (with_item item.now no_items) (known_of known.old))) }
+fn judge_item(item: &Item, known: &mut DefinitelyAssigned) -> Result<(), Refusal>
+    ensures after { OnOk result (definite_items no_privates [] (with_item item.now no_items)
+        (known_of known.old) ≡ Some (known_of known.new)) }
+    ensures refused { IfErr result
+        (Refuses (definite_items no_privates [] (with_item item.now no_items)
+        (known_of known.old))) }
 {
     match item {
         Item::Directive(_place) => Ok(()),
@@ -87,9 +94,12 @@ fn judge_item(item: &Item, known: &mut Known) -> Result<(), Refusal>
 }
 
 /// Judges a local's initialiser; without one the local may not be read from here on (C11 6.7.9, 10).
-fn declare(local: &Local, known: &mut Known) -> Result<(), Refusal>
-    ensures after { OnOk result (declared_known (known_of known.old) local.now.variable.0 (start_of local.now.start) ≡ Some (known_of known.new)) }
-    ensures refused { IfErr result (Refuses (declared_known (known_of known.old) local.now.variable.0 (start_of local.now.start))) }
+fn declare(local: &Local, known: &mut DefinitelyAssigned) -> Result<(), Refusal>
+    ensures after { OnOk result (declared_known (known_of known.old) local.now.variable.0
+        (start_of local.now.start) ≡ Some (known_of known.new)) }
+    ensures refused { IfErr result
+        (Refuses (declared_known (known_of known.old) local.now.variable.0
+        (start_of local.now.start))) }
 {
     match &local.start {
         None => {
@@ -105,9 +115,15 @@ fn declare(local: &Local, known: &mut Known) -> Result<(), Refusal>
 }
 
 /// Judges an assignment, behind which its variable may be read (C11 6.5.16).
-fn assign(target: &Target, source: &Source, known: &mut Known) -> Result<(), Refusal>
-    ensures after { OnOk result (where_ok (may_read_all (known_of known.old) (exprs_of target.now.subscripts.items) && may_take (known_of known.old) (source_of source.now)) (known_with (known_of known.old) target.now.variable.0 true) ≡ Some (known_of known.new)) }
-    ensures refused { IfErr result (Refuses (where_ok (may_read_all (known_of known.old) (exprs_of target.now.subscripts.items) && may_take (known_of known.old) (source_of source.now)) (known_with (known_of known.old) target.now.variable.0 true))) }
+fn assign(target: &Target, source: &Source, known: &mut DefinitelyAssigned) -> Result<(), Refusal>
+    ensures after { OnOk result (where_ok
+        (may_read_all (known_of known.old) (exprs_of target.now.subscripts.items)
+        && may_take (known_of known.old) (source_of source.now))
+        (known_with (known_of known.old) target.now.variable.0 true) ≡ Some (known_of known.new)) }
+    ensures refused { IfErr result
+        (Refuses (where_ok (may_read_all (known_of known.old) (exprs_of target.now.subscripts.items)
+        && may_take (known_of known.old) (source_of source.now))
+        (known_with (known_of known.old) target.now.variable.0 true))) }
 {
     read_all(&target.subscripts, known)?;
     read_source(source, known)?;
@@ -116,9 +132,16 @@ fn assign(target: &Target, source: &Source, known: &mut Known) -> Result<(), Ref
 }
 
 /// Judges an `op=`, which reads its own variable too (C11 6.5.16.2).
-fn update(target: &Target, expr: &Expr, known: &Known) -> Result<(), Refusal>
-    ensures after { OnOk result (where_ok (known_of known.now target.now.variable.0 && may_read_all (known_of known.now) (exprs_of target.now.subscripts.items) && may_read (known_of known.now) (expr_of expr.now)) (known_of known.now) ≡ Some (known_of known.now)) }
-    ensures refused { IfErr result (Refuses (where_ok (known_of known.now target.now.variable.0 && may_read_all (known_of known.now) (exprs_of target.now.subscripts.items) && may_read (known_of known.now) (expr_of expr.now)) (known_of known.now))) }
+fn update(target: &Target, expr: &Expr, known: &DefinitelyAssigned) -> Result<(), Refusal>
+    ensures after { OnOk result (where_ok
+        (known_of known.now target.now.variable.0
+        && may_read_all (known_of known.now) (exprs_of target.now.subscripts.items)
+        && may_read (known_of known.now) (expr_of expr.now)) (known_of known.now)
+        ≡ Some (known_of known.now)) }
+    ensures refused { IfErr result
+        (Refuses (where_ok (known_of known.now target.now.variable.0
+        && may_read_all (known_of known.now) (exprs_of target.now.subscripts.items)
+        && may_read (known_of known.now) (expr_of expr.now)) (known_of known.now))) }
 {
     known.read(target.variable, target.mention.name)?;
     read_all(&target.subscripts, known)?;
@@ -127,10 +150,16 @@ fn update(target: &Target, expr: &Expr, known: &Known) -> Result<(), Refusal>
 }
 
 /// Judges a loop's start and its test, and answers what may be read in its body (C11 6.8.5.3).
-fn enter(head: &Head, known: &Known) -> Result<Known, Refusal>
-    ensures inside { IfOk result (λ inside. known_of inside ≡ known_with (known_of known.now) head.now.variable.0 true) }
-    ensures read { OnOk result ((may_take (known_of known.now) (source_of head.now.start) && may_test (known_with (known_of known.now) head.now.variable.0 true) (cond_of head.now.test)) ≡ true) }
-    ensures refused { IfErr result (Refuses (if (may_take (known_of known.now) (source_of head.now.start) && may_test (known_with (known_of known.now) head.now.variable.0 true) (cond_of head.now.test)) then Some (known_of known.now) else None)) }
+fn enter(head: &Head, known: &DefinitelyAssigned) -> Result<DefinitelyAssigned, Refusal>
+    ensures inside { IfOk result (λ inside. known_of inside
+        ≡ known_with (known_of known.now) head.now.variable.0 true) }
+    ensures read { OnOk result ((may_take (known_of known.now) (source_of head.now.start)
+        && may_test (known_with (known_of known.now) head.now.variable.0 true)
+        (cond_of head.now.test)) ≡ true) }
+    ensures refused { IfErr result
+        (Refuses (if (may_take (known_of known.now) (source_of head.now.start)
+        && may_test (known_with (known_of known.now) head.now.variable.0 true)
+        (cond_of head.now.test)) then Some (known_of known.now) else None)) }
 {
     read_source(&head.start, known)?;
     let mut inside = known.copy()?;

@@ -25,11 +25,11 @@ impl From<Unassigned> for Refusal {
 
 /// The variables that may be read, by their numbers; none behind the last.
 #[derive(Drop)]
-pub(crate) struct Known {
+pub(crate) struct DefinitelyAssigned {
     slots: Vec<bool>,
 }
 
-impl Model for Known {
+impl Model for DefinitelyAssigned {
     ghost use Rattle.std.specs.Prelude.{List, Bool};
 
     ghost Value = { List Bool };
@@ -37,17 +37,17 @@ impl Model for Known {
     ghost view = { λ k. k.slots.items };
 }
 
-impl Known {
+impl DefinitelyAssigned {
     /// The first variables of a text, and no others.
     ///
     /// # Errors
     ///
     /// Where memory runs out.
-    pub(crate) fn first(alloc: Global, count: usize) -> Result<Known, AllocError>
+    pub(crate) fn first(alloc: Global, count: usize) -> Result<DefinitelyAssigned, AllocError>
         ensures { IfOk result (λ known. known ≡ replicate count true) }
     {
         let slots = vec![in alloc; true; count]?;
-        Ok(Known { slots })
+        Ok(DefinitelyAssigned { slots })
     }
 
     /// The same once more.
@@ -55,11 +55,11 @@ impl Known {
     /// # Errors
     ///
     /// Where memory runs out.
-    pub(crate) fn copy(&self) -> Result<Known, AllocError>
+    pub(crate) fn copy(&self) -> Result<DefinitelyAssigned, AllocError>
         ensures { IfOk result (λ known. known ≡ self.now) }
     {
         let slots = self.slots.clone()?;
-        Ok(Known { slots })
+        Ok(DefinitelyAssigned { slots })
     }
 
     /// Whether the variable of a number may be read.
@@ -117,7 +117,7 @@ impl Known {
     }
 
     /// Leaves what may be read here and there.
-    pub(crate) fn meet(&mut self, other: &Known)
+    pub(crate) fn meet(&mut self, other: &DefinitelyAssigned)
         ensures { known_of self.new ≡ (λ y. known_of self.old y && known_of other.now y) }
     {
         let slots = &mut self.slots;

@@ -8,7 +8,7 @@ ghost use Rattle.flow.specs.Private.{IsPrivate, FirstLineIsPrivate, FirstLoopsAr
 ghost use Rattle.flow.specs.Parallel.{Adds, IsOfLine, LoopsAre, ItemsAre, FirstLineIs, FirstLoopsAre};
 
 use crate::bodies::first_statement;
-use crate::environment::{ParallelLoop, declared};
+use crate::environment::{ParallelLoop, declared_variables};
 use ktree::{Item, Place, Stmt};
 use pragma::Directives;
 use std::alloc::{AllocError, Global};
@@ -27,7 +27,8 @@ fn add_loop(
     loops: &mut Vec<ParallelLoop>,
 ) -> Result<(), AllocError>
     ensures { OnOk result (LineHas directives.now IsPrivate [] place.line (items_of rest.now)
-        → Adds (IsOfLine directives.now place.line (items_of rest.now)) loops.old.items loops.new.items) }
+        → Adds (IsOfLine directives.now place.line (items_of rest.now)) loops.old.items
+        loops.new.items) }
 {
     let Ok(directive) = directives.at(place) else {
         return Ok(());
@@ -35,7 +36,7 @@ fn add_loop(
     let Some(statement) = first_statement(rest) else {
         return Ok(());
     };
-    let private = declared(alloc, statement)?;
+    let private = declared_variables(alloc, statement)?;
     loops.push(ParallelLoop {
         line: place,
         directive,
@@ -52,8 +53,9 @@ fn add_line(
     rest: &[Item],
     loops: &mut Vec<ParallelLoop>,
 ) -> Result<(), AllocError>
-    ensures { OnOk result (FirstLineIsPrivate directives.now (with_item item.now no_items) (items_of rest.now)
-        → Adds (FirstLineIs directives.now (with_item item.now no_items) (items_of rest.now)) loops.old.items loops.new.items) }
+    ensures { OnOk result (FirstLineIsPrivate directives.now (with_item item.now no_items)
+        (items_of rest.now) → Adds (FirstLineIs directives.now (with_item item.now no_items)
+        (items_of rest.now)) loops.old.items loops.new.items) }
 {
     match item {
         Item::Directive(place) => add_loop(alloc, directives, *place, rest, loops),
@@ -116,7 +118,8 @@ fn add_item(
     loops: &mut Vec<ParallelLoop>,
 ) -> Result<(), AllocError>
     ensures { OnOk result (FirstLoopsArePrivate directives.now (with_item item.now no_items)
-        → Adds (FirstLoopsAre directives.now (with_item item.now no_items)) loops.old.items loops.new.items) }
+        → Adds (FirstLoopsAre directives.now (with_item item.now no_items)) loops.old.items
+        loops.new.items) }
 {
     match item {
         Item::Directive(_) => Ok(()),

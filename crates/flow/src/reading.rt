@@ -5,7 +5,7 @@ ghost use Rattle.semantics.specs.Meaning.Definite.{may_read, may_read_all, may_t
 ghost use Rattle.ktree.specs.View.{expr_of, exprs_of, cond_of, source_of, increment_of, part_of};
 ghost use Rattle.flow.specs.Judged.{known_of, may_part, Unread};
 
-use crate::known::{Known, Unassigned};
+use crate::known::{DefinitelyAssigned, Unassigned};
 use ktree::{Cond, Expr, Increment, Place, PrintPart, Source};
 
 /// Looks at each name in an expression, whatever guards it.
@@ -14,7 +14,7 @@ use ktree::{Cond, Expr, Increment, Place, PrintPart, Source};
 ///
 /// At the first that may not be read; so for all below.
 #[cycle(reading)]
-pub(crate) fn read(expr: &Expr, known: &Known) -> Result<(), Unassigned>
+pub(crate) fn read(expr: &Expr, known: &DefinitelyAssigned) -> Result<(), Unassigned>
     ensures known { OnOk result (may_read (known_of known.now) (expr_of expr.now) ≡ true) }
     ensures refused { IfErr result (Unread (may_read (known_of known.now) (expr_of expr.now))) }
 {
@@ -30,7 +30,7 @@ pub(crate) fn read(expr: &Expr, known: &Known) -> Result<(), Unassigned>
             read(a, known)?;
             read(b, known)
         }
-        Expr::Choose(c, a, b) => {
+        Expr::Conditional(c, a, b) => {
             read_test(c, known)?;
             read(a, known)?;
             read(b, known)
@@ -40,9 +40,11 @@ pub(crate) fn read(expr: &Expr, known: &Known) -> Result<(), Unassigned>
 
 /// Looks at the names in subscripts, from the left.
 #[cycle(reading)]
-pub(crate) fn read_all(subscripts: &[Expr], known: &Known) -> Result<(), Unassigned>
-    ensures known { OnOk result (may_read_all (known_of known.now) (exprs_of subscripts.now) ≡ true) }
-    ensures refused { IfErr result (Unread (may_read_all (known_of known.now) (exprs_of subscripts.now))) }
+pub(crate) fn read_all(subscripts: &[Expr], known: &DefinitelyAssigned) -> Result<(), Unassigned>
+    ensures known { OnOk result (may_read_all (known_of known.now) (exprs_of subscripts.now)
+        ≡ true) }
+    ensures refused { IfErr result
+        (Unread (may_read_all (known_of known.now) (exprs_of subscripts.now))) }
 {
     for subscript in subscripts {
         read(subscript, known)?;
@@ -52,7 +54,7 @@ pub(crate) fn read_all(subscripts: &[Expr], known: &Known) -> Result<(), Unassig
 
 /// Looks at the names in a condition.
 #[cycle(reading)]
-pub(crate) fn read_test(cond: &Cond, known: &Known) -> Result<(), Unassigned>
+pub(crate) fn read_test(cond: &Cond, known: &DefinitelyAssigned) -> Result<(), Unassigned>
     ensures known { OnOk result (may_test (known_of known.now) (cond_of cond.now) ≡ true) }
     ensures refused { IfErr result (Unread (may_test (known_of known.now) (cond_of cond.now))) }
 {
@@ -63,11 +65,11 @@ pub(crate) fn read_test(cond: &Cond, known: &Known) -> Result<(), Unassigned>
             read(b, known)
         }
         Cond::Not(c) => read_test(c, known),
-        Cond::Both(c, d) => {
+        Cond::LogicalAnd(c, d) => {
             read_test(c, known)?;
             read_test(d, known)
         }
-        Cond::Either(c, d) => {
+        Cond::LogicalOr(c, d) => {
             read_test(c, known)?;
             read_test(d, known)
         }
@@ -75,7 +77,7 @@ pub(crate) fn read_test(cond: &Cond, known: &Known) -> Result<(), Unassigned>
 }
 
 /// Looks at the names in a right side or an initialiser.
-pub(crate) fn read_source(source: &Source, known: &Known) -> Result<(), Unassigned>
+pub(crate) fn read_source(source: &Source, known: &DefinitelyAssigned) -> Result<(), Unassigned>
     ensures known { OnOk result (may_take (known_of known.now) (source_of source.now) ≡ true) }
     ensures refused { IfErr result (Unread (may_take (known_of known.now) (source_of source.now))) }
 {
@@ -86,9 +88,14 @@ pub(crate) fn read_source(source: &Source, known: &Known) -> Result<(), Unassign
 }
 
 /// Looks at the names in a loop's step; its own variable is told at the loop's place.
-pub(crate) fn read_step(step: &Increment, place: Place, known: &Known) -> Result<(), Unassigned>
+pub(crate) fn read_step(
+    step: &Increment,
+    place: Place,
+    known: &DefinitelyAssigned,
+) -> Result<(), Unassigned>
     ensures known { OnOk result (may_step (known_of known.now) (increment_of step.now) ≡ true) }
-    ensures refused { IfErr result (Unread (may_step (known_of known.now) (increment_of step.now))) }
+    ensures refused { IfErr result
+        (Unread (may_step (known_of known.now) (increment_of step.now))) }
 {
     match step {
         Increment::Up(x) => known.read(*x, place),
@@ -102,7 +109,7 @@ pub(crate) fn read_step(step: &Increment, place: Place, known: &Known) -> Result
 }
 
 /// Looks at the names in one part of what printf writes.
-fn read_part(part: &PrintPart, known: &Known) -> Result<(), Unassigned>
+fn read_part(part: &PrintPart, known: &DefinitelyAssigned) -> Result<(), Unassigned>
     ensures known { OnOk result (may_part (known_of known.now) (part_of part.now) ≡ true) }
     ensures refused { IfErr result (Unread (may_part (known_of known.now) (part_of part.now))) }
 {
@@ -113,9 +120,10 @@ fn read_part(part: &PrintPart, known: &Known) -> Result<(), Unassigned>
 }
 
 /// Looks at the names in printf's arguments, in their order.
-pub(crate) fn read_parts(parts: &[PrintPart], known: &Known) -> Result<(), Unassigned>
+pub(crate) fn read_parts(parts: &[PrintPart], known: &DefinitelyAssigned) -> Result<(), Unassigned>
     ensures known { OnOk result (may_print (known_of known.now) (map part_of parts.now) ≡ true) }
-    ensures refused { IfErr result (Unread (may_print (known_of known.now) (map part_of parts.now))) }
+    ensures refused { IfErr result
+        (Unread (may_print (known_of known.now) (map part_of parts.now))) }
 {
     for part in parts {
         read_part(part, known)?;

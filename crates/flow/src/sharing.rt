@@ -57,8 +57,12 @@ fn item_declares(item: &Item, variable: VarId) -> bool
 
 /// What is wrong with an assignment in a body: of scalars it may write those alone that the body declares.
 fn target_fault(target: &Target, body: &Stmt) -> Option<DataFault>
-    ensures judged { is_none result ≡ is_own (is_among (declared_in (stmt_of body.now))) target.now.variable.0 (exprs_of target.now.subscripts.items) }
-    ensures cause { IfSome result (λ f. TellsOfWrite f (is_among (declared_in (stmt_of body.now))) target.now.variable.0 (exprs_of target.now.subscripts.items)) }
+    ensures judged { is_none result
+        ≡ is_own (is_among (declared_in (stmt_of body.now))) target.now.variable.0
+        (exprs_of target.now.subscripts.items) }
+    ensures cause { IfSome result
+        (λ f. TellsOfWrite f (is_among (declared_in (stmt_of body.now))) target.now.variable.0
+        (exprs_of target.now.subscripts.items)) }
 {
     if !target.subscripts.is_empty() {
         return None;
@@ -72,8 +76,10 @@ fn target_fault(target: &Target, body: &Stmt) -> Option<DataFault>
 /// The first fault of a statement in a body.
 #[cycle(keeping)]
 fn statement_fault(statement: &Stmt, body: &Stmt) -> Option<DataFault>
-    ensures judged { is_none result ≡ keeps (is_among (declared_in (stmt_of body.now))) (stmt_of statement.now) }
-    ensures cause { IfSome result (λ f. TellsOf f (is_among (declared_in (stmt_of body.now))) (stmt_of statement.now)) }
+    ensures judged { is_none result
+        ≡ keeps (is_among (declared_in (stmt_of body.now))) (stmt_of statement.now) }
+    ensures cause { IfSome result
+        (λ f. TellsOf f (is_among (declared_in (stmt_of body.now))) (stmt_of statement.now)) }
 {
     match statement {
         Stmt::Assign(target, _) => target_fault(target, body),
@@ -96,8 +102,10 @@ fn statement_fault(statement: &Stmt, body: &Stmt) -> Option<DataFault>
 /// The first of a block's items.
 #[cycle(keeping)]
 fn block_fault(items: &[Item], body: &Stmt) -> Option<DataFault>
-    ensures judged { is_none result ≡ keeps_all (is_among (declared_in (stmt_of body.now))) (items_of items.now) }
-    ensures cause { IfSome result (λ f. TellsOfAny f (is_among (declared_in (stmt_of body.now))) (items_of items.now)) }
+    ensures judged { is_none result
+        ≡ keeps_all (is_among (declared_in (stmt_of body.now))) (items_of items.now) }
+    ensures cause { IfSome result
+        (λ f. TellsOfAny f (is_among (declared_in (stmt_of body.now))) (items_of items.now)) }
 {
     for item in items {
         if let Some(fault) = item_fault(item, body) {
@@ -110,8 +118,11 @@ fn block_fault(items: &[Item], body: &Stmt) -> Option<DataFault>
 /// The first of an item.
 #[cycle(keeping)]
 fn item_fault(item: &Item, body: &Stmt) -> Option<DataFault>
-    ensures judged { is_none result ≡ keeps_all (is_among (declared_in (stmt_of body.now))) (with_item item.now no_items) }
-    ensures cause { IfSome result (λ f. TellsOfAny f (is_among (declared_in (stmt_of body.now))) (with_item item.now no_items)) }
+    ensures judged { is_none result
+        ≡ keeps_all (is_among (declared_in (stmt_of body.now))) (with_item item.now no_items) }
+    ensures cause { IfSome result
+        (λ f. TellsOfAny f (is_among (declared_in (stmt_of body.now)))
+        (with_item item.now no_items)) }
 {
     match item {
         Item::Directive(_) => None,

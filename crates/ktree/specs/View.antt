@@ -9,8 +9,8 @@ use Rattle.ktree.specs.declared.expression.BinaryOp.{BinaryOp}
 use Rattle.ktree.specs.declared.expression.BinaryOp.TheVariants.{Plus, Minus, Times, Divide, Remainder, BitAnd, BitOr, BitXor, ShiftLeft, ShiftRight}
 use Rattle.ktree.specs.declared.expression.CompareOp.{CompareOp}
 use Rattle.ktree.specs.declared.expression.CompareOp.TheVariants.{Less, LessEqual, Greater, GreaterEqual, Equal, NotEqual}
-use Rattle.ktree.specs.declared.expression.Expr.{Expr, Literal, Constant, Object', Unary', Binary', Choose', Row_of-Expr, end_of-Expr, more_of-Expr}
-use Rattle.ktree.specs.declared.expression.Cond.{Cond, NotZero', Compare', Not', Both', Either'}
+use Rattle.ktree.specs.declared.expression.Expr.{Expr, Literal, Constant, Object', Unary', Binary', Conditional', Row_of-Expr, end_of-Expr, more_of-Expr}
+use Rattle.ktree.specs.declared.expression.Cond.{Cond, NotZero', Compare', Not', LogicalAnd', LogicalOr'}
 use Rattle.ktree.specs.declared.statement.Source.{Source}
 use Rattle.ktree.specs.declared.statement.Source.TheVariants.{Number, Truth}
 use Rattle.ktree.specs.declared.statement.Increment.{Increment}
@@ -62,7 +62,7 @@ abbrev mutual
   expr_of (Object' x shape is mention) = Tree.Object x.0 (row_of is)
   expr_of (Unary' op p a) = Tree.Unary (unary_of op) (expr_of a)
   expr_of (Binary' op p a q b) = Tree.Binary (binary_of op) (expr_of a) (expr_of b)
-  expr_of (Choose' p c q a r b) = Tree.Choose (cond_of c) (expr_of a) (expr_of b)
+  expr_of (Conditional' p c q a r b) = Tree.Conditional (cond_of c) (expr_of a) (expr_of b)
 
   -- subscripts, from the left
   pub row_of : {m : _} → Row_of-Expr m → Tree.Exprs
@@ -74,8 +74,8 @@ abbrev mutual
   cond_of (NotZero' p e) = Tree.NotZero (expr_of e)
   cond_of (Compare' op p a q b place) = Tree.Compare (compare_of op) (expr_of a) (expr_of b)
   cond_of (Not' p c) = Tree.Not (cond_of c)
-  cond_of (Both' p c q d) = Tree.Both (cond_of c) (cond_of d)
-  cond_of (Either' p c q d) = Tree.Either (cond_of c) (cond_of d)
+  cond_of (LogicalAnd' p c q d) = Tree.LogicalAnd (cond_of c) (cond_of d)
+  cond_of (LogicalOr' p c q d) = Tree.LogicalOr (cond_of c) (cond_of d)
 
 -- a list of subscripts
 abbrev pub exprs_of : List Expr → Tree.Exprs

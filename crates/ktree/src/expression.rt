@@ -44,7 +44,7 @@ pub enum CompareOp {
 
 /// Where an object is named: its name, and the first token of each subscript, from the left.
 #[derive(Drop)]
-pub struct Mention {
+pub struct NamePlaces {
     pub name: Place,
     pub subscripts: Vec<Place>,
 }
@@ -57,11 +57,11 @@ pub enum Expr {
     /// An enumeration constant: its name and its value (C11 6.7.2.2).
     Constant(String, u32),
     /// A scalar, or an element of an array with its subscripts (C11 6.5.1, 6.5.2.1).
-    Object(VarId, Vec<Expr>, Mention),
+    Object(VarId, Vec<Expr>, NamePlaces),
     Unary(UnaryOp, Box<Expr>),
     Binary(BinaryOp, Box<Expr>, Box<Expr>),
     /// `c ? a : b` (C11 6.5.15).
-    Choose(Box<Cond>, Box<Expr>, Box<Expr>),
+    Conditional(Box<Cond>, Box<Expr>, Box<Expr>),
 }
 
 /// A condition: it gives 1 or 0 (C11 6.5.3.3, 6.5.8, 6.5.9, 6.5.13, 6.5.14).
@@ -73,6 +73,6 @@ pub enum Cond {
     /// With the place of the first token of the right operand, which is where a loop's bound begins.
     Compare(CompareOp, Box<Expr>, Box<Expr>, Place),
     Not(Box<Cond>),
-    Both(Box<Cond>, Box<Cond>),
-    Either(Box<Cond>, Box<Cond>),
+    LogicalAnd(Box<Cond>, Box<Cond>),
+    LogicalOr(Box<Cond>, Box<Cond>),
 }

@@ -12,7 +12,7 @@ pub use directive::{
     Annotated, ChunkSize, Clause, Directive, DirectiveLine, Offset, ReductionOperator, Resolved,
     Schedule, SinkElement, Written,
 };
-pub use expression::{BinaryOp, CompareOp, Cond, Expr, Mention, Suffix, UnaryOp};
+pub use expression::{BinaryOp, CompareOp, Cond, Expr, NamePlaces, Suffix, UnaryOp};
 pub use place::{Place, VarId};
 pub use refusal::{Cause, Conflict, InputFault, NotShown, Refusal};
 pub use statement::{

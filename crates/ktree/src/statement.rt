@@ -1,6 +1,6 @@
 //! Statements, declarations and the kernel.
 
-use crate::expression::{BinaryOp, Cond, Expr, Mention};
+use crate::expression::{BinaryOp, Cond, Expr, NamePlaces};
 use crate::place::{Place, VarId};
 
 /// The right side of an assignment, or an initialiser: a condition there gives 1 or 0 (C11 6.5.16, 6.7.9).
@@ -31,7 +31,7 @@ pub enum PrintPart {
 pub struct Target {
     pub variable: VarId,
     pub subscripts: Vec<Expr>,
-    pub mention: Mention,
+    pub mention: NamePlaces,
 }
 
 /// A loop's head (C11 6.8.5.3).

@@ -6,7 +6,7 @@ use Rattle.std.specs.List.{AllByRecursion as Each}
 use Rattle.semantics.specs.Tree.{Variable, Name, Plus, Minus, Object, Exprs, no_exprs, more_exprs, Cond, Source, Increment, Up, Down, Set, Change, Stmt, Assign, Update, If, IfElse, For, Block, Print, Items, no_items, mark, local, stmt}
 use Rattle.semantics.specs.Meaning.State.{State, Slot, Outside, Empty, Holds, Write, Declared, Assigned, with_local, with_cell, assign_at, written, overwritten, look, look_in, is_object, is_object_in, is_there}
 use Rattle.semantics.specs.Meaning.Value.{value, values, holds, source_value, both_then, map_option, operate}
-use Rattle.semantics.specs.Meaning.Runs.{Effect, nothing, one_write, then_from, declares, declared, assigned, incremented, turns, most_turns, run, run_items}
+use Rattle.semantics.specs.Meaning.Runs.{Effect, nothing, one_write, then_from, declares, declared, assigned, incremented, turns, greatest_trip_count, run, run_items}
 use Rattle.semantics.specs.Meaning.Agrees.{also, visible_behind, names_expr, names_exprs, names_cond, names_source, names_start, names_step, names_only, names_items}
 use Rattle.semantics.specs.Loops.Nest.{Loop, Vector, at_value, iterations, at_vector}
 use Rattle.semantics.specs.Loops.Access.{Access, Mode, Writes, named, expr_accesses, cond_accesses, source_accesses, start_accesses, accesses, items_accesses, Touches}
@@ -289,16 +289,16 @@ module _ (loops : List Loop) (whole : Stmt) (outer : State) (u : Vector) (turn :
       → Matched Own (Point T (also F x) (also K x) (at_value m x v)) s t (run body s) (run body t))
       → Matched Own (Point T F K m) r r' (run (For x name start test step body) r) (run (For x name start test step body) r')
   for_law inner F K m spot fixed r r' p x name start test step body free start_fixed test_fixed step_fixed body_law =
-      matched_like Own (Point T F K m) r r' (ap (λ o. then_from r (declares x o) (turns most_turns (λ t. holds t test) (run body) (λ t. incremented t step))) (fixed_source F r m p.one start start_fixed)) (ap (λ o. then_from r' (declares x o) (turns most_turns (λ t. holds t test) (run body) (λ t. incremented t step))) (fixed_source F r' m p.two start start_fixed)) (at (source_value m start) refl)
+      matched_like Own (Point T F K m) r r' (ap (λ o. then_from r (declares x o) (turns greatest_trip_count (λ t. holds t test) (run body) (λ t. incremented t step))) (fixed_source F r m p.one start start_fixed)) (ap (λ o. then_from r' (declares x o) (turns greatest_trip_count (λ t. holds t test) (run body) (λ t. incremented t step))) (fixed_source F r' m p.two start start_fixed)) (at (source_value m start) refl)
     where
-      at : (o : Option ℕ) → source_value m start ≡ o → Matched Own (Point T F K m) r r' (then_from r (declares x o) (turns most_turns (λ t. holds t test) (run body) (λ t. incremented t step))) (then_from r' (declares x o) (turns most_turns (λ t. holds t test) (run body) (λ t. incremented t step)))
+      at : (o : Option ℕ) → source_value m start ≡ o → Matched Own (Point T F K m) r r' (then_from r (declares x o) (turns greatest_trip_count (λ t. holds t test) (run body) (λ t. incremented t step))) (then_from r' (declares x o) (turns greatest_trip_count (λ t. holds t test) (run body) (λ t. incremented t step)))
       at None e = matched_none Own (Point T F K m) r r'
       at (Some first) e =
-          let all = turns most_turns (λ t. holds t test) (run body) (λ t. incremented t step) in
+          let all = turns greatest_trip_count (λ t. holds t test) (run body) (λ t. incremented t step) in
           let Begins = Point T (also F x) (also K x) (at_value m x first) in
           matched_then Own Begins (Point T F K m) r r' (Some (one_write (Declared x (Some first)))) (Some (one_write (Declared x (Some first)))) all all
           (matched_write Own Begins r r' (Declared x (Some first)) (unseen F m fixed x free) (point_counted T F K m r r' x first p))
-          (λ t t' q. loop_law inner F K m spot fixed x start test step body free test_fixed step_fixed first e body_law most_turns first t t' (λ z h. h) q)
+          (λ t t' q. loop_law inner F K m spot fixed x start test step body free test_fixed step_fixed first e body_law greatest_trip_count first t t' (λ z h. h) q)
 
   mutual
     -- a statement does the same

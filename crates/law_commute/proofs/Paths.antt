@@ -4,7 +4,7 @@ use Rattle.std.proofs.Common.{refl, sym, ap, ◌∙◌, subst, inl, inr}
 use Rattle.std.proofs.lemmas.Option.{same_Some, none-some}
 use Rattle.semantics.specs.Meaning.State.{State, look, overwritten}
 use Rattle.semantics.specs.Meaning.Value.{source_value, holds, both, by_test, map_option}
-use Rattle.semantics.specs.Meaning.Runs.{Effect, incremented, most_turns}
+use Rattle.semantics.specs.Meaning.Runs.{Effect, incremented, greatest_trip_count}
 use Rattle.semantics.specs.Loops.Nest.{Loop, Vector, values_from, at_value, loop_values, concat_options, iterations, at_vector}
 use Rattle.law_commute.proofs.Lists.{Among, among_left, among_right, among_map}
 
@@ -67,20 +67,20 @@ pub path_among : (ls : List Loop) (w : Vector) (m : State) (turns : List Vector)
 path_among [] [] m turns p e = subst (λ ts. Among ts []) (same_Some _ _ e) (inl refl)
 path_among [] (v ∷ vs) m turns p e = absurd p
 path_among (l ∷ ls) [] m turns p e = absurd p
-path_among (l ∷ ls) (v ∷ vs) m turns p e = at (values_from most_turns l (at_value m l.variable p.0)) refl (λ ts k. path_among ls vs (at_value m l.variable v) ts p.3 k)
+path_among (l ∷ ls) (v ∷ vs) m turns p e = at (values_from greatest_trip_count l (at_value m l.variable p.0)) refl (λ ts k. path_among ls vs (at_value m l.variable v) ts p.3 k)
   where
     there : (o : Option (List Vector)) (ts : List Vector) → map_option (map (λ us. v ∷ us)) o ≡ Some ts → ((us : List Vector) → o ≡ Some us → Among us vs) → Among ts (v ∷ vs)
     there None ts q k = absurd (none-some ts q)
     there (Some us) ts q k = subst (λ zs. Among zs (v ∷ vs)) (same_Some _ _ q) (among_map (λ us. v ∷ us) us vs (k us refl))
 
-    at : (o : Option (List ℕ)) → values_from most_turns l (at_value m l.variable p.0) ≡ o → ((us : List Vector) → iterations ls (at_value m l.variable v) ≡ Some us → Among us vs) → Among turns (v ∷ vs)
+    at : (o : Option (List ℕ)) → values_from greatest_trip_count l (at_value m l.variable p.0) ≡ o → ((us : List Vector) → iterations ls (at_value m l.variable v) ≡ Some us → Among us vs) → Among turns (v ∷ vs)
     at None q k =
-        let start : loop_values l m ≡ None = ap (option_and_then (λ u. values_from most_turns l (at_value m l.variable u))) p.1 ∙ q in
+        let start : loop_values l m ≡ None = ap (option_and_then (λ u. values_from greatest_trip_count l (at_value m l.variable u))) p.1 ∙ q in
         absurd (none-some turns (sym (ap (option_and_then (λ us. concat_options (map (λ u. map_option (map (λ us. u ∷ us)) (iterations ls (at_value m l.variable u))) us))) start) ∙ e))
     at (Some us) q k =
-        let start : loop_values l m ≡ Some us = ap (option_and_then (λ u. values_from most_turns l (at_value m l.variable u))) p.1 ∙ q in
+        let start : loop_values l m ≡ Some us = ap (option_and_then (λ u. values_from greatest_trip_count l (at_value m l.variable u))) p.1 ∙ q in
         let joined = sym (ap (option_and_then (λ us. concat_options (map (λ u. map_option (map (λ us. u ∷ us)) (iterations ls (at_value m l.variable u))) us))) start) ∙ e in
-        let one = one_of (λ u. map_option (map (λ us. u ∷ us)) (iterations ls (at_value m l.variable u))) us v turns joined (visits_among l most_turns (at_value m l.variable p.0) us v q p.2) in
+        let one = one_of (λ u. map_option (map (λ us. u ∷ us)) (iterations ls (at_value m l.variable u))) us v turns joined (visits_among l greatest_trip_count (at_value m l.variable p.0) us v q p.2) in
         one.among (v ∷ vs) (there (iterations ls (at_value m l.variable v)) one.list one.is k)
 
 -- one loop further inside

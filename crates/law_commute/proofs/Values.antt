@@ -2,7 +2,7 @@
 use Rattle.std.specs.Prelude.{ℕ, Bool, true, false, not, ◌==◌, ◌≡◌, ◌&&◌, List, [], ◌∷◌, ◌++◌, Option, Some, None, option_and_then}
 use Rattle.std.proofs.Common.{refl, sym, ap, ◌∙◌, cond}
 use Rattle.std.specs.List.{AllByRecursion as Each}
-use Rattle.semantics.specs.Tree.{Variable, Expr, Literal, Constant, Object, Unary, Binary, Choose, Exprs, no_exprs, more_exprs, Cond, NotZero, Compare, Not, Both, Either, Source, Number, Truth}
+use Rattle.semantics.specs.Tree.{Variable, Expr, Literal, Constant, Object, Unary, Binary, Conditional, Exprs, no_exprs, more_exprs, Cond, NotZero, Compare, Not, LogicalAnd, LogicalOr, Source, Number, Truth}
 use Rattle.semantics.specs.Meaning.State.{State, Slot, Outside, Empty, Holds, look, look_in}
 use Rattle.semantics.specs.Meaning.Value.{value, values, holds, source_value, by_test, both, both_then, map_option, change, operate, compare}
 use Rattle.semantics.specs.Meaning.Agrees.{names_expr, names_exprs, names_cond, names_source}
@@ -30,14 +30,14 @@ module _ (F : Variable → Bool) (s t : State) (same : (y : Variable) → F y �
     fixed_value (Object x (more_exprs i is)) h = absurd h
     fixed_value (Unary op a) h = ap (map_option (change op)) (fixed_value a h)
     fixed_value (Binary op a b) h = λ i. both_then (operate op) (fixed_value a h.0 i) (fixed_value b h.1 i)
-    fixed_value (Choose c a b) h = λ i. by_test (fixed_holds c h.0 i) (fixed_value a h.1 i) (fixed_value b h.2 i)
+    fixed_value (Conditional c a b) h = λ i. by_test (fixed_holds c h.0 i) (fixed_value a h.1 i) (fixed_value b h.2 i)
 
     pub fixed_holds : (c : Cond) → IsFixedCond F c → holds s c ≡ holds t c
     fixed_holds (NotZero a) h = ap (map_option (λ v. not (v == 0))) (fixed_value a h)
     fixed_holds (Compare op a b) h = λ i. both (compare op) (fixed_value a h.0 i) (fixed_value b h.1 i)
     fixed_holds (Not c) h = ap (map_option not) (fixed_holds c h)
-    fixed_holds (Both c d) h = λ i. by_test (fixed_holds c h.0 i) (fixed_holds d h.1 i) (Some false)
-    fixed_holds (Either c d) h = λ i. by_test (fixed_holds c h.0 i) (Some true) (fixed_holds d h.1 i)
+    fixed_holds (LogicalAnd c d) h = λ i. by_test (fixed_holds c h.0 i) (fixed_holds d h.1 i) (Some false)
+    fixed_holds (LogicalOr c d) h = λ i. by_test (fixed_holds c h.0 i) (Some true) (fixed_holds d h.1 i)
 
   pub fixed_source : (e : Source) → IsFixedSource F e → source_value s e ≡ source_value t e
   fixed_source (Number a) h = fixed_value a h
@@ -91,7 +91,7 @@ module _ (T : Variable → ℕ → List ℕ → Type 0) (F K : Variable → Bool
         let one = steady_value a (first_of (names_expr K a) (names_expr K b) k) h.0 (each_left Q (expr_accesses inner a) (expr_accesses inner b) q) in
         let two = steady_value b (second_of (names_expr K a) (names_expr K b) k) h.1 (each_right Q (expr_accesses inner a) (expr_accesses inner b) q) in
         λ i. both_then (operate op) (one i) (two i)
-    steady_value (Choose c a b) k h q =
+    steady_value (Conditional c a b) k h q =
         let front = first_of (names_cond K c && names_expr K a) (names_expr K b) k in
         let behind = each_left Q (cond_accesses inner c ++ expr_accesses inner a) (expr_accesses inner b) q in
         let test = steady_holds c (first_of (names_cond K c) (names_expr K a) front) h.0 (each_left Q (cond_accesses inner c) (expr_accesses inner a) behind) in
@@ -106,11 +106,11 @@ module _ (T : Variable → ℕ → List ℕ → Type 0) (F K : Variable → Bool
         let two = steady_value b (second_of (names_expr K a) (names_expr K b) k) h.1 (each_right Q (expr_accesses inner a) (expr_accesses inner b) q) in
         λ i. both (compare op) (one i) (two i)
     steady_holds (Not c) k h q = ap (map_option not) (steady_holds c k h q)
-    steady_holds (Both c d) k h q =
+    steady_holds (LogicalAnd c d) k h q =
         let one = steady_holds c (first_of (names_cond K c) (names_cond K d) k) h.0 (each_left Q (cond_accesses inner c) (cond_accesses inner d) q) in
         let two = steady_holds d (second_of (names_cond K c) (names_cond K d) k) h.1 (each_right Q (cond_accesses inner c) (cond_accesses inner d) q) in
         λ i. by_test (one i) (two i) (Some false)
-    steady_holds (Either c d) k h q =
+    steady_holds (LogicalOr c d) k h q =
         let one = steady_holds c (first_of (names_cond K c) (names_cond K d) k) h.0 (each_left Q (cond_accesses inner c) (cond_accesses inner d) q) in
         let two = steady_holds d (second_of (names_cond K c) (names_cond K d) k) h.1 (each_right Q (cond_accesses inner c) (cond_accesses inner d) q) in
         λ i. by_test (one i) (Some true) (two i)

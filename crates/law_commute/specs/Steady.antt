@@ -1,6 +1,6 @@
 -- Bodies whose subscripts and inner loops do not depend on what the body computes.
 use Rattle.std.specs.Prelude.{Bool, true, false, ◌≡◌, Option, Some, None}
-use Rattle.semantics.specs.Tree.{Variable, Expr, Literal, Constant, Object, Unary, Binary, Choose, Exprs, no_exprs, more_exprs, Cond, NotZero, Compare, Not, Both, Either, Source, Number, Truth, Increment, Up, Down, Set, Change, Stmt, Assign, Update, If, IfElse, For, Block, Print, Items, no_items, mark, local, stmt}
+use Rattle.semantics.specs.Tree.{Variable, Expr, Literal, Constant, Object, Unary, Binary, Conditional, Exprs, no_exprs, more_exprs, Cond, NotZero, Compare, Not, LogicalAnd, LogicalOr, Source, Number, Truth, Increment, Up, Down, Set, Change, Stmt, Assign, Update, If, IfElse, For, Block, Print, Items, no_items, mark, local, stmt}
 use Rattle.semantics.specs.Meaning.Agrees.{also}
 
 -- fixed variables are those that the body does not assign: an expression of these, and of no element
@@ -13,15 +13,15 @@ abbrev mutual
   IsFixedExpr fixed (Object x (more_exprs i is)) = ⊥
   IsFixedExpr fixed (Unary op a) = IsFixedExpr fixed a
   IsFixedExpr fixed (Binary op a b) = IsFixedExpr fixed a × IsFixedExpr fixed b
-  IsFixedExpr fixed (Choose c a b) = IsFixedCond fixed c × IsFixedExpr fixed a × IsFixedExpr fixed b
+  IsFixedExpr fixed (Conditional c a b) = IsFixedCond fixed c × IsFixedExpr fixed a × IsFixedExpr fixed b
 
   -- a condition
   pub IsFixedCond : (Variable → Bool) → Cond → Type 0
   IsFixedCond fixed (NotZero a) = IsFixedExpr fixed a
   IsFixedCond fixed (Compare op a b) = IsFixedExpr fixed a × IsFixedExpr fixed b
   IsFixedCond fixed (Not c) = IsFixedCond fixed c
-  IsFixedCond fixed (Both c d) = IsFixedCond fixed c × IsFixedCond fixed d
-  IsFixedCond fixed (Either c d) = IsFixedCond fixed c × IsFixedCond fixed d
+  IsFixedCond fixed (LogicalAnd c d) = IsFixedCond fixed c × IsFixedCond fixed d
+  IsFixedCond fixed (LogicalOr c d) = IsFixedCond fixed c × IsFixedCond fixed d
 
 -- a right side
 abbrev pub IsFixedSource : (Variable → Bool) → Source → Type 0
@@ -49,15 +49,15 @@ abbrev mutual
   IsSteadyExpr fixed (Object x is) = AreFixed fixed is
   IsSteadyExpr fixed (Unary op a) = IsSteadyExpr fixed a
   IsSteadyExpr fixed (Binary op a b) = IsSteadyExpr fixed a × IsSteadyExpr fixed b
-  IsSteadyExpr fixed (Choose c a b) = IsSteadyCond fixed c × IsSteadyExpr fixed a × IsSteadyExpr fixed b
+  IsSteadyExpr fixed (Conditional c a b) = IsSteadyCond fixed c × IsSteadyExpr fixed a × IsSteadyExpr fixed b
 
   -- of a condition
   pub IsSteadyCond : (Variable → Bool) → Cond → Type 0
   IsSteadyCond fixed (NotZero a) = IsSteadyExpr fixed a
   IsSteadyCond fixed (Compare op a b) = IsSteadyExpr fixed a × IsSteadyExpr fixed b
   IsSteadyCond fixed (Not c) = IsSteadyCond fixed c
-  IsSteadyCond fixed (Both c d) = IsSteadyCond fixed c × IsSteadyCond fixed d
-  IsSteadyCond fixed (Either c d) = IsSteadyCond fixed c × IsSteadyCond fixed d
+  IsSteadyCond fixed (LogicalAnd c d) = IsSteadyCond fixed c × IsSteadyCond fixed d
+  IsSteadyCond fixed (LogicalOr c d) = IsSteadyCond fixed c × IsSteadyCond fixed d
 
 -- of a right side
 abbrev pub IsSteadySource : (Variable → Bool) → Source → Type 0

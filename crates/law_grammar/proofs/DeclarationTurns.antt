@@ -3,7 +3,7 @@ use Rattle.std.specs.Prelude.{ℕ, zero, suc, Bool, true, false, ◌&&◌, ◌�
 use Rattle.std.proofs.Common.{cond, refl, sym, ap, ◌∙◌, arith}
 use Rattle.std.proofs.lemmas.List.{append_assoc, append-nil, length-append}
 use Rattle.semantics.specs.Tree.{Name, Declaration}
-use Rattle.semantics.specs.Source.Token.{Token, Word, Digits, Quoted, Sign, Header, Line}
+use Rattle.semantics.specs.Source.Token.{Token, Word, IntegerConstant, StringLiteral, Punctuator, Header, Line}
 use Rattle.semantics.specs.Source.Scope.{Scope, AVariable, with_constants, same_name}
 use Rattle.cparse_grammar.specs.Reading.{Got, ◌>>=◌}
 use Rattle.cparse_grammar.specs.NextTokens.{word}
@@ -133,9 +133,9 @@ declarations_none (suc n) scope next (Word w ∷ ts) h k =
     Some (record { constants = more.constants; variables = v.tree ∷ more.variables; scope = more.scope; sound = v.sound && more.sound; rest = more.rest }))
     (Some (stopped scope (Word w ∷ ts)))) (no_word w (codes "uint64_t") ts k)
 declarations_none (suc n) scope next [] h k = refl
-declarations_none (suc n) scope next (Digits m s ∷ ts) h k = refl
-declarations_none (suc n) scope next (Quoted cs o ∷ ts) h k = refl
-declarations_none (suc n) scope next (Sign s ∷ ts) h k = refl
+declarations_none (suc n) scope next (IntegerConstant m s ∷ ts) h k = refl
+declarations_none (suc n) scope next (StringLiteral cs o ∷ ts) h k = refl
+declarations_none (suc n) scope next (Punctuator s ∷ ts) h k = refl
 declarations_none (suc n) scope next (Header m ∷ ts) h k = refl
 declarations_none (suc n) scope next (Line m ∷ ts) h k = refl
 

@@ -4,18 +4,18 @@ use Rattle.std.proofs.Common.{cond, refl, sym, ap, ◌∙◌, subst, arith}
 use Rattle.std.proofs.lemmas.Bool.{eqb-true}
 use Rattle.std.proofs.lemmas.Option.{same_Some}
 use Rattle.std.proofs.lemmas.List.{append_assoc}
-use Rattle.semantics.specs.Tree.{Name, Suffix, UnaryOp, Negate, Complement, Literal, Exprs, no_exprs, more_exprs, Source, Number, Truth, Not, Both, Either}
-use Rattle.semantics.specs.Source.Token.{Token, Word, Digits, Sign, Symbol, OpenParen, CloseParen, OpenBracket, CloseBracket, Question, Colon, Bang, MinusSign, Tilde, Star, Slash, Percent, PlusSign, DoubleLess, DoubleGreater, LessSign, LessEqualSign, GreaterSign, GreaterEqualSign, DoubleEqual, BangEqual, Amp, Caret, Bar, DoubleAmp, DoubleBar}
+use Rattle.semantics.specs.Tree.{Name, Suffix, UnaryOp, Negate, Complement, Literal, Exprs, no_exprs, more_exprs, Source, Number, Truth, Not, LogicalAnd, LogicalOr}
+use Rattle.semantics.specs.Source.Token.{Token, Word, IntegerConstant, Punctuator, Symbol, OpenParen, CloseParen, OpenBracket, CloseBracket, Question, Colon, Bang, MinusSign, Tilde, Star, Slash, Percent, PlusSign, DoubleLess, DoubleGreater, LessSign, LessEqualSign, GreaterSign, GreaterEqualSign, DoubleEqual, BangEqual, Amp, Caret, Bar, DoubleAmp, DoubleBar}
 use Rattle.semantics.specs.Source.Typing.{in_range, typed}
 use Rattle.semantics.specs.Source.Scope.{Scope, Entity, AVariable, AConstant, find, count}
 use Rattle.semantics.specs.Source.Expressions.{UnarySign, BinarySign, CompareSign, ReadsExpr, literal, enumerator, object, parens, unary, binary, choose, tighter, ReadsSubscripts, no_subscripts, subscript, ReadsCond, numeric, cond_parens, compare, both, either, cond_tighter}
 use Rattle.semantics.specs.Source.Expressions as grammar
 use Rattle.semantics.specs.Source.Statements.{is_truth}
 use Rattle.cparse_grammar.specs.Reading.{Got, Reader, ◌>>=◌, got, chosen}
-use Rattle.cparse_grammar.specs.Operators.{Infix, Arithmetic, Comparing, AndAlso, OrElse, reach, infix_of, number_in, is_number, cond_in, joined, joins}
+use Rattle.cparse_grammar.specs.Operators.{Infix, Arithmetic, Comparing, AndAlso, OrElse, precedence, infix_of, number_in, is_number, cond_in, joined, joins}
 use Rattle.cparse_grammar.specs.NextTokens as ahead
 use Rattle.cparse_grammar.specs.ExpressionReader as reader
-use Rattle.cparse_grammar.specs.ExpressionReader.{Inner, subscripts, primary, unary_of, next_infix, reaching, join, further, whole, inside}
+use Rattle.cparse_grammar.specs.ExpressionReader.{Inner, subscripts, primary, unary_of, next_infix, of_precedence, join, further, whole, inside}
 use Rattle.cparse_grammar.proofs.Binds.{bind_some, first_true, second_true}
 use Rattle.law_grammar.proofs.ExpressionComplete.{arms, whole_by}
 
@@ -57,24 +57,24 @@ out {A} {x} {y} e = same_Some x y e
 pub no_some : {A P : Type 0} {x : A} → None ≡ Some x → P
 no_some e = absurd (cc)
 
-pub close_paren_is : (ts us : List Token) → ahead.close_paren ts ≡ Some us → ts ≡ Sign CloseParen ∷ us
-close_paren_is (Sign CloseParen ∷ ts) us e = ap (λ xs. Sign CloseParen ∷ xs) (out e)
-close_paren_is (Sign s ∷ ts) us e = no_some e
+pub close_paren_is : (ts us : List Token) → ahead.close_paren ts ≡ Some us → ts ≡ Punctuator CloseParen ∷ us
+close_paren_is (Punctuator CloseParen ∷ ts) us e = ap (λ xs. Punctuator CloseParen ∷ xs) (out e)
+close_paren_is (Punctuator s ∷ ts) us e = no_some e
 close_paren_is _ us e = no_some e
 
-pub close_bracket_is : (ts us : List Token) → ahead.close_bracket ts ≡ Some us → ts ≡ Sign CloseBracket ∷ us
-close_bracket_is (Sign CloseBracket ∷ ts) us e = ap (λ xs. Sign CloseBracket ∷ xs) (out e)
-close_bracket_is (Sign s ∷ ts) us e = no_some e
+pub close_bracket_is : (ts us : List Token) → ahead.close_bracket ts ≡ Some us → ts ≡ Punctuator CloseBracket ∷ us
+close_bracket_is (Punctuator CloseBracket ∷ ts) us e = ap (λ xs. Punctuator CloseBracket ∷ xs) (out e)
+close_bracket_is (Punctuator s ∷ ts) us e = no_some e
 close_bracket_is _ us e = no_some e
 
-colon_is : (ts us : List Token) → ahead.colon ts ≡ Some us → ts ≡ Sign Colon ∷ us
-colon_is (Sign Colon ∷ ts) us e = ap (λ xs. Sign Colon ∷ xs) (out e)
-colon_is (Sign s ∷ ts) us e = no_some e
+colon_is : (ts us : List Token) → ahead.colon ts ≡ Some us → ts ≡ Punctuator Colon ∷ us
+colon_is (Punctuator Colon ∷ ts) us e = ap (λ xs. Punctuator Colon ∷ xs) (out e)
+colon_is (Punctuator s ∷ ts) us e = no_some e
 colon_is _ us e = no_some e
 
-question_is : (ts us : List Token) → ahead.question_mark ts ≡ Some us → ts ≡ Sign Question ∷ us
-question_is (Sign Question ∷ ts) us e = ap (λ xs. Sign Question ∷ xs) (out e)
-question_is (Sign s ∷ ts) us e = no_some e
+question_is : (ts us : List Token) → ahead.question_mark ts ≡ Some us → ts ≡ Punctuator Question ∷ us
+question_is (Punctuator Question ∷ ts) us e = ap (λ xs. Punctuator Question ∷ xs) (out e)
+question_is (Punctuator s ∷ ts) us e = no_some e
 question_is _ us e = no_some e
 
 -- subscripts
@@ -82,7 +82,7 @@ subs_none : (scope : Scope) (o : ℕ) (ts : List Token) (g : Got Exprs) → got 
 subs_none scope o ts g e = subst (λ x. Front (ReadsSubscripts scope o) ts x) (out e) (record { front = []; split = refl; reads = no_subscripts })
 
 pub subs_sound : (scope : Scope) (o : ℕ) (inner : Inner) → InnerSound scope o inner → (n : ℕ) → IsSound (subscripts n inner) (ReadsSubscripts scope o)
-subs_sound scope o inner k (suc n) (Sign OpenBracket ∷ ts) g e h =
+subs_sound scope o inner k (suc n) (Punctuator OpenBracket ∷ ts) g e h =
     let a = bind_some (inner.whole ts) (λ e. ahead.close_bracket e.rest >>= λ behind. subscripts n inner behind >>= λ es. got (more_exprs (number_in e.tree) es.tree) (e.sound && (is_number e.tree && es.sound)) es.rest) g e in
     let b = bind_some (ahead.close_bracket a.0.rest) (λ behind. subscripts n inner behind >>= λ es. got (more_exprs (number_in a.0.tree) es.tree) (a.0.sound && (is_number a.0.tree && es.sound)) es.rest) g a.2 in
     let c = bind_some (subscripts n inner b.0) (λ es. got (more_exprs (number_in a.0.tree) es.tree) (a.0.sound && (is_number a.0.tree && es.sound)) es.rest) g b.2 in
@@ -90,24 +90,24 @@ subs_sound scope o inner k (suc n) (Sign OpenBracket ∷ ts) g e h =
     let rest : (is_number a.0.tree && c.0.sound) ≡ true = second_true a.0.sound _ all in
     let first = k.whole ts a.0 a.1 (first_true a.0.sound _ all) in
     let more = subs_sound scope o inner k n b.0 c.0 c.1 (second_true (is_number a.0.tree) _ rest) in
-    subst (λ x. Front (ReadsSubscripts scope o) (Sign OpenBracket ∷ ts) x) (out c.2)
+    subst (λ x. Front (ReadsSubscripts scope o) (Punctuator OpenBracket ∷ ts) x) (out c.2)
     (record {
-      front = Sign OpenBracket ∷ (first.front ++ Sign CloseBracket ∷ more.front);
-      split = ap (λ xs. Sign OpenBracket ∷ xs) (first.split ∙ ap (λ xs. first.front ++ xs) (close_bracket_is a.0.rest b.0 b.1 ∙ ap (λ xs. Sign CloseBracket ∷ xs) more.split) ∙ sym (append_assoc first.front (Sign CloseBracket ∷ more.front) c.0.rest));
+      front = Punctuator OpenBracket ∷ (first.front ++ Punctuator CloseBracket ∷ more.front);
+      split = ap (λ xs. Punctuator OpenBracket ∷ xs) (first.split ∙ ap (λ xs. first.front ++ xs) (close_bracket_is a.0.rest b.0 b.1 ∙ ap (λ xs. Punctuator CloseBracket ∷ xs) more.split) ∙ sym (append_assoc first.front (Punctuator CloseBracket ∷ more.front) c.0.rest));
       reads = subscript first.reads.0 (as_number scope (suc o) 0 first.front a.0.tree (first_true (is_number a.0.tree) _ rest) first.reads.1) more.reads;
     })
 subs_sound scope o inner k zero ts g e h = subs_none scope o ts g e
-subs_sound scope o inner k (suc n) (Sign s ∷ ts) g e h = subs_none scope o (Sign s ∷ ts) g e
+subs_sound scope o inner k (suc n) (Punctuator s ∷ ts) g e h = subs_none scope o (Punctuator s ∷ ts) g e
 subs_sound scope o inner k (suc n) ts g e h = subs_none scope o ts g e
 
-literal_sound : (scope : Scope) (o n : ℕ) (suffix : Suffix) (ts : List Token) (g : Got Source) → got (Number (reader.literal_tree n suffix)) (in_range suffix n) ts ≡ Some g → g.sound ≡ true → Front (AsAt scope o 12) (Digits n suffix ∷ ts) g
+literal_sound : (scope : Scope) (o n : ℕ) (suffix : Suffix) (ts : List Token) (g : Got Source) → got (Number (reader.literal_tree n suffix)) (in_range suffix n) ts ≡ Some g → g.sound ≡ true → Front (AsAt scope o 12) (IntegerConstant n suffix ∷ ts) g
 literal_sound scope o n suffix ts g e h =
     let fits : in_range suffix n ≡ true = ap (λ x. x.sound) (out e) ∙ h in
-    subst (λ x. Front (AsAt scope o 12) (Digits n suffix ∷ ts) x) (out e)
+    subst (λ x. Front (AsAt scope o 12) (IntegerConstant n suffix ∷ ts) x) (out e)
     (record {
-      front = Digits n suffix ∷ [];
+      front = IntegerConstant n suffix ∷ [];
       split = refl;
-      reads = subst (λ b. ReadsExpr scope o 12 (Digits n suffix ∷ []) (cond b (Literal n suffix) (Literal 0 suffix))) (sym fits) (literal fits);
+      reads = subst (λ b. ReadsExpr scope o 12 (IntegerConstant n suffix ∷ []) (cond b (Literal n suffix) (Literal 0 suffix))) (sym fits) (literal fits);
     })
 
 -- no subscripts are no tokens
@@ -140,55 +140,55 @@ name_sound scope o inner name ts g k e f true d h =
     subst (λ x. Front (AsAt scope o 12) (Word name ∷ ts) x) (out a.2)
     (named_sound scope o name ts a.0 g e f (subs_sound scope o inner k (length ts) ts a.0 a.1 (first_true a.0.sound _ all)) all)
 
-as_parens : (scope : Scope) (o : ℕ) (ts : List Token) (s : Source) → o < 64 → AsAt scope (suc o) 0 ts s → AsAt scope o 12 (Sign OpenParen ∷ (ts ++ Sign CloseParen ∷ [])) s
+as_parens : (scope : Scope) (o : ℕ) (ts : List Token) (s : Source) → o < 64 → AsAt scope (suc o) 0 ts s → AsAt scope o 12 (Punctuator OpenParen ∷ (ts ++ Punctuator CloseParen ∷ [])) s
 as_parens scope o ts (Number e) b r = parens b r
 as_parens scope o ts (Truth c) b r = (r.0, cond_parens b r.1)
 
 parens_sound : (scope : Scope) (o : ℕ) (inner : Inner) (ts : List Token) (g : Got Source) → InnerSound scope o inner
-    → (inner.whole ts >>= λ e. ahead.close_paren e.rest >>= λ behind. got e.tree e.sound behind) ≡ Some g → g.sound ≡ true → Front (AsAt scope o 12) (Sign OpenParen ∷ ts) g
+    → (inner.whole ts >>= λ e. ahead.close_paren e.rest >>= λ behind. got e.tree e.sound behind) ≡ Some g → g.sound ≡ true → Front (AsAt scope o 12) (Punctuator OpenParen ∷ ts) g
 parens_sound scope o inner ts g k d h =
     let a = bind_some (inner.whole ts) (λ e. ahead.close_paren e.rest >>= λ behind. got e.tree e.sound behind) g d in
     let b = bind_some (ahead.close_paren a.0.rest) (λ behind. got a.0.tree a.0.sound behind) g a.2 in
     let first = k.whole ts a.0 a.1 (ap (λ x. x.sound) (out b.2) ∙ h) in
-    subst (λ x. Front (AsAt scope o 12) (Sign OpenParen ∷ ts) x) (out b.2)
+    subst (λ x. Front (AsAt scope o 12) (Punctuator OpenParen ∷ ts) x) (out b.2)
     (record {
-      front = Sign OpenParen ∷ (first.front ++ Sign CloseParen ∷ []);
-      split = ap (λ xs. Sign OpenParen ∷ xs) (first.split ∙ ap (λ xs. first.front ++ xs) (close_paren_is a.0.rest b.0 b.1) ∙ sym (append_assoc first.front (Sign CloseParen ∷ []) b.0));
+      front = Punctuator OpenParen ∷ (first.front ++ Punctuator CloseParen ∷ []);
+      split = ap (λ xs. Punctuator OpenParen ∷ xs) (first.split ∙ ap (λ xs. first.front ++ xs) (close_paren_is a.0.rest b.0 b.1) ∙ sym (append_assoc first.front (Punctuator CloseParen ∷ []) b.0));
       reads = as_parens scope o first.front a.0.tree first.reads.0 first.reads.1;
     })
 
 pub primary_sound : (scope : Scope) (o : ℕ) (inner : Inner) → InnerSound scope o inner → IsSound (primary scope inner) (AsAt scope o 12)
 unfolding primary
-primary_sound scope o inner k (Digits n suffix ∷ ts) g e h = literal_sound scope o n suffix ts g e h
+primary_sound scope o inner k (IntegerConstant n suffix ∷ ts) g e h = literal_sound scope o n suffix ts g e h
 primary_sound scope o inner k (Word name ∷ ts) g e h = name_sound scope o inner name ts g k (find scope name) refl (ahead.may_be_named (find scope name) name) e h
-primary_sound scope o inner k (Sign OpenParen ∷ ts) g e h = parens_sound scope o inner ts g k e h
-primary_sound scope o inner k (Sign s ∷ ts) g e h = no_some e
+primary_sound scope o inner k (Punctuator OpenParen ∷ ts) g e h = parens_sound scope o inner ts g k e h
+primary_sound scope o inner k (Punctuator s ∷ ts) g e h = no_some e
 primary_sound scope o inner k _ g e h = no_some e
 
 -- a unary operator before its operand
 unary_of_sound : (scope : Scope) (o : ℕ) (inner : Inner) (ts : List Token) (g : Got Source) {sign : Symbol} (op : UnaryOp) → UnarySign sign op → InnerSound scope o inner
-    → (inner.operand ts >>= λ e. unary_of op e) ≡ Some g → g.sound ≡ true → Front (AsAt scope o 11) (Sign sign ∷ ts) g
+    → (inner.operand ts >>= λ e. unary_of op e) ≡ Some g → g.sound ≡ true → Front (AsAt scope o 11) (Punctuator sign ∷ ts) g
 unary_of_sound scope o inner ts g {sign} op u k d h =
     let a = bind_some (inner.operand ts) (unary_of op) g d in
     let all : (a.0.sound && (is_number a.0.tree && typed (number_in a.0.tree))) ≡ true = ap (λ x. x.sound) (out a.2) ∙ h in
     let some : (is_number a.0.tree && typed (number_in a.0.tree)) ≡ true = second_true a.0.sound _ all in
     let first = k.operand ts a.0 a.1 (first_true a.0.sound _ all) in
-    subst (λ x. Front (AsAt scope o 11) (Sign sign ∷ ts) x) (out a.2)
+    subst (λ x. Front (AsAt scope o 11) (Punctuator sign ∷ ts) x) (out a.2)
     (record {
-      front = Sign sign ∷ first.front;
-      split = ap (λ xs. Sign sign ∷ xs) first.split;
+      front = Punctuator sign ∷ first.front;
+      split = ap (λ xs. Punctuator sign ∷ xs) first.split;
       reads = unary first.reads.0 u (second_true (is_number a.0.tree) _ some) (as_number scope (suc o) 11 first.front a.0.tree (first_true (is_number a.0.tree) _ some) first.reads.1);
     })
 
 bang_sound : (scope : Scope) (o : ℕ) (inner : Inner) (ts : List Token) (g : Got Source) → InnerSound scope o inner
-    → (inner.operand ts >>= λ e. got (Truth (Not (cond_in e.tree))) e.sound e.rest) ≡ Some g → g.sound ≡ true → Front (AsAt scope o 11) (Sign Bang ∷ ts) g
+    → (inner.operand ts >>= λ e. got (Truth (Not (cond_in e.tree))) e.sound e.rest) ≡ Some g → g.sound ≡ true → Front (AsAt scope o 11) (Punctuator Bang ∷ ts) g
 bang_sound scope o inner ts g k d h =
     let a = bind_some (inner.operand ts) (λ e. got (Truth (Not (cond_in e.tree))) e.sound e.rest) g d in
     let first = k.operand ts a.0 a.1 (ap (λ x. x.sound) (out a.2) ∙ h) in
-    subst (λ x. Front (AsAt scope o 11) (Sign Bang ∷ ts) x) (out a.2)
+    subst (λ x. Front (AsAt scope o 11) (Punctuator Bang ∷ ts) x) (out a.2)
     (record {
-      front = Sign Bang ∷ first.front;
-      split = ap (λ xs. Sign Bang ∷ xs) first.split;
+      front = Punctuator Bang ∷ first.front;
+      split = ap (λ xs. Punctuator Bang ∷ xs) first.split;
       reads = (refl, grammar.not first.reads.0 (as_cond scope (suc o) 11 first.front a.0.tree first.reads.1));
     })
 
@@ -198,10 +198,10 @@ looser scope o l ts g r = record { front = r.front; split = r.split; reads = as_
 
 pub unary_sound : (scope : Scope) (o : ℕ) (inner : Inner) → InnerSound scope o inner → IsSound (reader.unary scope inner) (AsAt scope o 11)
 unfolding reader.unary
-unary_sound scope o inner k (Sign MinusSign ∷ ts) g e h = unary_of_sound scope o inner ts g Negate grammar.minus k e h
-unary_sound scope o inner k (Sign Tilde ∷ ts) g e h = unary_of_sound scope o inner ts g Complement grammar.tilde k e h
-unary_sound scope o inner k (Sign Bang ∷ ts) g e h = bang_sound scope o inner ts g k e h
-unary_sound scope o inner k (Sign s ∷ ts) g e h = looser scope o 11 (Sign s ∷ ts) g (primary_sound scope o inner k (Sign s ∷ ts) g e h)
+unary_sound scope o inner k (Punctuator MinusSign ∷ ts) g e h = unary_of_sound scope o inner ts g Negate grammar.minus k e h
+unary_sound scope o inner k (Punctuator Tilde ∷ ts) g e h = unary_of_sound scope o inner ts g Complement grammar.tilde k e h
+unary_sound scope o inner k (Punctuator Bang ∷ ts) g e h = bang_sound scope o inner ts g k e h
+unary_sound scope o inner k (Punctuator s ∷ ts) g e h = looser scope o 11 (Punctuator s ∷ ts) g (primary_sound scope o inner k (Punctuator s ∷ ts) g e h)
 unary_sound scope o inner k ts g e h = looser scope o 11 ts g (primary_sound scope o inner k ts g e h)
 
 -- the grammar's level of an operator
@@ -211,29 +211,29 @@ IsSign l s (Comparing op) = CompareSign l s op
 IsSign l s AndAlso = (l ≡ 2) × (s ≡ DoubleAmp)
 IsSign l s OrElse = (l ≡ 1) × (s ≡ DoubleBar)
 
-sign_of : (s : Symbol) (op : Infix) → infix_of s ≡ Some op → IsSign (11 - reach op) s op
-sign_of Star op e = subst (λ o. IsSign (11 - reach o) Star o) (out e) grammar.times
-sign_of Slash op e = subst (λ o. IsSign (11 - reach o) Slash o) (out e) grammar.divide
-sign_of Percent op e = subst (λ o. IsSign (11 - reach o) Percent o) (out e) grammar.remainder
-sign_of PlusSign op e = subst (λ o. IsSign (11 - reach o) PlusSign o) (out e) grammar.plus
-sign_of MinusSign op e = subst (λ o. IsSign (11 - reach o) MinusSign o) (out e) grammar.minus
-sign_of DoubleLess op e = subst (λ o. IsSign (11 - reach o) DoubleLess o) (out e) grammar.shift_left
-sign_of DoubleGreater op e = subst (λ o. IsSign (11 - reach o) DoubleGreater o) (out e) grammar.shift_right
-sign_of LessSign op e = subst (λ o. IsSign (11 - reach o) LessSign o) (out e) grammar.less
-sign_of LessEqualSign op e = subst (λ o. IsSign (11 - reach o) LessEqualSign o) (out e) grammar.less_equal
-sign_of GreaterSign op e = subst (λ o. IsSign (11 - reach o) GreaterSign o) (out e) grammar.greater
-sign_of GreaterEqualSign op e = subst (λ o. IsSign (11 - reach o) GreaterEqualSign o) (out e) grammar.greater_equal
-sign_of DoubleEqual op e = subst (λ o. IsSign (11 - reach o) DoubleEqual o) (out e) grammar.equal
-sign_of BangEqual op e = subst (λ o. IsSign (11 - reach o) BangEqual o) (out e) grammar.not_equal
-sign_of Amp op e = subst (λ o. IsSign (11 - reach o) Amp o) (out e) grammar.amp
-sign_of Caret op e = subst (λ o. IsSign (11 - reach o) Caret o) (out e) grammar.caret
-sign_of Bar op e = subst (λ o. IsSign (11 - reach o) Bar o) (out e) grammar.bar
-sign_of DoubleAmp op e = subst (λ o. IsSign (11 - reach o) DoubleAmp o) (out e) (refl, refl)
-sign_of DoubleBar op e = subst (λ o. IsSign (11 - reach o) DoubleBar o) (out e) (refl, refl)
+sign_of : (s : Symbol) (op : Infix) → infix_of s ≡ Some op → IsSign (11 - precedence op) s op
+sign_of Star op e = subst (λ o. IsSign (11 - precedence o) Star o) (out e) grammar.times
+sign_of Slash op e = subst (λ o. IsSign (11 - precedence o) Slash o) (out e) grammar.divide
+sign_of Percent op e = subst (λ o. IsSign (11 - precedence o) Percent o) (out e) grammar.remainder
+sign_of PlusSign op e = subst (λ o. IsSign (11 - precedence o) PlusSign o) (out e) grammar.plus
+sign_of MinusSign op e = subst (λ o. IsSign (11 - precedence o) MinusSign o) (out e) grammar.minus
+sign_of DoubleLess op e = subst (λ o. IsSign (11 - precedence o) DoubleLess o) (out e) grammar.shift_left
+sign_of DoubleGreater op e = subst (λ o. IsSign (11 - precedence o) DoubleGreater o) (out e) grammar.shift_right
+sign_of LessSign op e = subst (λ o. IsSign (11 - precedence o) LessSign o) (out e) grammar.less
+sign_of LessEqualSign op e = subst (λ o. IsSign (11 - precedence o) LessEqualSign o) (out e) grammar.less_equal
+sign_of GreaterSign op e = subst (λ o. IsSign (11 - precedence o) GreaterSign o) (out e) grammar.greater
+sign_of GreaterEqualSign op e = subst (λ o. IsSign (11 - precedence o) GreaterEqualSign o) (out e) grammar.greater_equal
+sign_of DoubleEqual op e = subst (λ o. IsSign (11 - precedence o) DoubleEqual o) (out e) grammar.equal
+sign_of BangEqual op e = subst (λ o. IsSign (11 - precedence o) BangEqual o) (out e) grammar.not_equal
+sign_of Amp op e = subst (λ o. IsSign (11 - precedence o) Amp o) (out e) grammar.amp
+sign_of Caret op e = subst (λ o. IsSign (11 - precedence o) Caret o) (out e) grammar.caret
+sign_of Bar op e = subst (λ o. IsSign (11 - precedence o) Bar o) (out e) grammar.bar
+sign_of DoubleAmp op e = subst (λ o. IsSign (11 - precedence o) DoubleAmp o) (out e) (refl, refl)
+sign_of DoubleBar op e = subst (λ o. IsSign (11 - precedence o) DoubleBar o) (out e) (refl, refl)
 sign_of _ op e = no_some e
 
 -- an operator between two operands
-as_joined : (scope : Scope) (o l : ℕ) (s : Symbol) (ts us : List Token) (op : Infix) (a b : Source) → IsSign l s op → joins op a b ≡ true → AsAt scope o l ts a → AsAt scope o (suc l) us b → AsAt scope o l (ts ++ Sign s ∷ us) (joined op a b)
+as_joined : (scope : Scope) (o l : ℕ) (s : Symbol) (ts us : List Token) (op : Infix) (a b : Source) → IsSign l s op → joins op a b ≡ true → AsAt scope o l ts a → AsAt scope o (suc l) us b → AsAt scope o l (ts ++ Punctuator s ∷ us) (joined op a b)
 as_joined scope o l s ts us (Arithmetic op) (Number a) (Number b) k f r q = binary k f r q
 as_joined scope o l s ts us (Arithmetic op) (Number a) (Truth b) k f r q = absurd (cc)
 as_joined scope o l s ts us (Arithmetic op) (Truth a) b k f r q = absurd (cc)
@@ -241,31 +241,31 @@ as_joined scope o l s ts us (Comparing op) (Number a) (Number b) k f r q = (refl
 as_joined scope o l s ts us (Comparing op) (Number a) (Truth b) k f r q = absurd (cc)
 as_joined scope o l s ts us (Comparing op) (Truth a) b k f r q = absurd (cc)
 as_joined scope o l s ts us AndAlso a b k f r q =
-    subst (λ m. AsAt scope o m (ts ++ Sign s ∷ us) (Truth (Both (cond_in a) (cond_in b)))) (sym k.0)
-    (subst (λ x. AsAt scope o 2 (ts ++ Sign x ∷ us) (Truth (Both (cond_in a) (cond_in b)))) (sym k.1)
+    subst (λ m. AsAt scope o m (ts ++ Punctuator s ∷ us) (Truth (LogicalAnd (cond_in a) (cond_in b)))) (sym k.0)
+    (subst (λ x. AsAt scope o 2 (ts ++ Punctuator x ∷ us) (Truth (LogicalAnd (cond_in a) (cond_in b)))) (sym k.1)
     (refl, both (as_cond scope o 2 ts a (subst (λ m. AsAt scope o m ts a) k.0 r)) (as_cond scope o 3 us b (subst (λ m. AsAt scope o (suc m) us b) k.0 q))))
 as_joined scope o l s ts us OrElse a b k f r q =
-    subst (λ m. AsAt scope o m (ts ++ Sign s ∷ us) (Truth (Either (cond_in a) (cond_in b)))) (sym k.0)
-    (subst (λ x. AsAt scope o 1 (ts ++ Sign x ∷ us) (Truth (Either (cond_in a) (cond_in b)))) (sym k.1)
+    subst (λ m. AsAt scope o m (ts ++ Punctuator s ∷ us) (Truth (LogicalOr (cond_in a) (cond_in b)))) (sym k.0)
+    (subst (λ x. AsAt scope o 1 (ts ++ Punctuator x ∷ us) (Truth (LogicalOr (cond_in a) (cond_in b)))) (sym k.1)
     (refl, either (as_cond scope o 1 ts a (subst (λ m. AsAt scope o m ts a) k.0 r)) (as_cond scope o 2 us b (subst (λ m. AsAt scope o (suc m) us b) k.0 q))))
 
 -- an operator of a reach, as it stands
 pub record Stands (k : ℕ) (ts : List Token) (x : Infix × List Token) : Type 0 where
   pub sign : Symbol
-  pub split : ts ≡ Sign sign ∷ x.1
+  pub split : ts ≡ Punctuator sign ∷ x.1
   pub is : infix_of sign ≡ Some x.0
-  pub far : reach x.0 ≡ k
+  pub far : precedence x.0 ≡ k
 
-reaching_is : (k : ℕ) (s : Symbol) (ts : List Token) (x : Infix × List Token) (o : Option Infix) → infix_of s ≡ o → reaching k ts o ≡ Some x → Stands k (Sign s ∷ ts) x
+reaching_is : (k : ℕ) (s : Symbol) (ts : List Token) (x : Infix × List Token) (o : Option Infix) → infix_of s ≡ o → of_precedence k ts o ≡ Some x → Stands k (Punctuator s ∷ ts) x
 reaching_is k s ts x None f e = no_some e
-reaching_is k s ts x (Some op) f e = go (reach op == k) refl e
+reaching_is k s ts x (Some op) f e = go (precedence op == k) refl e
   where
-    go : (b : Bool) → (reach op == k) ≡ b → cond b (Some (op, ts)) None ≡ Some x → Stands k (Sign s ∷ ts) x
-    go true h d = subst (λ y. Stands k (Sign s ∷ ts) y) (out d) (record { sign = s; split = refl; is = f; far = eqb-true (reach op) k h })
+    go : (b : Bool) → (precedence op == k) ≡ b → cond b (Some (op, ts)) None ≡ Some x → Stands k (Punctuator s ∷ ts) x
+    go true h d = subst (λ y. Stands k (Punctuator s ∷ ts) y) (out d) (record { sign = s; split = refl; is = f; far = eqb-true (precedence op) k h })
     go false h d = no_some d
 
 next_is : (k : ℕ) (ts : List Token) (x : Infix × List Token) → next_infix k ts ≡ Some x → Stands k ts x
-next_is k (Sign s ∷ ts) x e = reaching_is k s ts x (infix_of s) refl e
+next_is k (Punctuator s ∷ ts) x e = reaching_is k s ts x (infix_of s) refl e
 next_is k _ x e = no_some e
 
 -- what is wrong in front stays wrong
@@ -297,7 +297,7 @@ turn_sound : (scope : Scope) (o l j : ℕ) (operand : Reader Source) (on : Got S
     → (ts front : List Token) → ts ≡ front ++ a.rest → AsAt scope o l front a.tree → Front (AsAt scope o l) ts g
 turn_sound scope o l j operand on level k keeps more a g None f e h ts front split reads = stays scope o l a g e h ts front split reads
 turn_sound scope o l j operand on level k keeps more a g (Some op) f e h ts front split reads =
-    more joint g step.2 h ts (front ++ Sign at.sign ∷ taken.front) whole_split joined_reads
+    more joint g step.2 h ts (front ++ Punctuator at.sign ∷ taken.front) whole_split joined_reads
   where
     at : Stands (suc j) a.rest op
     at = next_is (suc j) a.rest op f
@@ -314,13 +314,13 @@ turn_sound scope o l j operand on level k keeps more a g (Some op) f e h ts fron
     taken : Front (AsAt scope o (suc l)) op.1 step.0
     taken = k op.1 step.0 step.1 (first_true step.0.sound _ some)
 
-    whole_split : ts ≡ (front ++ Sign at.sign ∷ taken.front) ++ joint.rest
-    whole_split = split ∙ ap (λ xs. front ++ xs) (at.split ∙ ap (λ xs. Sign at.sign ∷ xs) taken.split) ∙ sym (append_assoc front (Sign at.sign ∷ taken.front) step.0.rest)
+    whole_split : ts ≡ (front ++ Punctuator at.sign ∷ taken.front) ++ joint.rest
+    whole_split = split ∙ ap (λ xs. front ++ xs) (at.split ∙ ap (λ xs. Punctuator at.sign ∷ xs) taken.split) ∙ sym (append_assoc front (Punctuator at.sign ∷ taken.front) step.0.rest)
 
-    level_is : 11 - reach op.0 ≡ l
-    level_is = let far : reach op.0 ≡ suc j = at.far in omega arith
+    level_is : 11 - precedence op.0 ≡ l
+    level_is = let far : precedence op.0 ≡ suc j = at.far in omega arith
 
-    joined_reads : AsAt scope o l (front ++ Sign at.sign ∷ taken.front) joint.tree
+    joined_reads : AsAt scope o l (front ++ Punctuator at.sign ∷ taken.front) joint.tree
     joined_reads = as_joined scope o l at.sign front taken.front op.0 a.tree step.0.tree (subst (λ m. IsSign m at.sign op.0) level_is (sign_of at.sign op.0 at.is)) (second_true step.0.sound _ some) reads taken.reads
 
 further_sound : (scope : Scope) (o l j : ℕ) (operand : Reader Source) → l + suc j ≡ 11 → IsSound operand (AsAt scope o (suc l)) → (n : ℕ) → GoesOn scope o l (further n (suc j) operand)
@@ -355,11 +355,11 @@ arms_sound scope o inner k c g (Some behind) f e h ts first =
     let two = k.whole d.0 b.0 b.1 (first_true b.0.sound _ right) in
     subst (λ x. Front (AsAt scope o 0) ts x) (out b.2)
     (record {
-      front = test.front ++ Sign Question ∷ (one.front ++ Sign Colon ∷ two.front);
+      front = test.front ++ Punctuator Question ∷ (one.front ++ Punctuator Colon ∷ two.front);
       split =
           test.split ∙ ap (λ xs. test.front ++ xs) (question_is c.rest behind f
-          ∙ ap (λ xs. Sign Question ∷ xs) (one.split ∙ ap (λ xs. one.front ++ xs) (colon_is a.0.rest d.0 d.1 ∙ ap (λ xs. Sign Colon ∷ xs) two.split) ∙ sym (append_assoc one.front (Sign Colon ∷ two.front) b.0.rest)))
-          ∙ sym (append_assoc test.front (Sign Question ∷ (one.front ++ Sign Colon ∷ two.front)) b.0.rest);
+          ∙ ap (λ xs. Punctuator Question ∷ xs) (one.split ∙ ap (λ xs. one.front ++ xs) (colon_is a.0.rest d.0 d.1 ∙ ap (λ xs. Punctuator Colon ∷ xs) two.split) ∙ sym (append_assoc one.front (Punctuator Colon ∷ two.front) b.0.rest)))
+          ∙ sym (append_assoc test.front (Punctuator Question ∷ (one.front ++ Punctuator Colon ∷ two.front)) b.0.rest);
       reads = choose one.reads.0 (as_cond scope o 1 test.front c.tree test.reads)
           (as_number scope (suc o) 0 one.front a.0.tree (second_true a.0.sound _ left) one.reads.1) (as_number scope (suc o) 0 two.front b.0.tree (second_true b.0.sound _ right) two.reads.1);
     })

@@ -4,7 +4,7 @@ use Rattle.std.proofs.Common.{inl, inr, cond, refl, sym, ap, ◌∙◌, subst, a
 use Rattle.std.proofs.lemmas.Bool.{eqb-true}
 use Rattle.std.proofs.lemmas.List.{append_assoc}
 use Rattle.semantics.specs.Tree.{Name, Expr, Exprs, Source, Number, Truth, BinaryOp, Increment, Up, Down, Set, Change, Stmt, Assign, Update, If, IfElse, For, Block, Print, Items, no_items, mark, local}
-use Rattle.semantics.specs.Source.Token.{Token, Word, Digits, Quoted, Sign, Header, Line, Symbol, Semicolon, Comma, OpenParen, CloseParen, OpenBrace, CloseBrace, PlusPlus, MinusMinus, Becomes, PlusBecomes, MinusBecomes, TimesBecomes, AndBecomes, OrBecomes, XorBecomes}
+use Rattle.semantics.specs.Source.Token.{Token, Word, IntegerConstant, StringLiteral, Punctuator, Header, Line, Symbol, Semicolon, Comma, OpenParen, CloseParen, OpenBrace, CloseBrace, PlusPlus, MinusMinus, EqualSign, PlusEqual, MinusEqual, TimesEqual, AmpEqual, BarEqual, CaretEqual}
 use Rattle.semantics.specs.Source.Typing.{typed, plain}
 use Rattle.semantics.specs.Source.Scope.{Scope, Entity, AVariable, AConstant, find, count, is_reserved, same_name, IsFree}
 use Rattle.semantics.specs.Source.Expressions.{UpdateSign, ReadsExpr, ReadsSubscripts, ReadsCond}
@@ -24,24 +24,24 @@ use Rattle.law_grammar.proofs.ExpressionSound.{AsAt, as_cond, as_number, Front, 
 use Rattle.law_grammar.proofs.StatementComplete.{same_is}
 
 -- what comes next
-pub semicolon_is : (ts us : List Token) → ahead.semicolon ts ≡ Some us → ts ≡ Sign Semicolon ∷ us
-semicolon_is (Sign Semicolon ∷ ts) us e = ap (λ xs. Sign Semicolon ∷ xs) (out e)
-semicolon_is (Sign s ∷ ts) us e = no_some e
+pub semicolon_is : (ts us : List Token) → ahead.semicolon ts ≡ Some us → ts ≡ Punctuator Semicolon ∷ us
+semicolon_is (Punctuator Semicolon ∷ ts) us e = ap (λ xs. Punctuator Semicolon ∷ xs) (out e)
+semicolon_is (Punctuator s ∷ ts) us e = no_some e
 semicolon_is _ us e = no_some e
 
-pub open_paren_is : (ts us : List Token) → ahead.open_paren ts ≡ Some us → ts ≡ Sign OpenParen ∷ us
-open_paren_is (Sign OpenParen ∷ ts) us e = ap (λ xs. Sign OpenParen ∷ xs) (out e)
-open_paren_is (Sign s ∷ ts) us e = no_some e
+pub open_paren_is : (ts us : List Token) → ahead.open_paren ts ≡ Some us → ts ≡ Punctuator OpenParen ∷ us
+open_paren_is (Punctuator OpenParen ∷ ts) us e = ap (λ xs. Punctuator OpenParen ∷ xs) (out e)
+open_paren_is (Punctuator s ∷ ts) us e = no_some e
 open_paren_is _ us e = no_some e
 
-pub becomes_is : (ts us : List Token) → ahead.becomes ts ≡ Some us → ts ≡ Sign Becomes ∷ us
-becomes_is (Sign Becomes ∷ ts) us e = ap (λ xs. Sign Becomes ∷ xs) (out e)
-becomes_is (Sign s ∷ ts) us e = no_some e
+pub becomes_is : (ts us : List Token) → ahead.equal_sign ts ≡ Some us → ts ≡ Punctuator EqualSign ∷ us
+becomes_is (Punctuator EqualSign ∷ ts) us e = ap (λ xs. Punctuator EqualSign ∷ xs) (out e)
+becomes_is (Punctuator s ∷ ts) us e = no_some e
 becomes_is _ us e = no_some e
 
-pub close_brace_is : (ts us : List Token) → ahead.close_brace ts ≡ Some us → ts ≡ Sign CloseBrace ∷ us
-close_brace_is (Sign CloseBrace ∷ ts) us e = ap (λ xs. Sign CloseBrace ∷ xs) (out e)
-close_brace_is (Sign s ∷ ts) us e = no_some e
+pub close_brace_is : (ts us : List Token) → ahead.close_brace ts ≡ Some us → ts ≡ Punctuator CloseBrace ∷ us
+close_brace_is (Punctuator CloseBrace ∷ ts) us e = ap (λ xs. Punctuator CloseBrace ∷ xs) (out e)
+close_brace_is (Punctuator s ∷ ts) us e = no_some e
 close_brace_is _ us e = no_some e
 
 pub word_is : (w : Name) (ts us : List Token) → word w ts ≡ Some us → ts ≡ Word w ∷ us
@@ -51,9 +51,9 @@ word_is w (Word v ∷ ts) us e = go (same_name v w) refl e
     go true h d = ap (λ x. Word x ∷ ts) (same_is v w h) ∙ ap (λ xs. Word w ∷ xs) (out d)
     go false h d = no_some d
 word_is w [] us e = no_some e
-word_is w (Digits n s ∷ ts) us e = no_some e
-word_is w (Quoted cs o ∷ ts) us e = no_some e
-word_is w (Sign s ∷ ts) us e = no_some e
+word_is w (IntegerConstant n s ∷ ts) us e = no_some e
+word_is w (StringLiteral cs o ∷ ts) us e = no_some e
+word_is w (Punctuator s ∷ ts) us e = no_some e
 word_is w (Header n ∷ ts) us e = no_some e
 word_is w (Line n ∷ ts) us e = no_some e
 
@@ -69,9 +69,9 @@ new_name_is (Word w ∷ ts) x e = go (is_reserved w) refl e
     go true h d = no_some d
     go false h d = subst (λ y. NewName (Word w ∷ ts) y) (out d) (record { split = refl; free = h })
 new_name_is [] x e = no_some e
-new_name_is (Digits n s ∷ ts) x e = no_some e
-new_name_is (Quoted cs o ∷ ts) x e = no_some e
-new_name_is (Sign s ∷ ts) x e = no_some e
+new_name_is (IntegerConstant n s ∷ ts) x e = no_some e
+new_name_is (StringLiteral cs o ∷ ts) x e = no_some e
+new_name_is (Punctuator s ∷ ts) x e = no_some e
 new_name_is (Header n ∷ ts) x e = no_some e
 new_name_is (Line n ∷ ts) x e = no_some e
 
@@ -89,12 +89,12 @@ as_source scope o ts (Truth c) r = truth r.0 r.1
 
 -- the sign of `op=`
 update_sign : (s : Symbol) (op : BinaryOp) → update_of s ≡ Some op → UpdateSign s op
-update_sign PlusBecomes op e = subst (λ x. UpdateSign PlusBecomes x) (out e) grammar.UpdateSign.plus
-update_sign MinusBecomes op e = subst (λ x. UpdateSign MinusBecomes x) (out e) grammar.UpdateSign.minus
-update_sign TimesBecomes op e = subst (λ x. UpdateSign TimesBecomes x) (out e) grammar.UpdateSign.times
-update_sign AndBecomes op e = subst (λ x. UpdateSign AndBecomes x) (out e) grammar.and
-update_sign OrBecomes op e = subst (λ x. UpdateSign OrBecomes x) (out e) grammar.or
-update_sign XorBecomes op e = subst (λ x. UpdateSign XorBecomes x) (out e) grammar.xor
+update_sign PlusEqual op e = subst (λ x. UpdateSign PlusEqual x) (out e) grammar.UpdateSign.plus
+update_sign MinusEqual op e = subst (λ x. UpdateSign MinusEqual x) (out e) grammar.UpdateSign.minus
+update_sign TimesEqual op e = subst (λ x. UpdateSign TimesEqual x) (out e) grammar.UpdateSign.times
+update_sign AmpEqual op e = subst (λ x. UpdateSign AmpEqual x) (out e) grammar.and
+update_sign BarEqual op e = subst (λ x. UpdateSign BarEqual x) (out e) grammar.or
+update_sign CaretEqual op e = subst (λ x. UpdateSign CaretEqual x) (out e) grammar.xor
 update_sign _ op e = no_some e
 
 -- a variable that may be set
@@ -118,56 +118,56 @@ if_named_some {A} scope w read x e = go (may_be_named (find scope w) w) e
 
 -- a step behind its variable
 step_behind_sound : (scope : Scope) (o : ℕ) (whole : Reader Source) → IsSound whole (AsAt scope o 0) → (w : Name) (s : Symbol) (ts : List Token) (g : Got Increment)
-    → step_behind whole (find scope w) s ts ≡ Some g → g.sound ≡ true → Front (ReadsIncrement scope o) (Word w ∷ Sign s ∷ ts) g
+    → step_behind whole (find scope w) s ts ≡ Some g → g.sound ≡ true → Front (ReadsIncrement scope o) (Word w ∷ Punctuator s ∷ ts) g
 step_behind_sound scope o whole k w PlusPlus ts g e h =
-    subst (λ x. Front (ReadsIncrement scope o) (Word w ∷ Sign PlusPlus ∷ ts) x) (out e)
-    (record { front = Word w ∷ Sign PlusPlus ∷ []; split = refl; reads = up_behind (scalar_is scope w (find scope w) refl (ap (λ x. x.sound) (out e) ∙ h)) })
+    subst (λ x. Front (ReadsIncrement scope o) (Word w ∷ Punctuator PlusPlus ∷ ts) x) (out e)
+    (record { front = Word w ∷ Punctuator PlusPlus ∷ []; split = refl; reads = up_behind (scalar_is scope w (find scope w) refl (ap (λ x. x.sound) (out e) ∙ h)) })
 step_behind_sound scope o whole k w MinusMinus ts g e h =
-    subst (λ x. Front (ReadsIncrement scope o) (Word w ∷ Sign MinusMinus ∷ ts) x) (out e)
-    (record { front = Word w ∷ Sign MinusMinus ∷ []; split = refl; reads = down_behind (scalar_is scope w (find scope w) refl (ap (λ x. x.sound) (out e) ∙ h)) })
-step_behind_sound scope o whole k w Becomes ts g e h =
+    subst (λ x. Front (ReadsIncrement scope o) (Word w ∷ Punctuator MinusMinus ∷ ts) x) (out e)
+    (record { front = Word w ∷ Punctuator MinusMinus ∷ []; split = refl; reads = down_behind (scalar_is scope w (find scope w) refl (ap (λ x. x.sound) (out e) ∙ h)) })
+step_behind_sound scope o whole k w EqualSign ts g e h =
     let a = bind_some (whole ts) (λ e. got (Set (target_of (find scope w)) e.tree) (may_step (find scope w) && e.sound) e.rest) g e in
     let all : (may_step (find scope w) && a.0.sound) ≡ true = ap (λ x. x.sound) (out a.2) ∙ h in
     let r = k ts a.0 a.1 (second_true (may_step (find scope w)) _ all) in
-    subst (λ x. Front (ReadsIncrement scope o) (Word w ∷ Sign Becomes ∷ ts) x) (out a.2)
+    subst (λ x. Front (ReadsIncrement scope o) (Word w ∷ Punctuator EqualSign ∷ ts) x) (out a.2)
     (record {
-      front = Word w ∷ Sign Becomes ∷ r.front;
-      split = ap (λ xs. Word w ∷ Sign Becomes ∷ xs) r.split;
+      front = Word w ∷ Punctuator EqualSign ∷ r.front;
+      split = ap (λ xs. Word w ∷ Punctuator EqualSign ∷ xs) r.split;
       reads = set (scalar_is scope w (find scope w) refl (first_true (may_step (find scope w)) _ all)) (as_source scope o r.front a.0.tree r.reads);
     })
 step_behind_sound scope o whole k w s ts g e h = changed (update_of s) refl e
   where
     changed : (x : Option BinaryOp) → update_of s ≡ x
-        → chosen x None (λ op. whole ts >>= λ e. got (Change (target_of (find scope w)) op (number_in e.tree)) (may_step (find scope w) && (e.sound && is_number e.tree)) e.rest) ≡ Some g → Front (ReadsIncrement scope o) (Word w ∷ Sign s ∷ ts) g
+        → chosen x None (λ op. whole ts >>= λ e. got (Change (target_of (find scope w)) op (number_in e.tree)) (may_step (find scope w) && (e.sound && is_number e.tree)) e.rest) ≡ Some g → Front (ReadsIncrement scope o) (Word w ∷ Punctuator s ∷ ts) g
     changed None f d = no_some d
     changed (Some op) f d =
         let a = bind_some (whole ts) (λ e. got (Change (target_of (find scope w)) op (number_in e.tree)) (may_step (find scope w) && (e.sound && is_number e.tree)) e.rest) g d in
         let all : (may_step (find scope w) && (a.0.sound && is_number a.0.tree)) ≡ true = ap (λ x. x.sound) (out a.2) ∙ h in
         let some : (a.0.sound && is_number a.0.tree) ≡ true = second_true (may_step (find scope w)) _ all in
         let r = k ts a.0 a.1 (first_true a.0.sound _ some) in
-        subst (λ x. Front (ReadsIncrement scope o) (Word w ∷ Sign s ∷ ts) x) (out a.2)
+        subst (λ x. Front (ReadsIncrement scope o) (Word w ∷ Punctuator s ∷ ts) x) (out a.2)
         (record {
-          front = Word w ∷ Sign s ∷ r.front;
-          split = ap (λ xs. Word w ∷ Sign s ∷ xs) r.split;
+          front = Word w ∷ Punctuator s ∷ r.front;
+          split = ap (λ xs. Word w ∷ Punctuator s ∷ xs) r.split;
           reads = change (scalar_is scope w (find scope w) refl (first_true (may_step (find scope w)) _ all)) (update_sign s op f) (as_number scope o 0 r.front a.0.tree (second_true a.0.sound _ some) r.reads);
         })
 
 step_sound : (scope : Scope) (o : ℕ) (whole : Reader Source) → IsSound whole (AsAt scope o 0) → IsSound (step whole scope) (ReadsIncrement scope o)
 unfolding step
-step_sound scope o whole k (Sign PlusPlus ∷ Word w ∷ ts) g e h =
+step_sound scope o whole k (Punctuator PlusPlus ∷ Word w ∷ ts) g e h =
     let d = if_named_some scope w (got (Up (target_of (find scope w))) (may_step (find scope w)) ts) g e in
-    subst (λ x. Front (ReadsIncrement scope o) (Sign PlusPlus ∷ Word w ∷ ts) x) (out d)
-    (record { front = Sign PlusPlus ∷ Word w ∷ []; split = refl; reads = up_before (scalar_is scope w (find scope w) refl (ap (λ x. x.sound) (out d) ∙ h)) })
-step_sound scope o whole k (Sign MinusMinus ∷ Word w ∷ ts) g e h =
+    subst (λ x. Front (ReadsIncrement scope o) (Punctuator PlusPlus ∷ Word w ∷ ts) x) (out d)
+    (record { front = Punctuator PlusPlus ∷ Word w ∷ []; split = refl; reads = up_before (scalar_is scope w (find scope w) refl (ap (λ x. x.sound) (out d) ∙ h)) })
+step_sound scope o whole k (Punctuator MinusMinus ∷ Word w ∷ ts) g e h =
     let d = if_named_some scope w (got (Down (target_of (find scope w))) (may_step (find scope w)) ts) g e in
-    subst (λ x. Front (ReadsIncrement scope o) (Sign MinusMinus ∷ Word w ∷ ts) x) (out d)
-    (record { front = Sign MinusMinus ∷ Word w ∷ []; split = refl; reads = down_before (scalar_is scope w (find scope w) refl (ap (λ x. x.sound) (out d) ∙ h)) })
-step_sound scope o whole k (Word w ∷ Sign s ∷ ts) g e h = step_behind_sound scope o whole k w s ts g (if_named_some scope w (step_behind whole (find scope w) s ts) g e) h
+    subst (λ x. Front (ReadsIncrement scope o) (Punctuator MinusMinus ∷ Word w ∷ ts) x) (out d)
+    (record { front = Punctuator MinusMinus ∷ Word w ∷ []; split = refl; reads = down_before (scalar_is scope w (find scope w) refl (ap (λ x. x.sound) (out d) ∙ h)) })
+step_sound scope o whole k (Word w ∷ Punctuator s ∷ ts) g e h = step_behind_sound scope o whole k w s ts g (if_named_some scope w (step_behind whole (find scope w) s ts) g e) h
 step_sound scope o whole k _ g e h = no_some e
 
 -- a statement of one line, by its target and what stands behind it
 abbrev pub IsLineOf : Scope → ℕ → Name → List Token → Stmt → Type 0
-IsLineOf scope o w ts s = ((next : ℕ) → ReadsStmt scope o next (Word w ∷ (ts ++ Sign Semicolon ∷ [])) s next) × (stmt_count s ≡ 1) × (is_closed s ≡ true)
+IsLineOf scope o w ts s = ((next : ℕ) → ReadsStmt scope o next (Word w ∷ (ts ++ Punctuator Semicolon ∷ [])) s next) × (stmt_count s ≡ 1) × (is_closed s ≡ true)
 
 regrouped : (us vs : List Token) (t v : Token) → (us ++ t ∷ vs) ++ v ∷ [] ≡ us ++ t ∷ (vs ++ v ∷ [])
 regrouped us vs t v = append_assoc us (t ∷ vs) (v ∷ [])
@@ -175,18 +175,18 @@ regrouped us vs t v = append_assoc us (t ∷ vs) (v ∷ [])
 at_tokens : (scope : Scope) (o next next' : ℕ) (ts us : List Token) (s : Stmt) → ts ≡ us → ReadsStmt scope o next ts s next' → ReadsStmt scope o next us s next'
 at_tokens scope o next next' ts us s e r = subst (λ xs. ReadsStmt scope o next xs s next') e r
 
-assigned_sound : (scope : Scope) (o : ℕ) (whole : Reader Source) → IsSound whole (AsAt scope o 0) → (w : Name) (ts0 : List Token) (is : Got Exprs) → Front (ReadsSubscripts scope o) ts0 is → (s : Symbol) (ts : List Token) → is.rest ≡ Sign s ∷ ts
+assigned_sound : (scope : Scope) (o : ℕ) (whole : Reader Source) → IsSound whole (AsAt scope o 0) → (w : Name) (ts0 : List Token) (is : Got Exprs) → Front (ReadsSubscripts scope o) ts0 is → (s : Symbol) (ts : List Token) → is.rest ≡ Punctuator s ∷ ts
     → (g : Got Stmt) → assigned whole (find scope w) is.tree true s ts ≡ Some g → g.sound ≡ true → Front (IsLineOf scope o w) ts0 g
-assigned_sound scope o whole k w ts0 is f Becomes ts rest g e h =
+assigned_sound scope o whole k w ts0 is f EqualSign ts rest g e h =
     let a = bind_some (whole ts) (λ e. got (Assign (target_of (find scope w)) is.tree e.tree) (true && (may_set (find scope w) is.tree && e.sound)) e.rest) g e in
     let all : (may_set (find scope w) is.tree && a.0.sound) ≡ true = ap (λ x. x.sound) (out a.2) ∙ h in
     let r = k ts a.0 a.1 (second_true (may_set (find scope w) is.tree) _ all) in
     subst (λ x. Front (IsLineOf scope o w) ts0 x) (out a.2)
     (record {
-      front = f.front ++ Sign Becomes ∷ r.front;
-      split = f.split ∙ ap (λ xs. f.front ++ xs) (rest ∙ ap (λ xs. Sign Becomes ∷ xs) r.split) ∙ sym (append_assoc f.front (Sign Becomes ∷ r.front) a.0.rest);
+      front = f.front ++ Punctuator EqualSign ∷ r.front;
+      split = f.split ∙ ap (λ xs. f.front ++ xs) (rest ∙ ap (λ xs. Punctuator EqualSign ∷ xs) r.split) ∙ sym (append_assoc f.front (Punctuator EqualSign ∷ r.front) a.0.rest);
       reads = (
-        λ next. at_tokens scope o next next _ _ _ (ap (λ xs. Word w ∷ xs) (sym (regrouped f.front r.front (Sign Becomes) (Sign Semicolon))))
+        λ next. at_tokens scope o next next _ _ _ (ap (λ xs. Word w ∷ xs) (sym (regrouped f.front r.front (Punctuator EqualSign) (Punctuator Semicolon))))
             (assign (target (target_is scope w (find scope w) is.tree refl (first_true (may_set (find scope w) is.tree) _ all)) f.reads) (as_source scope o r.front a.0.tree r.reads)),
         refl,
         refl,
@@ -204,10 +204,10 @@ assigned_sound scope o whole k w ts0 is f s ts rest g e h = changed (update_of s
         let r = k ts a.0 a.1 (first_true a.0.sound _ some) in
         subst (λ x. Front (IsLineOf scope o w) ts0 x) (out a.2)
         (record {
-          front = f.front ++ Sign s ∷ r.front;
-          split = f.split ∙ ap (λ xs. f.front ++ xs) (rest ∙ ap (λ xs. Sign s ∷ xs) r.split) ∙ sym (append_assoc f.front (Sign s ∷ r.front) a.0.rest);
+          front = f.front ++ Punctuator s ∷ r.front;
+          split = f.split ∙ ap (λ xs. f.front ++ xs) (rest ∙ ap (λ xs. Punctuator s ∷ xs) r.split) ∙ sym (append_assoc f.front (Punctuator s ∷ r.front) a.0.rest);
           reads = (
-            λ next. at_tokens scope o next next _ _ _ (ap (λ xs. Word w ∷ xs) (sym (regrouped f.front r.front (Sign s) (Sign Semicolon))))
+            λ next. at_tokens scope o next next _ _ _ (ap (λ xs. Word w ∷ xs) (sym (regrouped f.front r.front (Punctuator s) (Punctuator Semicolon))))
                 (update (target (target_is scope w (find scope w) is.tree refl (first_true (may_set (find scope w) is.tree) _ all)) f.reads) (update_sign s op u) (as_number scope o 0 r.front a.0.tree (second_true a.0.sound _ some) r.reads)),
             refl,
             refl,
@@ -215,7 +215,7 @@ assigned_sound scope o whole k w ts0 is f s ts rest g e h = changed (update_of s
         })
 
 assigned_keeps : (whole : Reader Source) (e : Option Entity) (is : Exprs) (b : Bool) (s : Symbol) (ts : List Token) (g : Got Stmt) → assigned whole e is b s ts ≡ Some g → g.sound ≡ true → b ≡ true
-assigned_keeps whole e is b Becomes ts g d h =
+assigned_keeps whole e is b EqualSign ts g d h =
     let a = bind_some (whole ts) (λ y. got (Assign (target_of e) is y.tree) (b && (may_set e is && y.sound)) y.rest) g d in
     first_true b _ (ap (λ x. x.sound) (out a.2) ∙ h)
 assigned_keeps whole e is b s ts g d h = changed (update_of s) d
@@ -226,12 +226,12 @@ assigned_keeps whole e is b s ts g d h = changed (update_of s) d
         let a = bind_some (whole ts) (λ y. got (Update (target_of e) is op (number_in y.tree)) (b && (may_set e is && (y.sound && is_number y.tree))) y.rest) g d in
         first_true b _ (ap (λ x. x.sound) (out a.2) ∙ h)
 
-sign_is : (ts : List Token) (x : Symbol × List Token) → ahead.sign ts ≡ Some x → ts ≡ Sign x.0 ∷ x.1
-sign_is (Sign s ∷ ts) x e = ap (λ y. Sign y.0 ∷ y.1) (out e)
+sign_is : (ts : List Token) (x : Symbol × List Token) → ahead.sign ts ≡ Some x → ts ≡ Punctuator x.0 ∷ x.1
+sign_is (Punctuator s ∷ ts) x e = ap (λ y. Punctuator y.0 ∷ y.1) (out e)
 sign_is [] x e = no_some e
 sign_is (Word w ∷ ts) x e = no_some e
-sign_is (Digits n s ∷ ts) x e = no_some e
-sign_is (Quoted cs o ∷ ts) x e = no_some e
+sign_is (IntegerConstant n s ∷ ts) x e = no_some e
+sign_is (StringLiteral cs o ∷ ts) x e = no_some e
 sign_is (Header n ∷ ts) x e = no_some e
 sign_is (Line n ∷ ts) x e = no_some e
 
@@ -248,24 +248,24 @@ assignment_sound scope room o k w ts g e h =
 -- a format, as far as it goes
 format_sound : (n : ℕ) (ts : List Token) (g : Got (List (Option (List ℕ)))) → format n ts ≡ Some g → Front ReadsFormat ts g
 format_sound zero ts g e = no_some e
-format_sound (suc n) (Quoted bs false ∷ ts) g e = subst (λ x. Front ReadsFormat (Quoted bs false ∷ ts) x) (out e) (record { front = Quoted bs false ∷ []; split = refl; reads = end })
-format_sound (suc n) (Quoted bs true ∷ ts) g e =
+format_sound (suc n) (StringLiteral bs false ∷ ts) g e = subst (λ x. Front ReadsFormat (StringLiteral bs false ∷ ts) x) (out e) (record { front = StringLiteral bs false ∷ []; split = refl; reads = end })
+format_sound (suc n) (StringLiteral bs true ∷ ts) g e =
     let a = bind_some (word (codes "PRIu64") ts) (λ behind. cond (printing.starts_quoted behind) (format n behind >>= λ more. got (Some bs ∷ None ∷ more.tree) true more.rest) (got (Some bs ∷ None ∷ []) true behind)) g e in
     go a.0 (word_is (codes "PRIu64") ts a.0 a.1) (printing.starts_quoted a.0) (format_sound n a.0) a.2
   where
     go : (behind : List Token) → ts ≡ Word (codes "PRIu64") ∷ behind → (b : Bool) → ((g : Got (List (Option (List ℕ)))) → format n behind ≡ Some g → Front ReadsFormat behind g)
-        → cond b (format n behind >>= λ more. got (Some bs ∷ None ∷ more.tree) true more.rest) (got (Some bs ∷ None ∷ []) true behind) ≡ Some g → Front ReadsFormat (Quoted bs true ∷ ts) g
+        → cond b (format n behind >>= λ more. got (Some bs ∷ None ∷ more.tree) true more.rest) (got (Some bs ∷ None ∷ []) true behind) ≡ Some g → Front ReadsFormat (StringLiteral bs true ∷ ts) g
     go behind f true more d =
         let m = bind_some (format n behind) (λ more. got (Some bs ∷ None ∷ more.tree) true more.rest) g d in
         let r = more m.0 m.1 in
-        subst (λ x. Front ReadsFormat (Quoted bs true ∷ ts) x) (out m.2)
-        (record { front = Quoted bs true ∷ Word (codes "PRIu64") ∷ r.front; split = ap (λ xs. Quoted bs true ∷ xs) (f ∙ ap (λ xs. Word (codes "PRIu64") ∷ xs) r.split); reads = place r.reads })
+        subst (λ x. Front ReadsFormat (StringLiteral bs true ∷ ts) x) (out m.2)
+        (record { front = StringLiteral bs true ∷ Word (codes "PRIu64") ∷ r.front; split = ap (λ xs. StringLiteral bs true ∷ xs) (f ∙ ap (λ xs. Word (codes "PRIu64") ∷ xs) r.split); reads = place r.reads })
     go behind f false more d =
-        subst (λ x. Front ReadsFormat (Quoted bs true ∷ ts) x) (out d) (record { front = Quoted bs true ∷ Word (codes "PRIu64") ∷ []; split = ap (λ xs. Quoted bs true ∷ xs) f; reads = last })
+        subst (λ x. Front ReadsFormat (StringLiteral bs true ∷ ts) x) (out d) (record { front = StringLiteral bs true ∷ Word (codes "PRIu64") ∷ []; split = ap (λ xs. StringLiteral bs true ∷ xs) f; reads = last })
 format_sound (suc n) [] g e = no_some e
 format_sound (suc n) (Word w ∷ ts) g e = no_some e
-format_sound (suc n) (Digits m s ∷ ts) g e = no_some e
-format_sound (suc n) (Sign s ∷ ts) g e = no_some e
+format_sound (suc n) (IntegerConstant m s ∷ ts) g e = no_some e
+format_sound (suc n) (Punctuator s ∷ ts) g e = no_some e
 format_sound (suc n) (Header m ∷ ts) g e = no_some e
 format_sound (suc n) (Line m ∷ ts) g e = no_some e
 
@@ -274,7 +274,7 @@ arguments_none : (scope : Scope) (o : ℕ) (ts : List Token) (g : Got (List Expr
 arguments_none scope o ts g e = subst (λ x. Front (ReadsArguments scope o) ts x) (out e) (record { front = []; split = refl; reads = no_arguments })
 
 arguments_sound : (scope : Scope) (o : ℕ) (whole : Reader Source) → IsSound whole (AsAt scope o 0) → (n : ℕ) → IsSound (arguments n whole) (ReadsArguments scope o)
-arguments_sound scope o whole k (suc n) (Sign Comma ∷ ts) g e h =
+arguments_sound scope o whole k (suc n) (Punctuator Comma ∷ ts) g e h =
     let a = bind_some (whole ts) (λ e. arguments n whole e.rest >>= λ es. got (number_in e.tree ∷ es.tree) ((e.sound && is_number e.tree) && ((typed (number_in e.tree) && plain (number_in e.tree)) && es.sound)) es.rest) g e in
     let b = bind_some (arguments n whole a.0.rest) (λ es. got (number_in a.0.tree ∷ es.tree) ((a.0.sound && is_number a.0.tree) && ((typed (number_in a.0.tree) && plain (number_in a.0.tree)) && es.sound)) es.rest) g a.2 in
     let all : ((a.0.sound && is_number a.0.tree) && ((typed (number_in a.0.tree) && plain (number_in a.0.tree)) && b.0.sound)) ≡ true = ap (λ x. x.sound) (out b.2) ∙ h in
@@ -283,14 +283,14 @@ arguments_sound scope o whole k (suc n) (Sign Comma ∷ ts) g e h =
     let sorts : (typed (number_in a.0.tree) && plain (number_in a.0.tree)) ≡ true = first_true (typed (number_in a.0.tree) && plain (number_in a.0.tree)) _ behind in
     let r = k ts a.0 a.1 (first_true a.0.sound _ front) in
     let q = arguments_sound scope o whole k n a.0.rest b.0 b.1 (second_true (typed (number_in a.0.tree) && plain (number_in a.0.tree)) _ behind) in
-    subst (λ x. Front (ReadsArguments scope o) (Sign Comma ∷ ts) x) (out b.2)
+    subst (λ x. Front (ReadsArguments scope o) (Punctuator Comma ∷ ts) x) (out b.2)
     (record {
-      front = Sign Comma ∷ (r.front ++ q.front);
-      split = ap (λ xs. Sign Comma ∷ xs) (r.split ∙ ap (λ xs. r.front ++ xs) q.split ∙ sym (append_assoc r.front q.front b.0.rest));
+      front = Punctuator Comma ∷ (r.front ++ q.front);
+      split = ap (λ xs. Punctuator Comma ∷ xs) (r.split ∙ ap (λ xs. r.front ++ xs) q.split ∙ sym (append_assoc r.front q.front b.0.rest));
       reads = argument (first_true (typed (number_in a.0.tree)) _ sorts) (second_true (typed (number_in a.0.tree)) _ sorts) (as_number scope o 0 r.front a.0.tree (second_true a.0.sound _ front) r.reads) q.reads;
     })
 arguments_sound scope o whole k zero ts g e h = arguments_none scope o ts g e
-arguments_sound scope o whole k (suc n) (Sign s ∷ ts) g e h = arguments_none scope o (Sign s ∷ ts) g e
+arguments_sound scope o whole k (suc n) (Punctuator s ∷ ts) g e h = arguments_none scope o (Punctuator s ∷ ts) g e
 arguments_sound scope o whole k (suc n) ts g e h = arguments_none scope o ts g e
 
 fill : (ps : List (Option (List ℕ))) (es : List Expr) → fills ps es ≡ true → Fills ps es (filled ps es)
@@ -315,14 +315,14 @@ printed_sound scope (suc room) o k ts g e h =
     let below : o < 64 = omega arith in
     subst (λ x. Front (IsLineOf scope o (codes "printf")) ts x) (out d.2)
     (record {
-      front = Sign OpenParen ∷ (f.front ++ (r.front ++ Sign CloseParen ∷ []));
+      front = Punctuator OpenParen ∷ (f.front ++ (r.front ++ Punctuator CloseParen ∷ []));
       split =
           open_paren_is ts a.0 a.1
-          ∙ ap (λ xs. Sign OpenParen ∷ xs) (f.split ∙ ap (λ xs. f.front ++ xs) (r.split ∙ ap (λ xs. r.front ++ xs) (close_paren_is c.0.rest d.0 d.1) ∙ sym (append_assoc r.front (Sign CloseParen ∷ []) d.0))
-          ∙ sym (append_assoc f.front (r.front ++ Sign CloseParen ∷ []) d.0));
+          ∙ ap (λ xs. Punctuator OpenParen ∷ xs) (f.split ∙ ap (λ xs. f.front ++ xs) (r.split ∙ ap (λ xs. r.front ++ xs) (close_paren_is c.0.rest d.0 d.1) ∙ sym (append_assoc r.front (Punctuator CloseParen ∷ []) d.0))
+          ∙ sym (append_assoc f.front (r.front ++ Punctuator CloseParen ∷ []) d.0));
       reads = (
         λ next. at_tokens scope o next next _ _ _
-            (ap (λ xs. Word (codes "printf") ∷ Sign OpenParen ∷ xs) (sym (append_assoc f.front (r.front ++ Sign CloseParen ∷ []) (Sign Semicolon ∷ []) ∙ ap (λ xs. f.front ++ xs) (append_assoc r.front (Sign CloseParen ∷ []) (Sign Semicolon ∷ [])))))
+            (ap (λ xs. Word (codes "printf") ∷ Punctuator OpenParen ∷ xs) (sym (append_assoc f.front (r.front ++ Punctuator CloseParen ∷ []) (Punctuator Semicolon ∷ []) ∙ ap (λ xs. f.front ++ xs) (append_assoc r.front (Punctuator CloseParen ∷ []) (Punctuator Semicolon ∷ [])))))
             (print below f.reads r.reads (fill b.0.tree c.0.tree (second_true c.0.sound _ all))),
         refl,
         refl,
@@ -359,8 +359,8 @@ ended_sound scope o w tally ts read k t e h =
     let r = k a.0 a.1 (ap (λ x. x.sound) (out b.2) ∙ h) in
     subst (λ x. StmtFront scope o tally.next (suc tally.left) (Word w ∷ ts) x) (out b.2)
     (record {
-      front = Word w ∷ (r.front ++ Sign Semicolon ∷ []);
-      split = ap (λ xs. Word w ∷ xs) (r.split ∙ ap (λ xs. r.front ++ xs) (semicolon_is a.0.rest b.0 b.1) ∙ sym (append_assoc r.front (Sign Semicolon ∷ []) b.0));
+      front = Word w ∷ (r.front ++ Punctuator Semicolon ∷ []);
+      split = ap (λ xs. Word w ∷ xs) (r.split ∙ ap (λ xs. r.front ++ xs) (semicolon_is a.0.rest b.0 b.1) ∙ sym (append_assoc r.front (Punctuator Semicolon ∷ []) b.0));
       reads = r.reads.0 tally.next;
       count = let one : stmt_count a.0.tree ≡ 1 = r.reads.1 in omega arith;
       closed = λ us d. r.reads.2;
@@ -368,21 +368,21 @@ ended_sound scope o w tally ts read k t e h =
 
 -- a local's first value
 initial_sound : (scope : Scope) (o : ℕ) (whole : Reader Source) → IsSound whole (AsAt scope o 0) → IsSound (reader.initial whole)
-    (λ us start. (((start ≡ None) × (us ≡ Sign Semicolon ∷ [])) ⊎ ((e : Source) × (vs : List Token) × (start ≡ Some e) × (us ≡ Sign Becomes ∷ (vs ++ Sign Semicolon ∷ [])) × ReadsSource scope o vs e)))
-initial_sound scope o whole k (Sign Semicolon ∷ ts) g e h =
-    subst (λ x. Front (λ us start. (((start ≡ None) × (us ≡ Sign Semicolon ∷ [])) ⊎ ((e : Source) × (vs : List Token) × (start ≡ Some e) × (us ≡ Sign Becomes ∷ (vs ++ Sign Semicolon ∷ [])) × ReadsSource scope o vs e))) (Sign Semicolon ∷ ts) x) (out e)
-    (record { front = Sign Semicolon ∷ []; split = refl; reads = inl (refl, refl) })
-initial_sound scope o whole k (Sign Becomes ∷ ts) g e h =
+    (λ us start. (((start ≡ None) × (us ≡ Punctuator Semicolon ∷ [])) ⊎ ((e : Source) × (vs : List Token) × (start ≡ Some e) × (us ≡ Punctuator EqualSign ∷ (vs ++ Punctuator Semicolon ∷ [])) × ReadsSource scope o vs e)))
+initial_sound scope o whole k (Punctuator Semicolon ∷ ts) g e h =
+    subst (λ x. Front (λ us start. (((start ≡ None) × (us ≡ Punctuator Semicolon ∷ [])) ⊎ ((e : Source) × (vs : List Token) × (start ≡ Some e) × (us ≡ Punctuator EqualSign ∷ (vs ++ Punctuator Semicolon ∷ [])) × ReadsSource scope o vs e))) (Punctuator Semicolon ∷ ts) x) (out e)
+    (record { front = Punctuator Semicolon ∷ []; split = refl; reads = inl (refl, refl) })
+initial_sound scope o whole k (Punctuator EqualSign ∷ ts) g e h =
     let a = bind_some (whole ts) (λ e. ahead.semicolon e.rest >>= λ behind. got (Some e.tree) e.sound behind) g e in
     let b = bind_some (ahead.semicolon a.0.rest) (λ behind. got (Some a.0.tree) a.0.sound behind) g a.2 in
     let r = k ts a.0 a.1 (ap (λ x. x.sound) (out b.2) ∙ h) in
-    subst (λ x. Front (λ us start. (((start ≡ None) × (us ≡ Sign Semicolon ∷ [])) ⊎ ((e : Source) × (vs : List Token) × (start ≡ Some e) × (us ≡ Sign Becomes ∷ (vs ++ Sign Semicolon ∷ [])) × ReadsSource scope o vs e))) (Sign Becomes ∷ ts) x) (out b.2)
+    subst (λ x. Front (λ us start. (((start ≡ None) × (us ≡ Punctuator Semicolon ∷ [])) ⊎ ((e : Source) × (vs : List Token) × (start ≡ Some e) × (us ≡ Punctuator EqualSign ∷ (vs ++ Punctuator Semicolon ∷ [])) × ReadsSource scope o vs e))) (Punctuator EqualSign ∷ ts) x) (out b.2)
     (record {
-      front = Sign Becomes ∷ (r.front ++ Sign Semicolon ∷ []);
-      split = ap (λ xs. Sign Becomes ∷ xs) (r.split ∙ ap (λ xs. r.front ++ xs) (semicolon_is a.0.rest b.0 b.1) ∙ sym (append_assoc r.front (Sign Semicolon ∷ []) b.0));
+      front = Punctuator EqualSign ∷ (r.front ++ Punctuator Semicolon ∷ []);
+      split = ap (λ xs. Punctuator EqualSign ∷ xs) (r.split ∙ ap (λ xs. r.front ++ xs) (semicolon_is a.0.rest b.0 b.1) ∙ sym (append_assoc r.front (Punctuator Semicolon ∷ []) b.0));
       reads = inr (a.0.tree, r.front, refl, refl, as_source scope o r.front a.0.tree r.reads);
     })
-initial_sound scope o whole k (Sign s ∷ ts) g e h = no_some e
+initial_sound scope o whole k (Punctuator s ∷ ts) g e h = no_some e
 initial_sound scope o whole k _ g e h = no_some e
 
 -- whatever is read as a block's items is so
@@ -413,14 +413,14 @@ items_at_tokens scope o next next' ts us s e r = subst (λ xs. ReadsItems scope 
 
 -- a local in front of others
 local_reads : (scope : Scope) (o next next' : ℕ) (w : Name) (start : Option Source) (us vs : List Token) (is : Items) → IsFree scope w
-    → (((start ≡ None) × (us ≡ Sign Semicolon ∷ [])) ⊎ ((e : Source) × (xs : List Token) × (start ≡ Some e) × (us ≡ Sign Becomes ∷ (xs ++ Sign Semicolon ∷ [])) × ReadsSource ((w, AVariable next 0) ∷ scope) o xs e))
+    → (((start ≡ None) × (us ≡ Punctuator Semicolon ∷ [])) ⊎ ((e : Source) × (xs : List Token) × (start ≡ Some e) × (us ≡ Punctuator EqualSign ∷ (xs ++ Punctuator Semicolon ∷ [])) × ReadsSource ((w, AVariable next 0) ∷ scope) o xs e))
     → ReadsItems ((w, AVariable next 0) ∷ scope) o (suc next) vs is next' → ReadsItems scope o next (Word (codes "uint64_t") ∷ Word w ∷ (us ++ vs)) (local next w start is) next'
 local_reads scope o next next' w start us vs is f (inl d) r =
     subst (λ x. ReadsItems scope o next (Word (codes "uint64_t") ∷ Word w ∷ (us ++ vs)) (local next w x is) next') (sym d.0)
     (items_at_tokens scope o next next' _ _ _ (ap (λ xs. Word (codes "uint64_t") ∷ Word w ∷ (xs ++ vs)) (sym d.1)) (empty_local f r))
 local_reads scope o next next' w start us vs is f (inr d) r =
     subst (λ x. ReadsItems scope o next (Word (codes "uint64_t") ∷ Word w ∷ (us ++ vs)) (local next w x is) next') (sym d.2)
-    (items_at_tokens scope o next next' _ _ _ (ap (λ xs. Word (codes "uint64_t") ∷ Word w ∷ Sign Becomes ∷ xs) (sym (append_assoc d.1 (Sign Semicolon ∷ []) vs)) ∙ ap (λ xs. Word (codes "uint64_t") ∷ Word w ∷ (xs ++ vs)) (sym d.3)) (first_local f d.4 r))
+    (items_at_tokens scope o next next' _ _ _ (ap (λ xs. Word (codes "uint64_t") ∷ Word w ∷ Punctuator EqualSign ∷ xs) (sym (append_assoc d.1 (Punctuator Semicolon ∷ []) vs)) ∙ ap (λ xs. Word (codes "uint64_t") ∷ Word w ∷ (xs ++ vs)) (sym d.3)) (first_local f d.4 r))
 
 local_sound : (room o : ℕ) → room + o ≡ 64 → (more : Scope → Tally → List Token → Option (Told Items)) → IsItemsSound o more → (scope : Scope) (tally : Tally) (ts : List Token) (t : Told Items)
     → (ahead.new_name ts >>= λ name. reader.initial (expression room (reader.with_local scope name.0 tally)) name.1 >>= λ start.
@@ -473,13 +473,13 @@ line_item room o read n m scope tally at ts t e h =
 pub items_sound : (room o : ℕ) → room + o ≡ 64 → (read : StmtReader) → IsStmtSound o read → (n : ℕ) → IsItemsSound o (items n room read)
 items_sound room o k read s zero scope tally ts t e h = no_item scope o tally ts t e
 items_sound room o k read s (suc n) scope tally (Line at ∷ ts) t e h = line_item room o read n (items_sound room o k read s n) scope tally at ts t e h
-items_sound room o k read s (suc n) scope tally (Sign OpenBrace ∷ ts) t e h = item_sound o read (items n room read) s (items_sound room o k read s n) scope tally (Sign OpenBrace ∷ ts) t e h
+items_sound room o k read s (suc n) scope tally (Punctuator OpenBrace ∷ ts) t e h = item_sound o read (items n room read) s (items_sound room o k read s n) scope tally (Punctuator OpenBrace ∷ ts) t e h
 items_sound room o k read s (suc n) scope tally (Word w ∷ ts) t e h = word_item room o k read n s (items_sound room o k read s n) scope tally w ts t e h
-items_sound room o k read s (suc n) scope tally (Sign x ∷ ts) t e h = no_item scope o tally (Sign x ∷ ts) t e
+items_sound room o k read s (suc n) scope tally (Punctuator x ∷ ts) t e h = no_item scope o tally (Punctuator x ∷ ts) t e
 items_sound room o k read s (suc n) scope tally ts t e h = no_item scope o tally ts t e
 
 block_sound : (room o : ℕ) → room + o ≡ 64 → (once : StmtReader) → ((inner : ℕ) → room ≡ suc inner → IsStmtSound (suc o) once) → (scope : Scope) (tally : Tally) (ts : List Token) (t : Told Stmt)
-    → reader.block room once scope tally ts ≡ Some t → t.sound ≡ true → StmtFront scope o tally.next (suc tally.left) (Sign OpenBrace ∷ ts) t
+    → reader.block room once scope tally ts ≡ Some t → t.sound ≡ true → StmtFront scope o tally.next (suc tally.left) (Punctuator OpenBrace ∷ ts) t
 unfolding reader.block
 block_sound zero o k once s scope tally ts t e h = no_some e
 block_sound (suc room) o k once s scope tally ts t e h =
@@ -487,10 +487,10 @@ block_sound (suc room) o k once s scope tally ts t e h =
     let b = bind_some (ahead.close_brace a.0.rest) (λ behind. reader.told (Block a.0.tree) a.0.sound a.0.tally behind) t a.2 in
     let q = items_sound room (suc o) (omega arith) once (s room refl) (length ts) scope tally ts a.0 a.1 (ap (λ x. x.sound) (out b.2) ∙ h) in
     let below : o < 64 = omega arith in
-    subst (λ x. StmtFront scope o tally.next (suc tally.left) (Sign OpenBrace ∷ ts) x) (out b.2)
+    subst (λ x. StmtFront scope o tally.next (suc tally.left) (Punctuator OpenBrace ∷ ts) x) (out b.2)
     (record {
-      front = Sign OpenBrace ∷ (q.front ++ Sign CloseBrace ∷ []);
-      split = ap (λ xs. Sign OpenBrace ∷ xs) (q.split ∙ ap (λ xs. q.front ++ xs) (close_brace_is a.0.rest b.0 b.1) ∙ sym (append_assoc q.front (Sign CloseBrace ∷ []) b.0));
+      front = Punctuator OpenBrace ∷ (q.front ++ Punctuator CloseBrace ∷ []);
+      split = ap (λ xs. Punctuator OpenBrace ∷ xs) (q.split ∙ ap (λ xs. q.front ++ xs) (close_brace_is a.0.rest b.0 b.1) ∙ sym (append_assoc q.front (Punctuator CloseBrace ∷ []) b.0));
       reads = block below q.reads;
       count = let one : tally.left ≡ statement_count a.0.tree + a.0.tally.left = q.count in omega arith;
       closed = λ us d. refl;
@@ -498,17 +498,17 @@ block_sound (suc room) o k once s scope tally ts t e h =
 
 -- what stands behind a condition
 if_sound : (o : ℕ) (once twice : StmtReader) → suc o < 64 → IsStmtSound (suc o) once → IsStmtSound (suc (suc o)) twice → (scope : Scope) (tally : Tally) (ts behind : List Token) (c : Got Source) (t : Told Stmt)
-    → Front (AsAt scope (suc (suc o)) 0) ts c → c.rest ≡ Sign CloseParen ∷ behind → (a : Told Stmt) → once scope tally behind ≡ Some a → (x : Option (List Token)) → word (codes "else") a.rest ≡ x
+    → Front (AsAt scope (suc (suc o)) 0) ts c → c.rest ≡ Punctuator CloseParen ∷ behind → (a : Told Stmt) → once scope tally behind ≡ Some a → (x : Option (List Token)) → word (codes "else") a.rest ≡ x
     → chosen x (reader.told (If (cond_in c.tree) a.tree) (c.sound && a.sound) a.tally a.rest)
     (λ other. twice scope a.tally other >>= λ b. reader.told (IfElse (cond_in c.tree) a.tree b.tree) (c.sound && (a.sound && b.sound)) b.tally b.rest) ≡ Some t
-    → t.sound ≡ true → StmtFront scope o tally.next (suc tally.left) (Word (codes "if") ∷ Sign OpenParen ∷ ts) t
+    → t.sound ≡ true → StmtFront scope o tally.next (suc tally.left) (Word (codes "if") ∷ Punctuator OpenParen ∷ ts) t
 if_sound o once twice below s s' scope tally ts behind c t f rest a d None w e h =
     let all : (c.sound && a.sound) ≡ true = ap (λ x. x.sound) (out e) ∙ h in
     let r = s scope tally behind a d (second_true c.sound _ all) in
-    subst (λ x. StmtFront scope o tally.next (suc tally.left) (Word (codes "if") ∷ Sign OpenParen ∷ ts) x) (out e)
+    subst (λ x. StmtFront scope o tally.next (suc tally.left) (Word (codes "if") ∷ Punctuator OpenParen ∷ ts) x) (out e)
     (record {
-      front = Word (codes "if") ∷ Sign OpenParen ∷ (f.front ++ Sign CloseParen ∷ r.front);
-      split = ap (λ xs. Word (codes "if") ∷ Sign OpenParen ∷ xs) (f.split ∙ ap (λ xs. f.front ++ xs) (rest ∙ ap (λ xs. Sign CloseParen ∷ xs) r.split) ∙ sym (append_assoc f.front (Sign CloseParen ∷ r.front) a.rest));
+      front = Word (codes "if") ∷ Punctuator OpenParen ∷ (f.front ++ Punctuator CloseParen ∷ r.front);
+      split = ap (λ xs. Word (codes "if") ∷ Punctuator OpenParen ∷ xs) (f.split ∙ ap (λ xs. f.front ++ xs) (rest ∙ ap (λ xs. Punctuator CloseParen ∷ xs) r.split) ∙ sym (append_assoc f.front (Punctuator CloseParen ∷ r.front) a.rest));
       reads = if_only below (as_cond scope (suc (suc o)) 0 f.front c.tree f.reads) r.reads;
       count = let one : tally.left ≡ stmt_count a.tree + a.tally.left = r.count in omega arith;
       closed = λ us y. no_some (sym w ∙ y);
@@ -520,13 +520,13 @@ if_sound o once twice below s s' scope tally ts behind c t f rest a d (Some othe
     let some : (a.sound && b.sound) ≡ true = second_true c.sound _ all in
     let r = s scope tally behind a d (first_true a.sound _ some) in
     let q = s' scope a.tally other b z.1 (second_true a.sound _ some) in
-    subst (λ x. StmtFront scope o tally.next (suc tally.left) (Word (codes "if") ∷ Sign OpenParen ∷ ts) x) (out z.2)
+    subst (λ x. StmtFront scope o tally.next (suc tally.left) (Word (codes "if") ∷ Punctuator OpenParen ∷ ts) x) (out z.2)
     (record {
-      front = Word (codes "if") ∷ Sign OpenParen ∷ (f.front ++ Sign CloseParen ∷ (r.front ++ Word (codes "else") ∷ q.front));
+      front = Word (codes "if") ∷ Punctuator OpenParen ∷ (f.front ++ Punctuator CloseParen ∷ (r.front ++ Word (codes "else") ∷ q.front));
       split =
-          ap (λ xs. Word (codes "if") ∷ Sign OpenParen ∷ xs)
-          (f.split ∙ ap (λ xs. f.front ++ xs) (rest ∙ ap (λ xs. Sign CloseParen ∷ xs) (r.split ∙ ap (λ xs. r.front ++ xs) (word_is (codes "else") a.rest other w ∙ ap (λ xs. Word (codes "else") ∷ xs) q.split) ∙ sym (append_assoc r.front (Word (codes "else") ∷ q.front) b.rest)))
-          ∙ sym (append_assoc f.front (Sign CloseParen ∷ (r.front ++ Word (codes "else") ∷ q.front)) b.rest));
+          ap (λ xs. Word (codes "if") ∷ Punctuator OpenParen ∷ xs)
+          (f.split ∙ ap (λ xs. f.front ++ xs) (rest ∙ ap (λ xs. Punctuator CloseParen ∷ xs) (r.split ∙ ap (λ xs. r.front ++ xs) (word_is (codes "else") a.rest other w ∙ ap (λ xs. Word (codes "else") ∷ xs) q.split) ∙ sym (append_assoc r.front (Word (codes "else") ∷ q.front) b.rest)))
+          ∙ sym (append_assoc f.front (Punctuator CloseParen ∷ (r.front ++ Word (codes "else") ∷ q.front)) b.rest));
       reads = if_else below (as_cond scope (suc (suc o)) 0 f.front c.tree f.reads) (r.closed other w) r.reads q.reads;
       count = let one : tally.left ≡ stmt_count a.tree + a.tally.left = r.count in let two : a.tally.left ≡ stmt_count b.tree + b.tally.left = q.count in omega arith;
       closed = q.closed;
@@ -563,7 +563,7 @@ pub record HeadingFront (scope : Scope) (o next : ℕ) (ts : List Token) (h : re
   pub starts : List Token
   pub tests : List Token
   pub turns : List Token
-  pub split : ts ≡ Sign OpenParen ∷ Word (codes "uint64_t") ∷ Word h.name ∷ Sign Becomes ∷ (starts ++ Sign Semicolon ∷ (tests ++ Sign Semicolon ∷ (turns ++ Sign CloseParen ∷ h.rest)))
+  pub split : ts ≡ Punctuator OpenParen ∷ Word (codes "uint64_t") ∷ Word h.name ∷ Punctuator EqualSign ∷ (starts ++ Punctuator Semicolon ∷ (tests ++ Punctuator Semicolon ∷ (turns ++ Punctuator CloseParen ∷ h.rest)))
   pub free : IsFree scope h.name
   pub start : ReadsSource ((h.name, AVariable next 0) ∷ scope) o starts h.start
   pub test : ReadsCond ((h.name, AVariable next 0) ∷ scope) o 0 tests (cond_in h.test)
@@ -591,7 +591,7 @@ record Turned (room : ℕ) (scope : Scope) (tally : Tally) (w : Name) (start tes
   turn : Got Increment
   body : List Token
   read : step (expression room (within scope tally w)) (within scope tally w) second ≡ Some turn
-  closes : turn.rest ≡ Sign CloseParen ∷ body
+  closes : turn.rest ≡ Punctuator CloseParen ∷ body
   is : whole_heading scope w start test turn body ≡ Some g
 
 turned_is : (room : ℕ) (scope : Scope) (tally : Tally) (w : Name) (start test : Got Source) (second : List Token) (g : reader.Heading) → turned room scope tally w start test second ≡ Some g → Turned room scope tally w start test second g
@@ -604,7 +604,7 @@ record Tested (room : ℕ) (scope : Scope) (tally : Tally) (w : Name) (start : G
   test : Got Source
   second : List Token
   read : expression room (within scope tally w) first ≡ Some test
-  ends : test.rest ≡ Sign Semicolon ∷ second
+  ends : test.rest ≡ Punctuator Semicolon ∷ second
   more : Turned room scope tally w start test second g
 
 tested_is : (room : ℕ) (scope : Scope) (tally : Tally) (w : Name) (start : Got Source) (first : List Token) (g : reader.Heading) → tested room scope tally w start first ≡ Some g → Tested room scope tally w start first g
@@ -617,7 +617,7 @@ record Started (room : ℕ) (scope : Scope) (tally : Tally) (w : Name) (behind :
   start : Got Source
   first : List Token
   read : expression room (within scope tally w) behind ≡ Some start
-  ends : start.rest ≡ Sign Semicolon ∷ first
+  ends : start.rest ≡ Punctuator Semicolon ∷ first
   more : Tested room scope tally w start first g
 
 started_is : (room : ℕ) (scope : Scope) (tally : Tally) (w : Name) (behind : List Token) (g : reader.Heading) → started room scope tally w behind ≡ Some g → Started room scope tally w behind g
@@ -630,30 +630,30 @@ record Headed (room : ℕ) (scope : Scope) (tally : Tally) (ts : List Token) (g 
   name : Name
   behind : List Token
   free : is_reserved name ≡ false
-  split : ts ≡ Sign OpenParen ∷ Word (codes "uint64_t") ∷ Word name ∷ Sign Becomes ∷ behind
+  split : ts ≡ Punctuator OpenParen ∷ Word (codes "uint64_t") ∷ Word name ∷ Punctuator EqualSign ∷ behind
   more : Started room scope tally name behind g
 
 headed_is : (room : ℕ) (scope : Scope) (tally : Tally) (ts : List Token) (g : reader.Heading) → reader.heading room scope tally ts ≡ Some g → Headed room scope tally ts g
 unfolding reader.heading
 headed_is room scope tally ts g e =
-    let a = bind_some (ahead.open_paren ts) (λ inner. word (codes "uint64_t") inner >>= λ typed'. ahead.new_name typed' >>= λ name. ahead.becomes name.1 >>= λ behind. started room scope tally name.0 behind) g e in
-    let b = bind_some (word (codes "uint64_t") a.0) (λ typed'. ahead.new_name typed' >>= λ name. ahead.becomes name.1 >>= λ behind. started room scope tally name.0 behind) g a.2 in
-    let c = bind_some (ahead.new_name b.0) (λ name. ahead.becomes name.1 >>= λ behind. started room scope tally name.0 behind) g b.2 in
-    let d = bind_some (ahead.becomes c.0.1) (λ behind. started room scope tally c.0.0 behind) g c.2 in
+    let a = bind_some (ahead.open_paren ts) (λ inner. word (codes "uint64_t") inner >>= λ typed'. ahead.new_name typed' >>= λ name. ahead.equal_sign name.1 >>= λ behind. started room scope tally name.0 behind) g e in
+    let b = bind_some (word (codes "uint64_t") a.0) (λ typed'. ahead.new_name typed' >>= λ name. ahead.equal_sign name.1 >>= λ behind. started room scope tally name.0 behind) g a.2 in
+    let c = bind_some (ahead.new_name b.0) (λ name. ahead.equal_sign name.1 >>= λ behind. started room scope tally name.0 behind) g b.2 in
+    let d = bind_some (ahead.equal_sign c.0.1) (λ behind. started room scope tally c.0.0 behind) g c.2 in
     record {
       name = c.0.0;
       behind = d.0;
       free = (new_name_is b.0 c.0 c.1).free;
       split =
-          open_paren_is ts a.0 a.1 ∙ ap (λ xs. Sign OpenParen ∷ xs) (word_is (codes "uint64_t") a.0 b.0 b.1
+          open_paren_is ts a.0 a.1 ∙ ap (λ xs. Punctuator OpenParen ∷ xs) (word_is (codes "uint64_t") a.0 b.0 b.1
           ∙ ap (λ xs. Word (codes "uint64_t") ∷ xs) ((new_name_is b.0 c.0 c.1).split ∙ ap (λ xs. Word c.0.0 ∷ xs) (becomes_is c.0.1 d.0 d.1)));
       more = started_is room scope tally c.0.0 d.0 g d.2;
     }
 
 heading_at : (scope : Scope) (room o : ℕ) → room + o ≡ 64 → (tally : Tally) (ts : List Token) (w : Name) (behind : List Token) (start test : Got Source) (first second body : List Token) (turn : Got Increment)
-    → is_reserved w ≡ false → ts ≡ Sign OpenParen ∷ Word (codes "uint64_t") ∷ Word w ∷ Sign Becomes ∷ behind
-    → expression room (within scope tally w) behind ≡ Some start → start.rest ≡ Sign Semicolon ∷ first → expression room (within scope tally w) first ≡ Some test → test.rest ≡ Sign Semicolon ∷ second
-    → step (expression room (within scope tally w)) (within scope tally w) second ≡ Some turn → turn.rest ≡ Sign CloseParen ∷ body
+    → is_reserved w ≡ false → ts ≡ Punctuator OpenParen ∷ Word (codes "uint64_t") ∷ Word w ∷ Punctuator EqualSign ∷ behind
+    → expression room (within scope tally w) behind ≡ Some start → start.rest ≡ Punctuator Semicolon ∷ first → expression room (within scope tally w) first ≡ Some test → test.rest ≡ Punctuator Semicolon ∷ second
+    → step (expression room (within scope tally w)) (within scope tally w) second ≡ Some turn → turn.rest ≡ Punctuator CloseParen ∷ body
     → (is_none (find scope w) && (start.sound && (test.sound && turn.sound))) ≡ true
     → HeadingFront scope o tally.next ts (record { name = w; start = start.tree; test = test.tree; step = turn.tree; sound = is_none (find scope w) && (start.sound && (test.sound && turn.sound)); rest = body })
 heading_at scope room o k tally ts w behind start test first second body turn free split a b c d e f all =
@@ -667,8 +667,8 @@ heading_at scope room o k tally ts w behind start test first second body turn fr
       tests = q.front;
       turns = r.front;
       split =
-          split ∙ ap (λ xs. Sign OpenParen ∷ Word (codes "uint64_t") ∷ Word w ∷ Sign Becomes ∷ xs)
-          (p.split ∙ ap (λ xs. p.front ++ xs) (b ∙ ap (λ xs. Sign Semicolon ∷ xs) (q.split ∙ ap (λ xs. q.front ++ xs) (d ∙ ap (λ xs. Sign Semicolon ∷ xs) (r.split ∙ ap (λ xs. r.front ++ xs) f)))));
+          split ∙ ap (λ xs. Punctuator OpenParen ∷ Word (codes "uint64_t") ∷ Word w ∷ Punctuator EqualSign ∷ xs)
+          (p.split ∙ ap (λ xs. p.front ++ xs) (b ∙ ap (λ xs. Punctuator Semicolon ∷ xs) (q.split ∙ ap (λ xs. q.front ++ xs) (d ∙ ap (λ xs. Punctuator Semicolon ∷ xs) (r.split ∙ ap (λ xs. r.front ++ xs) f)))));
       free = free_name scope w free (first_true (is_none (find scope w)) _ all);
       start = as_source (within scope tally w) o p.front start.tree p.reads;
       test = as_cond (within scope tally w) o 0 q.front test.tree q.reads;
@@ -701,20 +701,20 @@ iteration_sound (suc (suc room)) o k once s scope tally ts t e h =
     let below : suc o < 64 = omega arith in
     subst (λ x. StmtFront scope o tally.next (suc tally.left) (Word (codes "for") ∷ ts) x) (out b.2)
     (record {
-      front = Word (codes "for") ∷ Sign OpenParen ∷ Word (codes "uint64_t") ∷ Word head.name ∷ Sign Becomes ∷ (f.starts ++ Sign Semicolon ∷ (f.tests ++ Sign Semicolon ∷ (f.turns ++ Sign CloseParen ∷ r.front)));
+      front = Word (codes "for") ∷ Punctuator OpenParen ∷ Word (codes "uint64_t") ∷ Word head.name ∷ Punctuator EqualSign ∷ (f.starts ++ Punctuator Semicolon ∷ (f.tests ++ Punctuator Semicolon ∷ (f.turns ++ Punctuator CloseParen ∷ r.front)));
       split =
-          ap (λ xs. Word (codes "for") ∷ xs) (f.split ∙ ap (λ xs. Sign OpenParen ∷ Word (codes "uint64_t") ∷ Word head.name ∷ Sign Becomes ∷ (f.starts ++ Sign Semicolon ∷ (f.tests ++ Sign Semicolon ∷ (f.turns ++ Sign CloseParen ∷ xs)))) r.split)
-          ∙ sym (ap (λ xs. Word (codes "for") ∷ Sign OpenParen ∷ Word (codes "uint64_t") ∷ Word head.name ∷ Sign Becomes ∷ xs)
-          (append_assoc f.starts (Sign Semicolon ∷ (f.tests ++ Sign Semicolon ∷ (f.turns ++ Sign CloseParen ∷ r.front))) b.0.rest
-          ∙ ap (λ xs. f.starts ++ Sign Semicolon ∷ xs) (append_assoc f.tests (Sign Semicolon ∷ (f.turns ++ Sign CloseParen ∷ r.front)) b.0.rest
-          ∙ ap (λ xs. f.tests ++ Sign Semicolon ∷ xs) (append_assoc f.turns (Sign CloseParen ∷ r.front) b.0.rest))));
+          ap (λ xs. Word (codes "for") ∷ xs) (f.split ∙ ap (λ xs. Punctuator OpenParen ∷ Word (codes "uint64_t") ∷ Word head.name ∷ Punctuator EqualSign ∷ (f.starts ++ Punctuator Semicolon ∷ (f.tests ++ Punctuator Semicolon ∷ (f.turns ++ Punctuator CloseParen ∷ xs)))) r.split)
+          ∙ sym (ap (λ xs. Word (codes "for") ∷ Punctuator OpenParen ∷ Word (codes "uint64_t") ∷ Word head.name ∷ Punctuator EqualSign ∷ xs)
+          (append_assoc f.starts (Punctuator Semicolon ∷ (f.tests ++ Punctuator Semicolon ∷ (f.turns ++ Punctuator CloseParen ∷ r.front))) b.0.rest
+          ∙ ap (λ xs. f.starts ++ Punctuator Semicolon ∷ xs) (append_assoc f.tests (Punctuator Semicolon ∷ (f.turns ++ Punctuator CloseParen ∷ r.front)) b.0.rest
+          ∙ ap (λ xs. f.tests ++ Punctuator Semicolon ∷ xs) (append_assoc f.turns (Punctuator CloseParen ∷ r.front) b.0.rest))));
       reads = for_loop below f.free f.start f.test f.turn r.reads;
       count = let one : tally.left ≡ stmt_count b.0.tree + b.0.tally.left = r.count in omega arith;
       closed = r.closed;
     })
 
 head_sound : (room o : ℕ) → room + o ≡ 64 → (once twice : StmtReader) → ((inner : ℕ) → room ≡ suc inner → IsStmtSound (suc o) once) → ((inner : ℕ) → room ≡ suc (suc inner) → IsStmtSound (suc (suc o)) twice) → IsHeadSound o (by_head room once twice)
-head_sound room o k once twice s s' scope tally (Sign OpenBrace ∷ ts) t e h = block_sound room o k once s scope tally ts t e h
+head_sound room o k once twice s s' scope tally (Punctuator OpenBrace ∷ ts) t e h = block_sound room o k once s scope tally ts t e h
 head_sound room o k once twice s s' scope tally (Word w ∷ ts) t e h = go (same_name w (codes "if")) refl e
   where
     fourth : (b : Bool) → same_name w (codes "printf") ≡ b → cond b (printing.printed room scope ts >>= λ s. reader.ended tally s) (assignment room scope w ts >>= λ s. reader.ended tally s) ≡ Some t → StmtFront scope o tally.next (suc tally.left) (Word w ∷ ts) t
@@ -734,7 +734,7 @@ head_sound room o k once twice s s' scope tally (Word w ∷ ts) t e h = go (same
         → StmtFront scope o tally.next (suc tally.left) (Word w ∷ ts) t
     go true f d = subst (λ v. StmtFront scope o tally.next (suc tally.left) (Word v ∷ ts) t) (sym (same_is w (codes "if") f)) (selection_sound room o k once twice s s' scope tally ts t d h)
     go false f d = third (same_name w (codes "for")) refl d
-head_sound room o k once twice s s' scope tally (Sign x ∷ ts) t e h = no_some e
+head_sound room o k once twice s s' scope tally (Punctuator x ∷ ts) t e h = no_some e
 head_sound room o k once twice s s' scope tally _ t e h = no_some e
 
 counted_sound : (room o : ℕ) (once twice : StmtReader) → IsHeadSound o (by_head room once twice) → IsStmtSound o (reader.counted room once twice)

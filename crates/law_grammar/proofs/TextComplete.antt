@@ -4,7 +4,7 @@ use Rattle.std.proofs.Common.{cond, refl, ap, ◌∙◌, arith}
 use Rattle.std.proofs.lemmas.Bool.{le-leb}
 use Rattle.std.proofs.lemmas.List.{append_assoc, length-append}
 use Rattle.semantics.specs.Tree.{Name, Source, Number, Items, Declaration}
-use Rattle.semantics.specs.Source.Token.{Token, Word, Sign, Semicolon, Comma, OpenParen, CloseParen, CloseBracket, OpenBrace, CloseBrace, Becomes}
+use Rattle.semantics.specs.Source.Token.{Token, Word, Punctuator, Semicolon, Comma, OpenParen, CloseParen, CloseBracket, OpenBrace, CloseBrace, EqualSign}
 use Rattle.semantics.specs.Source.Typing.{constant}
 use Rattle.semantics.specs.Source.Scope.{Scope, AVariable, AConstant, with_constants, find, IsFree}
 use Rattle.semantics.specs.Source.Statements.{statement_count}
@@ -24,30 +24,30 @@ use Rattle.law_grammar.proofs.ExpressionComplete.{right, expr_read}
 use Rattle.law_grammar.proofs.StatementComplete.{IsClean, clean_more, items_read, tally_of}
 
 -- the lengths of an array, up to the end of its declaration
-lengths_read : {scope : Scope} {ts : List Token} {ns : List ℕ} → ReadsLengths scope ts ns → (n : ℕ) → length ts ≤ n → (rest : List Token) → lengths n scope (ts ++ Sign Semicolon ∷ rest) ≡ Some (right ns (Sign Semicolon ∷ rest))
+lengths_read : {scope : Scope} {ts : List Token} {ns : List ℕ} → ReadsLengths scope ts ns → (n : ℕ) → length ts ≤ n → (rest : List Token) → lengths n scope (ts ++ Punctuator Semicolon ∷ rest) ≡ Some (right ns (Punctuator Semicolon ∷ rest))
 lengths_read no_lengths zero h rest = refl
 lengths_read no_lengths (suc n) h rest = refl
 lengths_read (dimension r c q) zero h rest = absurd (omega arith)
 lengths_read {scope} (dimension {e = e} {n = m} {ns = ns} {ts = ts} {us = us} r c q) (suc n) h rest =
     bind_to (λ y. close_bracket y.rest >>= λ behind. lengths n scope behind >>= λ more. whole y more)
-    (ap (expression 64 scope) (append_assoc ts (Sign CloseBracket ∷ us) (Sign Semicolon ∷ rest)) ∙ expr_read r 64 refl (Sign CloseBracket ∷ (us ++ Sign Semicolon ∷ rest)) refl)
-    ∙ bind_to (λ more. whole (right (Number e) (Sign CloseBracket ∷ (us ++ Sign Semicolon ∷ rest))) more) (lengths_read q n (let l = length-append ts (Sign CloseBracket ∷ us) in omega arith) rest)
-    ∙ ap (λ x. got (length_of x ∷ ns) ((true && true) && (is_length x && true)) (Sign Semicolon ∷ rest)) c
+    (ap (expression 64 scope) (append_assoc ts (Punctuator CloseBracket ∷ us) (Punctuator Semicolon ∷ rest)) ∙ expr_read r 64 refl (Punctuator CloseBracket ∷ (us ++ Punctuator Semicolon ∷ rest)) refl)
+    ∙ bind_to (λ more. whole (right (Number e) (Punctuator CloseBracket ∷ (us ++ Punctuator Semicolon ∷ rest))) more) (lengths_read q n (let l = length-append ts (Punctuator CloseBracket ∷ us) in omega arith) rest)
+    ∙ ap (λ x. got (length_of x ∷ ns) ((true && true) && (is_length x && true)) (Punctuator Semicolon ∷ rest)) c
   where
     whole : Got Source → Got (List ℕ) → Option (Got (List ℕ))
     whole y more = got (length_of (constant (number_in y.tree)) ∷ more.tree) ((y.sound && is_number y.tree) && (is_length (constant (number_in y.tree)) && more.sound)) more.rest
 
 -- enum constants, up to the brace that closes
-constants_read : {scope : Scope} {ts : List Token} {cs : List (Name × ℕ)} → ReadsConstants scope ts cs → (n : ℕ) → length ts ≤ n → (rest : List Token) → constants n scope (ts ++ Sign CloseBrace ∷ rest) ≡ Some (right cs (Sign CloseBrace ∷ rest))
+constants_read : {scope : Scope} {ts : List Token} {cs : List (Name × ℕ)} → ReadsConstants scope ts cs → (n : ℕ) → length ts ≤ n → (rest : List Token) → constants n scope (ts ++ Punctuator CloseBrace ∷ rest) ≡ Some (right cs (Punctuator CloseBrace ∷ rest))
 constants_read (only f r c) zero h rest = absurd (omega arith)
 constants_read {scope} (only {name = w} {e = e} {n = m} {ts = ts} f r c) (suc n) h rest =
-    ap (λ x. named x >>= λ name. ahead.becomes name.1 >>= λ behind. expression 64 scope behind >>= λ y. on name.0 y) f.word
-    ∙ bind_to (on w) (expr_read r 64 refl (Sign CloseBrace ∷ rest) refl)
-    ∙ ap (λ x. got ((w, value_of x) ∷ []) (is_none (find scope w) && ((true && true) && has_value x)) (Sign CloseBrace ∷ rest)) c
-    ∙ ap (λ x. got ((w, m) ∷ []) (is_none x && ((true && true) && true)) (Sign CloseBrace ∷ rest)) f.unused
+    ap (λ x. named x >>= λ name. ahead.equal_sign name.1 >>= λ behind. expression 64 scope behind >>= λ y. on name.0 y) f.word
+    ∙ bind_to (on w) (expr_read r 64 refl (Punctuator CloseBrace ∷ rest) refl)
+    ∙ ap (λ x. got ((w, value_of x) ∷ []) (is_none (find scope w) && ((true && true) && has_value x)) (Punctuator CloseBrace ∷ rest)) c
+    ∙ ap (λ x. got ((w, m) ∷ []) (is_none x && ((true && true) && true)) (Punctuator CloseBrace ∷ rest)) f.unused
   where
     named : Bool → Option (Name × List Token)
-    named x = cond x None (Some (w, Sign Becomes ∷ (ts ++ Sign CloseBrace ∷ rest)))
+    named x = cond x None (Some (w, Punctuator EqualSign ∷ (ts ++ Punctuator CloseBrace ∷ rest)))
 
     on : Name → Got Source → Option (Got (List (Name × ℕ)))
     on w y =
@@ -57,14 +57,14 @@ constants_read {scope} (only {name = w} {e = e} {n = m} {ts = ts} f r c) (suc n)
         got ((w, value_of (constant (number_in y.tree))) ∷ more.tree) ((is_none (find scope w) && ((y.sound && is_number y.tree) && has_value (constant (number_in y.tree)))) && more.sound) more.rest)
 constants_read (further f r c q) zero h rest = absurd (omega arith)
 constants_read {scope} (further {name = w} {e = e} {n = m} {cs = cs} {ts = ts} {us = us} f r c q) (suc n) h rest =
-    ap (λ x. named x >>= λ name. ahead.becomes name.1 >>= λ behind. expression 64 scope behind >>= λ y. on name.0 y) f.word
-    ∙ bind_to (on w) (ap (expression 64 scope) (append_assoc ts (Sign Comma ∷ us) (Sign CloseBrace ∷ rest)) ∙ expr_read r 64 refl (Sign Comma ∷ (us ++ Sign CloseBrace ∷ rest)) refl)
-    ∙ ap (λ x. constants n ((w, AConstant (value_of x)) ∷ scope) (us ++ Sign CloseBrace ∷ rest) >>= λ more. got ((w, value_of x) ∷ more.tree) ((is_none (find scope w) && ((true && true) && has_value x)) && more.sound) more.rest) c
-    ∙ bind_to (λ more. got ((w, m) ∷ more.tree) ((is_none (find scope w) && ((true && true) && true)) && more.sound) more.rest) (constants_read q n (let l = length-append ts (Sign Comma ∷ us) in omega arith) rest)
-    ∙ ap (λ x. got ((w, m) ∷ cs) ((is_none x && ((true && true) && true)) && true) (Sign CloseBrace ∷ rest)) f.unused
+    ap (λ x. named x >>= λ name. ahead.equal_sign name.1 >>= λ behind. expression 64 scope behind >>= λ y. on name.0 y) f.word
+    ∙ bind_to (on w) (ap (expression 64 scope) (append_assoc ts (Punctuator Comma ∷ us) (Punctuator CloseBrace ∷ rest)) ∙ expr_read r 64 refl (Punctuator Comma ∷ (us ++ Punctuator CloseBrace ∷ rest)) refl)
+    ∙ ap (λ x. constants n ((w, AConstant (value_of x)) ∷ scope) (us ++ Punctuator CloseBrace ∷ rest) >>= λ more. got ((w, value_of x) ∷ more.tree) ((is_none (find scope w) && ((true && true) && has_value x)) && more.sound) more.rest) c
+    ∙ bind_to (λ more. got ((w, m) ∷ more.tree) ((is_none (find scope w) && ((true && true) && true)) && more.sound) more.rest) (constants_read q n (let l = length-append ts (Punctuator Comma ∷ us) in omega arith) rest)
+    ∙ ap (λ x. got ((w, m) ∷ cs) ((is_none x && ((true && true) && true)) && true) (Punctuator CloseBrace ∷ rest)) f.unused
   where
     named : Bool → Option (Name × List Token)
-    named x = cond x None (Some (w, Sign Becomes ∷ ((ts ++ Sign Comma ∷ us) ++ Sign CloseBrace ∷ rest)))
+    named x = cond x None (Some (w, Punctuator EqualSign ∷ ((ts ++ Punctuator Comma ∷ us) ++ Punctuator CloseBrace ∷ rest)))
 
     on : Name → Got Source → Option (Got (List (Name × ℕ)))
     on w y =
@@ -79,23 +79,23 @@ clean_constants {scope} (only {name = w} {n = m} f r c) k = clean_more scope w (
 clean_constants {scope} (further {name = w} {n = m} f r c q) k = clean_constants q (clean_more scope w (AConstant m) f.word k)
 
 enumeration_read : {scope : Scope} {ts : List Token} {cs : List (Name × ℕ)} → ReadsConstants scope ts cs → (rest : List Token)
-    → text.enumeration scope (Sign OpenBrace ∷ (ts ++ Sign CloseBrace ∷ Sign Semicolon ∷ rest)) ≡ Some (right cs rest)
+    → text.enumeration scope (Punctuator OpenBrace ∷ (ts ++ Punctuator CloseBrace ∷ Punctuator Semicolon ∷ rest)) ≡ Some (right cs rest)
 unfolding text.enumeration
 enumeration_read {scope} {ts} {cs} r rest =
     bind_to (λ cs. ahead.close_brace cs.rest >>= λ behind. ahead.semicolon behind >>= λ after. got cs.tree cs.sound after)
-    (constants_read r (length (ts ++ Sign CloseBrace ∷ Sign Semicolon ∷ rest)) (let l = length-append ts (Sign CloseBrace ∷ Sign Semicolon ∷ rest) in omega arith) (Sign Semicolon ∷ rest))
+    (constants_read r (length (ts ++ Punctuator CloseBrace ∷ Punctuator Semicolon ∷ rest)) (let l = length-append ts (Punctuator CloseBrace ∷ Punctuator Semicolon ∷ rest) in omega arith) (Punctuator Semicolon ∷ rest))
 
 variable_read : {scope : Scope} {ts : List Token} {ns : List ℕ} (name : Name) → IsFree scope name → length ns ≤ 4 → ReadsLengths scope ts ns → (rest : List Token)
-    → text.variable scope (Word name ∷ (ts ++ Sign Semicolon ∷ rest)) ≡ Some (right (record { name = name; lengths = ns }) rest)
+    → text.variable scope (Word name ∷ (ts ++ Punctuator Semicolon ∷ rest)) ≡ Some (right (record { name = name; lengths = ns }) rest)
 unfolding text.variable
 variable_read {scope} {ts} {ns} w f most r rest =
     ap (λ x. named x >>= on) f.word
     ∙ bind_to (λ ns. ahead.semicolon ns.rest >>= λ behind. whole w ns behind)
-    (lengths_read r (length (ts ++ Sign Semicolon ∷ rest)) (let l = length-append ts (Sign Semicolon ∷ rest) in omega arith) rest)
+    (lengths_read r (length (ts ++ Punctuator Semicolon ∷ rest)) (let l = length-append ts (Punctuator Semicolon ∷ rest) in omega arith) rest)
     ∙ ap (λ x. declared (is_none x && (true && nat_le (length ns) 4))) f.unused ∙ ap declared (le-leb (length ns) 4 most)
   where
     named : Bool → Option (Name × List Token)
-    named x = cond x None (Some (w, ts ++ Sign Semicolon ∷ rest))
+    named x = cond x None (Some (w, ts ++ Punctuator Semicolon ∷ rest))
 
     whole : Name → Got (List ℕ) → List Token → Option (Got Declaration)
     whole w ns behind = got (record { name = w; lengths = ns.tree }) (is_none (find scope w) && (ns.sound && nat_le (length ns.tree) 4)) behind
@@ -121,16 +121,16 @@ declarations_read no_decls (suc n) h rest = refl
 declarations_read (enum r q) zero h rest = absurd (omega arith)
 declarations_read {scope} {next = next} (enum {cs = cs} {ds = ds} {ts = ts} {us = us} r q) (suc n) h rest =
     bind_to (λ cs. declarations n (with_constants cs.tree scope) next cs.rest >>= λ more. whole cs more)
-    (ap (λ xs. text.enumeration scope (Sign OpenBrace ∷ xs)) (append_assoc ts (Sign CloseBrace ∷ Sign Semicolon ∷ us) (kernel_follows rest)) ∙ enumeration_read r (us ++ kernel_follows rest))
-    ∙ bind_to (λ more. whole (right cs (us ++ kernel_follows rest)) more) (declarations_read q n (let l = length-append ts (Sign CloseBrace ∷ Sign Semicolon ∷ us) in omega arith) rest)
+    (ap (λ xs. text.enumeration scope (Punctuator OpenBrace ∷ xs)) (append_assoc ts (Punctuator CloseBrace ∷ Punctuator Semicolon ∷ us) (kernel_follows rest)) ∙ enumeration_read r (us ++ kernel_follows rest))
+    ∙ bind_to (λ more. whole (right cs (us ++ kernel_follows rest)) more) (declarations_read q n (let l = length-append ts (Punctuator CloseBrace ∷ Punctuator Semicolon ∷ us) in omega arith) rest)
   where
     whole : Got (List (Name × ℕ)) → Decls → Option Decls
     whole cs more = Some (record { constants = cs.tree ++ more.constants; variables = more.variables; scope = more.scope; sound = cs.sound && more.sound; rest = more.rest })
 declarations_read (object f most r q) zero h rest = absurd (omega arith)
 declarations_read {scope} {next = next} (object {name = w} {ns = ns} {ts = ts} {us = us} f most r q) (suc n) h rest =
     bind_to (λ v. declarations n ((v.tree.name, AVariable next (length v.tree.lengths)) ∷ scope) (suc next) v.rest >>= λ more. whole v more)
-    (ap (λ xs. text.variable scope (Word w ∷ xs)) (append_assoc ts (Sign Semicolon ∷ us) (kernel_follows rest)) ∙ variable_read w f most r (us ++ kernel_follows rest))
-    ∙ bind_to (λ more. whole (right (record { name = w; lengths = ns }) (us ++ kernel_follows rest)) more) (declarations_read q n (let l = length-append ts (Sign Semicolon ∷ us) in omega arith) rest)
+    (ap (λ xs. text.variable scope (Word w ∷ xs)) (append_assoc ts (Punctuator Semicolon ∷ us) (kernel_follows rest)) ∙ variable_read w f most r (us ++ kernel_follows rest))
+    ∙ bind_to (λ more. whole (right (record { name = w; lengths = ns }) (us ++ kernel_follows rest)) more) (declarations_read q n (let l = length-append ts (Punctuator Semicolon ∷ us) in omega arith) rest)
   where
     whole : Got Declaration → Decls → Option Decls
     whole v more = Some (record { constants = more.constants; variables = v.tree ∷ more.variables; scope = more.scope; sound = v.sound && more.sound; rest = more.rest })
@@ -153,7 +153,7 @@ behind_all : (hs : List ℕ) (ts : List Token) → behind_headers (headers hs ++
 behind_all [] ts = refl
 behind_all (h ∷ hs) ts = behind_all hs ts
 
-opening_read : (rest : List Token) → text.opening (Word (codes "void") ∷ Word (codes "kernel") ∷ Sign OpenParen ∷ Word (codes "void") ∷ Sign CloseParen ∷ Sign OpenBrace ∷ rest) ≡ Some rest
+opening_read : (rest : List Token) → text.opening (Word (codes "void") ∷ Word (codes "kernel") ∷ Punctuator OpenParen ∷ Word (codes "void") ∷ Punctuator CloseParen ∷ Punctuator OpenBrace ∷ rest) ≡ Some rest
 unfolding text.opening
 opening_read rest = refl
 
@@ -163,17 +163,17 @@ unfolding kernel
 kernel_read ts tree r =
     ap (λ xs. declarations (length xs) [] 0 xs >>= on) front
     ∙ bind_to on (declarations_read r.declared (length (r.decls ++ kernel_follows behind)) (let l = length-append r.decls (kernel_follows behind) in omega arith) behind)
-    ∙ bind_to (within ds) (opening_read (r.body ++ Sign CloseBrace ∷ []))
+    ∙ bind_to (within ds) (opening_read (r.body ++ Punctuator CloseBrace ∷ []))
     ∙ bind_to (λ is. ahead.close_brace is.rest >>= λ behind. text.at_end behind >>= λ end. whole ds is)
     (ap (λ n. items (length inner) 63 (reader.statement 63) r.scope (tally_of (length tree.variables) n) inner) left
-    ∙ items_read r.items (clean_decls r.declared clean_nothing) 63 refl (length inner) (4096 - statement_count tree.body) [] (let l = length-append r.body (Sign CloseBrace ∷ []) in omega arith))
+    ∙ items_read r.items (clean_decls r.declared clean_nothing) 63 refl (length inner) (4096 - statement_count tree.body) [] (let l = length-append r.body (Punctuator CloseBrace ∷ []) in omega arith))
     ∙ ap (λ b. Some (record { tree = tree; sound = true && (true && b) })) (le-leb (elements tree.variables) (2 ^ 24) r.within)
   where
     inner : List Token
-    inner = r.body ++ Sign CloseBrace ∷ []
+    inner = r.body ++ Punctuator CloseBrace ∷ []
 
     behind : List Token
-    behind = Word (codes "kernel") ∷ Sign OpenParen ∷ Word (codes "void") ∷ Sign CloseParen ∷ Sign OpenBrace ∷ inner
+    behind = Word (codes "kernel") ∷ Punctuator OpenParen ∷ Word (codes "void") ∷ Punctuator CloseParen ∷ Punctuator OpenBrace ∷ inner
 
     ds : Decls
     ds = decls_of tree.constants tree.variables r.scope (kernel_follows behind)

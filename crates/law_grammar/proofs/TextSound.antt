@@ -4,7 +4,7 @@ use Rattle.std.proofs.Common.{cond, refl, sym, ap, ◌∙◌, subst, arith}
 use Rattle.std.proofs.lemmas.Bool.{leb-true}
 use Rattle.std.proofs.lemmas.List.{append_assoc}
 use Rattle.semantics.specs.Tree.{Name, Expr, Source, Items, Declaration, Kernel}
-use Rattle.semantics.specs.Source.Token.{Token, Word, Digits, Quoted, Sign, Header, Line, Semicolon, Comma, OpenParen, CloseParen, OpenBracket, CloseBracket, OpenBrace, CloseBrace, Becomes}
+use Rattle.semantics.specs.Source.Token.{Token, Word, IntegerConstant, StringLiteral, Punctuator, Header, Line, Semicolon, Comma, OpenParen, CloseParen, OpenBracket, CloseBracket, OpenBrace, CloseBrace, EqualSign}
 use Rattle.semantics.specs.Source.Typing.{constant}
 use Rattle.semantics.specs.Source.Scope.{Scope, AVariable, AConstant, with_constants, find, same_name, IsFree}
 use Rattle.semantics.specs.Source.Expressions.{ReadsExpr}
@@ -26,14 +26,14 @@ use Rattle.law_grammar.proofs.StatementSound.{semicolon_is, open_paren_is, becom
 use Rattle.law_grammar.proofs.StatementComplete.{same_is}
 use Rattle.law_grammar.proofs.TextComplete.{kernel_read}
 
-open_brace_is : (ts us : List Token) → ahead.open_brace ts ≡ Some us → ts ≡ Sign OpenBrace ∷ us
-open_brace_is (Sign OpenBrace ∷ ts) us e = ap (λ xs. Sign OpenBrace ∷ xs) (out e)
-open_brace_is (Sign s ∷ ts) us e = no_some e
+open_brace_is : (ts us : List Token) → ahead.open_brace ts ≡ Some us → ts ≡ Punctuator OpenBrace ∷ us
+open_brace_is (Punctuator OpenBrace ∷ ts) us e = ap (λ xs. Punctuator OpenBrace ∷ xs) (out e)
+open_brace_is (Punctuator s ∷ ts) us e = no_some e
 open_brace_is _ us e = no_some e
 
-comma_is : (ts us : List Token) → ahead.comma ts ≡ Some us → ts ≡ Sign Comma ∷ us
-comma_is (Sign Comma ∷ ts) us e = ap (λ xs. Sign Comma ∷ xs) (out e)
-comma_is (Sign s ∷ ts) us e = no_some e
+comma_is : (ts us : List Token) → ahead.comma ts ≡ Some us → ts ≡ Punctuator Comma ∷ us
+comma_is (Punctuator Comma ∷ ts) us e = ap (λ xs. Punctuator Comma ∷ xs) (out e)
+comma_is (Punctuator s ∷ ts) us e = no_some e
 comma_is _ us e = no_some e
 
 length_is : (o : Option ℕ) → is_length o ≡ true → (n : ℕ) × (o ≡ Some (suc n)) × (length_of o ≡ suc n)
@@ -48,13 +48,13 @@ value_is (Some n) h = refl
 no_length : (scope : Scope) (ts : List Token) (g : Got (List ℕ)) → got [] true ts ≡ Some g → Front (ReadsLengths scope) ts g
 no_length scope ts g e = subst (λ x. Front (ReadsLengths scope) ts x) (out e) (record { front = []; split = refl; reads = no_lengths })
 
-with_length : (scope : Scope) (e : Expr) (ts us : List Token) (ns : List ℕ) → ReadsExpr scope 0 0 ts e → is_length (constant e) ≡ true → ReadsLengths scope us ns → ReadsLengths scope (Sign OpenBracket ∷ (ts ++ Sign CloseBracket ∷ us)) (length_of (constant e) ∷ ns)
+with_length : (scope : Scope) (e : Expr) (ts us : List Token) (ns : List ℕ) → ReadsExpr scope 0 0 ts e → is_length (constant e) ≡ true → ReadsLengths scope us ns → ReadsLengths scope (Punctuator OpenBracket ∷ (ts ++ Punctuator CloseBracket ∷ us)) (length_of (constant e) ∷ ns)
 with_length scope e ts us ns r c q =
     let is = length_is (constant e) c in
-    subst (λ n. ReadsLengths scope (Sign OpenBracket ∷ (ts ++ Sign CloseBracket ∷ us)) (n ∷ ns)) (sym is.2) (dimension r is.1 q)
+    subst (λ n. ReadsLengths scope (Punctuator OpenBracket ∷ (ts ++ Punctuator CloseBracket ∷ us)) (n ∷ ns)) (sym is.2) (dimension r is.1 q)
 
 lengths_sound : (scope : Scope) (n : ℕ) → IsSound (lengths n scope) (ReadsLengths scope)
-lengths_sound scope (suc n) (Sign OpenBracket ∷ ts) g e h =
+lengths_sound scope (suc n) (Punctuator OpenBracket ∷ ts) g e h =
     let whole : Got Source → Got (List ℕ) → Option (Got (List ℕ)) =
     (λ y more. got (length_of (constant (number_in y.tree)) ∷ more.tree) ((y.sound && is_number y.tree) && (is_length (constant (number_in y.tree)) && more.sound)) more.rest) in
     let a = bind_some (expression 64 scope ts) (λ y. close_bracket y.rest >>= λ behind. lengths n scope behind >>= λ more. whole y more) g e in
@@ -65,18 +65,18 @@ lengths_sound scope (suc n) (Sign OpenBracket ∷ ts) g e h =
     let behind : (is_length (constant (number_in a.0.tree)) && c.0.sound) ≡ true = second_true (a.0.sound && is_number a.0.tree) _ all in
     let r = expression_sound scope 64 0 refl ts a.0 a.1 (first_true a.0.sound _ front) in
     let q = lengths_sound scope n b.0 c.0 c.1 (second_true (is_length (constant (number_in a.0.tree))) _ behind) in
-    subst (λ x. Front (ReadsLengths scope) (Sign OpenBracket ∷ ts) x) (out c.2)
+    subst (λ x. Front (ReadsLengths scope) (Punctuator OpenBracket ∷ ts) x) (out c.2)
     (record {
-      front = Sign OpenBracket ∷ (r.front ++ Sign CloseBracket ∷ q.front);
-      split = ap (λ xs. Sign OpenBracket ∷ xs) (r.split ∙ ap (λ xs. r.front ++ xs) (close_bracket_is a.0.rest b.0 b.1 ∙ ap (λ xs. Sign CloseBracket ∷ xs) q.split) ∙ sym (append_assoc r.front (Sign CloseBracket ∷ q.front) c.0.rest));
+      front = Punctuator OpenBracket ∷ (r.front ++ Punctuator CloseBracket ∷ q.front);
+      split = ap (λ xs. Punctuator OpenBracket ∷ xs) (r.split ∙ ap (λ xs. r.front ++ xs) (close_bracket_is a.0.rest b.0 b.1 ∙ ap (λ xs. Punctuator CloseBracket ∷ xs) q.split) ∙ sym (append_assoc r.front (Punctuator CloseBracket ∷ q.front) c.0.rest));
       reads = with_length scope (number_in a.0.tree) r.front q.front c.0.tree (as_number scope 0 0 r.front a.0.tree (second_true a.0.sound _ front) r.reads) (first_true (is_length (constant (number_in a.0.tree))) _ behind) q.reads;
     })
 lengths_sound scope zero ts g e h = no_length scope ts g e
-lengths_sound scope (suc n) (Sign s ∷ ts) g e h = no_length scope (Sign s ∷ ts) g e
+lengths_sound scope (suc n) (Punctuator s ∷ ts) g e h = no_length scope (Punctuator s ∷ ts) g e
 lengths_sound scope (suc n) ts g e h = no_length scope ts g e
 
 -- the constants of one declaration, behind the first name
-constant_sound : (scope : Scope) (w : Name) (more : Reader (List (Name × ℕ))) (ts behind : List Token) (y : Got Source) → IsFree scope w → ts ≡ Word w ∷ Sign Becomes ∷ behind
+constant_sound : (scope : Scope) (w : Name) (more : Reader (List (Name × ℕ))) (ts behind : List Token) (y : Got Source) → IsFree scope w → ts ≡ Word w ∷ Punctuator EqualSign ∷ behind
     → (y.sound ≡ true → Front (AsAt scope 0 0) behind y) → IsSound more (ReadsConstants ((w, AConstant (value_of (constant (number_in y.tree)))) ∷ scope))
     → (x : Option (List Token)) → ahead.comma y.rest ≡ x → (g : Got (List (Name × ℕ)))
     → chosen x
@@ -89,8 +89,8 @@ constant_sound scope w more ts behind y free begins first rest None f g e h =
     let r = first (first_true y.sound _ front) in
     subst (λ x. Front (ReadsConstants scope) ts x) (out e)
     (record {
-      front = Word w ∷ Sign Becomes ∷ r.front;
-      split = begins ∙ ap (λ xs. Word w ∷ Sign Becomes ∷ xs) r.split;
+      front = Word w ∷ Punctuator EqualSign ∷ r.front;
+      split = begins ∙ ap (λ xs. Word w ∷ Punctuator EqualSign ∷ xs) r.split;
       reads = only free (as_number scope 0 0 r.front y.tree (second_true y.sound _ front) r.reads) (value_is (constant (number_in y.tree)) (second_true (y.sound && is_number y.tree) _ all));
     })
 constant_sound scope w more ts behind y free begins first rest (Some next) f g e h =
@@ -103,8 +103,8 @@ constant_sound scope w more ts behind y free begins first rest (Some next) f g e
     let q = rest next a.0 a.1 (second_true ((y.sound && is_number y.tree) && has_value (constant (number_in y.tree))) _ whole) in
     subst (λ x. Front (ReadsConstants scope) ts x) (out a.2)
     (record {
-      front = Word w ∷ Sign Becomes ∷ (r.front ++ Sign Comma ∷ q.front);
-      split = begins ∙ ap (λ xs. Word w ∷ Sign Becomes ∷ xs) (r.split ∙ ap (λ xs. r.front ++ xs) (comma_is y.rest next f ∙ ap (λ xs. Sign Comma ∷ xs) q.split) ∙ sym (append_assoc r.front (Sign Comma ∷ q.front) a.0.rest));
+      front = Word w ∷ Punctuator EqualSign ∷ (r.front ++ Punctuator Comma ∷ q.front);
+      split = begins ∙ ap (λ xs. Word w ∷ Punctuator EqualSign ∷ xs) (r.split ∙ ap (λ xs. r.front ++ xs) (comma_is y.rest next f ∙ ap (λ xs. Punctuator Comma ∷ xs) q.split) ∙ sym (append_assoc r.front (Punctuator Comma ∷ q.front) a.0.rest));
       reads = further free (as_number scope 0 0 r.front y.tree (second_true y.sound _ front) r.reads) (value_is (constant (number_in y.tree)) (second_true (y.sound && is_number y.tree) _ all)) q.reads;
     })
 
@@ -125,9 +125,9 @@ after_keeps u w more scope y (Some next) g e h =
 constants_sound : (n : ℕ) (scope : Scope) → IsSound (constants n scope) (ReadsConstants scope)
 constants_sound zero scope ts g e h = no_some e
 constants_sound (suc n) scope ts g e h =
-    let a = bind_some (ahead.new_name ts) (λ name. ahead.becomes name.1 >>= λ behind. expression 64 scope behind >>= λ y. after_constant (is_none (find scope name.0)) name.0 (constants n) scope y (ahead.comma y.rest)) g e in
+    let a = bind_some (ahead.new_name ts) (λ name. ahead.equal_sign name.1 >>= λ behind. expression 64 scope behind >>= λ y. after_constant (is_none (find scope name.0)) name.0 (constants n) scope y (ahead.comma y.rest)) g e in
     let w : Name = a.0.0 in
-    let b = bind_some (ahead.becomes a.0.1) (λ behind. expression 64 scope behind >>= λ y. after_constant (is_none (find scope w)) w (constants n) scope y (ahead.comma y.rest)) g a.2 in
+    let b = bind_some (ahead.equal_sign a.0.1) (λ behind. expression 64 scope behind >>= λ y. after_constant (is_none (find scope w)) w (constants n) scope y (ahead.comma y.rest)) g a.2 in
     let c = bind_some (expression 64 scope b.0) (λ y. after_constant (is_none (find scope w)) w (constants n) scope y (ahead.comma y.rest)) g b.2 in
     let unused : is_none (find scope w) ≡ true = after_keeps (is_none (find scope w)) w (constants n) scope c.0 (ahead.comma c.0.rest) g c.2 h in
     let name = new_name_is ts a.0 a.1 in
@@ -149,7 +149,7 @@ no_more : (scope : Scope) (next : ℕ) (ts : List Token) (ds : Decls) → Some (
 no_more scope next ts ds e = subst (λ x. DeclsFront scope next ts x) (out e) (record { front = []; split = refl; reads = no_decls })
 
 enumeration_sound : (scope : Scope) (ts : List Token) (g : Got (List (Name × ℕ))) → text.enumeration scope ts ≡ Some g → g.sound ≡ true
-    → (front : List Token) × (ts ≡ Sign OpenBrace ∷ (front ++ Sign CloseBrace ∷ Sign Semicolon ∷ g.rest)) × ReadsConstants scope front g.tree
+    → (front : List Token) × (ts ≡ Punctuator OpenBrace ∷ (front ++ Punctuator CloseBrace ∷ Punctuator Semicolon ∷ g.rest)) × ReadsConstants scope front g.tree
 unfolding text.enumeration
 enumeration_sound scope ts g e h =
     let a = bind_some (ahead.open_brace ts) (λ inner. constants (length inner) scope inner >>= λ cs. ahead.close_brace cs.rest >>= λ behind. ahead.semicolon behind >>= λ after. got cs.tree cs.sound after) g e in
@@ -158,12 +158,12 @@ enumeration_sound scope ts g e h =
     let d = bind_some (ahead.semicolon c.0) (λ after. got b.0.tree b.0.sound after) g c.2 in
     let r = constants_sound (length a.0) scope a.0 b.0 b.1 (ap (λ x. x.sound) (out d.2) ∙ h) in (
       r.front,
-      open_brace_is ts a.0 a.1 ∙ ap (λ xs. Sign OpenBrace ∷ xs) (r.split ∙ ap (λ xs. r.front ++ xs) (close_brace_is b.0.rest c.0 c.1 ∙ ap (λ xs. Sign CloseBrace ∷ xs) (semicolon_is c.0 d.0 d.1 ∙ ap (λ x. Sign Semicolon ∷ x.rest) (out d.2)))),
+      open_brace_is ts a.0 a.1 ∙ ap (λ xs. Punctuator OpenBrace ∷ xs) (r.split ∙ ap (λ xs. r.front ++ xs) (close_brace_is b.0.rest c.0 c.1 ∙ ap (λ xs. Punctuator CloseBrace ∷ xs) (semicolon_is c.0 d.0 d.1 ∙ ap (λ x. Punctuator Semicolon ∷ x.rest) (out d.2)))),
       subst (λ x. ReadsConstants scope r.front x.tree) (out d.2) r.reads,
     )
 
 variable_sound : (scope : Scope) (ts : List Token) (g : Got Declaration) → text.variable scope ts ≡ Some g → g.sound ≡ true
-    → (front : List Token) × (ts ≡ Word g.tree.name ∷ (front ++ Sign Semicolon ∷ g.rest)) × IsFree scope g.tree.name × (length g.tree.lengths ≤ 4) × ReadsLengths scope front g.tree.lengths
+    → (front : List Token) × (ts ≡ Word g.tree.name ∷ (front ++ Punctuator Semicolon ∷ g.rest)) × IsFree scope g.tree.name × (length g.tree.lengths ≤ 4) × ReadsLengths scope front g.tree.lengths
 unfolding text.variable
 variable_sound scope ts g e h =
     let whole : Name → Got (List ℕ) → List Token → Option (Got Declaration) =
@@ -176,7 +176,7 @@ variable_sound scope ts g e h =
     let some : (b.0.sound && nat_le (length b.0.tree) 4) ≡ true = second_true (is_none (find scope w)) _ all in
     let name = new_name_is ts a.0 a.1 in
     let r = lengths_sound scope (length a.0.1) a.0.1 b.0 b.1 (first_true b.0.sound _ some) in
-    subst (λ x. (front : List Token) × (ts ≡ Word x.tree.name ∷ (front ++ Sign Semicolon ∷ x.rest)) × IsFree scope x.tree.name × (length x.tree.lengths ≤ 4) × ReadsLengths scope front x.tree.lengths) (out c.2) (
+    subst (λ x. (front : List Token) × (ts ≡ Word x.tree.name ∷ (front ++ Punctuator Semicolon ∷ x.rest)) × IsFree scope x.tree.name × (length x.tree.lengths ≤ 4) × ReadsLengths scope front x.tree.lengths) (out c.2) (
       r.front,
       name.split ∙ ap (λ xs. Word w ∷ xs) (r.split ∙ ap (λ xs. r.front ++ xs) (semicolon_is b.0.rest c.0 c.1)),
       free_name scope w name.free (first_true (is_none (find scope w)) _ all),
@@ -197,8 +197,8 @@ enum_sound more k scope next ts ds e h =
     let q = k (with_constants a.0.tree scope) next a.0.rest b.0 b.1 (second_true a.0.sound _ all) in
     subst (λ x. DeclsFront scope next (Word (codes "enum") ∷ ts) x) (out b.2)
     (record {
-      front = Word (codes "enum") ∷ Sign OpenBrace ∷ (r.0 ++ Sign CloseBrace ∷ Sign Semicolon ∷ q.front);
-      split = ap (λ xs. Word (codes "enum") ∷ xs) (r.1 ∙ ap (λ xs. Sign OpenBrace ∷ (r.0 ++ Sign CloseBrace ∷ Sign Semicolon ∷ xs)) q.split ∙ ap (λ xs. Sign OpenBrace ∷ xs) (sym (append_assoc r.0 (Sign CloseBrace ∷ Sign Semicolon ∷ q.front) b.0.rest)));
+      front = Word (codes "enum") ∷ Punctuator OpenBrace ∷ (r.0 ++ Punctuator CloseBrace ∷ Punctuator Semicolon ∷ q.front);
+      split = ap (λ xs. Word (codes "enum") ∷ xs) (r.1 ∙ ap (λ xs. Punctuator OpenBrace ∷ (r.0 ++ Punctuator CloseBrace ∷ Punctuator Semicolon ∷ xs)) q.split ∙ ap (λ xs. Punctuator OpenBrace ∷ xs) (sym (append_assoc r.0 (Punctuator CloseBrace ∷ Punctuator Semicolon ∷ q.front) b.0.rest)));
       reads = enum r.2 q.reads;
     })
 
@@ -215,8 +215,8 @@ object_sound more k scope next ts ds e h =
     let q = k ((a.0.tree.name, AVariable next (length a.0.tree.lengths)) ∷ scope) (suc next) a.0.rest b.0 b.1 (second_true a.0.sound _ all) in
     subst (λ x. DeclsFront scope next (Word (codes "uint64_t") ∷ ts) x) (out b.2)
     (record {
-      front = Word (codes "uint64_t") ∷ Word a.0.tree.name ∷ (r.0 ++ Sign Semicolon ∷ q.front);
-      split = ap (λ xs. Word (codes "uint64_t") ∷ xs) (r.1 ∙ ap (λ xs. Word a.0.tree.name ∷ (r.0 ++ Sign Semicolon ∷ xs)) q.split ∙ ap (λ xs. Word a.0.tree.name ∷ xs) (sym (append_assoc r.0 (Sign Semicolon ∷ q.front) b.0.rest)));
+      front = Word (codes "uint64_t") ∷ Word a.0.tree.name ∷ (r.0 ++ Punctuator Semicolon ∷ q.front);
+      split = ap (λ xs. Word (codes "uint64_t") ∷ xs) (r.1 ∙ ap (λ xs. Word a.0.tree.name ∷ (r.0 ++ Punctuator Semicolon ∷ xs)) q.split ∙ ap (λ xs. Word a.0.tree.name ∷ xs) (sym (append_assoc r.0 (Punctuator Semicolon ∷ q.front) b.0.rest)));
       reads = object r.2 r.3 r.4 q.reads;
     })
 
@@ -242,9 +242,9 @@ declarations_sound (suc n) scope next (Word w ∷ ts) ds e h = go (same_name w (
     go true f k d = subst (λ v. DeclsFront scope next (Word v ∷ ts) ds) (sym (same_is w (codes "enum") f)) (enum_sound (declarations n) k scope next ts ds d h)
     go false f k d = other (same_name w (codes "uint64_t")) refl k d
 declarations_sound (suc n) scope next [] ds e h = no_more scope next [] ds e
-declarations_sound (suc n) scope next (Digits m s ∷ ts) ds e h = no_more scope next (Digits m s ∷ ts) ds e
-declarations_sound (suc n) scope next (Quoted cs o ∷ ts) ds e h = no_more scope next (Quoted cs o ∷ ts) ds e
-declarations_sound (suc n) scope next (Sign s ∷ ts) ds e h = no_more scope next (Sign s ∷ ts) ds e
+declarations_sound (suc n) scope next (IntegerConstant m s ∷ ts) ds e h = no_more scope next (IntegerConstant m s ∷ ts) ds e
+declarations_sound (suc n) scope next (StringLiteral cs o ∷ ts) ds e h = no_more scope next (StringLiteral cs o ∷ ts) ds e
+declarations_sound (suc n) scope next (Punctuator s ∷ ts) ds e h = no_more scope next (Punctuator s ∷ ts) ds e
 declarations_sound (suc n) scope next (Header m ∷ ts) ds e h = no_more scope next (Header m ∷ ts) ds e
 declarations_sound (suc n) scope next (Line m ∷ ts) ds e h = no_more scope next (Line m ∷ ts) ds e
 
@@ -253,16 +253,16 @@ headers_are : (ts : List Token) → (hs : List ℕ) × (ts ≡ headers hs ++ beh
 headers_are (Header h ∷ ts) = let r = headers_are ts in (h ∷ r.0, ap (λ xs. Header h ∷ xs) r.1)
 headers_are [] = ([], refl)
 headers_are (Word w ∷ ts) = ([], refl)
-headers_are (Digits n s ∷ ts) = ([], refl)
-headers_are (Quoted cs o ∷ ts) = ([], refl)
-headers_are (Sign s ∷ ts) = ([], refl)
+headers_are (IntegerConstant n s ∷ ts) = ([], refl)
+headers_are (StringLiteral cs o ∷ ts) = ([], refl)
+headers_are (Punctuator s ∷ ts) = ([], refl)
 headers_are (Line n ∷ ts) = ([], refl)
 
 at_end_is : (ts us : List Token) → text.at_end ts ≡ Some us → ts ≡ []
 at_end_is [] us e = refl
 at_end_is (t ∷ ts) us e = no_some e
 
-opening_is : (ts us : List Token) → text.opening ts ≡ Some us → ts ≡ Word (codes "void") ∷ Word (codes "kernel") ∷ Sign OpenParen ∷ Word (codes "void") ∷ Sign CloseParen ∷ Sign OpenBrace ∷ us
+opening_is : (ts us : List Token) → text.opening ts ≡ Some us → ts ≡ Word (codes "void") ∷ Word (codes "kernel") ∷ Punctuator OpenParen ∷ Word (codes "void") ∷ Punctuator CloseParen ∷ Punctuator OpenBrace ∷ us
 unfolding text.opening
 opening_is ts us e =
     let a = bind_some (word (codes "void") ts) (λ a. word (codes "kernel") a >>= λ b. ahead.open_paren b >>= λ c. word (codes "void") c >>= λ d. close_paren d >>= λ e. ahead.open_brace e) us e in
@@ -270,8 +270,8 @@ opening_is ts us e =
     let c = bind_some (ahead.open_paren b.0) (λ c. word (codes "void") c >>= λ d. close_paren d >>= λ e. ahead.open_brace e) us b.2 in
     let d = bind_some (word (codes "void") c.0) (λ d. close_paren d >>= λ e. ahead.open_brace e) us c.2 in
     let f = bind_some (close_paren d.0) (λ e. ahead.open_brace e) us d.2 in
-    word_is (codes "void") ts a.0 a.1 ∙ ap (λ xs. Word (codes "void") ∷ xs) (word_is (codes "kernel") a.0 b.0 b.1 ∙ ap (λ xs. Word (codes "kernel") ∷ xs) (open_paren_is b.0 c.0 c.1 ∙ ap (λ xs. Sign OpenParen ∷ xs)
-    (word_is (codes "void") c.0 d.0 d.1 ∙ ap (λ xs. Word (codes "void") ∷ xs) (close_paren_is d.0 f.0 f.1 ∙ ap (λ xs. Sign CloseParen ∷ xs) (open_brace_is f.0 us f.2)))))
+    word_is (codes "void") ts a.0 a.1 ∙ ap (λ xs. Word (codes "void") ∷ xs) (word_is (codes "kernel") a.0 b.0 b.1 ∙ ap (λ xs. Word (codes "kernel") ∷ xs) (open_paren_is b.0 c.0 c.1 ∙ ap (λ xs. Punctuator OpenParen ∷ xs)
+    (word_is (codes "void") c.0 d.0 d.1 ∙ ap (λ xs. Word (codes "void") ∷ xs) (close_paren_is d.0 f.0 f.1 ∙ ap (λ xs. Punctuator CloseParen ∷ xs) (open_brace_is f.0 us f.2)))))
 
 -- the tokens of a text
 pub kernel_sound : ReadKernelsStand
@@ -302,7 +302,7 @@ kernel_sound ts w e h =
       decls = r.front;
       body = q.front;
       all = hs.1 ∙ ap (λ xs. headers hs.0 ++ xs) (r.split ∙ ap (λ xs. r.front ++ xs) (opening_is ds.rest b.0 b.1
-          ∙ ap (λ xs. Word (codes "void") ∷ Word (codes "kernel") ∷ Sign OpenParen ∷ Word (codes "void") ∷ Sign CloseParen ∷ Sign OpenBrace ∷ xs) (q.split ∙ ap (λ xs. q.front ++ xs) (close_brace_is is.rest d.0 d.1 ∙ ap (λ xs. Sign CloseBrace ∷ xs) (at_end_is d.0 f.0 f.1)))));
+          ∙ ap (λ xs. Word (codes "void") ∷ Word (codes "kernel") ∷ Punctuator OpenParen ∷ Word (codes "void") ∷ Punctuator CloseParen ∷ Punctuator OpenBrace ∷ xs) (q.split ∙ ap (λ xs. q.front ++ xs) (close_brace_is is.rest d.0 d.1 ∙ ap (λ xs. Punctuator CloseBrace ∷ xs) (at_end_is d.0 f.0 f.1)))));
       declared = r.reads;
       items = q.reads;
       statements = omega arith;

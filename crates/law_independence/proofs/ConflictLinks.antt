@@ -3,7 +3,7 @@ use Rattle.std.specs.Prelude.{◌≡◌, List, [], ◌∷◌, ◌++◌, Contains
 use Rattle.std.proofs.Common.{refl, sym, subst, ⊎_elim}
 use Rattle.std.proofs.lemmas.List.{append_assoc}
 use Rattle.std.proofs.lemmas.List.Elements.{Contains-append_left, Contains-append_right, Contains-append_cases}
-use Rattle.semantics.specs.Tree.{Variable, Expr, Literal, Constant, Object, Unary, Binary, Choose, Exprs, no_exprs, more_exprs, Cond, NotZero, Compare, Not, Both, Either, Source, Number, Truth, PrintPart, Characters, Decimal, Stmt, Assign, Update, If, IfElse, For, Block, Print, Items, no_items, mark, local, stmt}
+use Rattle.semantics.specs.Tree.{Variable, Expr, Literal, Constant, Object, Unary, Binary, Conditional, Exprs, no_exprs, more_exprs, Cond, NotZero, Compare, Not, LogicalAnd, LogicalOr, Source, Number, Truth, PrintPart, Characters, Decimal, Stmt, Assign, Update, If, IfElse, For, Block, Print, Items, no_items, mark, local, stmt}
 use Rattle.semantics.specs.Loops.Nest.{Loop}
 use Rattle.semantics.specs.Loops.Access.{Access, Mode, Reads, Writes, expr_accesses, cond_accesses, source_accesses, start_accesses, part_accesses, accesses, items_accesses}
 use Rattle.semantics.specs.Loops.Access as meant
@@ -70,15 +70,15 @@ module _ (base : Nesting) where
       expr_linked (Object x es) = named_linked x es found.Reads Reads only_reads
       expr_linked (Unary op a) = expr_linked a
       expr_linked (Binary op a b) = linked_joined base (expr_sites n a) (expr_sites n b) (expr_accesses hs a) (expr_accesses hs b) (expr_linked a) (expr_linked b)
-      expr_linked (Choose c a b) =
+      expr_linked (Conditional c a b) =
           linked_three base (cond_sites n c) (expr_sites n a) (expr_sites n b) (cond_accesses hs c) (expr_accesses hs a) (expr_accesses hs b) (cond_linked c) (expr_linked a) (expr_linked b)
 
       cond_linked : (c : Cond) → AreLinked base (cond_sites n c) (cond_accesses hs c)
       cond_linked (NotZero a) = expr_linked a
       cond_linked (Compare op a b) = linked_joined base (expr_sites n a) (expr_sites n b) (expr_accesses hs a) (expr_accesses hs b) (expr_linked a) (expr_linked b)
       cond_linked (Not c) = cond_linked c
-      cond_linked (Both c d) = linked_joined base (cond_sites n c) (cond_sites n d) (cond_accesses hs c) (cond_accesses hs d) (cond_linked c) (cond_linked d)
-      cond_linked (Either c d) = linked_joined base (cond_sites n c) (cond_sites n d) (cond_accesses hs c) (cond_accesses hs d) (cond_linked c) (cond_linked d)
+      cond_linked (LogicalAnd c d) = linked_joined base (cond_sites n c) (cond_sites n d) (cond_accesses hs c) (cond_accesses hs d) (cond_linked c) (cond_linked d)
+      cond_linked (LogicalOr c d) = linked_joined base (cond_sites n c) (cond_sites n d) (cond_accesses hs c) (cond_accesses hs d) (cond_linked c) (cond_linked d)
 
     source_linked : (e : Source) → AreLinked base (source_sites n e) (source_accesses hs e)
     source_linked (Number a) = expr_linked a

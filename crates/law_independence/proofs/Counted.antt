@@ -15,7 +15,7 @@ use Rattle.semantics.specs.Meaning.Value as meaning
 use Rattle.affine.specs.Affine.{value}
 use Rattle.affine_expr.specs.Forms.{form_of}
 use Rattle.nest_loop.specs.Turn.{AtTurn}
-use Rattle.pairtest_counter.specs.declared.level.Level.{Level}
+use Rattle.pairtest_counter.specs.declared.level.EnclosingLoop.{EnclosingLoop}
 use Rattle.pairtest_counter.specs.Levels.{Nesting, AreLevels, values_at}
 use Rattle.nest.specs.Nests.{StaysBelow, AllStay}
 use Rattle.pairtest.specs.declared.access.Subscript.{Subscript}
@@ -42,7 +42,7 @@ pos_same a b e = omega (arith, ints)
 natural_of : (z : ℤ) (k : ℕ) → z ≡ pos k → z ≡ pos (unsigned_abs z)
 natural_of z k e = e ∙ sym (ap (λ y. pos (unsigned_abs y)) e)
 
-pub counters_natural : (levels : List Level) (f : ℕ → ℤ) → AreCounters 0 levels f → AreNatural (length levels) f (counts_of f)
+pub counters_natural : (levels : List EnclosingLoop) (f : ℕ → ℤ) → AreCounters 0 levels f → AreNatural (length levels) f (counts_of f)
 counters_natural [] f few j lt = absurd (omega arith)
 counters_natural (v ∷ vs) f few j lt =
     let own = few.0 (omega arith) in
@@ -57,13 +57,13 @@ below_last [] (m ∷ ns) k n h lt = absurd h
 below_last (j ∷ ks) [] k n h lt = absurd h
 below_last (j ∷ ks) (m ∷ ns) k n h lt = (h.0, below_last ks ns k n h.1 lt)
 
-below_so_many : (m outer : ℕ) (levels : List Level) (f : ℕ → ℤ) → m + outer ≡ length levels → AreCounters 0 levels f
+below_so_many : (m outer : ℕ) (levels : List EnclosingLoop) (f : ℕ → ℤ) → m + outer ≡ length levels → AreCounters 0 levels f
     → AreBelow (stretch outer m (counts_of f)) (map (λ v. v.most) (reverse (take m levels)))
 below_so_many zero outer [] f e few = tt
 below_so_many zero outer (v ∷ vs) f e few = tt
 below_so_many (suc m) outer [] f e few = absurd (omega arith)
 below_so_many (suc m) outer (v ∷ vs) f e few =
-    let most : Level → ℕ = λ w. w.most in
+    let most : EnclosingLoop → ℕ = λ w. w.most in
     let place : length vs ≡ outer + m = omega arith in
     let own = few.0 (omega arith) in
     let same : counts_of f (length vs) ≡ own.0 = pos_same (counts_of f (length vs)) own.0 (sym (natural_of (f (length vs)) own.0 own.1) ∙ own.1) in
@@ -74,7 +74,7 @@ below_so_many (suc m) outer (v ∷ vs) f e few =
     (below_last (stretch outer m (counts_of f)) (map most (reverse (take m vs))) (counts_of f (outer + m)) v.most
     (below_so_many m outer vs f (omega arith) few.1) less))
 
-pub counters_below : (outer m : ℕ) (levels : List Level) (f : ℕ → ℤ) → m + outer ≡ length levels → AreCounters 0 levels f
+pub counters_below : (outer m : ℕ) (levels : List EnclosingLoop) (f : ℕ → ℤ) → m + outer ≡ length levels → AreCounters 0 levels f
     → AreBelow (stretch outer m (counts_of f)) (map (λ v. v.most) (inner_loops outer levels))
 counters_below outer m levels f e few =
     let same : m ≡ length levels - outer = omega arith in

@@ -5,7 +5,7 @@ use Rattle.std.proofs.Math.Seq.{take-append_seam, drop-append_seam}
 use Rattle.std.proofs.lemmas.List.{append_assoc, length-append, length-map, map-append, reverse-append, length-reverse}
 use Rattle.semantics.specs.Loops.Nest.{Loop}
 use Rattle.nest_loop.specs.declared.head.Canonical.{Canonical}
-use Rattle.pairtest_counter.specs.declared.level.Level.{Level}
+use Rattle.pairtest_counter.specs.declared.level.EnclosingLoop.{EnclosingLoop}
 use Rattle.pairtest_counter.specs.Levels.{Nesting}
 use Rattle.pairtest_access.specs.Found.{inner_loops}
 use Rattle.deptest_verdict.specs.Refused.{serial_loops, nest_loops}
@@ -18,12 +18,12 @@ entered_loops [] before after entered = []
 entered_loops (h ∷ hs) before after (s, v, is, level, rest) = v.canonical ∷ entered_loops hs (nested before s v) after rest
 
 -- of some levels their loops
-abbrev pub loops_of : List Level → List Canonical
+abbrev pub loops_of : List EnclosingLoop → List Canonical
 loops_of levels = map (λ v. v.canonical) levels
 
 -- the levels that were entered stand in front of those before
 pub record AreInFront (before after : Nesting) (ls : List Canonical) : Type 0 where
-  pub front : List Level
+  pub front : List EnclosingLoop
   pub levels : after.levels ≡ front ++ before.levels
   pub are : loops_of (reverse front) ≡ ls
 
@@ -43,9 +43,9 @@ inner_are hs before after entered =
     let f = entered_front hs before after entered in
     let count : length (f.front ++ before.levels) - length before.levels ≡ length f.front =
     ap (λ n. n - length before.levels) (length-append f.front before.levels) ∙ less (length f.front) (length before.levels) in
-    ap (λ (vs : List Level). loops_of (reverse (take (length vs - length before.levels) vs))) f.levels
+    ap (λ (vs : List EnclosingLoop). loops_of (reverse (take (length vs - length before.levels) vs))) f.levels
     ∙ ap (λ n. loops_of (reverse (take n (f.front ++ before.levels)))) count
-    ∙ ap (λ (vs : List Level). loops_of (reverse vs)) (take-append_seam f.front before.levels)
+    ∙ ap (λ (vs : List EnclosingLoop). loops_of (reverse vs)) (take-append_seam f.front before.levels)
     ∙ f.are
   where
     less : (a b : ℕ) → (a + b) - b ≡ a
@@ -56,12 +56,12 @@ all_are : (hs : List Loop) (before after : Nesting) (entered : AreEntered before
     → loops_of (reverse after.levels) ≡ loops_of (reverse before.levels) ++ entered_loops hs before after entered
 all_are hs before after entered =
     let f = entered_front hs before after entered in
-    ap (λ (vs : List Level). loops_of (reverse vs)) f.levels
+    ap (λ (vs : List EnclosingLoop). loops_of (reverse vs)) f.levels
     ∙ ap loops_of (reverse-append f.front before.levels)
     ∙ map-append (λ v. v.canonical) (reverse before.levels) (reverse f.front)
     ∙ ap (λ (ls : List Canonical). loops_of (reverse before.levels) ++ ls) f.are
 
-so_many : (levels : List Level) → length levels ≡ length (loops_of (reverse levels))
+so_many : (levels : List EnclosingLoop) → length levels ≡ length (loops_of (reverse levels))
 so_many levels = sym (length-map (reverse levels) (λ v. v.canonical) ∙ length-reverse levels)
 
 -- those before are the first, and the others are those that were entered
@@ -82,4 +82,4 @@ nest_are hs before after entered =
 -- those of no loops at all are all that were entered
 pub first_are : (hs : List Loop) (before after : Nesting) (entered : AreEntered before hs after) → before.levels ≡ [] → loops_of (reverse after.levels) ≡ entered_loops hs before after entered
 first_are hs before after entered none =
-    all_are hs before after entered ∙ ap (λ (vs : List Level). loops_of (reverse vs) ++ entered_loops hs before after entered) none
+    all_are hs before after entered ∙ ap (λ (vs : List EnclosingLoop). loops_of (reverse vs) ++ entered_loops hs before after entered) none

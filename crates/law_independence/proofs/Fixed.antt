@@ -3,7 +3,7 @@ use Rattle.std.specs.Prelude.{ℕ, Bool, true, false, ◌≡◌, ◌==◌, negsu
 use Rattle.std.proofs.Common.{refl, sym, subst, cond}
 use Rattle.std.proofs.lemmas.Bool.{eqb-true, eq-eqb, or_left}
 use Rattle.std.proofs.lemmas.Option.{none-some}
-use Rattle.semantics.specs.Tree.{Variable, Negate, Complement, BinaryOp, Plus, Minus, Times, Divide, Remainder, BitAnd, BitOr, BitXor, ShiftLeft, ShiftRight, Expr, Literal, Constant, Object, Unary, Binary, Choose, no_exprs, more_exprs, Number, Truth, Increment, Up, Down, Set, Change}
+use Rattle.semantics.specs.Tree.{Variable, Negate, Complement, BinaryOp, Plus, Minus, Times, Divide, Remainder, BitAnd, BitOr, BitXor, ShiftLeft, ShiftRight, Expr, Literal, Constant, Object, Unary, Binary, Conditional, no_exprs, more_exprs, Number, Truth, Increment, Up, Down, Set, Change}
 use Rattle.semantics.specs.Source.Typing.{int_operate, flat, constant}
 use Rattle.semantics.specs.Meaning.Value.{both, both_then}
 use Rattle.semantics.specs.Meaning.Agrees.{also}
@@ -49,7 +49,7 @@ module _ (box : List Side) (fixed : Variable → Bool) (counters : (y : Variable
   form_fixed (Binary op a b) f h =
       let there = both_there (operated op (is_number a) (is_number b)) (form_of box a) (form_of box b) f h in
       (form_fixed a there.0 there.2, form_fixed b there.1 there.3)
-  form_fixed (Choose c a b) f h = absurd (none-some f h)
+  form_fixed (Conditional c a b) f h = absurd (none-some f h)
 
 -- ---- steps
 
@@ -62,7 +62,7 @@ constant_fixed fixed (Unary op a) n h = absurd (none-some n h)
 constant_fixed fixed (Binary op a b) n h =
     let there = operands_there (int_operate op) (constant a) (constant b) n h in
     (constant_fixed fixed a there.0 there.2, constant_fixed fixed b there.1 there.3)
-constant_fixed fixed (Choose c a b) n h = absurd (none-some n h)
+constant_fixed fixed (Conditional c a b) n h = absurd (none-some n h)
 
 by_constant : (fixed : Variable → Bool) (d : Direction) (e : Expr) (s : Stride) → stride_by d (constant e) ≡ Some s → IsFixedExpr fixed e
 by_constant fixed d e s h = go (constant e) refl h
@@ -117,7 +117,7 @@ module _ (fixed : Variable → Bool) (x : Variable) where
   right_fixed (Constant name n) s h = absurd (none-some s h)
   right_fixed (Object y is) s h = absurd (none-some s h)
   right_fixed (Unary op a) s h = absurd (none-some s h)
-  right_fixed (Choose c a b) s h = absurd (none-some s h)
+  right_fixed (Conditional c a b) s h = absurd (none-some s h)
 
   -- the step of a canonical loop
   pub step_fixed : (step : Increment) (s : Stride) → stride_of x step ≡ Some s → IsFixedStep (also fixed x) x step

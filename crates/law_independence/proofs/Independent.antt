@@ -15,7 +15,7 @@ use Rattle.nest.specs.Nests.{lengths_of}
 use Rattle.pairtest.specs.declared.access.Access.{Access}
 use Rattle.pairtest.specs.declared.access.Nest.{Nest}
 use Rattle.pairtest.specs.declared.access.Mode.TheVariants as found
-use Rattle.pairtest.specs.Cases.{AllRefuted, dimensions}
+use Rattle.pairtest.specs.DirectionVectors.{AllRefuted, dimensions}
 use Rattle.pairtest.specs.Meetings.{Turn, value_at, AreBelow}
 use Rattle.pairtest.specs.Meetings as meetings
 use Rattle.pairtest.proofs.Solutions.{refuted_pairs_do_not_meet_lem}

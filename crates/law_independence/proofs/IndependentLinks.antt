@@ -3,7 +3,7 @@ use Rattle.std.specs.Prelude.{◌≡◌, List, [], ◌∷◌, ◌++◌, Contains
 use Rattle.std.proofs.Common.{refl, sym, ap, subst, ⊎_elim}
 use Rattle.std.proofs.lemmas.List.{append_assoc}
 use Rattle.std.proofs.lemmas.List.Elements.{Contains-append_left, Contains-append_right, Contains-append_cases}
-use Rattle.semantics.specs.Tree.{Variable, Expr, Literal, Constant, Object, Unary, Binary, Choose, Exprs, no_exprs, more_exprs, Cond, NotZero, Compare, Not, Both, Either, Source, Number, Truth, Increment, PrintPart, Characters, Decimal, Stmt, Assign, Update, If, IfElse, For, Block, Print, Items, no_items, mark, local, stmt, Declaration}
+use Rattle.semantics.specs.Tree.{Variable, Expr, Literal, Constant, Object, Unary, Binary, Conditional, Exprs, no_exprs, more_exprs, Cond, NotZero, Compare, Not, LogicalAnd, LogicalOr, Source, Number, Truth, Increment, PrintPart, Characters, Decimal, Stmt, Assign, Update, If, IfElse, For, Block, Print, Items, no_items, mark, local, stmt, Declaration}
 use Rattle.semantics.specs.Loops.Nest.{Loop}
 use Rattle.semantics.specs.Loops.Access.{Access, Mode, Reads, Writes, expr_accesses, cond_accesses, source_accesses, start_accesses, part_accesses, accesses, items_accesses}
 use Rattle.semantics.specs.Loops.Access as meant
@@ -86,15 +86,15 @@ module _ (ds : List Declaration) (base : Nesting) where
       expr_linked (Object x es) h = named_linked x es found.Reads Reads only_reads h
       expr_linked (Unary op a) h = expr_linked a h
       expr_linked (Binary op a b) h = linked_joined ds base (expr_sites n a) (expr_sites n b) (expr_accesses hs a) (expr_accesses hs b) (expr_linked a h.0) (expr_linked b h.1)
-      expr_linked (Choose c a b) h =
+      expr_linked (Conditional c a b) h =
           linked_three ds base (cond_sites n c) (expr_sites n a) (expr_sites n b) (cond_accesses hs c) (expr_accesses hs a) (expr_accesses hs b) (cond_linked c h.0) (expr_linked a h.1) (expr_linked b h.2)
 
       cond_linked : (c : Cond) → CondHas (StaysInside ds) n.box c → AreLinked ds base (cond_sites n c) (cond_accesses hs c)
       cond_linked (NotZero a) h = expr_linked a h
       cond_linked (Compare op a b) h = linked_joined ds base (expr_sites n a) (expr_sites n b) (expr_accesses hs a) (expr_accesses hs b) (expr_linked a h.0) (expr_linked b h.1)
       cond_linked (Not c) h = cond_linked c h
-      cond_linked (Both c d) h = linked_joined ds base (cond_sites n c) (cond_sites n d) (cond_accesses hs c) (cond_accesses hs d) (cond_linked c h.0) (cond_linked d h.1)
-      cond_linked (Either c d) h = linked_joined ds base (cond_sites n c) (cond_sites n d) (cond_accesses hs c) (cond_accesses hs d) (cond_linked c h.0) (cond_linked d h.1)
+      cond_linked (LogicalAnd c d) h = linked_joined ds base (cond_sites n c) (cond_sites n d) (cond_accesses hs c) (cond_accesses hs d) (cond_linked c h.0) (cond_linked d h.1)
+      cond_linked (LogicalOr c d) h = linked_joined ds base (cond_sites n c) (cond_sites n d) (cond_accesses hs c) (cond_accesses hs d) (cond_linked c h.0) (cond_linked d h.1)
 
     source_linked : (e : Source) → SourceHas (StaysInside ds) n.box e → AreLinked ds base (source_sites n e) (source_accesses hs e)
     source_linked (Number a) h = expr_linked a h

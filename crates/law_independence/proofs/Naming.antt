@@ -2,12 +2,12 @@
 use Rattle.std.specs.Prelude.{ℕ, Bool, true, false, ◌≡◌, ◌==◌, ◌&&◌, ◌||◌, List, [], ◌∷◌, Option, Some, None}
 use Rattle.std.proofs.Common.{refl, sym, ap, ◌∙◌, subst, cond}
 use Rattle.std.proofs.lemmas.Bool.{eqb-true, and_from, or_right, true≢false}
-use Rattle.semantics.specs.Tree.{Variable, Expr, Literal, Constant, Object, Unary, Binary, Choose, Exprs, no_exprs, more_exprs, Cond, NotZero, Compare, Not, Both, Either, Source, Number, Truth, Increment, PrintPart, Characters, Decimal, Stmt, Items}
+use Rattle.semantics.specs.Tree.{Variable, Expr, Literal, Constant, Object, Unary, Binary, Conditional, Exprs, no_exprs, more_exprs, Cond, NotZero, Compare, Not, LogicalAnd, LogicalOr, Source, Number, Truth, Increment, PrintPart, Characters, Decimal, Stmt, Items}
 use Rattle.semantics.specs.Source.Token.{Token}
 use Rattle.semantics.specs.Source.Scope.{Scope, Entity, AVariable, AConstant, count}
 use Rattle.semantics.specs.Source.Expressions.{ReadsExpr, literal, enumerator, object, parens, unary, binary, choose, tighter, ReadsSubscripts, no_subscripts, subscript, ReadsCond, numeric, cond_parens, not, compare, both, either, cond_tighter}
 use Rattle.semantics.specs.Source.Statements.{ReadsSource, number, truth, ReadsTarget, target, ReadsIncrement, up_before, up_behind, down_before, down_behind, set, change, ReadsArguments, argument, Fills, ReadsStmt, assign, update, if_only, if_else, for_loop, block, print, ReadsItems, no_more, line, empty_local, first_local, statement}
-use Rattle.semantics.specs.Meaning.Definite.{Known, may_read, may_read_all, may_test, may_take}
+use Rattle.semantics.specs.Meaning.Definite.{DefinitelyAssigned, may_read, may_read_all, may_test, may_take}
 use Rattle.semantics.specs.Meaning.Agrees.{also, names_expr, names_exprs, names_cond, names_source, names_step, names_parts, names_only, names_items}
 use Rattle.semantics.proofs.EraseTokenLaw.{first_of, second_of}
 use Rattle.affine.specs.declared.interval.Interval.{Interval}
@@ -82,7 +82,7 @@ module _ (V : Variable → Bool) (scope : Scope) (seen : Each (IsNamed V) scope)
 -- ---- initialisers
 
 -- a variable that is not known does not stand where all is known
-module _ (V : Variable → Bool) (x : Variable) (k : Known) (unknown : k x ≡ false) where
+module _ (V : Variable → Bool) (x : Variable) (k : DefinitelyAssigned) (unknown : k x ≡ false) where
   other_named : (y : Variable) → also V x y ≡ true → k y ≡ true → V y ≡ true
   other_named y h known = go (y == x) refl h
     where
@@ -103,7 +103,7 @@ module _ (V : Variable → Bool) (x : Variable) (k : Known) (unknown : k x ≡ f
         and_from (names_expr V a) (names_expr V b)
         (expr_less a (first_of (names_expr (also V x) a) (names_expr (also V x) b) h) (first_of (may_read k a) (may_read k b) m))
         (expr_less b (second_of (names_expr (also V x) a) (names_expr (also V x) b) h) (second_of (may_read k a) (may_read k b) m))
-    expr_less (Choose c a b) h m =
+    expr_less (Conditional c a b) h m =
         let h' = first_of (names_cond (also V x) c && names_expr (also V x) a) (names_expr (also V x) b) h in
         let m' = first_of (may_test k c && may_read k a) (may_read k b) m in
         three (names_cond V c) (names_expr V a) (names_expr V b)
@@ -125,11 +125,11 @@ module _ (V : Variable → Bool) (x : Variable) (k : Known) (unknown : k x ≡ f
         (expr_less a (first_of (names_expr (also V x) a) (names_expr (also V x) b) h) (first_of (may_read k a) (may_read k b) m))
         (expr_less b (second_of (names_expr (also V x) a) (names_expr (also V x) b) h) (second_of (may_read k a) (may_read k b) m))
     cond_less (Not c) h m = cond_less c h m
-    cond_less (Both c d) h m =
+    cond_less (LogicalAnd c d) h m =
         and_from (names_cond V c) (names_cond V d)
         (cond_less c (first_of (names_cond (also V x) c) (names_cond (also V x) d) h) (first_of (may_test k c) (may_test k d) m))
         (cond_less d (second_of (names_cond (also V x) c) (names_cond (also V x) d) h) (second_of (may_test k c) (may_test k d) m))
-    cond_less (Either c d) h m =
+    cond_less (LogicalOr c d) h m =
         and_from (names_cond V c) (names_cond V d)
         (cond_less c (first_of (names_cond (also V x) c) (names_cond (also V x) d) h) (first_of (may_test k c) (may_test k d) m))
         (cond_less d (second_of (names_cond (also V x) c) (names_cond (also V x) d) h) (second_of (may_test k c) (may_test k d) m))
@@ -148,14 +148,14 @@ module _ (V : Variable → Bool) where
     fixed_named (Object x (more_exprs i is)) h = absurd h
     fixed_named (Unary op a) h = fixed_named a h
     fixed_named (Binary op a b) h = and_from (names_expr V a) (names_expr V b) (fixed_named a h.0) (fixed_named b h.1)
-    fixed_named (Choose c a b) h = three (names_cond V c) (names_expr V a) (names_expr V b) (fixed_cond_named c h.0) (fixed_named a h.1) (fixed_named b h.2)
+    fixed_named (Conditional c a b) h = three (names_cond V c) (names_expr V a) (names_expr V b) (fixed_cond_named c h.0) (fixed_named a h.1) (fixed_named b h.2)
 
     fixed_cond_named : (c : Cond) → IsFixedCond V c → names_cond V c ≡ true
     fixed_cond_named (NotZero a) h = fixed_named a h
     fixed_cond_named (Compare op a b) h = and_from (names_expr V a) (names_expr V b) (fixed_named a h.0) (fixed_named b h.1)
     fixed_cond_named (Not c) h = fixed_cond_named c h
-    fixed_cond_named (Both c d) h = and_from (names_cond V c) (names_cond V d) (fixed_cond_named c h.0) (fixed_cond_named d h.1)
-    fixed_cond_named (Either c d) h = and_from (names_cond V c) (names_cond V d) (fixed_cond_named c h.0) (fixed_cond_named d h.1)
+    fixed_cond_named (LogicalAnd c d) h = and_from (names_cond V c) (names_cond V d) (fixed_cond_named c h.0) (fixed_cond_named d h.1)
+    fixed_cond_named (LogicalOr c d) h = and_from (names_cond V c) (names_cond V d) (fixed_cond_named c h.0) (fixed_cond_named d h.1)
 
 -- ---- statements
 

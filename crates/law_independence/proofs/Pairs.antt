@@ -7,7 +7,7 @@ use Rattle.pairtest.specs.declared.access.Access.{Access}
 use Rattle.pairtest.specs.declared.access.Nest.{Nest}
 use Rattle.pairtest.specs.declared.access.Mode.{Mode}
 use Rattle.pairtest.specs.declared.access.Mode.TheVariants.{Reads, Writes}
-use Rattle.pairtest.specs.Cases.{AllRefuted}
+use Rattle.pairtest.specs.DirectionVectors.{AllRefuted}
 use Rattle.pairtest_access.specs.Sites.{Site}
 use Rattle.pairtest_access.specs.Found.{AreMet, IsFound, IsMet}
 use Rattle.deptest_verdict.specs.Pairs.{IsPair, IsFirstPair}

@@ -2,7 +2,7 @@
 use Rattle.std.specs.Prelude.{Bool, true, false, ◌≡◌, ◌==◌, List, [], ◌∷◌, Option, Some, None, option_and_then, negsuc}
 use Rattle.std.proofs.Common.{refl, sym, ap, ◌∙◌, cond}
 use Rattle.std.proofs.lemmas.Option.{none-some, same_Some}
-use Rattle.semantics.specs.Tree.{Variable, Negate, Complement, Expr, Literal, Constant, Object, Unary, Binary, Choose, no_exprs, more_exprs, Cond, NotZero, Compare, Not, Both, Either, Source, Number, Truth, Increment}
+use Rattle.semantics.specs.Tree.{Variable, Negate, Complement, Expr, Literal, Constant, Object, Unary, Binary, Conditional, no_exprs, more_exprs, Cond, NotZero, Compare, Not, LogicalAnd, LogicalOr, Source, Number, Truth, Increment}
 use Rattle.semantics.specs.Meaning.Value.{both_then}
 use Rattle.semantics.specs.Loops.Nest.{Loop}
 use Rattle.affine.specs.declared.interval.Side.{Side}
@@ -59,7 +59,7 @@ module _ (box big : List Side) (more : (x : Variable) → is_counter box x ≡ t
           ap (λ (o : Option Affine). both_then (operated op (is_number a) (is_number b)) o (form_of big b)) (same_a g q)
           ∙ ap (λ (o : Option Affine). both_then (operated op (is_number a) (is_number b)) (Some g) o) (same_b g' r)
           ∙ k
-  wider (Choose c a b) f h = absurd (none-some f h)
+  wider (Conditional c a b) f h = absurd (none-some f h)
 
   wider_start : (start : Source) (f : Affine) → start_form box start ≡ Some f → start_form big start ≡ Some f
   wider_start (Number e) f h = wider e f h
@@ -74,8 +74,8 @@ module _ (box big : List Side) (more : (x : Variable) → is_counter box x ≡ t
       (λ f h. wider_start start f h) (λ f h. wider ub f h) tested.1
   wider_loop x start (NotZero c) step l e = absurd (none-some l e)
   wider_loop x start (Not c) step l e = absurd (none-some l e)
-  wider_loop x start (Both c d) step l e = absurd (none-some l e)
-  wider_loop x start (Either c d) step l e = absurd (none-some l e)
+  wider_loop x start (LogicalAnd c d) step l e = absurd (none-some l e)
+  wider_loop x start (LogicalOr c d) step l e = absurd (none-some l e)
 
 counted_further : (s : Side) (box : List Side) (x : Variable) → is_counter box x ≡ true → is_counter (s ∷ box) x ≡ true
 counted_further s box x c = go (s.variable.0 == x)

@@ -6,7 +6,7 @@ use Rattle.semantics.specs.Tree.{Variable, Source, Stmt, Assign, Update, If, IfE
 use Rattle.semantics.specs.Source.Token.{Token}
 use Rattle.semantics.specs.Source.Scope.{Scope}
 use Rattle.semantics.specs.Source.Statements.{ReadsStmt, assign, update, if_only, if_else, for_loop, block, print, ReadsItems, no_more, line, empty_local, first_local, statement}
-use Rattle.semantics.specs.Meaning.Definite.{Known, known_with, may_take, may_test, no_privates, after_both, declared_known, definite, definite_items}
+use Rattle.semantics.specs.Meaning.Definite.{DefinitelyAssigned, known_with, may_take, may_test, no_privates, after_both, declared_known, definite, definite_items}
 use Rattle.nest_loop.specs.Constants.{Each}
 use Rattle.law_runs.proofs.Points.{rises, IsBelow, allowed, tested_known, branches, and_then}
 use Rattle.law_runs.proofs.Growing.{loop_known_is, grows, known_below, visible_behind, visible_later}
@@ -14,7 +14,7 @@ use Rattle.law_runs.proofs.Growing.{loop_known_is, grows, known_below, visible_b
 -- all that it names is known, and the variable is not
 abbrev pub NamesOthers : Variable → Option Source → Type 0
 NamesOthers x None = Unit {0}
-NamesOthers x (Some e) = (k : Known) × (may_take k e ≡ true) × (k x ≡ false)
+NamesOthers x (Some e) = (k : DefinitelyAssigned) × (may_take k e ≡ true) × (k x ≡ false)
 
 abbrev mutual
   -- so each initialiser of a statement
@@ -35,20 +35,20 @@ abbrev mutual
   AllNameOthers (stmt s rest) = StartsNameOthers s × AllNameOthers rest
 
 -- what is known has numbers below the next one
-abbrev pub AreBelow : Known → ℕ → Type 0
+abbrev pub AreBelow : DefinitelyAssigned → ℕ → Type 0
 AreBelow k next = (y : Variable) → k y ≡ true → y < next
 
-below_later : (k : Known) (next next' : ℕ) → next ≤ next' → AreBelow k next → AreBelow k next'
+below_later : (k : DefinitelyAssigned) (next next' : ℕ) → next ≤ next' → AreBelow k next → AreBelow k next'
 below_later k next next' up below y h = let less = below y h in omega arith
 
-below_with : (k : Known) (next : ℕ) (b : Bool) → AreBelow k next → AreBelow (known_with k next b) (suc next)
+below_with : (k : DefinitelyAssigned) (next : ℕ) (b : Bool) → AreBelow k next → AreBelow (known_with k next b) (suc next)
 below_with k next b below y h = go (y == next) refl h
   where
     go : (t : Bool) → (y == next) ≡ t → cond t b (k y) ≡ true → y < suc next
     go true e q = let same = eqb-true y next e in omega arith
     go false e q = let less = below y q in omega arith
 
-next_unknown : (k : Known) (next : ℕ) → AreBelow k next → k next ≡ false
+next_unknown : (k : DefinitelyAssigned) (next : ℕ) → AreBelow k next → k next ≡ false
 next_unknown k next below = go (k next) refl
   where
     go : (b : Bool) → k next ≡ b → b ≡ false
@@ -56,7 +56,7 @@ next_unknown k next below = go (k next) refl
     go false e = refl
 
 mutual
-  starts : {scope : Scope} {o next next' : ℕ} {ts : List Token} {a : Stmt} → ReadsStmt scope o next ts a next' → (k k' : Known) → Each (IsBelow next) scope → AreBelow k next
+  starts : {scope : Scope} {o next next' : ℕ} {ts : List Token} {a : Stmt} → ReadsStmt scope o next ts a next' → (k k' : DefinitelyAssigned) → Each (IsBelow next) scope → AreBelow k next
       → definite no_privates a k ≡ Some k' → StartsNameOthers a
   starts (assign t e) k k' v below d = tt
   starts (update t u e) k k' v below d = tt
@@ -74,7 +74,7 @@ mutual
   starts (block less items) k k' v below d = all_start items k k' v below d
   starts (print less f r fill) k k' v below d = tt
 
-  pub all_start : {scope : Scope} {o next next' : ℕ} {ts : List Token} {items : Items} → ReadsItems scope o next ts items next' → (k k' : Known) → Each (IsBelow next) scope → AreBelow k next
+  pub all_start : {scope : Scope} {o next next' : ℕ} {ts : List Token} {items : Items} → ReadsItems scope o next ts items next' → (k k' : DefinitelyAssigned) → Each (IsBelow next) scope → AreBelow k next
       → definite_items no_privates [] items k ≡ Some k' → AllNameOthers items
   all_start no_more k k' v below d = tt
   all_start (line r) k k' v below d = all_start r k k' v below d

@@ -3,7 +3,7 @@ use Rattle.std.specs.Prelude.{ℕ, suc, Bool, true, false, ◌≡◌, ◌<◌, �
 use Rattle.std.proofs.Common.{refl, sym, ap, ◌∙◌, subst, arith}
 use Rattle.std.proofs.lemmas.Bool.{eqb-true, eq-eqb, or_left, or_right, or_from, true≢false}
 use Rattle.std.proofs.lemmas.Option.{slice_get_within}
-use Rattle.semantics.specs.Tree.{Variable, Expr, Literal, Constant, Object, Unary, Binary, Choose, Exprs, no_exprs, more_exprs, Cond, NotZero, Compare, Not, Both, Either, Source, Number, Truth, Stmt, Items, Declaration}
+use Rattle.semantics.specs.Tree.{Variable, Expr, Literal, Constant, Object, Unary, Binary, Conditional, Exprs, no_exprs, more_exprs, Cond, NotZero, Compare, Not, LogicalAnd, LogicalOr, Source, Number, Truth, Stmt, Items, Declaration}
 use Rattle.semantics.specs.Source.Token.{Token}
 use Rattle.semantics.specs.Source.Scope.{Scope}
 use Rattle.semantics.specs.Source.Statements.{ReadsStmt, assign, update, if_only, if_else, for_loop, block, print, ReadsItems, no_more, line, empty_local, first_local, statement}
@@ -58,14 +58,14 @@ module _ (ds : List Declaration) (box : List Side) (fixed : Variable → Bool) (
     expr_steady (Object x is) h = object_fixed x is h
     expr_steady (Unary op a) h = expr_steady a h
     expr_steady (Binary op a b) h = (expr_steady a h.0, expr_steady b h.1)
-    expr_steady (Choose c a b) h = (cond_steady c h.0, expr_steady a h.1, expr_steady b h.2)
+    expr_steady (Conditional c a b) h = (cond_steady c h.0, expr_steady a h.1, expr_steady b h.2)
 
     cond_steady : (c : Cond) → CondHas (StaysInside ds) box c → IsSteadyCond fixed c
     cond_steady (NotZero a) h = expr_steady a h
     cond_steady (Compare op a b) h = (expr_steady a h.0, expr_steady b h.1)
     cond_steady (Not c) h = cond_steady c h
-    cond_steady (Both c d) h = (cond_steady c h.0, cond_steady d h.1)
-    cond_steady (Either c d) h = (cond_steady c h.0, cond_steady d h.1)
+    cond_steady (LogicalAnd c d) h = (cond_steady c h.0, cond_steady d h.1)
+    cond_steady (LogicalOr c d) h = (cond_steady c h.0, cond_steady d h.1)
 
   source_steady : (e : Source) → SourceHas (StaysInside ds) box e → IsSteadySource fixed e
   source_steady (Number a) h = expr_steady a h

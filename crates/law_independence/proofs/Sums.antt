@@ -8,7 +8,7 @@ use Rattle.affine.specs.Affine.{Affine, term_sum, value, coefficient_at, with_va
 use Rattle.affine.specs.Arithmetic.{constant_form, sum_form, multiple_form, terms_without}
 use Rattle.affine.proofs.Terms.{IsCanonical-with_multiple}
 use Rattle.affine.proofs.Values.{term_sum-agree, term_sum-with_value, with_value-same, with_value-other}
-use Rattle.pairtest_counter.specs.declared.level.Level.{Level}
+use Rattle.pairtest_counter.specs.declared.level.EnclosingLoop.{EnclosingLoop}
 use Rattle.pairtest_counter.specs.Counters.{Adds, none_left, one_more, InCounters}
 use Rattle.pairtest_access.specs.Found.{coefficients}
 use Rattle.pairtest.specs.Meetings.{counter_sum}
@@ -155,12 +155,12 @@ value_by n g f canonical below =
     (sym (term_sum-agree g.terms (first_values n f) f (λ i d lt. first_own n f (get_or g.terms i d).variable.0 (below i d lt))) ∙ first_sum n g.terms f canonical)
 
 -- forms in counters are canonical
-adds_canonical : (levels : List Level) (f : Affine) (ts : List Term) (g : Affine) → Adds levels f ts g → IsCanonical f.terms → IsCanonical g.terms
+adds_canonical : (levels : List EnclosingLoop) (f : Affine) (ts : List Term) (g : Affine) → Adds levels f ts g → IsCanonical f.terms → IsCanonical g.terms
 adds_canonical levels f [] g none_left h = h
 adds_canonical levels f (t ∷ ts) g (one_more {p = p} at fits more rest) h =
     adds_canonical levels (sum_form f (multiple_form p t.coefficient)) ts g rest (IsCanonical-with_multiple (pos 1) (multiple_form p t.coefficient).terms f.terms h)
 
-pub in_counters_canonical : (levels : List Level) (f g : Affine) → InCounters levels f g → IsCanonical g.terms
+pub in_counters_canonical : (levels : List EnclosingLoop) (f g : Affine) → InCounters levels f g → IsCanonical g.terms
 in_counters_canonical levels f g h = adds_canonical levels (constant_form f.constant) f.terms g h tt
 
 -- ---- the sum of coefficients and counters

@@ -15,7 +15,7 @@ use Rattle.affine.specs.Affine.{value}
 use Rattle.affine_expr.specs.Forms.{is_counter}
 use Rattle.nest_loop.specs.declared.stride.Stride.{Stride}
 use Rattle.nest_loop.specs.Turn.{HoldsValue, HoldCounters}
-use Rattle.pairtest_counter.specs.declared.level.Level.{Level}
+use Rattle.pairtest_counter.specs.declared.level.EnclosingLoop.{EnclosingLoop}
 use Rattle.pairtest_counter.specs.Levels.{Nesting, IsLevel}
 use Rattle.pairtest_counter.proofs.Chains.{canonical_named}
 use Rattle.nest_space.specs.declared.bounds.Value.{Value}
@@ -56,7 +56,7 @@ differs a b c same e = go (c == b) refl
 
 -- ---- one loop more
 
-module _ (box : List Side) (levels : List Level) (values : List Value) (st : State) (at : IsAt box values st) (h : Loop) (s : Side) (v : Level)
+module _ (box : List Side) (levels : List EnclosingLoop) (values : List Value) (st : State) (at : IsAt box values st) (h : Loop) (s : Side) (v : EnclosingLoop)
     (is : IsHeadOf box h v.canonical) (level : IsLevel box levels s v) (x : ℕ) (below : x < 2 ^ 64) where
   own : h.variable ≡ v.canonical.variable.0
   own = canonical_named box h.variable h.start h.test h.step v.canonical is.is

@@ -5,7 +5,7 @@ use Rattle.std.proofs.lemmas.Bool.{eqb-false, ne_eqb}
 use Rattle.semantics.specs.Tree.{Variable, Declaration}
 use Rattle.semantics.specs.Meaning.State.{State, Slot, Outside, Empty, Holds, Assigned, with_local, assign_at, written, is_object}
 use Rattle.semantics.specs.Meaning.Runs.{one_write, assigned}
-use Rattle.semantics.specs.Meaning.Definite.{Known, known_with}
+use Rattle.semantics.specs.Meaning.Definite.{DefinitelyAssigned, known_with}
 use Rattle.law_runs.proofs.Going.{Later, Ran, ran_same, ran_write, HoldsKnown, known_less, known_with_less, IsUsable, assigned_later, assigned_known}
 use Rattle.law_runs.proofs.Values.{IsGood}
 
@@ -22,7 +22,7 @@ assigned_ran ds Q s x o p js v e f there q =
     (ran_write ds Q s (Assigned x js v) (assigned_later ds s x js v) q)
 
 -- what was known is known behind an assignment
-pub still_known : (ds : List Declaration) (s : State) (x : Variable) (js : List ℕ) (v : ℕ) (k : Known) → IsUsable ds s x → HoldsKnown ds k s → HoldsKnown ds k (written s (Assigned x js v))
+pub still_known : (ds : List Declaration) (s : State) (x : Variable) (js : List ℕ) (v : ℕ) (k : DefinitelyAssigned) → IsUsable ds s x → HoldsKnown ds k s → HoldsKnown ds k (written s (Assigned x js v))
 still_known ds s x js v k usable known =
     known_less ds (known_with k x true) k (written s (Assigned x js v)) (known_with_less k x) (assigned_known ds s x js v k usable known)
 

@@ -6,7 +6,7 @@ use Rattle.semantics.specs.Tree.{Variable, Declaration}
 use Rattle.semantics.specs.Meaning.State.{State, Slot, Outside, Empty, Holds, Write, Assigned, renewed, same_indexes, cells_after, with_local, with_cell, assign_at, written, overwritten, is_there}
 use Rattle.semantics.specs.Meaning.Value.{by_test, map_option}
 use Rattle.semantics.specs.Meaning.Runs.{Effect, nothing, one_write, joined, then_from}
-use Rattle.semantics.specs.Meaning.Definite.{Known, known_with}
+use Rattle.semantics.specs.Meaning.Definite.{DefinitelyAssigned, known_with}
 
 -- a local stands, or holds a number
 abbrev pub stands : Slot → Bool
@@ -80,14 +80,14 @@ ran_either {o = o} {p = p} test true e a b = ran_same (ap (λ t. by_test t o p) 
 ran_either {o = o} {p = p} test false e a b = ran_same (ap (λ t. by_test t o p) e) b
 
 -- what is known holds a number
-abbrev pub HoldsKnown : List Declaration → Known → State → Type 0
+abbrev pub HoldsKnown : List Declaration → DefinitelyAssigned → State → Type 0
 HoldsKnown ds k s = (x : Variable) → length ds ≤ x → k x ≡ true → is_held (s.locals x) ≡ true
 
 -- where less is known
-pub known_less : (ds : List Declaration) (k less : Known) (s : State) → ((x : Variable) → less x ≡ true → k x ≡ true) → HoldsKnown ds k s → HoldsKnown ds less s
+pub known_less : (ds : List Declaration) (k less : DefinitelyAssigned) (s : State) → ((x : Variable) → less x ≡ true → k x ≡ true) → HoldsKnown ds k s → HoldsKnown ds less s
 known_less ds k less s h known x le e = known x le (h x e)
 
-pub known_with_less : (k : Known) (x y : Variable) → k y ≡ true → known_with k x true y ≡ true
+pub known_with_less : (k : DefinitelyAssigned) (x y : Variable) → k y ≡ true → known_with k x true y ≡ true
 known_with_less k x y e = go (y == x)
   where
     go : (b : Bool) → cond b true (k y) ≡ true
@@ -124,7 +124,7 @@ module _ (ds : List Declaration) (s : State) (x : Variable) (slot : Slot) (up : 
       standing y e false = e
 
   -- what is known then
-  pub local_known : (k : Known) → HoldsKnown ds k s → HoldsKnown ds (known_with k x (is_held slot)) (with_local s x slot)
+  pub local_known : (k : DefinitelyAssigned) → HoldsKnown ds k s → HoldsKnown ds (known_with k x (is_held slot)) (with_local s x slot)
   local_known k known y le e = go (y == x) e
     where
       go : (b : Bool) → cond b (is_held slot) (k y) ≡ true → is_held (cond b slot (s.locals y)) ≡ true
@@ -152,7 +152,7 @@ assigned_later ds s x is v = go (s.locals x) refl
     go Empty e = local_later ds s x (Holds v) refl (λ lt q. absurd cc)
     go (Holds old) e = local_later ds s x (Holds v) refl (λ lt q. absurd cc)
 
-pub assigned_known : (ds : List Declaration) (s : State) (x : Variable) (is : List ℕ) (v : ℕ) (k : Known) → IsUsable ds s x → HoldsKnown ds k s → HoldsKnown ds (known_with k x true) (written s (Assigned x is v))
+pub assigned_known : (ds : List Declaration) (s : State) (x : Variable) (is : List ℕ) (v : ℕ) (k : DefinitelyAssigned) → IsUsable ds s x → HoldsKnown ds k s → HoldsKnown ds (known_with k x true) (written s (Assigned x is v))
 assigned_known ds s x is v k usable known = go (s.locals x) refl usable
   where
     file : s.locals x ≡ Outside → IsUsable ds s x → HoldsKnown ds (known_with k x true) s

@@ -7,7 +7,7 @@ use Rattle.semantics.specs.Tree.{Name, Variable, Exprs, Cond, Source, Increment,
 use Rattle.semantics.specs.Source.Token.{Token}
 use Rattle.semantics.specs.Source.Scope.{Scope, AVariable, count}
 use Rattle.semantics.specs.Source.Statements.{ReadsTarget, target, ReadsStmt, assign, update, if_only, if_else, for_loop, block, print, ReadsItems, no_more, line, empty_local, first_local, statement}
-use Rattle.semantics.specs.Meaning.Definite.{Known, known_with, may_read, may_read_all, may_test, may_take, may_step, may_print, no_privates, privates_in, privates_among, after_both, declared_known, if_stepped, loop_known, definite, definite_items}
+use Rattle.semantics.specs.Meaning.Definite.{DefinitelyAssigned, known_with, may_read, may_read_all, may_test, may_take, may_step, may_print, no_privates, privates_in, privates_among, after_both, declared_known, if_stepped, loop_known, definite, definite_items}
 use Rattle.semantics.proofs.EraseTokenLaw.{second_of}
 use Rattle.law_runs.proofs.Going.{known_with_less}
 use Rattle.nest_loop.specs.Constants.{Each}
@@ -32,30 +32,30 @@ mutual
   privates_among_none (stmt a rest) = ap (λ xs. xs ++ privates_among no_privates rest) (privates_none a) ∙ privates_among_none rest
 
 -- a loop whose body reads what is known: behind it the same is known as before
-pub record LoopKnown (body : Stmt) (x : Variable) (k k' : Known) : Type 0 where
-  pub after : Known
+pub record LoopKnown (body : Stmt) (x : Variable) (k k' : DefinitelyAssigned) : Type 0 where
+  pub after : DefinitelyAssigned
   pub inside : definite no_privates body (known_with k x true) ≡ Some after
   pub same : k ≡ k'
 
-pub loop_known_is : (x : Variable) (name : Name) (start : Source) (test : Cond) (step : Increment) (body : Stmt) (k k' : Known) → definite no_privates (For x name start test step body) k ≡ Some k' → LoopKnown body x k k'
+pub loop_known_is : (x : Variable) (name : Name) (start : Source) (test : Cond) (step : Increment) (body : Stmt) (k k' : DefinitelyAssigned) → definite no_privates (For x name start test step body) k ≡ Some k' → LoopKnown body x k k'
 loop_known_is x name start test step body k k' d =
     let plain = sym (ap (λ xs. loop_known k x xs (may_take k start) (λ inside. may_test inside test) (λ after. may_step after step) (definite no_privates body)) (privates_none body)) ∙ d in
     let t = tested_known (may_take k start && may_test (known_with k x true) test) (if_stepped (λ after. may_step after step) (definite no_privates body (known_with k x true)) (Some k)) k' plain in
     go (definite no_privates body (known_with k x true)) refl t.1
   where
-    go : (o : Option Known) → definite no_privates body (known_with k x true) ≡ o → if_stepped (λ after. may_step after step) o (Some k) ≡ Some k' → LoopKnown body x k k'
+    go : (o : Option DefinitelyAssigned) → definite no_privates body (known_with k x true) ≡ o → if_stepped (λ after. may_step after step) o (Some k) ≡ Some k' → LoopKnown body x k k'
     go None is e = absurd (none-some k' e)
     go (Some after) is e = let t = tested_known (may_step after step) (Some k) k' e in record { after = after; inside = is; same = same_Some k k' t.1 }
 
 -- what is known of the numbers so far stays known, and what becomes known has a number below the next
-pub record Grows (next next' : ℕ) (k k' : Known) : Type 0 where
+pub record Grows (next next' : ℕ) (k k' : DefinitelyAssigned) : Type 0 where
   pub more : (y : Variable) → y < next → k y ≡ true → k' y ≡ true
   pub below : (y : Variable) → k' y ≡ true → (k y ≡ true) ⊎ (y < next')
 
-grows_same : (next : ℕ) (k k' : Known) → k ≡ k' → Grows next next k k'
+grows_same : (next : ℕ) (k k' : DefinitelyAssigned) → k ≡ k' → Grows next next k k'
 grows_same next k k' e = subst (Grows next next k) e (record { more = λ y lt h. h; below = λ y h. inl h })
 
-grows_with : (next : ℕ) (k : Known) (x : Variable) → x < next → Grows next next k (known_with k x true)
+grows_with : (next : ℕ) (k : DefinitelyAssigned) (x : Variable) → x < next → Grows next next k (known_with k x true)
 grows_with next k x lt = record { more = λ y less h. known_with_less k x y h; below = λ y h. go y (y == x) refl h }
   where
     go : (y : Variable) (b : Bool) → (y == x) ≡ b → cond b true (k y) ≡ true → (k y ≡ true) ⊎ (y < next)
@@ -63,7 +63,7 @@ grows_with next k x lt = record { more = λ y less h. known_with_less k x y h; b
     go y false e h = inl h
 
 -- a local is declared
-grows_declared : (next next' : ℕ) (k k' : Known) (b : Bool) → suc next ≤ next' → Grows (suc next) next' (known_with k next b) k' → Grows next next' k k'
+grows_declared : (next next' : ℕ) (k k' : DefinitelyAssigned) (b : Bool) → suc next ≤ next' → Grows (suc next) next' (known_with k next b) k' → Grows next next' k k'
 grows_declared next next' k k' b up g =
     record {
       more = λ y lt h. g.more y (omega arith) (ap (λ t. cond t b (k y)) (ne_eqb y next (λ e. omega arith)) ∙ h);
@@ -75,7 +75,7 @@ grows_declared next next' k k' b up g =
     go y false e h = inl h
 
 -- one and then another
-grows_then : (next middle next' : ℕ) (k j k' : Known) → next ≤ middle → middle ≤ next' → Grows next middle k j → Grows middle next' j k' → Grows next next' k k'
+grows_then : (next middle next' : ℕ) (k j k' : DefinitelyAssigned) → next ≤ middle → middle ≤ next' → Grows next middle k j → Grows middle next' j k' → Grows next next' k k'
 grows_then next middle next' k j k' up higher a b =
     record {
       more = λ y lt h. b.more y (omega arith) (a.more y lt h);
@@ -83,7 +83,7 @@ grows_then next middle next' k j k' up higher a b =
     }
 
 -- behind both branches
-grows_both : (next middle next' : ℕ) (k a b k' : Known) → next ≤ middle → middle ≤ next' → Grows next middle k a → Grows middle next' k b → (λ y. a y && b y) ≡ k' → Grows next next' k k'
+grows_both : (next middle next' : ℕ) (k a b k' : DefinitelyAssigned) → next ≤ middle → middle ≤ next' → Grows next middle k a → Grows middle next' k b → (λ y. a y && b y) ≡ k' → Grows next next' k k'
 grows_both next middle next' k a b k' up higher f g e =
     subst (Grows next next' k) e (record {
       more = λ y lt h. and_from (a y) (b y) (f.more y lt h) (g.more y (omega arith) h);
@@ -103,7 +103,7 @@ visible_later scope next next' up h = each_weaker (IsBelow next) (IsBelow next')
 
 -- a statement makes known what it assigns, and forgets only its own locals
 mutual
-  pub grows : {scope : Scope} {o next next' : ℕ} {ts : List Token} {a : Stmt} → ReadsStmt scope o next ts a next' → (k k' : Known) → Each (IsBelow next) scope → definite no_privates a k ≡ Some k' → Grows next next' k k'
+  pub grows : {scope : Scope} {o next next' : ℕ} {ts : List Token} {a : Stmt} → ReadsStmt scope o next ts a next' → (k k' : DefinitelyAssigned) → Each (IsBelow next) scope → definite no_privates a k ≡ Some k' → Grows next next' k k'
   grows (assign {next = next} {x = x} {is = is} {e = e} t r) k k' v d =
       let ok = allowed (may_read_all k is && may_take k e) (known_with k x true) k' d in
       subst (Grows next next k) ok.1 (grows_with next k x (target_below next t v))
@@ -123,7 +123,7 @@ mutual
   grows (block less items) k k' v d = grows_items items k k' v d
   grows (print {next = next} {parts = parts} less f r fill) k k' v d = grows_same next k k' (allowed (may_print k parts) k k' d).1
 
-  pub grows_items : {scope : Scope} {o next next' : ℕ} {ts : List Token} {items : Items} → ReadsItems scope o next ts items next' → (k k' : Known) → Each (IsBelow next) scope → definite_items no_privates [] items k ≡ Some k' → Grows next next' k k'
+  pub grows_items : {scope : Scope} {o next next' : ℕ} {ts : List Token} {items : Items} → ReadsItems scope o next ts items next' → (k k' : DefinitelyAssigned) → Each (IsBelow next) scope → definite_items no_privates [] items k ≡ Some k' → Grows next next' k k'
   grows_items (no_more {next = next}) k k' v d = grows_same next k k' (same_Some k k' d)
   grows_items (line r) k k' v d = grows_items r k k' v d
   grows_items {scope = scope} (empty_local {next = next} {next' = next'} {name = name} free r) k k' v d =
@@ -137,5 +137,5 @@ mutual
       grows_then next middle next'' k first.0 k' (rises ra) (rises_items r) (grows ra k first.0 v first.1) (grows_items r first.0 k' (visible_later scope next middle (rises ra) v) first.2)
 
 -- what is known has numbers below the next one
-pub known_below : (next next' : ℕ) (k k' : Known) → next ≤ next' → ((y : Variable) → k y ≡ true → y < next) → Grows next next' k k' → (y : Variable) → k' y ≡ true → y < next'
+pub known_below : (next next' : ℕ) (k k' : DefinitelyAssigned) → next ≤ next' → ((y : Variable) → k y ≡ true → y < next) → Grows next next' k k' → (y : Variable) → k' y ≡ true → y < next'
 known_below next next' k k' up below g y h = ⊎_elim (λ q. let lt = below y q in omega arith) (λ lt. lt) (g.below y h)

@@ -10,8 +10,8 @@ use Rattle.semantics.specs.Source.Scope.{Scope, AVariable}
 use Rattle.semantics.specs.Source.Statements.{ReadsIncrement}
 use Rattle.semantics.specs.Meaning.State.{State, Holds, Declared, Assigned, with_local, assign_at, written, look_in, is_object_in}
 use Rattle.semantics.specs.Meaning.Value.{value, holds, both, compare}
-use Rattle.semantics.specs.Meaning.Runs.{then_from, declares, declared, incremented, turns, most_turns, run}
-use Rattle.semantics.specs.Meaning.Definite.{Known, known_with}
+use Rattle.semantics.specs.Meaning.Runs.{then_from, declares, declared, incremented, turns, greatest_trip_count, run}
+use Rattle.semantics.specs.Meaning.Definite.{DefinitelyAssigned, known_with}
 use Rattle.semantics.proofs.NestLaw.{local_same}
 use Rattle.affine.specs.declared.interval.Interval.{Interval}
 use Rattle.affine.specs.declared.interval.Side.{Side}
@@ -45,11 +45,11 @@ left_small Falling v h = omega arith
 
 -- a loop at a point of a run; after: what is known behind its body
 module _ (ds : List Declaration) (box : List Side) (values : Variable → ℤ) (scope : Scope) (name : Name) (x : Variable) (start : Source) (test : Cond) (step : Increment) (body : Stmt) (l : Canonical) (i : Interval)
-    (loop : IsLoop box x start test step body l i) (head : IsHead box x start test step l) (k after : Known) (s : State) (point : IsPoint ds box values scope x k s) where
+    (loop : IsLoop box x start test step body l i) (head : IsHead box x start test step l) (k after : DefinitelyAssigned) (s : State) (point : IsPoint ds box values scope x k s) where
   abbrev here : Scope
   here = (name, AVariable x 0) ∷ scope
 
-  abbrev known : Known
+  abbrev known : DefinitelyAssigned
   known = known_with k x true
 
   here_small : Each IsSmall here
@@ -199,12 +199,12 @@ module _ (ds : List Declaration) (box : List Side) (values : Variable → ℤ) (
 
       -- the loop runs, and behind it what was known is known
       pub loop_ran : Ran ds (IsBehind ds box values k) s (run (For x name start test step body) s)
-      unfolding most_turns
+      unfolding greatest_trip_count
       loop_ran =
           let t = first_state in
           let size = point.room in
           let later = local_later ds s x (Holds first) refl (λ lt e. omega arith) in
-          let all = turns most_turns (λ t. holds t test) (run body) (λ t. incremented t step) in
+          let all = turns greatest_trip_count (λ t. holds t test) (run body) (λ t. incremented t step) in
           let begins : declared s x (Some start) ≡ declares x (Some first) =
           ap (λ e. declared s x (Some e)) head.start_is ∙ ap (declares x) (bound_value s head.from l.start head.first stays.start point.here.turn) in
           let there : IsThere first t = record {
@@ -221,4 +221,4 @@ module _ (ds : List Declaration) (box : List Side) (values : Variable → ℤ) (
           (ran_then all
           (ran_write ds (At first) s (Declared x (Some first)) later (there, starts l.stride.direction l.bound l.stride.by first limit fit room))
           (λ u later' at. turns_ran ds (λ t. holds t test) (run body) (λ t. incremented t step) next (left_over l.stride.direction) At Turned (IsBehind ds box values k)
-          (λ v t at. (compare head.op v limit, tested v t at.0)) ends goes steps most_turns first u (omega arith) at))
+          (λ v t at. (compare head.op v limit, tested v t at.0)) ends goes steps greatest_trip_count first u (omega arith) at))

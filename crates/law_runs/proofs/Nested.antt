@@ -9,7 +9,7 @@ use Rattle.semantics.specs.Source.Scope.{Scope, Entity, AVariable, AConstant, wi
 use Rattle.semantics.specs.Source.Grammar.{ReadsLengths, no_lengths, dimension, ReadsConstants, only, further, ReadsDecls, no_decls, enum, object}
 use Rattle.semantics.specs.Meaning.State.{State}
 use Rattle.semantics.specs.Meaning.Runs.{Effect, run_items}
-use Rattle.semantics.specs.Meaning.Definite.{Known, no_privates, definite_items, known_at_start}
+use Rattle.semantics.specs.Meaning.Definite.{DefinitelyAssigned, no_privates, definite_items, known_at_start}
 use Rattle.law_runs.specs.Total.{NestedKernelsRun}
 use Rattle.nest_loop.specs.Constants.{Each, IsSmall}
 use Rattle.nest_loop.proofs.Visible.{each_weaker, constant_there}
@@ -54,7 +54,7 @@ settable : (ds : List Declaration) (s : State) (e : Entity) → IsBelow (length 
 settable ds s (AVariable x n) h = inl h
 settable ds s (AConstant n) h = tt
 
-pub some_there : (o : Option Known) → is_some o ≡ true → There o
+pub some_there : (o : Option DefinitelyAssigned) → is_some o ≡ true → There o
 some_there None e = absurd cc
 some_there (Some k) e = (k, refl)
 

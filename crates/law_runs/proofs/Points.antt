@@ -10,7 +10,7 @@ use Rattle.semantics.specs.Source.Expressions.{ReadsSubscripts, UpdateSign, plus
 use Rattle.semantics.specs.Source.Statements.{ReadsTarget, target, ReadsStmt, assign, update, if_only, if_else, for_loop, block, print, ReadsItems, no_more, line, empty_local, first_local, statement}
 use Rattle.semantics.specs.Meaning.State.{State, Slot, Assigned, with_local, written}
 use Rattle.semantics.specs.Meaning.Value.{operate}
-use Rattle.semantics.specs.Meaning.Definite.{Known, where_ok, after_both}
+use Rattle.semantics.specs.Meaning.Definite.{DefinitelyAssigned, where_ok, after_both}
 use Rattle.affine.specs.declared.interval.Side.{Side}
 use Rattle.affine_expr.specs.Forms.{is_counter}
 use Rattle.law_runs.proofs.Going.{stands, Later, HoldsKnown, IsUsable, usable_later}
@@ -58,18 +58,18 @@ below_more m n le (AVariable x d) h = omega arith
 below_more m n le (AConstant c) h = tt
 
 -- what is known, and the loops' variables, have numbers below
-pub record AreBelow (box : List Side) (scope : Scope) (next : ℕ) (k : Known) : Type 0 where
+pub record AreBelow (box : List Side) (scope : Scope) (next : ℕ) (k : DefinitelyAssigned) : Type 0 where
   pub visible : Each (IsBelow next) scope
   pub known : (y : Variable) → k y ≡ true → y < next
   pub counters : (y : Variable) → is_counter box y ≡ true → y < next
 
 -- what holds behind a statement: what is known holds a number, and the loops round it stand at their turn
-pub record IsBehind (ds : List Declaration) (box : List Side) (values : Variable → ℤ) (k : Known) (s : State) : Type 0 where
+pub record IsBehind (ds : List Declaration) (box : List Side) (values : Variable → ℤ) (k : DefinitelyAssigned) (s : State) : Type 0 where
   pub known : HoldsKnown ds k s
   pub turn : AtTurn box values s
 
 -- what is visible is small, can be set and has a number below the next, and the state is good
-pub record IsPoint (ds : List Declaration) (box : List Side) (values : Variable → ℤ) (scope : Scope) (next : ℕ) (k : Known) (s : State) : Type 0 where
+pub record IsPoint (ds : List Declaration) (box : List Side) (values : Variable → ℤ) (scope : Scope) (next : ℕ) (k : DefinitelyAssigned) (s : State) : Type 0 where
   pub small : Each IsSmall scope
   pub usable : Each (CanBeSet ds s) scope
   pub room : length ds ≤ next
@@ -96,7 +96,7 @@ turn_assigned box values s x js v kept turn =
     turn_lasts box values s (written s (Assigned x js v)) (λ y c. other_assigned s x js v y (swapped x y (kept y c))) turn
 
 -- a point behind another, in the same block
-pub point_later : (ds : List Declaration) (box : List Side) (values : Variable → ℤ) (scope : Scope) (next next' : ℕ) (k k' : Known) (s t : State) → IsPoint ds box values scope next k s → next ≤ next' → Later ds s t
+pub point_later : (ds : List Declaration) (box : List Side) (values : Variable → ℤ) (scope : Scope) (next next' : ℕ) (k k' : DefinitelyAssigned) (s t : State) → IsPoint ds box values scope next k s → next ≤ next' → Later ds s t
     → ((y : Variable) → k' y ≡ true → y < next') → IsBehind ds box values k' t → IsPoint ds box values scope next' k' t
 point_later ds box values scope next next' k k' s t p up l below here =
     let room = p.room in
@@ -114,7 +114,7 @@ point_later ds box values scope next next' k k' s t p up l below here =
     }
 
 -- a point behind a local's declaration
-pub point_behind : (ds : List Declaration) (box : List Side) (values : Variable → ℤ) (scope : Scope) (name : Name) (next : ℕ) (k k' : Known) (s t : State) → IsPoint ds box values scope next k s → Later ds s t
+pub point_behind : (ds : List Declaration) (box : List Side) (values : Variable → ℤ) (scope : Scope) (name : Name) (next : ℕ) (k k' : DefinitelyAssigned) (s t : State) → IsPoint ds box values scope next k s → Later ds s t
     → ((y : Variable) → k' y ≡ true → y < suc next) → IsBehind ds box values k' t → stands (t.locals next) ≡ true → IsPoint ds box values ((name, AVariable next 0) ∷ scope) (suc next) k' t
 point_behind ds box values scope name next k k' s t p l below here up =
     let rest = point_later ds box values scope next (suc next) k k' s t p (omega arith) l below here in
@@ -149,28 +149,28 @@ updates_there or v w = (_, refl)
 updates_there xor v w = (_, refl)
 
 -- what is known behind a statement that may be
-pub allowed : (b : Bool) (k k' : Known) → where_ok b k ≡ Some k' → (b ≡ true) × (k ≡ k')
+pub allowed : (b : Bool) (k k' : DefinitelyAssigned) → where_ok b k ≡ Some k' → (b ≡ true) × (k ≡ k')
 allowed true k k' e = (refl, same_Some k k' e)
 allowed false k k' e = absurd (none-some k' e)
 
-pub tested_known : (b : Bool) (o : Option Known) (k' : Known) → cond b o None ≡ Some k' → (b ≡ true) × (o ≡ Some k')
+pub tested_known : (b : Bool) (o : Option DefinitelyAssigned) (k' : DefinitelyAssigned) → cond b o None ≡ Some k' → (b ≡ true) × (o ≡ Some k')
 tested_known true o k' e = (refl, e)
 tested_known false o k' e = absurd (none-some k' e)
 
 -- behind both branches
-pub record Branches (o p : Option Known) (k' : Known) : Type 0 where
-  pub left : Known
-  pub right : Known
+pub record Branches (o p : Option DefinitelyAssigned) (k' : DefinitelyAssigned) : Type 0 where
+  pub left : DefinitelyAssigned
+  pub right : DefinitelyAssigned
   pub first : o ≡ Some left
   pub second : p ≡ Some right
   pub is : (λ y. left y && right y) ≡ k'
 
-pub branches : (o p : Option Known) (k' : Known) → after_both o p ≡ Some k' → Branches o p k'
+pub branches : (o p : Option DefinitelyAssigned) (k' : DefinitelyAssigned) → after_both o p ≡ Some k' → Branches o p k'
 branches None p k' e = absurd (none-some k' e)
 branches (Some a) None k' e = absurd (none-some k' e)
 branches (Some a) (Some b) k' e = record { left = a; right = b; first = refl; second = refl; is = same_Some _ k' e }
 
 -- one statement and then others
-pub and_then : (f : Known → Option Known) (o : Option Known) (k' : Known) → option_and_then f o ≡ Some k' → (k : Known) × (o ≡ Some k) × (f k ≡ Some k')
+pub and_then : (f : DefinitelyAssigned → Option DefinitelyAssigned) (o : Option DefinitelyAssigned) (k' : DefinitelyAssigned) → option_and_then f o ≡ Some k' → (k : DefinitelyAssigned) × (o ≡ Some k) × (f k ≡ Some k')
 and_then f None k' e = absurd (none-some k' e)
 and_then f (Some k) k' e = (k, refl, e)

@@ -11,7 +11,7 @@ use Rattle.semantics.specs.Source.Statements.{ReadsSource, ReadsTarget, ReadsStm
 use Rattle.semantics.specs.Meaning.State.{State, Slot, Empty, Holds, Declared, with_local}
 use Rattle.semantics.specs.Meaning.Value.{value, values, holds, source_value, both_then, map_option, operate}
 use Rattle.semantics.specs.Meaning.Runs.{Effect, nothing, declares, declared, assigned, updated, print_text, run, run_items}
-use Rattle.semantics.specs.Meaning.Definite.{Known, known_with, may_read, may_read_all, may_test, may_take, may_print, no_privates, after_both, declared_known, definite, definite_items}
+use Rattle.semantics.specs.Meaning.Definite.{DefinitelyAssigned, known_with, may_read, may_read_all, may_test, may_take, may_print, no_privates, after_both, declared_known, definite, definite_items}
 use Rattle.semantics.proofs.EraseTokenLaw.{first_of, second_of}
 use Rattle.semantics.proofs.NestLaw.{local_same}
 use Rattle.affine.specs.declared.interval.Interval.{Interval}
@@ -47,10 +47,10 @@ keeps_inside box x i body kept own y c = go (x == y) refl c
 
 module _ (ds : List Declaration) (short : HaveShort ds) where
   -- a run behind which this is known, at the same turn
-  abbrev Goes : List Side → (Variable → ℤ) → Known → State → Option Effect → Type 0
+  abbrev Goes : List Side → (Variable → ℤ) → DefinitelyAssigned → State → Option Effect → Type 0
   Goes box w k s o = Ran ds (IsBehind ds box w k) s o
 
-  assign_goes : (box : List Side) (w : Variable → ℤ) {scope : Scope} {o p next : ℕ} {ts us : List Token} {x : Variable} {is : Exprs} {e : Source} (k k' : Known) (s : State)
+  assign_goes : (box : List Side) (w : Variable → ℤ) {scope : Scope} {o p next : ℕ} {ts us : List Token} {x : Variable} {is : Exprs} {e : Source} (k k' : DefinitelyAssigned) (s : State)
       → ReadsTarget scope o ts x is → ReadsSource scope p us e → StaysInside ds box x is → SourceHas (StaysInside ds) box e → ((y : Variable) → is_counter box y ≡ true → (x == y) ≡ false)
       → IsPoint ds box w scope next k s → ((may_read_all k is && may_take k e) ≡ true) × (known_with k x true ≡ k') → Goes box w k' s (assigned s x (values s is) (source_value s e))
   assign_goes box w {scope} {x = x} {is = is} {e = e} k k' s t r stays has kept at d =
@@ -61,7 +61,7 @@ module _ (ds : List Declaration) (short : HaveShort ds) where
       (assigned_ran ds (IsBehind ds box w (known_with k x true)) s x (values s is) (source_value s e) js.0 v.0 js.1 v.1 js.2
       (record { known = assigned_known ds s x js.0 v.0 k usable at.here.known; turn = turn_assigned box w s x js.0 v.0 kept at.here.turn }))
 
-  update_goes : (box : List Side) (w : Variable → ℤ) {scope : Scope} {o p l next : ℕ} {ts us : List Token} {x : Variable} {is : Exprs} {e : Expr} (op : BinaryOp) (k k' : Known) (s : State)
+  update_goes : (box : List Side) (w : Variable → ℤ) {scope : Scope} {o p l next : ℕ} {ts us : List Token} {x : Variable} {is : Exprs} {e : Expr} (op : BinaryOp) (k k' : DefinitelyAssigned) (s : State)
       → ReadsTarget scope o ts x is → ((v w : ℕ) → There (operate op v w)) → ReadsExpr scope p l us e → StaysInside ds box x is → ExprHas (StaysInside ds) box e → ((y : Variable) → is_counter box y ≡ true → (x == y) ≡ false)
       → IsPoint ds box w scope next k s → ((k x && may_read_all k is && may_read k e) ≡ true) × (k ≡ k') → Goes box w k' s (updated s x is op e)
   update_goes box w {scope} {x = x} {is = is} {e = e} op k k' s t all r stays has kept at d =
@@ -77,20 +77,20 @@ module _ (ds : List Declaration) (short : HaveShort ds) where
       (record { known = still_known ds s x js.0 u.0 k usable at.here.known; turn = turn_assigned box w s x js.0 u.0 kept at.here.turn }))
 
   -- less is known behind both branches
-  left_goes : {box : List Side} {w : Variable → ℤ} {s : State} {o : Option Effect} (a b k' : Known) → (λ y. a y && b y) ≡ k' → Goes box w a s o → Goes box w k' s o
+  left_goes : {box : List Side} {w : Variable → ℤ} {s : State} {o : Option Effect} (a b k' : DefinitelyAssigned) → (λ y. a y && b y) ≡ k' → Goes box w a s o → Goes box w k' s o
   left_goes {box} {w} {s} {o} a b k' e r =
       subst (λ q. Goes box w q s o) e (ran_weaker (λ t l h. record { known = known_less ds a (λ y. a y && b y) t (λ y q. first_of (a y) (b y) q) h.known; turn = h.turn }) r)
 
-  right_goes : {box : List Side} {w : Variable → ℤ} {s : State} {o : Option Effect} (a b k' : Known) → (λ y. a y && b y) ≡ k' → Goes box w b s o → Goes box w k' s o
+  right_goes : {box : List Side} {w : Variable → ℤ} {s : State} {o : Option Effect} (a b k' : DefinitelyAssigned) → (λ y. a y && b y) ≡ k' → Goes box w b s o → Goes box w k' s o
   right_goes {box} {w} {s} {o} a b k' e r =
       subst (λ q. Goes box w q s o) e (ran_weaker (λ t l h. record { known = known_less ds b (λ y. a y && b y) t (λ y q. second_of (a y) (b y) q) h.known; turn = h.turn }) r)
 
   -- a local's declaration
-  record IsDeclared (box : List Side) (w : Variable → ℤ) (k : Known) (x : Variable) (s : State) : Type 0 where
+  record IsDeclared (box : List Side) (w : Variable → ℤ) (k : DefinitelyAssigned) (x : Variable) (s : State) : Type 0 where
     behind : IsBehind ds box w k s
     up : stands (s.locals x) ≡ true
 
-  declared_here : (box : List Side) (w : Variable → ℤ) {scope : Scope} {next : ℕ} (slot : Slot) (k : Known) (s : State) → stands slot ≡ true → IsPoint ds box w scope next k s
+  declared_here : (box : List Side) (w : Variable → ℤ) {scope : Scope} {next : ℕ} (slot : Slot) (k : DefinitelyAssigned) (s : State) → stands slot ≡ true → IsPoint ds box w scope next k s
       → IsDeclared box w (known_with k next (is_held slot)) next (with_local s next slot)
   declared_here box w {next = next} slot k s up at =
       record {
@@ -98,13 +98,13 @@ module _ (ds : List Declaration) (short : HaveShort ds) where
         up = ap stands (local_same s next slot) ∙ up;
       }
 
-  empty_goes : (box : List Side) (w : Variable → ℤ) {scope : Scope} {next : ℕ} (k : Known) (s : State) → IsPoint ds box w scope next k s → Ran ds (IsDeclared box w (known_with k next false) next) s (declared s next None)
+  empty_goes : (box : List Side) (w : Variable → ℤ) {scope : Scope} {next : ℕ} (k : DefinitelyAssigned) (s : State) → IsPoint ds box w scope next k s → Ran ds (IsDeclared box w (known_with k next false) next) s (declared s next None)
   empty_goes box w {next = next} k s at =
       let room = at.room in
       ran_write ds (IsDeclared box w (known_with k next false) next) s (Declared next None)
       (local_later ds s next Empty refl (λ lt e. omega arith)) (declared_here box w Empty k s refl at)
 
-  value_goes : (box : List Side) (w : Variable → ℤ) {scope : Scope} {next : ℕ} (e : Source) (k : Known) (s : State) → IsPoint ds box w scope next k s → There (source_value s e)
+  value_goes : (box : List Side) (w : Variable → ℤ) {scope : Scope} {next : ℕ} (e : Source) (k : DefinitelyAssigned) (s : State) → IsPoint ds box w scope next k s → There (source_value s e)
       → Ran ds (IsDeclared box w (known_with k next true) next) s (declared s next (Some e))
   value_goes box w {next = next} e k s at v =
       let room = at.room in
@@ -113,7 +113,7 @@ module _ (ds : List Declaration) (short : HaveShort ds) where
       (local_later ds s next (Holds v.0) refl (λ lt e. omega arith)) (declared_here box w (Holds v.0) k s refl at))
 
   -- what is known of a local that is declared has a number below the one behind it
-  declared_below : {box : List Side} {w : Variable → ℤ} {scope : Scope} {next : ℕ} (b : Bool) (k : Known) (s : State) → IsPoint ds box w scope next k s → (y : Variable) → known_with k next b y ≡ true → y < suc next
+  declared_below : {box : List Side} {w : Variable → ℤ} {scope : Scope} {next : ℕ} (b : Bool) (k : DefinitelyAssigned) (s : State) → IsPoint ds box w scope next k s → (y : Variable) → known_with k next b y ≡ true → y < suc next
   declared_below {next = next} b k s at y h = go (y == next) refl h
     where
       go : (t : Bool) → (y == next) ≡ t → cond t b (k y) ≡ true → y < suc next
@@ -121,7 +121,7 @@ module _ (ds : List Declaration) (short : HaveShort ds) where
       go false e h = let lt = at.below.known y h in omega arith
 
   mutual
-    stmt_goes : (box : List Side) (w : Variable → ℤ) {scope : Scope} {o next next' : ℕ} {ts : List Token} {a : Stmt} → ReadsStmt scope o next ts a next' → (k k' : Known) (s : State)
+    stmt_goes : (box : List Side) (w : Variable → ℤ) {scope : Scope} {o next next' : ℕ} {ts : List Token} {a : Stmt} → ReadsStmt scope o next ts a next' → (k k' : DefinitelyAssigned) (s : State)
         → Has (StaysInside ds) box a → Keeps box a → IsPoint ds box w scope next k s → definite no_privates a k ≡ Some k' → Goes box w k' s (run a s)
     stmt_goes box w (assign {x = x} {is = is} {e = e} t r) k k' s h kept at d =
         assign_goes box w k k' s t r h.0 h.1 kept at (allowed (may_read_all k is && may_take k e) (known_with k x true) k' d)
@@ -160,7 +160,7 @@ module _ (ds : List Declaration) (short : HaveShort ds) where
         subst (λ q. Goes box w q s (map_option (λ t. record { writes = []; text = t }) (print_text s parts))) ok.1
         (record { effect = record { writes = []; text = t.0 }; is = ap (map_option (λ t. record { writes = []; text = t })) t.1; later = later_self ds s; left = at.here })
 
-    pub items_go : (box : List Side) (w : Variable → ℤ) {scope : Scope} {o next next' : ℕ} {ts : List Token} {items : Items} → ReadsItems scope o next ts items next' → (k k' : Known) (s : State)
+    pub items_go : (box : List Side) (w : Variable → ℤ) {scope : Scope} {o next next' : ℕ} {ts : List Token} {items : Items} → ReadsItems scope o next ts items next' → (k k' : DefinitelyAssigned) (s : State)
         → Have (StaysInside ds) box items → AllKeep box items → IsPoint ds box w scope next k s → definite_items no_privates [] items k ≡ Some k' → Goes box w k' s (run_items items s)
     items_go box w no_more k k' s h kept at d = subst (λ q. Goes box w q s (Some nothing)) (same_Some k k' d) (ran_nothing ds (IsBehind ds box w k) s at.here)
     items_go box w (line r) k k' s h kept at d = items_go box w r k k' s h kept at d

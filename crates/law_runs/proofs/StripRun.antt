@@ -4,7 +4,7 @@ use Rattle.std.proofs.Common.{refl}
 use Rattle.semantics.specs.Tree.{Stmt, Assign, Update, If, IfElse, For, Block, Print, Items, no_items, mark, local, stmt, strip_stmt, strip_items}
 use Rattle.semantics.specs.Meaning.State.{State}
 use Rattle.semantics.specs.Meaning.Value.{holds, by_test}
-use Rattle.semantics.specs.Meaning.Runs.{nothing, then_from, declared, incremented, turns, most_turns, run, run_items}
+use Rattle.semantics.specs.Meaning.Runs.{nothing, then_from, declared, incremented, turns, greatest_trip_count, run, run_items}
 use Rattle.law_runs.specs.Total.{StripKeepsRuns}
 
 mutual
@@ -14,7 +14,7 @@ mutual
   same_run (If c a) s = λ i. by_test (holds s c) (same_run a s i) (Some nothing)
   same_run (IfElse c a b) s = λ i. by_test (holds s c) (same_run a s i) (same_run b s i)
   same_run (For x name start test step body) s =
-      λ i. then_from s (declared s x (Some start)) (turns most_turns (λ t. holds t test) (λ t. same_run body t i) (λ t. incremented t step))
+      λ i. then_from s (declared s x (Some start)) (turns greatest_trip_count (λ t. holds t test) (λ t. same_run body t i) (λ t. incremented t step))
   same_run (Block items) s = same_items items s
   same_run (Print parts) s = refl
 

@@ -5,7 +5,7 @@ use Rattle.std.proofs.Common.{refl, sym, inl, inr, ap, ◌∙◌, subst, cond, a
 use Rattle.std.proofs.lemmas.Bool.{lt-ltb}
 use Rattle.std.proofs.lemmas.Int.{ints}
 use Rattle.std.proofs.lemmas.Option.{same_Some, slice_get_within}
-use Rattle.semantics.specs.Tree.{Variable, BinaryOp, Plus, Minus, Times, Divide, Remainder, BitAnd, BitOr, BitXor, ShiftLeft, ShiftRight, Bare, Ull, Expr, Literal, Constant, Object, Unary, Binary, Choose, Exprs, no_exprs, more_exprs, Cond, Source, PrintPart, Characters, Decimal, Declaration}
+use Rattle.semantics.specs.Tree.{Variable, BinaryOp, Plus, Minus, Times, Divide, Remainder, BitAnd, BitOr, BitXor, ShiftLeft, ShiftRight, Bare, Ull, Expr, Literal, Constant, Object, Unary, Binary, Conditional, Exprs, no_exprs, more_exprs, Cond, Source, PrintPart, Characters, Decimal, Declaration}
 use Rattle.semantics.specs.Source.Token.{Token}
 use Rattle.semantics.specs.Source.Scope.{Scope}
 use Rattle.semantics.specs.Source.Typing.{typed, constant, not_zero, may_divide, may_shift, fit}
@@ -16,7 +16,7 @@ use Rattle.semantics.specs.Meaning.Value.{value, values, holds, source_value, ma
 use Rattle.semantics.specs.Meaning.Value as meaning
 use Rattle.semantics.specs.Meaning.Runs.{print_text}
 use Rattle.semantics.specs.Meaning.Places.{within}
-use Rattle.semantics.specs.Meaning.Definite.{Known, may_read, may_read_all, may_test, may_take, may_print}
+use Rattle.semantics.specs.Meaning.Definite.{DefinitelyAssigned, may_read, may_read_all, may_test, may_take, may_print}
 use Rattle.semantics.specs.Theorems.{is_declared}
 use Rattle.semantics.proofs.EraseTokenLaw.{first_of, second_of}
 use Rattle.affine.specs.declared.interval.Side.{Side}
@@ -117,7 +117,7 @@ module _ (ds : List Declaration) (short : HaveShort ds) (scope : Scope) (small :
           (js.0, js.1, ap (λ slot. is_object_in slot s x js.0) (file_outside x d e) ∙ declared_there x d js.0 e js.2)
 
   -- values of what is known
-  module _ (k : Known) (known : HoldsKnown ds k s) where
+  module _ (k : DefinitelyAssigned) (known : HoldsKnown ds k s) where
     pub object_there : (x : Variable) (is : Exprs) → k x ≡ true → StaysInside ds box x is → There (value s (Object x is))
     object_there x is have h = go (slice_get ds x) refl (short_lengths ds x short) h
       where
@@ -153,7 +153,7 @@ module _ (ds : List Declaration) (short : HaveShort ds) (scope : Scope) (small :
         go (Object x is) r h = by_constant (Object x is) r h
         go (Unary op a) r h = by_constant (Unary op a) r h
         go (Binary op a b) r h = by_constant (Binary op a b) r h
-        go (Choose c a b) r h = by_constant (Choose c a b) r h
+        go (Conditional c a b) r h = by_constant (Conditional c a b) r h
 
     operated : {o l : ℕ} {ts : List Token} (op : BinaryOp) (a b : Expr) → fit op a b ≡ true → ReadsExpr scope o l ts b → (v w : ℕ) → value s b ≡ Some w → There (operate op v w)
     operated Plus a b f r v w e = (_, refl)

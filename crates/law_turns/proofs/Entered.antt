@@ -9,7 +9,7 @@ use Rattle.affine.specs.Box.{side}
 use Rattle.ktree.specs.View.{source_of, cond_of, increment_of}
 use Rattle.ktree.specs.declared.statement.Head.{Head}
 use Rattle.nest_space.specs.Heads.{IsHeadOf}
-use Rattle.pairtest_counter.specs.declared.level.Level.{Level}
+use Rattle.pairtest_counter.specs.declared.level.EnclosingLoop.{EnclosingLoop}
 use Rattle.pairtest_counter.specs.Levels.{Nesting, AreLevels, Enters, IsTurn}
 use Rattle.law_turns.specs.Turns.{AreEntered, loop_of, EachInside, IsWithin, IsTurnInside}
 use Rattle.law_turns.proofs.Iterating.{nested}
@@ -32,11 +32,11 @@ chain_enters before after head body (v, i, loop, is) are heads =
 -- ---- turns of all loops, and of some
 
 -- what holds of each loop inside some holds of each inside those before
-pub inside_before : (P : Level → List Level → Type 0) (n : ℕ) (hs : List Loop) (before after : Nesting) → AreEntered before hs after → EachInside P n after.levels → EachInside P n before.levels
+pub inside_before : (P : EnclosingLoop → List EnclosingLoop → Type 0) (n : ℕ) (hs : List Loop) (before after : Nesting) → AreEntered before hs after → EachInside P n after.levels → EachInside P n before.levels
 inside_before P n [] before after entered each = subst (λ (m : Nesting). EachInside P n m.levels) (sym entered) each
 inside_before P n (h ∷ hs) before after (s, v, is, level, rest) each = (inside_before P n hs (nested before s v) after rest each).1
 
-further_inside : (P : Level → List Level → Type 0) (m n : ℕ) (levels : List Level) → m ≤ n → EachInside P m levels → EachInside P n levels
+further_inside : (P : EnclosingLoop → List EnclosingLoop → Type 0) (m n : ℕ) (levels : List EnclosingLoop) → m ≤ n → EachInside P m levels → EachInside P n levels
 further_inside P m n [] le each = tt
 further_inside P m n (v ∷ vs) le each = (λ more. each.0 (omega arith), further_inside P m n vs le each.1)
 
@@ -44,7 +44,7 @@ turn_before : (hs : List Loop) (before after : Nesting) (steps : ℕ → ℤ) �
 turn_before [] before after steps entered turn = subst (λ (n : Nesting). IsTurn n.levels steps) (sym entered) turn
 turn_before (h ∷ hs) before after steps (s, v, is, level, rest) turn = (turn_before hs (nested before s v) after steps rest turn).2
 
-each_within : (n : ℕ) (levels : List Level) (steps : ℕ → ℤ) → IsTurn levels steps → IsTurnInside n levels steps
+each_within : (n : ℕ) (levels : List EnclosingLoop) (steps : ℕ → ℤ) → IsTurn levels steps → IsTurnInside n levels steps
 each_within n [] steps turn = tt
 each_within n (v ∷ vs) steps turn = (λ le. (turn.0, turn.1), each_within n vs steps turn.2)
 

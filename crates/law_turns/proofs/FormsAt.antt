@@ -18,7 +18,7 @@ use Rattle.nest_loop.specs.declared.head.Canonical.{Canonical}
 use Rattle.nest_loop.specs.Sides.{end_shift}
 use Rattle.nest_loop.specs.Most.{way, distance}
 use Rattle.nest_loop.proofs.Turning.{distance_is}
-use Rattle.pairtest_counter.specs.declared.level.Level.{Level}
+use Rattle.pairtest_counter.specs.declared.level.EnclosingLoop.{EnclosingLoop}
 use Rattle.pairtest_counter.specs.declared.level.Forms.{Forms}
 use Rattle.pairtest_counter.specs.Counters.{step_by, place_in, Adds, none_left, one_more, InCounters, stepped, form_way, AreForms, Given}
 use Rattle.pairtest_counter.specs.Levels.{AreLevels, values_at}
@@ -26,10 +26,10 @@ use Rattle.pairtest_counter.specs.Levels.{AreLevels, values_at}
 -- ---- values
 
 -- what the forms of places stand for
-abbrev PlacesAre : List Level → (ℕ → ℤ) → Type 0
+abbrev PlacesAre : List EnclosingLoop → (ℕ → ℤ) → Type 0
 PlacesAre levels steps = (x : Variable) (p : Affine) → place_in levels x ≡ Some p → value p steps ≡ values_at levels steps x
 
-adds_value : (levels : List Level) (steps : ℕ → ℤ) (f : Affine) (ts : List Term) (g : Affine) → PlacesAre levels steps → Adds levels f ts g
+adds_value : (levels : List EnclosingLoop) (steps : ℕ → ℤ) (f : Affine) (ts : List Term) (g : Affine) → PlacesAre levels steps → Adds levels f ts g
     → value g steps ≡ value f steps +ℤ term_sum ts (values_at levels steps)
 adds_value levels steps f [] g places none_left = alone (value f steps)
   where
@@ -45,7 +45,7 @@ adds_value levels steps f (t ∷ ts) g places (one_more {p = p} at fits more res
     turned : (a v c r : ℤ) → (a +ℤ v *ℤ c) +ℤ r ≡ a +ℤ (c *ℤ v +ℤ r)
     turned a v c r = omega (arith, ints)
 
-from_places : (levels : List Level) (steps : ℕ → ℤ) (f g : Affine) → PlacesAre levels steps → InCounters levels f g → value g steps ≡ value f (values_at levels steps)
+from_places : (levels : List EnclosingLoop) (steps : ℕ → ℤ) (f g : Affine) → PlacesAre levels steps → InCounters levels f g → value g steps ≡ value f (values_at levels steps)
 from_places levels steps f g places h =
     adds_value levels steps (constant_form f.constant) f.terms g places h
     ∙ ap (λ (z : ℤ). z +ℤ term_sum f.terms (values_at levels steps)) (alone f.constant)
@@ -68,7 +68,7 @@ stepped_value n l start steps =
         other : (a b : ℤ) → a *ℤ b ≡ b *ℤ a
         other a b = omega (arith, ints)
 
-given_forms : (outer : List Level) (l : Canonical) (o : Option Forms) (f : Forms) → Given (AreForms outer l) o → o ≡ Some f → AreForms outer l f
+given_forms : (outer : List EnclosingLoop) (l : Canonical) (o : Option Forms) (f : Forms) → Given (AreForms outer l) o → o ≡ Some f → AreForms outer l f
 given_forms outer l None f h e = absurd (none-some f e)
 given_forms outer l (Some g) f h e = subst (AreForms outer l) (same_Some g f e) h
 
@@ -78,7 +78,7 @@ place_there None p e = absurd (none-some p e)
 place_there (Some f) p e = (f, refl, same_Some f.place p e)
 
 -- the place of a variable: it is the innermost loop's, or one round it
-by_place : {P : Type 0} (v : Level) (vs : List Level) (x : Variable) (p : Affine) → place_in (v ∷ vs) x ≡ Some p
+by_place : {P : Type 0} (v : EnclosingLoop) (vs : List EnclosingLoop) (x : Variable) (p : Affine) → place_in (v ∷ vs) x ≡ Some p
     → (v.canonical.variable.0 ≡ x → (f : Forms) → v.forms ≡ Some f → f.place ≡ p → P) → ((x ≡ v.canonical.variable.0 → ⊥) → place_in vs x ≡ Some p → P) → P
 by_place {P} v vs x p e here there = by (v.canonical.variable.0 == x) refl
   where
@@ -91,7 +91,7 @@ by_place {P} v vs x p e here there = by (v.canonical.variable.0 == x) refl
         (subst (λ b. cond b (option_map (λ f. f.place) v.forms) (place_in vs x) ≡ Some p) other e)
 
 -- the place of the innermost loop
-own_place : (v : Level) (vs : List Level) (steps : ℕ → ℤ) (forms : Given (AreForms vs v.canonical) v.forms) (places : PlacesAre vs steps) (x : Variable) (p : Affine)
+own_place : (v : EnclosingLoop) (vs : List EnclosingLoop) (steps : ℕ → ℤ) (forms : Given (AreForms vs v.canonical) v.forms) (places : PlacesAre vs steps) (x : Variable) (p : Affine)
     → v.canonical.variable.0 ≡ x → (f : Forms) → v.forms ≡ Some f → f.place ≡ p → value p steps ≡ values_at (v ∷ vs) steps x
 own_place v vs steps given places x p same f is at =
     let forms = given_forms vs v.canonical v.forms f given is in
@@ -102,7 +102,7 @@ own_place v vs steps given places x p same f is at =
     ∙ sym (with_value-same (values_at vs steps) v.canonical.variable.0
     (value v.canonical.start (values_at vs steps) +ℤ step_by v.canonical.stride.direction v.canonical.stride.by *ℤ steps (length vs)) x (sym same))
 
-places_are : (box : List Side) (levels : List Level) (steps : ℕ → ℤ) → AreLevels box levels → PlacesAre levels steps
+places_are : (box : List Side) (levels : List EnclosingLoop) (steps : ℕ → ℤ) → AreLevels box levels → PlacesAre levels steps
 places_are [] [] steps are x p e = ap (λ (g : Affine). value g steps) (sym (same_Some (constant_form (pos 0)) p e))
 places_are [] (v ∷ vs) steps are x p e = absurd are
 places_are (s ∷ ss) [] steps are x p e = absurd are
@@ -112,7 +112,7 @@ places_are (s ∷ ss) (v ∷ vs) steps are x p e =
     (λ other q. places x p q ∙ sym (with_value-other (values_at vs steps) v.canonical.variable.0
     (value v.canonical.start (values_at vs steps) +ℤ step_by v.canonical.stride.direction v.canonical.stride.by *ℤ steps (length vs)) x other))
 
-pub in_counters_value : (box : List Side) (levels : List Level) (f g : Affine) (steps : ℕ → ℤ) → AreLevels box levels → InCounters levels f g → value g steps ≡ value f (values_at levels steps)
+pub in_counters_value : (box : List Side) (levels : List EnclosingLoop) (f g : Affine) (steps : ℕ → ℤ) → AreLevels box levels → InCounters levels f g → value g steps ≡ value f (values_at levels steps)
 in_counters_value box levels f g steps are h = from_places levels steps f g (places_are box levels steps are) h
 
 -- ---- reaches
@@ -121,7 +121,7 @@ way_value : (d : Direction) (first end : Affine) (steps : ℕ → ℤ) → value
 way_value Rising first end steps = value-difference end first steps
 way_value Falling first end steps = value-difference first end steps
 
-pub reach_value : (box : List Side) (levels : List Level) (l : Canonical) (f : Forms) (steps : ℕ → ℤ) → AreLevels box levels → AreForms levels l f → value f.reach steps ≡ distance l (values_at levels steps)
+pub reach_value : (box : List Side) (levels : List EnclosingLoop) (l : Canonical) (f : Forms) (steps : ℕ → ℤ) → AreLevels box levels → AreForms levels l f → value f.reach steps ≡ distance l (values_at levels steps)
 reach_value box levels l f steps are forms =
     let d = l.stride.direction in
     let shift : ℤ = way d (pos 0) (end_shift d l.bound) in
@@ -164,23 +164,23 @@ below_none : (n : ℕ) → AreBelow n []
 below_none n = All-nil (λ (u : Term). u.variable.0 < n)
 
 -- those of the forms of places are
-abbrev PlacesBelow : List Level → Type 0
+abbrev PlacesBelow : List EnclosingLoop → Type 0
 PlacesBelow levels = (x : Variable) (p : Affine) → place_in levels x ≡ Some p → AreBelow (length levels) p.terms
 
-adds_below : (n : ℕ) (levels : List Level) (f : Affine) (ts : List Term) (g : Affine) → ((x : Variable) (p : Affine) → place_in levels x ≡ Some p → AreBelow n p.terms) → Adds levels f ts g
+adds_below : (n : ℕ) (levels : List EnclosingLoop) (f : Affine) (ts : List Term) (g : Affine) → ((x : Variable) (p : Affine) → place_in levels x ≡ Some p → AreBelow n p.terms) → Adds levels f ts g
     → AreBelow n f.terms → AreBelow n g.terms
 adds_below n levels f [] g places none_left h = h
 adds_below n levels f (t ∷ ts) g places (one_more {p = p} at fits more rest) h =
     adds_below n levels (sum_form f (multiple_form p t.coefficient)) ts g places rest
     (below_multiple n (pos 1) (multiple_form p t.coefficient).terms f.terms (below_multiple n t.coefficient p.terms [] (places t.variable.0 p at) (below_none n)) h)
 
-below_from_places : (levels : List Level) (f g : Affine) → PlacesBelow levels → InCounters levels f g → AreBelow (length levels) g.terms
+below_from_places : (levels : List EnclosingLoop) (f g : Affine) → PlacesBelow levels → InCounters levels f g → AreBelow (length levels) g.terms
 below_from_places levels f g places h = adds_below (length levels) levels (constant_form f.constant) f.terms g places h (below_none (length levels))
 
-one_less : (v : Level) (vs : List Level) (ts : List Term) → AreBelow (length vs) ts → AreBelow (length (v ∷ vs)) ts
+one_less : (v : EnclosingLoop) (vs : List EnclosingLoop) (ts : List Term) → AreBelow (length vs) ts → AreBelow (length (v ∷ vs)) ts
 one_less v vs ts h = All-weaker (λ (u : Term). u.variable.0 < length vs) (λ (u : Term). u.variable.0 < length (v ∷ vs)) (λ u k. omega arith) ts h
 
-own_below : (v : Level) (vs : List Level) (forms : Given (AreForms vs v.canonical) v.forms) → PlacesBelow vs → (p : Affine) (f : Forms) → v.forms ≡ Some f → f.place ≡ p
+own_below : (v : EnclosingLoop) (vs : List EnclosingLoop) (forms : Given (AreForms vs v.canonical) v.forms) → PlacesBelow vs → (p : Affine) (f : Forms) → v.forms ≡ Some f → f.place ≡ p
     → AreBelow (length (v ∷ vs)) p.terms
 own_below v vs given places p f is at =
     let forms = given_forms vs v.canonical v.forms f given is in
@@ -193,7 +193,7 @@ own_below v vs given places p f is at =
     (below_multiple n by (variable_form (length vs)).terms [] counter (below_none n))
     (one_less v vs forms.start.terms (below_from_places vs v.canonical.start forms.start places forms.starts)))
 
-places_below : (box : List Side) (levels : List Level) → AreLevels box levels → PlacesBelow levels
+places_below : (box : List Side) (levels : List EnclosingLoop) → AreLevels box levels → PlacesBelow levels
 places_below [] [] are x p e = subst (λ (g : Affine). AreBelow 0 g.terms) (same_Some (constant_form (pos 0)) p e) (below_none 0)
 places_below [] (v ∷ vs) are x p e = absurd are
 places_below (s ∷ ss) [] are x p e = absurd are
@@ -201,5 +201,5 @@ places_below (s ∷ ss) (v ∷ vs) are x p e =
     let places = places_below ss vs are.1 in
     by_place v vs x p e (λ same f is at. own_below v vs are.0.forms places p f is at) (λ other q. one_less v vs p.terms (places x p q))
 
-pub in_counters_below : (box : List Side) (levels : List Level) (f g : Affine) → AreLevels box levels → InCounters levels f g → All (λ t. t.variable.0 < length levels) g.terms
+pub in_counters_below : (box : List Side) (levels : List EnclosingLoop) (f g : Affine) → AreLevels box levels → InCounters levels f g → All (λ t. t.variable.0 < length levels) g.terms
 in_counters_below box levels f g are h = below_from_places levels f g (places_below box levels are) h

@@ -10,7 +10,7 @@ use Rattle.affine.specs.declared.interval.Side.{Side}
 use Rattle.affine.specs.Affine.{value}
 use Rattle.affine.proofs.Values.{with_value-other}
 use Rattle.affine_expr.specs.Forms.{is_counter}
-use Rattle.pairtest_counter.specs.declared.level.Level.{Level}
+use Rattle.pairtest_counter.specs.declared.level.EnclosingLoop.{EnclosingLoop}
 use Rattle.pairtest_counter.specs.Levels.{Nesting, IsLevel, values_at}
 use Rattle.pairtest_counter.proofs.Chains.{canonical_named}
 use Rattle.nest_space.specs.Space.{Turns, values_of}
@@ -25,7 +25,7 @@ use Rattle.law_turns.proofs.Standing.{Standing, values_same, none_inside, place_
 use Rattle.law_turns.proofs.Joining.{member, all_there, behind, IsDistinct, all_distinct, AreDifferent, different_by, contains_cases, contains_none}
 
 -- inside one loop more
-abbrev pub nested : Nesting → Side → Level → Nesting
+abbrev pub nested : Nesting → Side → EnclosingLoop → Nesting
 nested n s v = record { box = s ∷ n.box; levels = v ∷ n.levels }
 
 -- the loops inside the outermost n are at a turn, and the variables of all have its values
@@ -60,7 +60,7 @@ pub iterations_by : (h : Loop) (hs : List Loop) (s : State) (vs : List ℕ) → 
 iterations_by h hs s vs e = ap (option_and_then (λ vs. concat_options (map (λ v. map_option (map (λ us. v ∷ us)) (iterations hs (at_value s h.variable v))) vs))) e
 
 -- one loop more round others: its run, and the values of its variable in the state
-module _ (few : ℕ) (n : Nesting) (steps : ℕ → ℤ) (st : State) (stands : StandsAt few n steps st) (h : Loop) (s : Side) (v : Level)
+module _ (few : ℕ) (n : Nesting) (steps : ℕ → ℤ) (st : State) (stands : StandsAt few n steps st) (h : Loop) (s : Side) (v : EnclosingLoop)
     (is : IsHeadOf n.box h v.canonical) (level : IsLevel n.box n.levels s v) where
   abbrev outer : Variable → ℤ
   outer = values_at n.levels steps
@@ -103,7 +103,7 @@ iteration_of_none n before after outer st us u same stands e among =
     (subst (λ (ws : List Vector). Contains ws u) (sym (same_Some ([] ∷ []) us e)) among)
 
 -- an iteration of the loops inside one more, and of all
-pub one_outside : (n : ℕ) (before after : Nesting) (h : Loop) (hs : List Loop) (s : Side) (v : Level) (outer middle : ℕ → ℤ) (st : State) (x : ℕ) (w : Vector) (steps : ℕ → ℤ)
+pub one_outside : (n : ℕ) (before after : Nesting) (h : Loop) (hs : List Loop) (s : Side) (v : EnclosingLoop) (outer middle : ℕ → ℤ) (st : State) (x : ℕ) (w : Vector) (steps : ℕ → ℤ)
     → ((j : ℕ) → j < length before.levels → middle j ≡ outer j) → values_at (v ∷ before.levels) middle h.variable ≡ pos x → is_counter (s ∷ before.box) h.variable ≡ true
     → AreEntered (nested before s v) hs after → Iterates n (nested before s v) after hs middle (at_value st h.variable x) w steps → Iterates n before after (h ∷ hs) outer st (x ∷ w) steps
 one_outside n before after h hs s v outer middle st x w steps agree value counts entered it =
@@ -145,7 +145,7 @@ iterations_there n (h ∷ hs) before after outer st (s, v, is, level, rest) stan
     (turn_at n before outer st stands h s v is level k x found)))
 
 -- the values of a run are different
-run_differs : (v : Level) (outer : Variable → ℤ) (t : Turns) → IsRunOf v.canonical outer t → AreDifferent (values_of t)
+run_differs : (v : EnclosingLoop) (outer : Variable → ℤ) (t : Turns) → IsRunOf v.canonical outer t → AreDifferent (values_of t)
 run_differs v outer t run =
     different_by (values_of t)
     (λ j k x p q.

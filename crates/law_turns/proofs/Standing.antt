@@ -16,7 +16,7 @@ use Rattle.affine_expr.specs.Forms.{is_counter}
 use Rattle.nest_loop.specs.Sides.{after_steps}
 use Rattle.nest_loop.specs.Most.{distance}
 use Rattle.nest_loop.specs.Turn.{HoldsValue, HoldCounters, AtTurn}
-use Rattle.pairtest_counter.specs.declared.level.Level.{Level}
+use Rattle.pairtest_counter.specs.declared.level.EnclosingLoop.{EnclosingLoop}
 use Rattle.pairtest_counter.specs.Counters.{step_by}
 use Rattle.pairtest_counter.specs.Levels.{IsLevel, AreLevels, IsTurn, values_at}
 use Rattle.pairtest_counter.proofs.Chains.{canonical_named}
@@ -32,17 +32,17 @@ use Rattle.law_turns.proofs.OneLoop.{by_steps, natural, side_there, most_there, 
 abbrev pub Agree : ℕ → (ℕ → ℤ) → (ℕ → ℤ) → Type 0
 Agree n a b = (j : ℕ) → j < n → a j ≡ b j
 
-outer_agree : (v : Level) (vs : List Level) (a b : ℕ → ℤ) → Agree (length (v ∷ vs)) a b → Agree (length vs) a b
+outer_agree : (v : EnclosingLoop) (vs : List EnclosingLoop) (a b : ℕ → ℤ) → Agree (length (v ∷ vs)) a b → Agree (length vs) a b
 outer_agree v vs a b same j lt = same j (omega arith)
 
-pub values_same : (levels : List Level) (a b : ℕ → ℤ) → Agree (length levels) a b → values_at levels a ≡ values_at levels b
+pub values_same : (levels : List EnclosingLoop) (a b : ℕ → ℤ) → Agree (length levels) a b → values_at levels a ≡ values_at levels b
 values_same [] a b same = refl
 values_same (v ∷ vs) a b same =
     let by = step_by v.canonical.stride.direction v.canonical.stride.by in
     ap (λ (f : Variable → ℤ). with_value f v.canonical.variable.0 (value v.canonical.start f +ℤ by *ℤ a (length vs))) (values_same vs a b (outer_agree v vs a b same))
     ∙ ap (λ (z : ℤ). with_value (values_at vs b) v.canonical.variable.0 (value v.canonical.start (values_at vs b) +ℤ by *ℤ z)) (same (length vs) (omega arith))
 
-within_same : (v : Level) (vs : List Level) (a b : ℕ → ℤ) → Agree (length (v ∷ vs)) a b → IsWithin a v vs → IsWithin b v vs
+within_same : (v : EnclosingLoop) (vs : List EnclosingLoop) (a b : ℕ → ℤ) → Agree (length (v ∷ vs)) a b → IsWithin a v vs → IsWithin b v vs
 within_same v vs a b same within =
     let own : a (length vs) ≡ b (length vs) = same (length vs) (omega arith) in (
       subst (λ (z : ℤ). pos 0 ≤ℤ z) own within.0,
@@ -50,41 +50,41 @@ within_same v vs a b same within =
           (subst (λ (f : Variable → ℤ). (pos v.canonical.stride.by *ℤ a (length vs)) ≤ℤ distance v.canonical f) (values_same vs a b (outer_agree v vs a b same)) within.1),
     )
 
-pub whole_same : (levels : List Level) (a b : ℕ → ℤ) → Agree (length levels) a b → IsTurn levels a → IsTurn levels b
+pub whole_same : (levels : List EnclosingLoop) (a b : ℕ → ℤ) → Agree (length levels) a b → IsTurn levels a → IsTurn levels b
 whole_same [] a b same turn = tt
 whole_same (v ∷ vs) a b same turn =
     let own = within_same v vs a b same (turn.0, turn.1) in
     (own.0, own.1, whole_same vs a b (outer_agree v vs a b same) turn.2)
 
-pub turn_same : (n : ℕ) (levels : List Level) (a b : ℕ → ℤ) → Agree (length levels) a b → IsTurnInside n levels a → IsTurnInside n levels b
+pub turn_same : (n : ℕ) (levels : List EnclosingLoop) (a b : ℕ → ℤ) → Agree (length levels) a b → IsTurnInside n levels a → IsTurnInside n levels b
 turn_same n [] a b same turn = tt
 turn_same n (v ∷ vs) a b same turn = (λ le. within_same v vs a b same (turn.0 le), turn_same n vs a b (outer_agree v vs a b same) turn.1)
 
-pub few_same : (n : ℕ) (levels : List Level) (a b : ℕ → ℤ) → Agree (length levels) a b → AreCounters n levels a → AreCounters n levels b
+pub few_same : (n : ℕ) (levels : List EnclosingLoop) (a b : ℕ → ℤ) → Agree (length levels) a b → AreCounters n levels a → AreCounters n levels b
 few_same n [] a b same few = tt
 few_same n (v ∷ vs) a b same few =
     let own : a (length vs) ≡ b (length vs) = same (length vs) (omega arith) in
     (λ le. subst (IsCounter v.most) own (few.0 le), few_same n vs a b (outer_agree v vs a b same) few.1)
 
 -- no loop lies inside all of them
-pub none_inside : (P : Level → List Level → Type 0) (n : ℕ) (levels : List Level) → length levels ≤ n → EachInside P n levels
+pub none_inside : (P : EnclosingLoop → List EnclosingLoop → Type 0) (n : ℕ) (levels : List EnclosingLoop) → length levels ≤ n → EachInside P n levels
 none_inside P n [] le = tt
 none_inside P n (v ∷ vs) le = (λ more. absurd (omega arith), none_inside P n vs (omega arith))
 
 -- ---- the values are in the box
 
 -- the value of a loop's variable after so many steps
-abbrev pub place_at : Level → List Level → (ℕ → ℤ) → ℤ
+abbrev pub place_at : EnclosingLoop → List EnclosingLoop → (ℕ → ℤ) → ℤ
 place_at v vs steps = value v.canonical.start (values_at vs steps) +ℤ step_by v.canonical.stride.direction v.canonical.stride.by *ℤ steps (length vs)
 
 -- a number of steps that stays within the distance
-pub record IsStep (v : Level) (vs : List Level) (steps : ℕ → ℤ) : Type 0 where
+pub record IsStep (v : EnclosingLoop) (vs : List EnclosingLoop) (steps : ℕ → ℤ) : Type 0 where
   pub number : ℕ
   pub is : steps (length vs) ≡ pos number
   pub within : pos (v.canonical.stride.by * number) ≤ℤ distance v.canonical (values_at vs steps)
   pub place : place_at v vs steps ≡ after_steps v.canonical.stride (value v.canonical.start (values_at vs steps)) number
 
-pub step_of : (v : Level) (vs : List Level) (steps : ℕ → ℤ) → IsWithin steps v vs → IsStep v vs steps
+pub step_of : (v : EnclosingLoop) (vs : List EnclosingLoop) (steps : ℕ → ℤ) → IsWithin steps v vs → IsStep v vs steps
 step_of v vs steps turn =
     let n = unsigned_abs (steps (length vs)) in
     let is = natural (steps (length vs)) turn.0 in
@@ -113,7 +113,7 @@ pub nothing_inside : IsInside [] (λ x. pos 0)
 nothing_inside x = record { above = omega (arith, ints); below = omega (arith, ints) }
 
 -- one loop more, after so many steps
-pub level_inside : (box : List Side) (levels : List Level) (steps : ℕ → ℤ) (s : Side) (v : Level) → IsLevel box levels s v → IsInside box (values_at levels steps) → IsWithin steps v levels
+pub level_inside : (box : List Side) (levels : List EnclosingLoop) (steps : ℕ → ℤ) (s : Side) (v : EnclosingLoop) → IsLevel box levels s v → IsInside box (values_at levels steps) → IsWithin steps v levels
     → IsInside (s ∷ box) (values_at (v ∷ levels) steps)
 level_inside box levels steps s v level inside within =
     let step = step_of v levels steps within in
@@ -121,21 +121,21 @@ level_inside box levels steps s v level inside within =
     (side_inside box (values_at levels steps) v.canonical.variable.0 level.numbers (place_at v levels steps) inside
     (subst (IsHeld level.numbers) (sym step.place) (side_there box (values_at levels steps) v.canonical level.numbers step.number level.are inside step.within)))
 
-pub level_few : (box : List Side) (levels : List Level) (steps : ℕ → ℤ) (s : Side) (v : Level) → IsLevel box levels s v → IsInside box (values_at levels steps) → IsWithin steps v levels
+pub level_few : (box : List Side) (levels : List EnclosingLoop) (steps : ℕ → ℤ) (s : Side) (v : EnclosingLoop) → IsLevel box levels s v → IsInside box (values_at levels steps) → IsWithin steps v levels
     → IsCounter v.most (steps (length levels))
 level_few box levels steps s v level inside within =
     let step = step_of v levels steps within in
     (step.number, step.is, most_there box (values_at levels steps) v.canonical v.most step.number level.most inside level.by_one step.within)
 
 -- the values at a turn are in the box
-pub turn_inside : (box : List Side) (levels : List Level) (steps : ℕ → ℤ) → AreLevels box levels → IsTurn levels steps → IsInside box (values_at levels steps)
+pub turn_inside : (box : List Side) (levels : List EnclosingLoop) (steps : ℕ → ℤ) → AreLevels box levels → IsTurn levels steps → IsInside box (values_at levels steps)
 turn_inside [] [] steps are turn = nothing_inside
 turn_inside [] (v ∷ vs) steps are turn = absurd are
 turn_inside (s ∷ ss) [] steps are turn = absurd are
 turn_inside (s ∷ ss) (v ∷ vs) steps are turn = level_inside ss vs steps s v are.0 (turn_inside ss vs steps are.1 turn.2) (turn.0, turn.1)
 
 -- each counter is below the most
-pub turn_few : (box : List Side) (levels : List Level) (steps : ℕ → ℤ) → AreLevels box levels → IsTurn levels steps → AreCounters 0 levels steps
+pub turn_few : (box : List Side) (levels : List EnclosingLoop) (steps : ℕ → ℤ) → AreLevels box levels → IsTurn levels steps → AreCounters 0 levels steps
 turn_few [] [] steps are turn = tt
 turn_few [] (v ∷ vs) steps are turn = absurd are
 turn_few (s ∷ ss) [] steps are turn = absurd are
@@ -145,13 +145,13 @@ turn_few (s ∷ ss) (v ∷ vs) steps are turn =
 -- ---- one loop more
 
 -- the loops inside the outermost n are at a turn, and the variables of all have its values
-pub record Standing (n : ℕ) (box : List Side) (levels : List Level) (steps : ℕ → ℤ) (s : State) : Type 0 where
+pub record Standing (n : ℕ) (box : List Side) (levels : List EnclosingLoop) (steps : ℕ → ℤ) (s : State) : Type 0 where
   pub turn : IsTurnInside n levels steps
   pub few : AreCounters n levels steps
   pub at : AtTurn box (values_at levels steps) s
 
-module _ (n : ℕ) (box : List Side) (levels : List Level) (steps : ℕ → ℤ) (s : State) (stands : Standing n box levels steps s)
-    (h : Loop) (sd : Side) (v : Level) (is : IsHeadOf box h v.canonical) (level : IsLevel box levels sd v) where
+module _ (n : ℕ) (box : List Side) (levels : List EnclosingLoop) (steps : ℕ → ℤ) (s : State) (stands : Standing n box levels steps s)
+    (h : Loop) (sd : Side) (v : EnclosingLoop) (is : IsHeadOf box h v.canonical) (level : IsLevel box levels sd v) where
   abbrev outer : Variable → ℤ
   outer = values_at levels steps
 
@@ -175,7 +175,7 @@ module _ (n : ℕ) (box : List Side) (levels : List Level) (steps : ℕ → ℤ)
   side_named = ap (λ (t : Side). t.variable.0) level.is ∙ sym named
 
   module _ (t : Turns) (run : IsRunOf v.canonical outer t) (k x : ℕ) (lt : k < t.count) (value_is : x ≡ moved t.stride.direction t.first (t.stride.by * k)) where
-    abbrev inner : List Level
+    abbrev inner : List EnclosingLoop
     inner = v ∷ levels
 
     own_within : IsWithin (with_steps k) v levels

@@ -9,7 +9,7 @@ use Rattle.affine.specs.Affine.{value}
 use Rattle.nest_loop.specs.Sides.{after_steps}
 use Rattle.affine.specs.declared.interval.Side.{Side}
 use Rattle.nest_space.specs.Heads.{IsHeadOf}
-use Rattle.pairtest_counter.specs.declared.level.Level.{Level}
+use Rattle.pairtest_counter.specs.declared.level.EnclosingLoop.{EnclosingLoop}
 use Rattle.pairtest_counter.specs.Levels.{Nesting, IsLevel, values_at}
 use Rattle.law_turns.specs.Turns.{AreEntered, IsWithin, IsTurnInside, IsIteration}
 use Rattle.law_turns.proofs.OneLoop.{same_steps}
@@ -22,7 +22,7 @@ use Rattle.law_turns.proofs.Entered.{inside_before}
 use Rattle.law_turns.proofs.Turned.{agree_with}
 
 -- the value of a loop's variable tells how many steps the loop has made
-own_steps : (v : Level) (vs : List Level) (a b : ℕ → ℤ) → 1 ≤ v.canonical.stride.by → Agree (length vs) a b → IsWithin a v vs → IsWithin b v vs → place_at v vs a ≡ place_at v vs b → a (length vs) ≡ b (length vs)
+own_steps : (v : EnclosingLoop) (vs : List EnclosingLoop) (a b : ℕ → ℤ) → 1 ≤ v.canonical.stride.by → Agree (length vs) a b → IsWithin a v vs → IsWithin b v vs → place_at v vs a ≡ place_at v vs b → a (length vs) ≡ b (length vs)
 own_steps v vs a b one same p q e =
     let l = v.canonical in
     let first = step_of v vs a p in
@@ -33,7 +33,7 @@ own_steps v vs a b one same p q e =
     first.is ∙ ap pos number ∙ sym second.is
 
 -- the value of a variable inside all the loops is that of its place
-own_place : (v : Level) (n after : Nesting) (h : Loop) (hs : List Loop) (s : Side) (is : IsHeadOf n.box h v.canonical) → IsLevel n.box n.levels s v → AreEntered (nested n s v) hs after → (steps : ℕ → ℤ)
+own_place : (v : EnclosingLoop) (n after : Nesting) (h : Loop) (hs : List Loop) (s : Side) (is : IsHeadOf n.box h v.canonical) → IsLevel n.box n.levels s v → AreEntered (nested n s v) hs after → (steps : ℕ → ℤ)
     → values_at after.levels steps h.variable ≡ place_at v n.levels steps
 own_place v n after h hs s is level rest steps =
     let named = canonical_named n.box h.variable h.start h.test h.step v.canonical is.is in

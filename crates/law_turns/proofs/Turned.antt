@@ -11,7 +11,7 @@ use Rattle.nest_loop.specs.Sides.{end_of}
 use Rattle.nest_loop.specs.Most.{distance}
 use Rattle.nest_loop.specs.Turn.{AtTurn}
 use Rattle.nest_loop.proofs.Turning.{within_of}
-use Rattle.pairtest_counter.specs.declared.level.Level.{Level}
+use Rattle.pairtest_counter.specs.declared.level.EnclosingLoop.{EnclosingLoop}
 use Rattle.pairtest_counter.specs.Levels.{Nesting, values_at}
 use Rattle.nest_space.specs.Space.{Turns, moved, values_of}
 use Rattle.nest_space.specs.Nests.{IsRunOf}
@@ -42,7 +42,7 @@ turn_of_none n before after outer steps st us same stands e agree =
     )
 
 -- as many steps as a turn has made are made in the run, too
-in_run : (v : Level) (values : Variable → ℤ) (t : Turns) (k : ℕ) → IsRunOf v.canonical values t → pos (v.canonical.stride.by * k) ≤ℤ distance v.canonical values
+in_run : (v : EnclosingLoop) (values : Variable → ℤ) (t : Turns) (k : ℕ) → IsRunOf v.canonical values t → pos (v.canonical.stride.by * k) ≤ℤ distance v.canonical values
     → slice_get (values_of t) k ≡ Some (moved t.stride.direction t.first (t.stride.by * k))
 in_run v values t k run within =
     let l = v.canonical in

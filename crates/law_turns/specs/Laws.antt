@@ -16,7 +16,7 @@ use Rattle.nest_loop.specs.Canonical.{canonical}
 use Rattle.nest_loop.specs.Most.{distance}
 use Rattle.nest_loop.specs.Turn.{AtTurn}
 use Rattle.pairtest_counter.specs.Counters.{InCounters, AreForms}
-use Rattle.pairtest_counter.specs.declared.level.Level.{Level}
+use Rattle.pairtest_counter.specs.declared.level.EnclosingLoop.{EnclosingLoop}
 use Rattle.pairtest_counter.specs.declared.level.Forms.{Forms}
 use Rattle.pairtest_counter.specs.Levels.{Nesting, AreLevels, Enters, IsTurn, values_at}
 use Rattle.nest_space.specs.Heads.{IsHeadOf}
@@ -25,19 +25,19 @@ use Rattle.law_turns.specs.Turns.{AreEntered, loop_of, IsTurnInside, AreCounters
 -- a form in counters has, wherever the loops have made so many steps, the value of the form in the variables that it stands for, and its variables are the numbers of the loops
 abbrev pub FormsInCountersAreSame : Type 0
 FormsInCountersAreSame =
-    (box : List Side) (levels : List Level) (f g : Affine) (steps : ℕ → ℤ) → AreLevels box levels → InCounters levels f g
+    (box : List Side) (levels : List EnclosingLoop) (f g : Affine) (steps : ℕ → ℤ) → AreLevels box levels → InCounters levels f g
     → (value g steps ≡ value f (values_at levels steps)) × All (λ t. t.variable.0 < length levels) g.terms
 
 -- the reach of a loop is how far its end lies behind its start
 abbrev pub ReachesAreDistances : Type 0
 ReachesAreDistances =
-    (box : List Side) (levels : List Level) (l : Canonical) (f : Forms) (steps : ℕ → ℤ) → AreLevels box levels → AreForms levels l f
+    (box : List Side) (levels : List EnclosingLoop) (l : Canonical) (f : Forms) (steps : ℕ → ℤ) → AreLevels box levels → AreForms levels l f
     → value f.reach steps ≡ distance l (values_at levels steps)
 
 -- at a turn each variable has a value of its interval, and each loop has made fewer steps than it turns at most
 abbrev pub TurnsAreInside : Type 0
 TurnsAreInside =
-    (box : List Side) (levels : List Level) (steps : ℕ → ℤ) → AreLevels box levels → IsTurn levels steps
+    (box : List Side) (levels : List EnclosingLoop) (steps : ℕ → ℤ) → AreLevels box levels → IsTurn levels steps
     → IsInside box (values_at levels steps) × AreCounters 0 levels steps
 
 -- outside of all loops each state is at the one turn
@@ -47,7 +47,7 @@ OutsideIsATurn = (steps : ℕ → ℤ) (s : State) → AtTurn [] (values_at [] s
 -- values and turns of loops are the same with the same steps of these loops
 abbrev pub StepsTellTurns : Type 0
 StepsTellTurns =
-    (levels : List Level) (a b : ℕ → ℤ) → ((j : ℕ) → j < length levels → a j ≡ b j)
+    (levels : List EnclosingLoop) (a b : ℕ → ℤ) → ((j : ℕ) → j < length levels → a j ≡ b j)
     → (values_at levels a ≡ values_at levels b) × (IsTurn levels a → IsTurn levels b)
 
 -- a loop that was entered as a chain of loops enters it was entered, where its head is one of the text

@@ -7,7 +7,7 @@ use Rattle.ktree.specs.declared.statement.Head.{Head}
 use Rattle.affine.specs.declared.interval.Side.{Side}
 use Rattle.nest_loop.specs.Most.{distance}
 use Rattle.nest_loop.specs.Turn.{AtTurn}
-use Rattle.pairtest_counter.specs.declared.level.Level.{Level}
+use Rattle.pairtest_counter.specs.declared.level.EnclosingLoop.{EnclosingLoop}
 use Rattle.pairtest_counter.specs.Levels.{Nesting, IsLevel, IsTurn, values_at}
 use Rattle.nest_space.specs.Heads.{IsHeadOf}
 
@@ -15,7 +15,7 @@ use Rattle.nest_space.specs.Heads.{IsHeadOf}
 abbrev pub AreEntered : Nesting → List Loop → Nesting → Type 0
 AreEntered before [] after = before ≡ after
 AreEntered before (h ∷ hs) after =
-    (s : Side) × (v : Level)
+    (s : Side) × (v : EnclosingLoop)
     × IsHeadOf before.box h v.canonical
     × IsLevel before.box before.levels s v
     × AreEntered (record { box = s ∷ before.box; levels = v ∷ before.levels }) hs after
@@ -25,17 +25,17 @@ abbrev pub loop_of : Head → Loop
 loop_of head = record { variable = head.variable.0; start = source_of head.start; test = cond_of head.test; step = increment_of head.step }
 
 -- so much holds of each loop inside the outermost n
-abbrev pub EachInside : (Level → List Level → Type 0) → ℕ → List Level → Type 0
+abbrev pub EachInside : (EnclosingLoop → List EnclosingLoop → Type 0) → ℕ → List EnclosingLoop → Type 0
 EachInside P n [] = Unit {0}
 EachInside P n (v ∷ vs) = (n ≤ length vs → P v vs) × EachInside P n vs
 
 -- so many steps of a loop inside others stay within its reach
-abbrev pub IsWithin : (ℕ → ℤ) → Level → List Level → Type 0
+abbrev pub IsWithin : (ℕ → ℤ) → EnclosingLoop → List EnclosingLoop → Type 0
 IsWithin steps v vs =
     (pos 0 ≤ℤ steps (length vs)) × ((pos v.canonical.stride.by *ℤ steps (length vs)) ≤ℤ distance v.canonical (values_at vs steps))
 
 -- so those of each loop inside the outermost n
-abbrev pub IsTurnInside : ℕ → List Level → (ℕ → ℤ) → Type 0
+abbrev pub IsTurnInside : ℕ → List EnclosingLoop → (ℕ → ℤ) → Type 0
 IsTurnInside n levels steps = EachInside (IsWithin steps) n levels
 
 -- a whole number is one of 0 .. n - 1
@@ -43,7 +43,7 @@ abbrev pub IsCounter : ℕ → ℤ → Type 0
 IsCounter n z = (k : ℕ) × (z ≡ pos k) × (k < n)
 
 -- each loop inside the outermost n has made fewer steps than it turns at most
-abbrev pub AreCounters : ℕ → List Level → (ℕ → ℤ) → Type 0
+abbrev pub AreCounters : ℕ → List EnclosingLoop → (ℕ → ℤ) → Type 0
 AreCounters n levels steps = EachInside (λ v vs. IsCounter v.most (steps (length vs))) n levels
 
 -- an iteration of loops that were entered is the turn of so many steps, those of the loops before being as they were: its values are those of the loops' variables

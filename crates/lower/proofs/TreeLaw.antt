@@ -6,7 +6,7 @@ use mathlib.Core.Former.{Count}
 use Rattle.semantics.specs.Tree
 use Rattle.ktree.specs.View.{expr_of, row_of, exprs_of, stmt_of, items_row_of, items_of, with_item}
 use Rattle.ktree.specs.declared.place.VarId.{VarId}
-use Rattle.ktree.specs.declared.expression.Mention.{Mention}
+use Rattle.ktree.specs.declared.expression.NamePlaces.{NamePlaces}
 use Rattle.ktree.specs.declared.expression.Expr.{Expr, Object, Object', Row_of-Expr, end_of-Expr, more_of-Expr, items-the_row-Expr, items_hidden-the_row-Expr-0}
 use Rattle.ktree.specs.declared.statement.Stmt.{Stmt, Block, Block', Row_of-Item, end_of-Item, more_of-Item, items-the_row-Item, items_hidden-the_row-Item-0}
 use Rattle.ktree.specs.declared.statement.Item.{Item, Directive, Local, Statement'}
@@ -23,7 +23,7 @@ abbrev row_at : Expr → (n : Count) × Row_of-Expr n
 row_at (Object' x shape row place) = (_, row)
 row_at _ = (_, end_of-Expr)
 
-pub object_of : (x : VarId) (subs : Vec Expr Global) (mention : Mention) → expr_of (Object x subs mention) ≡ Tree.Object x.0 (exprs_of subs.items)
+pub object_of : (x : VarId) (subs : Vec Expr Global) (mention : NamePlaces) → expr_of (Object x subs mention) ≡ Tree.Object x.0 (exprs_of subs.items)
 object_of x subs mention =
     let row = row_at (Object x subs mention) in
     ap (Tree.Object x.0) (row_items row.0 row.1 ∙ ap exprs_of (items_hidden-the_row-Expr-0 subs))
@@ -61,13 +61,13 @@ same_object : {a b : ℕ} {es fs : Tree.Exprs} → Tree.Object a es ≡ Tree.Obj
 same_object e = (cc, cc)
 
 -- an object without subscripts is the counter, if it is that variable
-pub counter_found : (e : Expr) (x : VarId) (subs : Vec Expr Global) (mention : Mention) (xs : List Expr) (v : ℕ) → e ≡ Object x subs mention → xs ≡ subs.items → length xs ≡ 0
+pub counter_found : (e : Expr) (x : VarId) (subs : Vec Expr Global) (mention : NamePlaces) (xs : List Expr) (v : ℕ) → e ≡ Object x subs mention → xs ≡ subs.items → length xs ≡ 0
     → (IsTrue (x.0 == v) → expr_of e ≡ counter_of v) × (expr_of e ≡ counter_of v → IsTrue (x.0 == v))
 counter_found e x subs mention xs v p q l =
     let h : expr_of e ≡ Tree.Object x.0 Tree.no_exprs = ap expr_of p ∙ object_of x subs mention ∙ ap (λ es. Tree.Object x.0 (exprs_of es)) (sym q) ∙ ap (Tree.Object x.0) (nothing xs l) in
     (λ t. h ∙ ap counter_of (eqb-true x.0 v t), λ f. eq-eqb x.0 v (same_object (sym h ∙ f)).0)
 
-pub counter_missed : (e : Expr) (x : VarId) (subs : Vec Expr Global) (mention : Mention) (xs : List Expr) (v : ℕ) → e ≡ Object x subs mention → xs ≡ subs.items → 0 < length xs
+pub counter_missed : (e : Expr) (x : VarId) (subs : Vec Expr Global) (mention : NamePlaces) (xs : List Expr) (v : ℕ) → e ≡ Object x subs mention → xs ≡ subs.items → 0 < length xs
     → expr_of e ≡ counter_of v → ⊥
 counter_missed e x subs mention xs v p q l f =
     something xs l (same_object (ap (λ es. Tree.Object x.0 (exprs_of es)) q ∙ sym (object_of x subs mention) ∙ ap expr_of (sym p) ∙ f)).1
@@ -79,11 +79,11 @@ two_subscripts (x ∷ []) v h e = omega arith
 two_subscripts (x ∷ y ∷ es) v h e = cc e
 
 -- an element at the counter
-pub element_found : (e : Expr) (x : VarId) (subs : Vec Expr Global) (mention : Mention) (xs : List Expr) (v : ℕ) → e ≡ Object x subs mention → xs ≡ subs.items
+pub element_found : (e : Expr) (x : VarId) (subs : Vec Expr Global) (mention : NamePlaces) (xs : List Expr) (v : ℕ) → e ≡ Object x subs mention → xs ≡ subs.items
     → exprs_of xs ≡ at_counter v → expr_of e ≡ Tree.Object x.0 (at_counter v)
 element_found e x subs mention xs v p q f = ap expr_of p ∙ object_of x subs mention ∙ ap (λ es. Tree.Object x.0 (exprs_of es)) (sym q) ∙ ap (Tree.Object x.0) f
 
-pub element_missed : (e : Expr) (x : VarId) (subs : Vec Expr Global) (mention : Mention) (xs : List Expr) (v : ℕ) → e ≡ Object x subs mention → xs ≡ subs.items
+pub element_missed : (e : Expr) (x : VarId) (subs : Vec Expr Global) (mention : NamePlaces) (xs : List Expr) (v : ℕ) → e ≡ Object x subs mention → xs ≡ subs.items
     → (expr_of e ≡ counter_of v → ⊥) → (exprs_of xs ≡ at_counter v → ⊥) → (o : Operand) → expr_of e ≡ operand_of v o → ⊥
 element_missed e x subs mention xs v p q g h o f = go o f
   where

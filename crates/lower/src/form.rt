@@ -30,7 +30,7 @@ struct Assignment {
 
 impl Form {
     /// The loop with chunks of this size.
-    pub fn lowered(self, size: ChunkSize) -> LoweredLoop
+    pub fn with_size(self, size: ChunkSize) -> LoweredLoop
         ensures { result ≡ loop_of self size }
     {
         LoweredLoop {
@@ -45,7 +45,8 @@ impl Form {
 
 /// The value of a literal without `ull`.
 fn bare(expr: &Expr) -> Option<u64>
-    ensures { MatchOption result ((n : ℕ) → expr_of expr.now ≡ Tree.Literal n Tree.Bare → ⊥) (λ n. expr_of expr.now ≡ Tree.Literal n Tree.Bare) }
+    ensures { MatchOption result ((n : ℕ) → expr_of expr.now ≡ Tree.Literal n Tree.Bare → ⊥)
+        (λ n. expr_of expr.now ≡ Tree.Literal n Tree.Bare) }
 {
     match expr {
         Expr::Literal(value, Suffix::Bare) => Some(*value),
@@ -54,8 +55,9 @@ fn bare(expr: &Expr) -> Option<u64>
 }
 
 /// The bound of a test `v < bound`.
-fn bound(test: &Cond, counter: VarId) -> Option<u64>
-    ensures { MatchOption result ((n : ℕ) → cond_of test.now ≡ below counter.0 n → ⊥) (λ n. cond_of test.now ≡ below counter.0 n) }
+fn bound_of(test: &Cond, counter: VarId) -> Option<u64>
+    ensures { MatchOption result ((n : ℕ) → cond_of test.now ≡ below counter.0 n → ⊥)
+        (λ n. cond_of test.now ≡ below counter.0 n) }
 {
     match test {
         Cond::Compare(CompareOp::Less, left, right, _place) => {
@@ -94,7 +96,7 @@ fn head_bound(head: &Head) -> Option<u64>
     ensures { MatchOption result ((n : ℕ) → HasHead head.now n → ⊥) (HasHead head.now) }
 {
     if starts_at_zero(&head.start) && steps_up(&head.step, head.variable) {
-        bound(&head.test, head.variable)
+        bound_of(&head.test, head.variable)
     } else {
         None
     }
@@ -102,8 +104,10 @@ fn head_bound(head: &Head) -> Option<u64>
 
 /// The statement that an item is.
 fn item_statement(item: &Item) -> Option<&Stmt>
-    ensures { MatchOption result ((s : Tree.Stmt) (before after : Tree.Items) → with_item item.now before ≡ Tree.stmt s after → ⊥)
-        (λ s. (rest : Tree.Items) → with_item item.now rest ≡ Tree.stmt (stmt_of s.now) rest) }
+    ensures { MatchOption result
+        ((s : Tree.Stmt) (before after : Tree.Items) → with_item item.now before ≡ Tree.stmt s after
+        → ⊥) (λ s. (rest : Tree.Items)
+        → with_item item.now rest ≡ Tree.stmt (stmt_of s.now) rest) }
 {
     match item {
         Item::Statement(statement) => Some(statement),
@@ -113,7 +117,8 @@ fn item_statement(item: &Item) -> Option<&Stmt>
 
 /// The one item of a list, where it is a statement.
 fn only(items: &[Item]) -> Option<&Stmt>
-    ensures { MatchOption result ((s : Tree.Stmt) → items_of items.now ≡ Tree.stmt s Tree.no_items → ⊥)
+    ensures { MatchOption result
+        ((s : Tree.Stmt) → items_of items.now ≡ Tree.stmt s Tree.no_items → ⊥)
         (λ s. items_of items.now ≡ Tree.stmt (stmt_of s.now) Tree.no_items) }
 {
     match items {
@@ -125,7 +130,8 @@ fn only(items: &[Item]) -> Option<&Stmt>
 
 /// The one statement of a block.
 fn inside(body: &Stmt) -> Option<&Stmt>
-    ensures { MatchOption result ((s : Tree.Stmt) → stmt_of body.now ≡ block_of s → ⊥) (λ s. stmt_of body.now ≡ block_of (stmt_of s.now)) }
+    ensures { MatchOption result ((s : Tree.Stmt) → stmt_of body.now ≡ block_of s → ⊥)
+        (λ s. stmt_of body.now ≡ block_of (stmt_of s.now)) }
 {
     match body {
         Stmt::Block(items) => only(items.as_slice()),
@@ -135,7 +141,8 @@ fn inside(body: &Stmt) -> Option<&Stmt>
 
 /// What a statement assigns to an element at the counter.
 fn element_assigned(statement: &Stmt, counter: VarId) -> Option<Assignment>
-    ensures { MatchOption result ((x : ℕ) (f : formulas.Formula) → stmt_of statement.now ≡ assigned counter.0 x f → ⊥)
+    ensures { MatchOption result
+        ((x : ℕ) (f : formulas.Formula) → stmt_of statement.now ≡ assigned counter.0 x f → ⊥)
         (λ a. stmt_of statement.now ≡ assigned counter.0 a.target.0 (formula_in a.right)) }
 {
     match statement {
@@ -155,8 +162,10 @@ fn element_assigned(statement: &Stmt, counter: VarId) -> Option<Assignment>
 
 /// The form of a statement, if it is that of the one loop.
 pub fn read_form(statement: &Stmt) -> Option<Form>
-    ensures { MatchOption result ((name : Tree.Name) (l : lowered.LoweredLoop) → stmt_of statement.now ≡ statement_of name l → ⊥)
-        (λ form. (name : Tree.Name) × ((size : ℕ) → stmt_of statement.now ≡ statement_of name (loop_of form size))) }
+    ensures { MatchOption result
+        ((name : Tree.Name) (l : lowered.LoweredLoop) → stmt_of statement.now ≡ statement_of name l
+        → ⊥) (λ form. (name : Tree.Name)
+        × ((size : ℕ) → stmt_of statement.now ≡ statement_of name (loop_of form size))) }
 {
     let Stmt::For(head, body) = statement else {
         return None;
@@ -175,9 +184,11 @@ pub fn read_form(statement: &Stmt) -> Option<Form>
 /// The loop that a statement is, with chunks of this size, if it is of the form
 /// `for (uint64_t v = 0; v < bound; v++) { A[v] = formula; }` (C11 6.8.5.3).
 pub fn lowered_loop(statement: &Stmt, size: ChunkSize) -> Option<LoweredLoop>
-    ensures { MatchOption result ((name : Tree.Name) (l : lowered.LoweredLoop) → stmt_of statement.now ≡ statement_of name l → ⊥)
-        (λ l. (name : Tree.Name) × (stmt_of statement.now ≡ statement_of name l) × (l.size ≡ size)) }
+    ensures { MatchOption result
+        ((name : Tree.Name) (l : lowered.LoweredLoop) → stmt_of statement.now ≡ statement_of name l
+        → ⊥) (λ l. (name : Tree.Name) × (stmt_of statement.now ≡ statement_of name l)
+        × (l.size ≡ size)) }
 {
     let form = read_form(statement)?;
-    Some(form.lowered(size))
+    Some(form.with_size(size))
 }

@@ -80,7 +80,8 @@ pub fn is_at_counter(subscripts: &[Expr], counter: VarId) -> bool
 
 /// The operand that an expression is.
 fn part_of(expr: &Expr, counter: VarId) -> Option<Part>
-    ensures { MatchOption result ((o : operands.Operand) → expr_of expr.now ≡ operand_of counter.0 o → ⊥)
+    ensures { MatchOption result
+        ((o : operands.Operand) → expr_of expr.now ≡ operand_of counter.0 o → ⊥)
         (λ part. expr_of expr.now ≡ operand_of counter.0 (operand_in part)) }
 {
     if is_counter(expr, counter) {
@@ -101,7 +102,8 @@ fn part_of(expr: &Expr, counter: VarId) -> Option<Part>
 
 /// The operation that an operator is.
 fn operation(operator: BinaryOp) -> Option<Operation>
-    ensures { MatchOption result ((o : operations.Operation) → binary_of operator ≡ operation_of o → ⊥)
+    ensures { MatchOption result
+        ((o : operations.Operation) → binary_of operator ≡ operation_of o → ⊥)
         (λ operation. binary_of operator ≡ operation_of operation) }
 {
     match operator {
@@ -114,7 +116,8 @@ fn operation(operator: BinaryOp) -> Option<Operation>
 
 /// The right side that an assignment's source is.
 pub fn right_in(source: &Source, counter: VarId) -> Option<Right>
-    ensures { MatchOption result ((f : formulas.Formula) → source_of source.now ≡ Tree.Number (formula_of counter.0 f) → ⊥)
+    ensures { MatchOption result
+        ((f : formulas.Formula) → source_of source.now ≡ Tree.Number (formula_of counter.0 f) → ⊥)
         (λ right. source_of source.now ≡ Tree.Number (formula_of counter.0 (formula_in right))) }
 {
     match source {
@@ -125,7 +128,8 @@ pub fn right_in(source: &Source, counter: VarId) -> Option<Right>
 
 /// The right side that an expression is.
 fn right_of(expr: &Expr, counter: VarId) -> Option<Right>
-    ensures { MatchOption result ((f : formulas.Formula) → expr_of expr.now ≡ formula_of counter.0 f → ⊥)
+    ensures { MatchOption result
+        ((f : formulas.Formula) → expr_of expr.now ≡ formula_of counter.0 f → ⊥)
         (λ right. expr_of expr.now ≡ formula_of counter.0 (formula_in right)) }
 {
     if let Some(part) = part_of(expr, counter) {

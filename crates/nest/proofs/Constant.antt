@@ -33,8 +33,8 @@ its_variable box x start (Tree.Compare op a ub) step l e = by (is_variable x a) 
     by false k = absurd (cc k)
 its_variable box x start (Tree.NotZero c) step l e = absurd (cc e)
 its_variable box x start (Tree.Not c) step l e = absurd (cc e)
-its_variable box x start (Tree.Both c d) step l e = absurd (cc e)
-its_variable box x start (Tree.Either c d) step l e = absurd (cc e)
+its_variable box x start (Tree.LogicalAnd c d) step l e = absurd (cc e)
+its_variable box x start (Tree.LogicalOr c d) step l e = absurd (cc e)
 
 -- how often it turns
 record Counted (l : Canonical) (i : Interval) : Type 0 where

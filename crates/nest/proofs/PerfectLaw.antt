@@ -167,21 +167,21 @@ product_rest box h i c m b turns (hs, t, is, (n, (j, a, k, u, p, e))) =
     (hs, t, is, (k, subst (λ (x : Interval). HasProduct (inside box h.variable x) hs k) (sym same.0) p))
 
 -- the product of a nest, as far as it is known
-abbrev pub Known : List Side → Option ℕ → List Loop → Type 0
-Known box o hs = (n : ℕ) × HasProduct box hs n × SomeIff o (n ≤ 2 ^ 24) n
+abbrev pub DefinitelyAssigned : List Side → Option ℕ → List Loop → Type 0
+DefinitelyAssigned box o hs = (n : ℕ) × HasProduct box hs n × SomeIff o (n ≤ 2 ^ 24) n
 
 pub one_more : (box : List Side) (h : Loop) (i : Interval) (c m : ℕ) (b : Stmt) (o r : Option ℕ) → TurnsMost box h i c
-    → ((n : ℕ) → SomeIff o (n ≤ 2 ^ 24) n → SomeIff r (c * n ≤ 2 ^ 24) (c * n)) → NestHas (Known (inside box h.variable i) o) m b → NestHas (λ hs. Known box r (h ∷ hs)) m b
+    → ((n : ℕ) → SomeIff o (n ≤ 2 ^ 24) n → SomeIff r (c * n ≤ 2 ^ 24) (c * n)) → NestHas (DefinitelyAssigned (inside box h.variable i) o) m b → NestHas (λ hs. DefinitelyAssigned box r (h ∷ hs)) m b
 one_more box h i c m b o r turns f (hs, t, is, (n, p, e)) = (hs, t, is, (c * n, (i, c, n, turns, p, refl), f n e))
 
 -- a product that is known is small, or it is not
-pub is_small : (box : List Side) (n p : ℕ) (s : Stmt) → NestHas (Known box (Some p)) n s → NestHas (λ hs. (k : ℕ) × HasProduct box hs k × (k ≤ 2 ^ 24)) n s
+pub is_small : (box : List Side) (n p : ℕ) (s : Stmt) → NestHas (DefinitelyAssigned box (Some p)) n s → NestHas (λ hs. (k : ℕ) × HasProduct box hs k × (k ≤ 2 ^ 24)) n s
 is_small box n p s (hs, t, is, (k, q, small)) = (hs, t, is, (k, q, small.0))
 
-pub is_large : (box : List Side) (n : ℕ) (s : Stmt) → NestHas (Known box None) n s → NestHas (λ hs. (k : ℕ) × HasProduct box hs k × (k ≤ 2 ^ 24)) n s → ⊥
-is_large box n s known few = go (together (Known box None) (λ hs. (k : ℕ) × HasProduct box hs k × (k ≤ 2 ^ 24)) n s known few)
+pub is_large : (box : List Side) (n : ℕ) (s : Stmt) → NestHas (DefinitelyAssigned box None) n s → NestHas (λ hs. (k : ℕ) × HasProduct box hs k × (k ≤ 2 ^ 24)) n s → ⊥
+is_large box n s known few = go (together (DefinitelyAssigned box None) (λ hs. (k : ℕ) × HasProduct box hs k × (k ≤ 2 ^ 24)) n s known few)
   where
-    go : NestHas (λ hs. Known box None hs × ((k : ℕ) × HasProduct box hs k × (k ≤ 2 ^ 24))) n s → ⊥
+    go : NestHas (λ hs. DefinitelyAssigned box None hs × ((k : ℕ) × HasProduct box hs k × (k ≤ 2 ^ 24))) n s → ⊥
     go (hs, t, is, ((k, p, large), (l, q, small))) = large (subst (λ (x : ℕ). x ≤ 2 ^ 24) (product_once box hs l k q p) small)
 
 pub any_product : (box : List Side) (n : ℕ) (s : Stmt) → NestHas (λ hs. (k : ℕ) × HasProduct box hs k × (k ≤ 2 ^ 24)) n s → NestHas (AnyProduct box) n s

@@ -1,6 +1,6 @@
 -- Kernels whose loops are canonical and whose subscripts are affine and stay inside their arrays. (OpenMP 5.2, 4.4.1; C11 6.5.2.1)
 use Rattle.std.specs.Prelude.{ℕ, ◌≡◌, ◌<◌, false, true, ℤ, pos, ◌≤ℤ◌, ◌<ℤ◌, List, [], ◌∷◌, length, Option, Some, None, slice_get}
-use Rattle.semantics.specs.Tree.{Variable, Expr, Literal, Constant, Object, Unary, Binary, Choose, Exprs, no_exprs, more_exprs, Cond, NotZero, Compare, Not, Both, Either, Source, Number, Truth, Increment, PrintPart, Characters, Decimal, Stmt, Assign, Update, If, IfElse, For, Block, Print, Items, no_items, mark, local, stmt, Declaration, Kernel}
+use Rattle.semantics.specs.Tree.{Variable, Expr, Literal, Constant, Object, Unary, Binary, Conditional, Exprs, no_exprs, more_exprs, Cond, NotZero, Compare, Not, LogicalAnd, LogicalOr, Source, Number, Truth, Increment, PrintPart, Characters, Decimal, Stmt, Assign, Update, If, IfElse, For, Block, Print, Items, no_items, mark, local, stmt, Declaration, Kernel}
 use Rattle.affine.specs.declared.interval.Interval.{Interval}
 use Rattle.affine.specs.declared.interval.Side.{Side}
 use Rattle.affine.specs.Affine.{Affine, value}
@@ -21,15 +21,15 @@ abbrev mutual
   ExprHas P box (Object x is) = P box x is
   ExprHas P box (Unary op a) = ExprHas P box a
   ExprHas P box (Binary op a b) = ExprHas P box a × ExprHas P box b
-  ExprHas P box (Choose c a b) = CondHas P box c × ExprHas P box a × ExprHas P box b
+  ExprHas P box (Conditional c a b) = CondHas P box c × ExprHas P box a × ExprHas P box b
 
   -- that a condition names
   pub CondHas : Asked → List Side → Cond → Type 0
   CondHas P box (NotZero e) = ExprHas P box e
   CondHas P box (Compare op a b) = ExprHas P box a × ExprHas P box b
   CondHas P box (Not c) = CondHas P box c
-  CondHas P box (Both c d) = CondHas P box c × CondHas P box d
-  CondHas P box (Either c d) = CondHas P box c × CondHas P box d
+  CondHas P box (LogicalAnd c d) = CondHas P box c × CondHas P box d
+  CondHas P box (LogicalOr c d) = CondHas P box c × CondHas P box d
 
 -- that a right side names
 abbrev pub SourceHas : Asked → List Side → Source → Type 0

@@ -4,27 +4,16 @@ ghost use Rattle.std.specs.Prelude.{◌≡◌, ◌⊎◌, OnOk, Option, ℕ, is_
 ghost use Rattle.semantics.specs.Tree.{no_items};
 ghost use Rattle.semantics.specs.Source.Text.{line_at};
 ghost use Rattle.ktree.specs.View.{stmt_of, items_of, with_item};
-ghost use Rattle.pragma.specs.Parallel.{associated};
 ghost use Rattle.nest.specs.Judged.{Decides};
 ghost use Rattle.nest.specs.Perfect.{RightNestFirst, LineNests, Nests, ItemsNest, FirstLineNests, FirstNests};
 
 use crate::perfect::right_nest;
-use crate::statements::entered;
+use crate::statements::enter_loop;
 use affine::VarBox;
 use affine_expr::Fault;
 use ktree::{Item, Place, Stmt};
-use pragma::{Collapse, Directives};
+use pragma::Directives;
 use std::alloc::Global;
-
-/// How many loops a directive line associates (OpenMP 5.2, 4.4.3).
-fn associated(collapse: Option<Collapse>) -> u64
-    ensures { result ≡ associated collapse }
-{
-    match collapse {
-        None => 1,
-        Some(collapse) => collapse.get(),
-    }
-}
 
 /// Whether a right nest of so many loops stands first, behind a directive line at a place.
 fn nest_first(
@@ -54,14 +43,15 @@ fn line_nests(
     place: Place,
     rest: &[Item],
 ) -> Result<(), Fault>
-    ensures decides { Decides result (LineNests directives.now bounds.old place.line (items_of rest.now)) }
+    ensures decides { Decides result
+        (LineNests directives.now bounds.old place.line (items_of rest.now)) }
     ensures back { OnOk result (bounds.new ≡ bounds.old) }
 {
     let line = match directives.at(place) {
         Ok(line) => line,
         Err(_refusal) => return Err(Fault::NotPerfect(place)),
     };
-    nest_first(alloc, associated(line.collapse), rest, bounds, place)
+    nest_first(alloc, line.associated_loops(), rest, bounds, place)
 }
 
 /// The same, where an item is a directive line.
@@ -72,7 +62,9 @@ fn item_line_nests(
     item: &Item,
     rest: &[Item],
 ) -> Result<(), Fault>
-    ensures decides { Decides result (FirstLineNests directives.now bounds.old (with_item item.now no_items) (items_of rest.now)) }
+    ensures decides { Decides result
+        (FirstLineNests directives.now bounds.old (with_item item.now no_items)
+        (items_of rest.now)) }
     ensures back { OnOk result (bounds.new ≡ bounds.old) }
 {
     match item {
@@ -105,7 +97,7 @@ fn statement(
             }
         }
         Stmt::For(head, body) => {
-            match entered(alloc, head, body, bounds) {
+            match enter_loop(alloc, head, body, bounds) {
                 Ok(()) => {}
                 Err(fault) => return Err(fault),
             }
@@ -113,7 +105,7 @@ fn statement(
                 Ok(()) => {}
                 Err(fault) => return Err(fault),
             }
-            bounds.unbound();
+            bounds.unbind();
             Ok(())
         }
         Stmt::Block(items) => block(alloc, directives, bounds, items),
@@ -153,7 +145,8 @@ fn one_item(
     bounds: &mut VarBox,
     item: &Item,
 ) -> Result<(), Fault>
-    ensures decides { Decides result (FirstNests directives.now bounds.old (with_item item.now no_items)) }
+    ensures decides { Decides result
+        (FirstNests directives.now bounds.old (with_item item.now no_items)) }
     ensures back { OnOk result (bounds.new ≡ bounds.old) }
 {
     match item {

@@ -39,7 +39,8 @@ fn is_second(first: Fault, second: Fault) -> bool {
 /// Whether both are well; of two faults the one that stands first in the text is told, and of two at one place the one with
 /// the lower number.
 pub fn both(first: Result<(), Fault>, second: Result<(), Fault>) -> Result<(), Fault>
-    ensures { MatchResult result (λ _. IsOk first × IsOk second) (λ fault. (first ≡ Err fault) ⊎ (second ≡ Err fault)) }
+    ensures { MatchResult result (λ _. IsOk first × IsOk second)
+        (λ fault. (first ≡ Err fault) ⊎ (second ≡ Err fault)) }
 {
     match (first, second) {
         (Ok(()), Ok(())) => Ok(()),

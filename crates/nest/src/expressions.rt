@@ -38,7 +38,7 @@ pub fn expr(
             expr(alloc, question, bounds, left)?;
             expr(alloc, question, bounds, right)
         }
-        Expr::Choose(test, left, right) => {
+        Expr::Conditional(test, left, right) => {
             cond(alloc, question, bounds, test)?;
             expr(alloc, question, bounds, left)?;
             expr(alloc, question, bounds, right)
@@ -63,11 +63,11 @@ pub fn cond(
             expr(alloc, question, bounds, right)
         }
         Cond::Not(inner) => cond(alloc, question, bounds, inner),
-        Cond::Both(left, right) => {
+        Cond::LogicalAnd(left, right) => {
             cond(alloc, question, bounds, left)?;
             cond(alloc, question, bounds, right)
         }
-        Cond::Either(left, right) => {
+        Cond::LogicalOr(left, right) => {
             cond(alloc, question, bounds, left)?;
             cond(alloc, question, bounds, right)
         }
@@ -81,7 +81,9 @@ pub fn target(
     bounds: &VarBox,
     assigned: &Target,
 ) -> Result<(), Fault>
-    ensures { Decides result (asked question.entry bounds.now assigned.now.variable.0 (exprs_of assigned.now.subscripts.items)) }
+    ensures { Decides result
+        (asked question.entry bounds.now assigned.now.variable.0
+        (exprs_of assigned.now.subscripts.items)) }
 {
     object(
         alloc,

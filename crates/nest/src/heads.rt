@@ -20,7 +20,9 @@ pub struct Level<'k> {
 /// The loop that a statement is; a block of one statement counts as the statement (OpenMP 5.2, 4.4.1).
 #[cycle(level)]
 pub fn as_loop(statement: &Stmt) -> Option<Level<'_>>
-    ensures { MatchOption result (as_loop (stmt_of statement.now) ≡ None) (λ level. as_loop (stmt_of statement.now) ≡ Some (head_of level.head.now, stmt_of level.body.now)) }
+    ensures { MatchOption result (as_loop (stmt_of statement.now) ≡ None)
+        (λ level. as_loop (stmt_of statement.now)
+        ≡ Some (head_of level.head.now, stmt_of level.body.now)) }
 {
     match statement {
         Stmt::Assign(_, _) => None,
@@ -35,7 +37,9 @@ pub fn as_loop(statement: &Stmt) -> Option<Level<'_>>
 /// The loop that the only one of some items is.
 #[cycle(level)]
 fn only_loop(items: &[Item]) -> Option<Level<'_>>
-    ensures { MatchOption result (only_loop (items_of items.now) ≡ None) (λ level. only_loop (items_of items.now) ≡ Some (head_of level.head.now, stmt_of level.body.now)) }
+    ensures { MatchOption result (only_loop (items_of items.now) ≡ None)
+        (λ level. only_loop (items_of items.now)
+        ≡ Some (head_of level.head.now, stmt_of level.body.now)) }
 {
     match items {
         [] => None,
@@ -47,7 +51,9 @@ fn only_loop(items: &[Item]) -> Option<Level<'_>>
 /// The loop that an item is.
 #[cycle(level)]
 fn item_loop(item: &Item) -> Option<Level<'_>>
-    ensures { MatchOption result (only_loop (with_item item.now no_items) ≡ None) (λ level. only_loop (with_item item.now no_items) ≡ Some (head_of level.head.now, stmt_of level.body.now)) }
+    ensures { MatchOption result (only_loop (with_item item.now no_items) ≡ None)
+        (λ level. only_loop (with_item item.now no_items)
+        ≡ Some (head_of level.head.now, stmt_of level.body.now)) }
 {
     match item {
         Item::Directive(_) => None,

@@ -27,7 +27,8 @@ use std::alloc::Global;
 /// `NotPerfect` at the first `for` of a nest that is not perfect or not deep enough, and at the `for` of a loop whose start or
 /// bound mentions the variable of another; `Limit` at the first `for` of one with more iterations. `OutOfMemory`.
 pub fn nests(alloc: Global, kernel: &Kernel, directives: &Directives) -> Result<(), Fault>
-    ensures { Decides result (IsNested (kernel_of kernel.now) × AreRightNests directives.now (kernel_of kernel.now)) }
+    ensures { Decides result
+        (IsNested (kernel_of kernel.now) × AreRightNests directives.now (kernel_of kernel.now)) }
 {
     let mut bounds = VarBox::new(alloc);
     let loops = block(alloc, Question::Affine, &mut bounds, kernel.body.as_slice());

@@ -9,7 +9,7 @@ ghost use Rattle.nest.specs.Judged.{asked, Decides};
 use crate::question::Question;
 use affine::VarBox;
 use affine_expr::{Fault, are_affine, form_of, subscript_place};
-use ktree::{Declaration, Expr, Mention, Place, VarId};
+use ktree::{Declaration, Expr, NamePlaces, Place, VarId};
 use std::alloc::Global;
 
 /// The lengths of a file-scope variable's dimensions; a local has none.
@@ -24,7 +24,8 @@ fn lengths(variables: &[Declaration], variable: VarId) -> &[u64]
 
 /// Whether all numbers of a range are indexes of a dimension of this length.
 fn are_indexes(range: Option<(i128, i128)>, length: u64) -> bool
-    ensures { MatchOption range (IsTrue result) (λ ends. IsTrue result ↔ (pos 0 ≤ℤ ends.0) × (ends.1 <ℤ pos length)) }
+    ensures { MatchOption range (IsTrue result)
+        (λ ends. IsTrue result ↔ (pos 0 ≤ℤ ends.0) × (ends.1 <ℤ pos length)) }
 {
     match range {
         None => true,
@@ -40,7 +41,8 @@ fn stays_below(
     bounds: &VarBox,
     place: Place,
 ) -> Result<(), Fault>
-    ensures { Decides result (StaysBelow bounds.now length (form_of bounds.now (expr_of subscript.now))) }
+    ensures { Decides result
+        (StaysBelow bounds.now length (form_of bounds.now (expr_of subscript.now))) }
 {
     let form = form_of(alloc, subscript, bounds, place)?;
     if are_indexes(form.range(bounds), length) {
@@ -55,7 +57,7 @@ fn all_stay(
     alloc: Global,
     lengths: &[u64],
     subscripts: &[Expr],
-    mention: &Mention,
+    mention: &NamePlaces,
     at: usize,
     bounds: &VarBox,
 ) -> Result<(), Fault>
@@ -84,9 +86,10 @@ pub fn object(
     bounds: &VarBox,
     variable: VarId,
     subscripts: &[Expr],
-    mention: &Mention,
+    mention: &NamePlaces,
 ) -> Result<(), Fault>
-    ensures { Decides result (asked question.entry bounds.now variable.0 (exprs_of subscripts.now)) }
+    ensures { Decides result
+        (asked question.entry bounds.now variable.0 (exprs_of subscripts.now)) }
 {
     match question {
         Question::Affine => are_affine(alloc, subscripts, mention, bounds),

@@ -22,15 +22,22 @@ use crate::heads::{as_loop, depends_on_nest, is_perfect};
 use affine::{Interval, VarBox};
 use affine_expr::Fault;
 use ktree::{Head, Place, Stmt};
-use nest_loop::{Canonical, canonical_of, most_turns, side, wraps};
+use nest_loop::{Canonical, canonical_of, greatest_trip_count, side, wraps};
 use nest_space::{Space, Value};
 use std::alloc::Global;
 
 /// A loop's form in the box of the loops round its nest, of which none has its variable.
 fn independent(alloc: Global, head: &Head, bounds: &VarBox) -> Result<Canonical, Fault>
-    ensures ok { IfOk result (λ l. (canonical bounds.now (head_of head.now).variable (head_of head.now).start (head_of head.now).test (head_of head.now).step ≡ Some l) × (is_counter bounds.now (head_of head.now).variable ≡ false)) }
-    ensures err { IfErr result (λ fault. (fault ≡ OutOfMemory) ⊎ ((l : canonicals.Canonical)
-        → canonical bounds.now (head_of head.now).variable (head_of head.now).start (head_of head.now).test (head_of head.now).step ≡ Some l → is_counter bounds.now (head_of head.now).variable ≡ false → ⊥)) }
+    ensures ok { IfOk result (λ l.
+        (canonical bounds.now (head_of head.now).variable (head_of head.now).start
+        (head_of head.now).test (head_of head.now).step ≡ Some l)
+        × (is_counter bounds.now (head_of head.now).variable ≡ false)) }
+    ensures err { IfErr result
+        (λ fault. (fault ≡ OutOfMemory)
+        ⊎ ((l : canonicals.Canonical)
+        → canonical bounds.now (head_of head.now).variable (head_of head.now).start
+        (head_of head.now).test (head_of head.now).step ≡ Some l
+        → is_counter bounds.now (head_of head.now).variable ≡ false → ⊥)) }
 {
     let canonical = canonical_of(alloc, head, bounds)?;
     if bounds.has(head.variable) {
@@ -41,7 +48,7 @@ fn independent(alloc: Global, head: &Head, bounds: &VarBox) -> Result<Canonical,
 
 /// What is told of a loop that has no form there: that the nest is not rectangular, where a bound mentions one of the nest's
 /// variables.
-fn told(head: &Head, mentions: bool, fault: Fault) -> Fault
+fn form_fault(head: &Head, mentions: bool, fault: Fault) -> Fault
     ensures { fault ≡ OutOfMemory → result ≡ OutOfMemory }
 {
     match fault {
@@ -61,8 +68,12 @@ fn forms(
     first: &Stmt,
     place: Place,
 ) -> Result<Vec<Canonical>, Fault>
-    ensures ok { IfOk result (λ ls. NestHas (λ loops. AreRectangular bounds.now loops ls.items) depth (stmt_of statement.now)) }
-    ensures err { IfErr result (λ fault. (fault ≡ OutOfMemory) ⊎ (NestHas (λ loops. (ls : List canonicals.Canonical) × AreRectangular bounds.now loops ls) depth (stmt_of statement.now) → ⊥)) }
+    ensures ok { IfOk result (λ ls. NestHas (λ loops. AreRectangular bounds.now loops ls.items)
+        depth (stmt_of statement.now)) }
+    ensures err { IfErr result
+        (λ fault. (fault ≡ OutOfMemory)
+        ⊎ (NestHas (λ loops. (ls : List canonicals.Canonical)
+        × AreRectangular bounds.now loops ls) depth (stmt_of statement.now) → ⊥)) }
 {
     if depth == 0 {
         return Ok(Vec::new(alloc));
@@ -74,7 +85,7 @@ fn forms(
         Ok(canonical) => canonical,
         Err(fault) => {
             let mentions = depends_on_nest(level.head, whole, first);
-            return Err(told(level.head, mentions, fault));
+            return Err(form_fault(level.head, mentions, fault));
         }
     };
     let mut forms = match forms(alloc, depth - 1, level.body, bounds, whole, first, place) {
@@ -94,9 +105,13 @@ struct Turning {
 
 /// How a loop inside those of a box turns.
 fn turns_of(alloc: Global, head: &Head, bounds: &VarBox) -> Result<Turning, Fault>
-    ensures ok { IfOk result (λ turning. TurnsMost bounds.now (head_of head.now) turning.numbers turning.most) }
+    ensures ok { IfOk result (λ turning. TurnsMost bounds.now (head_of head.now) turning.numbers
+        turning.most) }
     ensures fits { IfOk result (λ turning. EndsFit turning.numbers.least turning.numbers.greatest) }
-    ensures err { IfErr result (λ fault. (fault ≡ OutOfMemory) ⊎ ((i : intervals.Interval) (n : ℕ) → TurnsMost bounds.now (head_of head.now) i n → ⊥)) }
+    ensures err { IfErr result
+        (λ fault. (fault ≡ OutOfMemory)
+        ⊎ ((i : intervals.Interval) (n : ℕ) → TurnsMost bounds.now (head_of head.now) i n
+        → ⊥)) }
 {
     let canonical = match canonical_of(alloc, head, bounds) {
         Ok(canonical) => canonical,
@@ -105,14 +120,15 @@ fn turns_of(alloc: Global, head: &Head, bounds: &VarBox) -> Result<Turning, Faul
     if wraps(&canonical, bounds, head.place)? {
         return Err(Fault::MayWrap(head.place));
     }
-    let most = most_turns(alloc, &canonical, bounds, head.place)?;
+    let most = greatest_trip_count(alloc, &canonical, bounds, head.place)?;
     let numbers = side(&canonical, bounds);
     Ok(Turning { numbers, most })
 }
 
 /// So many times a product, if at most 2^24.
 fn within(count: u64, rest: Option<u64>) -> Option<u64>
-    ensures { (n : ℕ) → SomeIff rest (n ≤ 2 ^ 24) n → SomeIff result (count * n ≤ 2 ^ 24) (count * n) }
+    ensures { (n : ℕ) → SomeIff rest (n ≤ 2 ^ 24) n
+        → SomeIff result (count * n ≤ 2 ^ 24) (count * n) }
 {
     if count == 0 {
         return Some(0);
@@ -135,7 +151,7 @@ fn go_into(head: &Head, numbers: Interval, bounds: &mut VarBox) -> Result<(), Fa
 {
     let least = i128::from(numbers.least);
     let greatest = i128::from(numbers.greatest);
-    match bounds.bound(head.variable, least, greatest, head.place) {
+    match bounds.bind(head.variable, least, greatest, head.place) {
         Ok(()) => Ok(()),
         Err(_) => Err(Fault::OutOfMemory),
     }
@@ -149,9 +165,14 @@ fn product(
     bounds: &mut VarBox,
     place: Place,
 ) -> Result<Option<u64>, Fault>
-    ensures ok { IfOk result (λ product. NestHas (λ loops. (n : ℕ) × HasProduct bounds.old loops n × SomeIff product (n ≤ 2 ^ 24) n) depth (stmt_of statement.now)) }
+    ensures ok { IfOk result (λ product. NestHas
+        (λ loops. (n : ℕ) × HasProduct bounds.old loops n × SomeIff product (n ≤ 2 ^ 24) n) depth
+        (stmt_of statement.now)) }
     ensures back { OnOk result (bounds.new ≡ bounds.old) }
-    ensures err { IfErr result (λ fault. (fault ≡ OutOfMemory) ⊎ (NestHas (λ loops. (n : ℕ) × HasProduct bounds.old loops n) depth (stmt_of statement.now) → ⊥)) }
+    ensures err { IfErr result
+        (λ fault. (fault ≡ OutOfMemory)
+        ⊎ (NestHas (λ loops. (n : ℕ) × HasProduct bounds.old loops n) depth
+        (stmt_of statement.now) → ⊥)) }
 {
     if depth == 0 {
         return Ok(Some(1));
@@ -171,7 +192,7 @@ fn product(
         Ok(inner) => inner,
         Err(fault) => return Err(fault),
     };
-    bounds.unbound();
+    bounds.unbind();
     Ok(within(turning.most, inner))
 }
 
@@ -183,7 +204,9 @@ fn is_small(
     bounds: &mut VarBox,
     place: Place,
 ) -> Result<(), Fault>
-    ensures decides { Decides result (NestHas (λ loops. (n : ℕ) × HasProduct bounds.old loops n × (n ≤ 2 ^ 24)) depth (stmt_of statement.now)) }
+    ensures decides { Decides result
+        (NestHas (λ loops. (n : ℕ) × HasProduct bounds.old loops n × (n ≤ 2 ^ 24)) depth
+        (stmt_of statement.now)) }
     ensures back { OnOk result (bounds.new ≡ bounds.old) }
 {
     match product(alloc, depth, statement, bounds, place) {
@@ -201,7 +224,9 @@ fn is_rectangular(
     bounds: &VarBox,
     place: Place,
 ) -> Result<(), Fault>
-    ensures { Decides result (NestHas (λ loops. (ls : List canonicals.Canonical) × AreRectangular bounds.now loops ls) depth (stmt_of statement.now)) }
+    ensures { Decides result
+        (NestHas (λ loops. (ls : List canonicals.Canonical) × AreRectangular bounds.now loops ls)
+        depth (stmt_of statement.now)) }
 {
     match forms(alloc, depth, statement, bounds, depth, statement, place) {
         Ok(_forms) => Ok(()),
@@ -258,8 +283,13 @@ impl Nest {
         bounds: &VarBox,
         directive: Place,
     ) -> Result<Nest, Fault>
-        ensures ok { IfOk result (λ nest. NestHas (λ loops. AreRectangular bounds.now loops nest.loops.items) depth (stmt_of statement.now)) }
-        ensures err { IfErr result (λ fault. (fault ≡ OutOfMemory) ⊎ (NestHas (λ loops. (ls : List canonicals.Canonical) × AreRectangular bounds.now loops ls) depth (stmt_of statement.now) → ⊥)) }
+        ensures ok { IfOk result (λ nest. NestHas
+            (λ loops. AreRectangular bounds.now loops nest.loops.items) depth
+            (stmt_of statement.now)) }
+        ensures err { IfErr result
+            (λ fault. (fault ≡ OutOfMemory)
+            ⊎ (NestHas (λ loops. (ls : List canonicals.Canonical)
+            × AreRectangular bounds.now loops ls) depth (stmt_of statement.now) → ⊥)) }
     {
         let place = first_place(statement, directive);
         let loops = match forms(alloc, depth, statement, bounds, depth, statement, place) {
@@ -272,10 +302,13 @@ impl Nest {
     /// Its iterations where the variables round it have these values, and those without a value are 0; None as for
     /// [`Space::at`] (OpenMP 5.2, 4.4.2).
     pub fn at(&self, alloc: Global, values: &[Value]) -> Option<Space>
-        ensures exact { MatchOption result ((ts : List Turns) → AreModest values.now → AreRunsOf self.now.loops.items (given values.now) ts → IsSpace ts → ⊥)
+        ensures exact { MatchOption result
+            ((ts : List Turns) → AreModest values.now
+            → AreRunsOf self.now.loops.items (given values.now) ts → IsSpace ts → ⊥)
             (λ ts. AreRunsOf self.now.loops.items (given values.now) ts) }
         ensures loops { IfSome result (λ ts. length ts ≡ length self.now.loops.items) }
-        ensures iterations { IfSome result (λ ts. HasIterations self.now.loops.items (given values.now) ts) }
+        ensures iterations { IfSome result
+            (λ ts. HasIterations self.now.loops.items (given values.now) ts) }
     {
         Space::at(alloc, self.loops.as_slice(), values)
     }

@@ -17,9 +17,11 @@ use nest_loop::enter;
 use std::alloc::Global;
 
 /// Goes into a loop, if it is canonical, never wraps and is one of eight at most.
-pub fn entered(alloc: Global, head: &Head, body: &Stmt, bounds: &mut VarBox) -> Result<(), Fault>
+pub fn enter_loop(alloc: Global, head: &Head, body: &Stmt, bounds: &mut VarBox) -> Result<(), Fault>
     ensures ok { OnOk result (Entered bounds.old bounds.new head.now (stmt_of body.now)) }
-    ensures fault { IfErr result (λ fault. (fault ≡ OutOfMemory) ⊎ ((box : List Side) → Entered bounds.old box head.now (stmt_of body.now) → ⊥)) }
+    ensures fault { IfErr result
+        (λ fault. (fault ≡ OutOfMemory)
+        ⊎ ((box : List Side) → Entered bounds.old box head.now (stmt_of body.now) → ⊥)) }
 {
     match enter(alloc, head, body, bounds) {
         Ok(_canonical) => Ok(()),
@@ -57,7 +59,7 @@ pub fn statement(
             }
         }
         Stmt::For(head, body) => {
-            match entered(alloc, head, body, bounds) {
+            match enter_loop(alloc, head, body, bounds) {
                 Ok(()) => {}
                 Err(fault) => return Err(fault),
             }
@@ -65,7 +67,7 @@ pub fn statement(
                 Ok(()) => {}
                 Err(fault) => return Err(fault),
             }
-            bounds.unbound();
+            bounds.unbind();
             Ok(())
         }
         Stmt::Block(items) => block(alloc, question, bounds, items),
@@ -101,7 +103,8 @@ fn one_item(
     bounds: &mut VarBox,
     item: &Item,
 ) -> Result<(), Fault>
-    ensures decides { Decides result (Have (asked question.entry) bounds.old (with_item item.now no_items)) }
+    ensures decides { Decides result
+        (Have (asked question.entry) bounds.old (with_item item.now no_items)) }
     ensures back { OnOk result (bounds.new ≡ bounds.old) }
 {
     match item {

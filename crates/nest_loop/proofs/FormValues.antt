@@ -4,7 +4,7 @@ use Rattle.std.proofs.Common.{refl, sym, ap, ◌∙◌, subst, arith}
 use Rattle.std.proofs.lemmas.Int.{ints}
 use Rattle.std.proofs.lemmas.Option.{none-some, cond_some}
 use Rattle.std.proofs.Math.IntN.{*ℤ_comm}
-use Rattle.semantics.specs.Tree.{Variable, Negate, Complement, BinaryOp, Plus, Minus, Times, Divide, Remainder, BitAnd, BitOr, BitXor, ShiftLeft, ShiftRight, Expr, Literal, Constant, Object, Unary, Binary, Choose, Exprs, no_exprs, more_exprs}
+use Rattle.semantics.specs.Tree.{Variable, Negate, Complement, BinaryOp, Plus, Minus, Times, Divide, Remainder, BitAnd, BitOr, BitXor, ShiftLeft, ShiftRight, Expr, Literal, Constant, Object, Unary, Binary, Conditional, Exprs, no_exprs, more_exprs}
 use Rattle.semantics.specs.Meaning.State.{State, look_in}
 use Rattle.semantics.specs.Meaning.Value.{both_then, map_option, change, operate}
 use Rattle.semantics.specs.Meaning.Value as meaning
@@ -101,7 +101,7 @@ module _ (box : List Side) (values : Variable → ℤ) (s : State) (counters : H
         is = operation_is op (meaning.value s a) (meaning.value s b) v.number w.number u.number v.is w.is u.is;
         residue = u.residue;
       }
-  form_worth (Choose c a b) f e = absurd (none-some f e)
+  form_worth (Conditional c a b) f e = absurd (none-some f e)
 
   -- where the form's value is a number of 0..2^64 - 1, that is the expression's
   pub form_number : (e : Expr) (f : Affine) → form_of box e ≡ Some f → pos 0 ≤ℤ value f values → value f values <ℤ pos (2 ^ 64)

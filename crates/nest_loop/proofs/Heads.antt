@@ -3,7 +3,7 @@ use Rattle.std.specs.Prelude.{Bool, true, false, ◌≡◌, List, Option, Some, 
 use Rattle.std.proofs.Common.{refl, sym, ap, ◌∙◌, cond}
 use Rattle.std.proofs.lemmas.Bool.{eqb-true}
 use Rattle.std.proofs.lemmas.Option.{none-some, same_Some}
-use Rattle.semantics.specs.Tree.{Variable, CompareOp, Expr, Literal, Constant, Object, Unary, Binary, Choose, no_exprs, more_exprs, Cond, NotZero, Compare, Not, Both, Either, Source, Number, Truth, Increment}
+use Rattle.semantics.specs.Tree.{Variable, CompareOp, Expr, Literal, Constant, Object, Unary, Binary, Conditional, no_exprs, more_exprs, Cond, NotZero, Compare, Not, LogicalAnd, LogicalOr, Source, Number, Truth, Increment}
 use Rattle.affine.specs.declared.interval.Side.{Side}
 use Rattle.affine.specs.Affine.{Affine}
 use Rattle.affine_expr.specs.Forms.{form_of}
@@ -25,7 +25,7 @@ variable_is x (Literal n suffix) h = absurd cc
 variable_is x (Constant name n) h = absurd cc
 variable_is x (Unary op a) h = absurd cc
 variable_is x (Binary op a b) h = absurd cc
-variable_is x (Choose c a b) h = absurd cc
+variable_is x (Conditional c a b) h = absurd cc
 
 -- the parts that make a loop
 record MadeBy (s : Option Stride) (b : Option Bound) (start limit : Option Affine) (l : Canonical) : Type 0 where
@@ -78,5 +78,5 @@ head_of box x start (Compare op a ub) step l e =
     }
 head_of box x start (NotZero c) step l e = absurd (none-some l e)
 head_of box x start (Not c) step l e = absurd (none-some l e)
-head_of box x start (Both c d) step l e = absurd (none-some l e)
-head_of box x start (Either c d) step l e = absurd (none-some l e)
+head_of box x start (LogicalAnd c d) step l e = absurd (none-some l e)
+head_of box x start (LogicalOr c d) step l e = absurd (none-some l e)

@@ -56,7 +56,7 @@ in_positive x (Tree.Literal n suffix) s e = absurd (cc e)
 in_positive x (Tree.Constant name n) s e = absurd (cc e)
 in_positive x (Tree.Object y is) s e = absurd (cc e)
 in_positive x (Tree.Unary op a) s e = absurd (cc e)
-in_positive x (Tree.Choose c a b) s e = absurd (cc e)
+in_positive x (Tree.Conditional c a b) s e = absurd (cc e)
 
 op_positive : (op : Tree.BinaryOp) (o : Option ℕ) (s : Stride) → stride_op op o ≡ Some s → 1 ≤ s.by
 op_positive Tree.Plus o s e = by_positive Rising o s e
@@ -102,8 +102,8 @@ canonical_well box x start (Tree.Compare op a ub) step l e =
     (if_some (is_variable x a) (canonical_by x (stride_of x step) (bound_after op (stride_of x step)) (start_form box start) (form_of box ub)) l e)
 canonical_well box x start (Tree.NotZero c) step l e = absurd (cc e)
 canonical_well box x start (Tree.Not c) step l e = absurd (cc e)
-canonical_well box x start (Tree.Both c d) step l e = absurd (cc e)
-canonical_well box x start (Tree.Either c d) step l e = absurd (cc e)
+canonical_well box x start (Tree.LogicalAnd c d) step l e = absurd (cc e)
+canonical_well box x start (Tree.LogicalOr c d) step l e = absurd (cc e)
 
 -- no head makes a loop where it is not canonical
 pub no_loop : (box : List Side) (x : Tree.Variable) (start : Tree.Source) (test : Tree.Cond) (step : Tree.Increment) (body : Tree.Stmt) (l : Canonical) (i : Interval)

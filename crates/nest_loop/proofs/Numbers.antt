@@ -4,7 +4,7 @@ use Rattle.std.proofs.Common.{refl, sym, ap, ◌∙◌, arith}
 use Rattle.std.proofs.lemmas.Bool.{leb-true}
 use Rattle.std.proofs.lemmas.Int.{ints}
 use Rattle.std.proofs.lemmas.Option.{none-some, cond_some}
-use Rattle.semantics.specs.Tree.{Variable, Negate, Complement, BinaryOp, Plus, Minus, Times, Divide, Remainder, BitAnd, BitOr, BitXor, ShiftLeft, ShiftRight, Expr, Literal, Constant, Object, Unary, Binary, Choose}
+use Rattle.semantics.specs.Tree.{Variable, Negate, Complement, BinaryOp, Plus, Minus, Times, Divide, Remainder, BitAnd, BitOr, BitXor, ShiftLeft, ShiftRight, Expr, Literal, Constant, Object, Unary, Binary, Conditional}
 use Rattle.semantics.specs.Meaning.Value.{both_then}
 use Rattle.semantics.proofs.EraseTokenLaw.{first_of, second_of}
 use Rattle.affine.specs.declared.term.Term.{Term}
@@ -86,4 +86,4 @@ number_terms box (Binary op a b) f e h =
     operated_no_terms op (is_number a) (is_number b) j.left j.right f
     (number_terms box a j.left j.first (first_of (is_number a) (is_number b) h))
     (number_terms box b j.right j.second (second_of (is_number a) (is_number b) h)) j.result
-number_terms box (Choose c a b) f e h = absurd (none-some f e)
+number_terms box (Conditional c a b) f e h = absurd (none-some f e)

@@ -1,6 +1,6 @@
 -- Canonical loops: how a variable goes from its start to its end. (OpenMP 5.2, 4.4.1; C11 6.8.5.3)
 use Rattle.std.specs.Prelude.{ℕ, Bool, false, ◌||◌, ◌==◌, nat_le, List, if◌then◌else◌, Option, Some, None}
-use Rattle.semantics.specs.Tree.{Variable, BinaryOp, Plus, Minus, CompareOp, Less, LessEqual, Greater, GreaterEqual, Equal, NotEqual, Expr, Object, Binary, no_exprs, Cond, NotZero, Compare, Not, Both, Either, Source, Number, Truth, Increment, Up, Down, Set, Change, Stmt, Assign, Update, If, IfElse, For, Block, Print, Items, no_items, mark, local, stmt}
+use Rattle.semantics.specs.Tree.{Variable, BinaryOp, Plus, Minus, CompareOp, Less, LessEqual, Greater, GreaterEqual, Equal, NotEqual, Expr, Object, Binary, no_exprs, Cond, NotZero, Compare, Not, LogicalAnd, LogicalOr, Source, Number, Truth, Increment, Up, Down, Set, Change, Stmt, Assign, Update, If, IfElse, For, Block, Print, Items, no_items, mark, local, stmt}
 use Rattle.semantics.specs.Source.Typing.{constant}
 use Rattle.affine.specs.declared.interval.Side.{Side}
 use Rattle.affine.specs.Affine.{Affine}
@@ -78,8 +78,8 @@ abbrev pub with_test : List Side → Variable → Option Affine → Cond → Opt
 with_test box x start (Compare op a ub) s = if is_variable x a then canonical_by x s (bound_after op s) start (form_of box ub) else None
 with_test box x start (NotZero e) s = None
 with_test box x start (Not c) s = None
-with_test box x start (Both c d) s = None
-with_test box x start (Either c d) s = None
+with_test box x start (LogicalAnd c d) s = None
+with_test box x start (LogicalOr c d) s = None
 
 -- the start is an arithmetic expression
 abbrev pub start_form : List Side → Source → Option Affine

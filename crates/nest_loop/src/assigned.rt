@@ -8,7 +8,7 @@ ghost use Rattle.nest_loop.specs.Canonical.{stepped, assigns, assigns_among};
 use ktree::{Increment, Item, Stmt, VarId};
 
 /// The variable that a loop's step assigns.
-fn stepped(step: &Increment) -> VarId
+fn stepped_variable(step: &Increment) -> VarId
     ensures { result.0 ≡ stepped (increment_of step.now) }
 {
     match step {
@@ -34,7 +34,9 @@ pub fn assigns(variable: VarId, statement: &Stmt) -> bool
                 assigns(variable, then)
             }
         }
-        Stmt::For(head, body) => { stepped(&head.step).0 == variable.0 || assigns(variable, body) }
+        Stmt::For(head, body) => {
+            stepped_variable(&head.step).0 == variable.0 || assigns(variable, body)
+        }
         Stmt::Block(items) => some_assigns(variable, items.as_slice()),
         Stmt::Print(_, _) => false,
     }

@@ -8,7 +8,7 @@ ghost use Rattle.affine_expr.specs.Forms.{kept};
 ghost use Rattle.affine_expr.specs.declared.faults.Fault.TheVariants.{OutOfMemory};
 
 use affine::Form;
-use affine_expr::{Fault, refused};
+use affine_expr::{Fault, fault_of_refusal};
 use ktree::Place;
 
 /// The first form without the second. Both keep the limits of a text, so that their difference keeps those of forms.
@@ -19,13 +19,14 @@ use ktree::Place;
 pub(crate) fn difference(greater: &Form, less: &Form, place: Place) -> Result<Form, Fault>
     requires greater { kept greater.now ≡ Some greater.now }
     requires less { kept less.now ≡ Some less.now }
-    ensures value { IfOk result (λ form. (values : Variable → ℤ) → value form values ≡ value greater.now values -ℤ value less.now values) }
+    ensures value { IfOk result (λ form. (values : Variable → ℤ)
+        → value form values ≡ value greater.now values -ℤ value less.now values) }
     ensures near { IfOk result (λ form. IsWithin (2 ^ 33) form.constant) }
     ensures fits { IfOk result Fits }
     ensures err { IfErr result (λ fault. fault ≡ OutOfMemory) }
 {
     match greater.subtract(less, place) {
         Ok(form) => Ok(form),
-        Err(refusal) => Err(refused(refusal, place)),
+        Err(refusal) => Err(fault_of_refusal(refusal, place)),
     }
 }

@@ -53,10 +53,15 @@ fn first_fault(head: &Head, body: &Stmt, bounds: &VarBox, fault: Fault) -> Fault
 /// At the `for`: `NotCanonical`, also where the body assigns the loop's variable; where both bounds have forms, `MayWrap`;
 /// `Limit` inside 8 loops. Else the fault of a bound. Or `OutOfMemory`.
 pub fn loop_of(alloc: Global, head: &Head, body: &Stmt, bounds: &VarBox) -> Result<Loop, Fault>
-    ensures ok { IfOk result (λ made. IsLoop bounds.now head.now.variable.0 (source_of head.now.start) (cond_of head.now.test) (increment_of head.now.step) (stmt_of body.now) made.canonical made.numbers) }
+    ensures ok { IfOk result (λ made. IsLoop bounds.now head.now.variable.0
+        (source_of head.now.start) (cond_of head.now.test) (increment_of head.now.step)
+        (stmt_of body.now) made.canonical made.numbers) }
     ensures fits { IfOk result (λ made. EndsFit made.numbers.least made.numbers.greatest) }
-    ensures fault { IfErr result (λ fault. (fault ≡ OutOfMemory) ⊎ ((l : canonicals.Canonical) (i : intervals.Interval)
-        → IsLoop bounds.now head.now.variable.0 (source_of head.now.start) (cond_of head.now.test) (increment_of head.now.step) (stmt_of body.now) l i → ⊥)) }
+    ensures fault { IfErr result
+        (λ fault. (fault ≡ OutOfMemory)
+        ⊎ ((l : canonicals.Canonical) (i : intervals.Interval)
+        → IsLoop bounds.now head.now.variable.0 (source_of head.now.start)
+        (cond_of head.now.test) (increment_of head.now.step) (stmt_of body.now) l i → ⊥)) }
 {
     let canonical = match canonical_of(alloc, head, bounds) {
         Ok(canonical) => canonical,
@@ -87,16 +92,20 @@ pub fn enter(
     bounds: &mut VarBox,
 ) -> Result<Canonical, Fault>
     ensures ok { IfOk result (λ l. (i : intervals.Interval)
-        × IsLoop bounds.old head.now.variable.0 (source_of head.now.start) (cond_of head.now.test) (increment_of head.now.step) (stmt_of body.now) l i
+        × IsLoop bounds.old head.now.variable.0 (source_of head.now.start) (cond_of head.now.test)
+        (increment_of head.now.step) (stmt_of body.now) l i
         × (bounds.new ≡ inside bounds.old head.now.variable.0 i)) }
     ensures err { OnErr result (bounds.new ≡ bounds.old) }
-    ensures fault { IfErr result (λ fault. (fault ≡ OutOfMemory) ⊎ ((l : canonicals.Canonical) (i : intervals.Interval)
-        → IsLoop bounds.old head.now.variable.0 (source_of head.now.start) (cond_of head.now.test) (increment_of head.now.step) (stmt_of body.now) l i → ⊥)) }
+    ensures fault { IfErr result
+        (λ fault. (fault ≡ OutOfMemory)
+        ⊎ ((l : canonicals.Canonical) (i : intervals.Interval)
+        → IsLoop bounds.old head.now.variable.0 (source_of head.now.start)
+        (cond_of head.now.test) (increment_of head.now.step) (stmt_of body.now) l i → ⊥)) }
 {
     let made = loop_of(alloc, head, body, bounds)?;
     let least = i128::from(made.numbers.least);
     let greatest = i128::from(made.numbers.greatest);
-    match bounds.bound(head.variable, least, greatest, head.place) {
+    match bounds.bind(head.variable, least, greatest, head.place) {
         Ok(()) => Ok(made.canonical),
         Err(_) => Err(Fault::OutOfMemory),
     }

@@ -26,7 +26,8 @@ pub struct Canonical {
 /// The form of a start, which is no condition.
 fn start_form(alloc: Global, start: &Source, bounds: &VarBox, place: Place) -> Result<Form, Fault>
     ensures ok { IfOk result (λ form. start_form bounds.now (source_of start.now) ≡ Some form) }
-    ensures err { IfErr result (λ fault. (fault ≡ OutOfMemory) ⊎ (start_form bounds.now (source_of start.now) ≡ None)) }
+    ensures err { IfErr result
+        (λ fault. (fault ≡ OutOfMemory) ⊎ (start_form bounds.now (source_of start.now) ≡ None)) }
 {
     match start {
         Source::Number(expr) => form_of(alloc, expr, bounds, place),
@@ -35,7 +36,7 @@ fn start_form(alloc: Global, start: &Source, bounds: &VarBox, place: Place) -> R
 }
 
 /// What is told of a bound without a form: that the loop is not canonical, where its own variable stands in a bound.
-fn told(head: &Head, limit: &Expr, fault: Fault) -> Fault
+fn bound_fault(head: &Head, limit: &Expr, fault: Fault) -> Fault
     ensures { fault ≡ OutOfMemory → result ≡ OutOfMemory }
 {
     let of_memory = matches!(fault, Fault::OutOfMemory);
@@ -54,8 +55,12 @@ fn told(head: &Head, limit: &Expr, fault: Fault) -> Fault
 /// `NotCanonical` at the `for`, where there is no such step or test or the loop's own variable stands in a bound; the fault
 /// of the start, or else that of the bound, where it has no form; `OutOfMemory`.
 pub fn canonical_of(alloc: Global, head: &Head, bounds: &VarBox) -> Result<Canonical, Fault>
-    ensures ok { IfOk result (λ l. canonical bounds.now head.now.variable.0 (source_of head.now.start) (cond_of head.now.test) (increment_of head.now.step) ≡ Some l) }
-    ensures err { IfErr result (λ fault. (fault ≡ OutOfMemory) ⊎ (canonical bounds.now head.now.variable.0 (source_of head.now.start) (cond_of head.now.test) (increment_of head.now.step) ≡ None)) }
+    ensures ok { IfOk result (λ l. canonical bounds.now head.now.variable.0
+        (source_of head.now.start) (cond_of head.now.test) (increment_of head.now.step) ≡ Some l) }
+    ensures err { IfErr result
+        (λ fault. (fault ≡ OutOfMemory)
+        ⊎ (canonical bounds.now head.now.variable.0 (source_of head.now.start)
+        (cond_of head.now.test) (increment_of head.now.step) ≡ None)) }
 {
     let Cond::Compare(operator, left, right, place) = &head.test else {
         return Err(Fault::NotCanonical(head.place));
@@ -71,11 +76,11 @@ pub fn canonical_of(alloc: Global, head: &Head, bounds: &VarBox) -> Result<Canon
     };
     let start = match start_form(alloc, &head.start, bounds, head.start_place) {
         Ok(form) => form,
-        Err(fault) => return Err(told(head, right, fault)),
+        Err(fault) => return Err(bound_fault(head, right, fault)),
     };
     let limit = match form_of(alloc, right, bounds, *place) {
         Ok(form) => form,
-        Err(fault) => return Err(told(head, right, fault)),
+        Err(fault) => return Err(bound_fault(head, right, fault)),
     };
     Ok(Canonical {
         variable: head.variable,

@@ -16,7 +16,7 @@ pub use assigned::assigns;
 pub use entered::{Loop, enter, loop_of};
 pub use head::{Canonical, canonical_of};
 pub use mentioned::{mentions, source_mentions};
-pub use most::{distance, most_turns, turns_within};
+pub use most::{distance, greatest_trip_count, trip_count_within};
 pub use stride::{Bound, Direction, Stride, stride_of};
 pub use walked::side;
 pub use wrapping::wraps;

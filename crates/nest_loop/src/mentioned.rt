@@ -19,7 +19,7 @@ pub fn mentions(variable: VarId, expr: &Expr) -> bool
         }
         Expr::Unary(_, operand) => mentions(variable, operand),
         Expr::Binary(_, left, right) => mentions(variable, left) || mentions(variable, right),
-        Expr::Choose(cond, left, right) => {
+        Expr::Conditional(cond, left, right) => {
             cond_mentions(variable, cond) || mentions(variable, left) || mentions(variable, right)
         }
     }
@@ -47,8 +47,9 @@ fn cond_mentions(variable: VarId, cond: &Cond) -> bool
         Cond::NotZero(expr) => mentions(variable, expr),
         Cond::Compare(_, left, right, _) => mentions(variable, left) || mentions(variable, right),
         Cond::Not(inner) => cond_mentions(variable, inner),
-        Cond::Both(left, right) => cond_mentions(variable, left) || cond_mentions(variable, right),
-        Cond::Either(left, right) => {
+        Cond::LogicalAnd(left, right) => cond_mentions(variable, left)
+            || cond_mentions(variable, right),
+        Cond::LogicalOr(left, right) => {
             cond_mentions(variable, left) || cond_mentions(variable, right)
         }
     }

@@ -14,7 +14,7 @@ use crate::difference::difference;
 use crate::head::Canonical;
 use crate::stride::{Bound, Direction};
 use affine::{Form, VarBox};
-use affine_expr::{Fault, refused};
+use affine_expr::{Fault, fault_of_refusal};
 use ktree::Place;
 use std::alloc::Global;
 
@@ -33,7 +33,9 @@ fn short(bound: Bound) -> i128
 /// How far the number that the variable is compared with lies behind its start.
 fn apart(canonical: &Canonical, place: Place) -> Result<Form, Fault>
     requires { IsWell canonical.now }
-    ensures ok { IfOk result (λ form. (values : Variable → ℤ) → value form values ≡ way canonical.now.stride.direction (value canonical.now.start values) (value canonical.now.limit values)) }
+    ensures ok { IfOk result (λ form. (values : Variable → ℤ)
+        → value form values ≡ way canonical.now.stride.direction (value canonical.now.start values)
+        (value canonical.now.limit values)) }
     ensures near { IfOk result (λ form. IsWithin (2 ^ 33) form.constant) }
     ensures fits { IfOk result Fits }
     ensures err { IfErr result (λ fault. fault ≡ OutOfMemory) }
@@ -52,7 +54,8 @@ fn apart(canonical: &Canonical, place: Place) -> Result<Form, Fault>
 /// `OutOfMemory`.
 pub fn distance(alloc: Global, canonical: &Canonical, place: Place) -> Result<Form, Fault>
     requires { IsWell canonical.now }
-    ensures ok { IfOk result (λ form. (values : Variable → ℤ) → value form values ≡ distance canonical.now values) }
+    ensures ok { IfOk result (λ form. (values : Variable → ℤ)
+        → value form values ≡ distance canonical.now values) }
     ensures err { IfErr result (λ fault. fault ≡ OutOfMemory) }
 {
     let apart = apart(canonical, place)?;
@@ -61,12 +64,12 @@ pub fn distance(alloc: Global, canonical: &Canonical, place: Place) -> Result<Fo
     };
     match apart.add(&short, place) {
         Ok(form) => Ok(form),
-        Err(refusal) => Err(refused(refusal, place)),
+        Err(refusal) => Err(fault_of_refusal(refusal, place)),
     }
 }
 
 /// How many turns stay within a distance.
-pub fn turns_within(distance: i128, by: u32) -> u64
+pub fn trip_count_within(distance: i128, by: u32) -> u64
     requires by_one { 1 ≤ by }
     requires near { distance ≤ℤ pos (2 ^ 33) }
     ensures turns { AreWithin by distance result }
@@ -83,7 +86,7 @@ pub fn turns_within(distance: i128, by: u32) -> u64
 /// # Errors
 ///
 /// `OutOfMemory`.
-pub fn most_turns(
+pub fn greatest_trip_count(
     alloc: Global,
     canonical: &Canonical,
     bounds: &VarBox,
@@ -97,6 +100,6 @@ pub fn most_turns(
     let distance = distance(alloc, canonical, place)?;
     match distance.range(bounds) {
         None => Ok(0),
-        Some(range) => Ok(turns_within(range.1, canonical.stride.by)),
+        Some(range) => Ok(trip_count_within(range.1, canonical.stride.by)),
     }
 }

@@ -80,7 +80,7 @@ fn ends(form: &Form, bounds: &VarBox) -> Option<(i64, i64)>
 }
 
 /// The numbers by the range of the bounds over the box.
-fn ranged(canonical: &Canonical, bounds: &VarBox) -> Interval
+fn number_range(canonical: &Canonical, bounds: &VarBox) -> Interval
     requires stays { CannotWrap bounds.now canonical.now }
     requires other { HasNumbers canonical.now → ⊥ }
     ensures side { IsSide bounds.now canonical.now result }
@@ -121,6 +121,6 @@ pub fn side(canonical: &Canonical, bounds: &VarBox) -> Interval
             canonical.limit.constant_term() + shift,
         )
     } else {
-        ranged(canonical, bounds)
+        number_range(canonical, bounds)
     }
 }

@@ -8,7 +8,7 @@ use Rattle.std.proofs.lemmas.Option.{none-some, same_Some, cond_some}
 use Rattle.semantics.specs.Tree.{Variable, Expr, CompareOp, Less, LessEqual, Greater, GreaterEqual, Equal, NotEqual}
 use Rattle.semantics.specs.Meaning.State.{State, Slot, Holds, Assigned, with_local, look, look_in, is_object_in, assign_at, overwritten}
 use Rattle.semantics.specs.Meaning.Value.{value, source_value, holds, both, by_test, compare}
-use Rattle.semantics.specs.Meaning.Runs.{incremented, assigned, one_write, most_turns}
+use Rattle.semantics.specs.Meaning.Runs.{incremented, assigned, one_write, greatest_trip_count}
 use Rattle.semantics.specs.Loops.Nest.{Loop, values_from, at_value, loop_values}
 use Rattle.semantics.proofs.NestLaw.{local_same, local_twice}
 use Rattle.affine.specs.declared.interval.Side.{Side}
@@ -264,11 +264,11 @@ module _ (box : List Side) (values : Variable → ℤ) (s : State) (counters : H
 
   -- the values of its variable are those of its turns
   pub values_are : loop_values h s ≡ Some (values_of t)
-  unfolding most_turns
+  unfolding greatest_trip_count
   values_are =
       let begins : source_value s h.start ≡ Some first =
       ap (source_value s) head.start_is ∙ bound_value s head.from l.start counters head.first run.stays.start ∙ ap (λ (z : ℤ). Some (unsigned_abs z)) run.first in
       let few = few_turns l.stride.direction l.stride.by first limit t.count (end_shift l.stride.direction l.bound) fit.least fit.first_within fit.limit_within (shift_small l.stride.direction l.bound) left_first in
-      ap (option_and_then (λ v. values_from most_turns h (at_value s h.variable v))) begins
-      ∙ walk t.count most_turns first (omega arith) (starts l.stride.direction l.bound l.stride.by first limit fit room) left_first
+      ap (option_and_then (λ v. values_from greatest_trip_count h (at_value s h.variable v))) begins
+      ∙ walk t.count greatest_trip_count first (omega arith) (starts l.stride.direction l.bound l.stride.by first limit fit room) left_first
       ∙ ap (λ st. Some (counted st first t.count)) (sym run.stride)

@@ -92,7 +92,8 @@ pub fn value_at(form: &Form, values: &[Value]) -> i128
 fn bound_at(form: &Form, values: &[Value]) -> Option<u64>
     requires { AreModest values.now }
     ensures { MatchOption result (IsModest (value form.now (given values.now)) → ⊥)
-        (λ n. IsModest (value form.now (given values.now)) × (value form.now (given values.now) ≡ pos n)) }
+        (λ n. IsModest (value form.now (given values.now))
+        × (value form.now (given values.now) ≡ pos n)) }
 {
     let number = value_at(form, values);
     if number < 0 || number > GREATEST_BOUND {
@@ -125,7 +126,9 @@ fn has_room(stride: Stride, bound: Bound, start: u64, limit: u64) -> bool
 fn numbers(direction: Direction, bound: Bound, start: u64, limit: u64) -> u64
     requires start { start ≤ 2 ^ 32 }
     requires limit { limit ≤ 2 ^ 32 }
-    ensures numbers { (n : ℕ) → (n < result) ↔ IsBefore direction (moved direction (pos start) n) (pos limit +ℤ end_shift direction bound) }
+    ensures numbers { (n : ℕ) → (n < result)
+        ↔ IsBefore direction (moved direction (pos start) n)
+        (pos limit +ℤ end_shift direction bound) }
     ensures few { result ≤ 2 ^ 32 + 1 }
 {
     let apart = match direction {
@@ -153,7 +156,8 @@ fn count(stride: Stride, bound: Bound, start: u64, limit: u64) -> u64
 /// How the loop runs at these values, where it stays.
 pub(crate) fn run_of(head: &Canonical, values: &[Value]) -> Option<LoopTurns>
     requires { AreModest values.now }
-    ensures { MatchOption result (1 ≤ head.now.stride.by → Stays head.now (given values.now) → ⊥) (λ t. IsRunOf head.now (given values.now) t) }
+    ensures { MatchOption result (1 ≤ head.now.stride.by → Stays head.now (given values.now) → ⊥)
+        (λ t. IsRunOf head.now (given values.now) t) }
 {
     let Some(start) = bound_at(&head.start, values) else {
         return None;
@@ -174,7 +178,9 @@ pub(crate) fn run_of(head: &Canonical, values: &[Value]) -> Option<LoopTurns>
 /// How the loop runs where the variables round it have these values, and those without a value are 0: None where a value is
 /// above 2^33, and where a bound is above 2^32 there or its variable would wrap (OpenMP 5.2, 4.4.1 and 4.4.2).
 pub fn turns_at(head: &Canonical, values: &[Value]) -> Option<LoopTurns>
-    ensures { MatchOption result (AreModest values.now → 1 ≤ head.now.stride.by → Stays head.now (given values.now) → ⊥) (λ t. IsRunOf head.now (given values.now) t) }
+    ensures { MatchOption result
+        (AreModest values.now → 1 ≤ head.now.stride.by → Stays head.now (given values.now) → ⊥)
+        (λ t. IsRunOf head.now (given values.now) t) }
 {
     if are_modest(values) {
         run_of(head, values)

@@ -40,7 +40,8 @@ fn product(loops: &[LoopTurns]) -> Option<u64>
 
 /// So many times a product, if at most 2^24.
 fn within(count: u64, rest: Option<u64>) -> Option<u64>
-    ensures { (n : ℕ) → SomeIff rest (n ≤ 2 ^ 24) n → SomeIff result (count * n ≤ 2 ^ 24) (count * n) }
+    ensures { (n : ℕ) → SomeIff rest (n ≤ 2 ^ 24) n
+        → SomeIff result (count * n ≤ 2 ^ 24) (count * n) }
 {
     if count == 0 {
         return Some(0);
@@ -79,7 +80,8 @@ fn place(loops: &[LoopTurns], number: u64, values: &mut [u64]) -> u64
 fn number(loops: &[LoopTurns], values: &[u64]) -> Option<u64>
     requires turns { EachTurns loops.now }
     requires few { product loops.now ≤ 2 ^ 24 }
-    ensures { MatchOption result ((k : ℕ) → slice_get (vectors loops.now) k ≡ Some values.now → ⊥) (λ k. slice_get (vectors loops.now) k ≡ Some values.now) }
+    ensures { MatchOption result ((k : ℕ) → slice_get (vectors loops.now) k ≡ Some values.now → ⊥)
+        (λ k. slice_get (vectors loops.now) k ≡ Some values.now) }
 {
     let Some((first, rest)) = loops.split_first() else {
         return if values.is_empty() { Some(0) } else { None };
@@ -131,7 +133,9 @@ impl Space {
 
     /// The number of a vector; None for values that are no vector of this space.
     pub fn number(&self, values: &[u64]) -> Option<u64>
-        ensures { MatchOption result ((k : ℕ) → slice_get (vectors self.now) k ≡ Some values.now → ⊥) (λ k. slice_get (vectors self.now) k ≡ Some values.now) }
+        ensures { MatchOption result
+            ((k : ℕ) → slice_get (vectors self.now) k ≡ Some values.now → ⊥)
+            (λ k. slice_get (vectors self.now) k ≡ Some values.now) }
     {
         if self.count() == 0 {
             return None;

@@ -16,7 +16,8 @@ fn fill(loops: &[Canonical], values: &[Value], turns: &mut [LoopTurns]) -> bool
     requires modest { AreModest values.now }
     requires places { length turns.old ≡ length loops.now }
     ensures found { IsTrue result → AreRunsOf loops.now (given values.now) turns.new }
-    ensures none { (IsTrue result → ⊥) → (ts : List Turns) → AreRunsOf loops.now (given values.now) ts → ⊥ }
+    ensures none { (IsTrue result → ⊥) → (ts : List Turns)
+        → AreRunsOf loops.now (given values.now) ts → ⊥ }
 {
     let Some((first, rest)) = loops.split_first() else {
         return true;
@@ -36,8 +37,9 @@ impl Space {
     /// values, and those without a value are 0: None where a value is above 2^33, where a bound is above 2^32 there or a
     /// variable would wrap, and for more than four loops or 2^24 vectors (OpenMP 5.2, 4.4.2 and 4.4.3).
     pub fn at(alloc: Global, loops: &[Canonical], values: &[Value]) -> Option<Space>
-        ensures exact { MatchOption result ((ts : List Turns) → AreModest values.now → AreRunsOf loops.now (given values.now) ts → IsSpace ts → ⊥)
-            (λ ts. AreRunsOf loops.now (given values.now) ts) }
+        ensures exact { MatchOption result
+            ((ts : List Turns) → AreModest values.now → AreRunsOf loops.now (given values.now) ts
+            → IsSpace ts → ⊥) (λ ts. AreRunsOf loops.now (given values.now) ts) }
         ensures loops { IfSome result (λ ts. length ts ≡ length loops.now) }
         ensures iterations { IfSome result (λ ts. HasIterations loops.now (given values.now) ts) }
     {

@@ -44,7 +44,7 @@ impl Default for LoopTurns {
 }
 
 /// The number so far from the first.
-fn moved(direction: Direction, first: u64, by: u64) -> u64
+fn move_by(direction: Direction, first: u64, by: u64) -> u64
     requires { LastFits direction first by }
     ensures { result ≡ moved direction first by }
 {
@@ -56,7 +56,8 @@ fn moved(direction: Direction, first: u64, by: u64) -> u64
 
 /// How far a value lies from the first, in the direction of the loop.
 fn distance(direction: Direction, first: u64, value: u64) -> Option<u64>
-    ensures { MatchOption result ((n : ℕ) → LastFits direction first n → value ≡ moved direction first n → ⊥)
+    ensures { MatchOption result
+        ((n : ℕ) → LastFits direction first n → value ≡ moved direction first n → ⊥)
         (λ n. LastFits direction first n × (value ≡ moved direction first n)) }
 {
     match direction {
@@ -68,7 +69,8 @@ fn distance(direction: Direction, first: u64, value: u64) -> Option<u64>
 /// How many steps, fewer than the count, make this distance.
 fn steps(by: u64, count: u64, distance: u64) -> Option<u64>
     requires { 1 ≤ by }
-    ensures { MatchOption result ((k : ℕ) → k < count → distance ≡ by * k → ⊥) (λ k. (k < count) × (distance ≡ by * k)) }
+    ensures { MatchOption result ((k : ℕ) → k < count → distance ≡ by * k → ⊥)
+        (λ k. (k < count) × (distance ≡ by * k)) }
 {
     let turn = distance / by;
     if distance % by != 0 {
@@ -80,7 +82,9 @@ fn steps(by: u64, count: u64, distance: u64) -> Option<u64>
 impl LoopTurns {
     /// The loop that begins at this value and turns so often, where all its values are below 2^64 and it has a step.
     pub fn new(first: u64, stride: Stride, count: u64) -> Option<LoopTurns>
-        ensures { SomeIff result (IsTurns (record { first = first; stride = stride; count = count })) (record { first = first; stride = stride; count = count }) }
+        ensures { SomeIff result
+            (IsTurns (record { first = first; stride = stride; count = count }))
+            (record { first = first; stride = stride; count = count }) }
     {
         let by = u64::from(stride.by);
         if by == 0 {
@@ -114,7 +118,7 @@ impl LoopTurns {
         requires { turn < self.count }
         ensures { slice_get (values_of self) turn ≡ Some result }
     {
-        moved(
+        move_by(
             self.stride.direction,
             self.first,
             u64::from(self.stride.by) * turn,
@@ -123,7 +127,8 @@ impl LoopTurns {
 
     /// The turn at which its variable has this value; None for a value that it has at no turn.
     pub fn turn(self, value: u64) -> Option<u64>
-        ensures { MatchOption result ((k : ℕ) → slice_get (values_of self) k ≡ Some value → ⊥) (λ k. slice_get (values_of self) k ≡ Some value) }
+        ensures { MatchOption result ((k : ℕ) → slice_get (values_of self) k ≡ Some value → ⊥)
+            (λ k. slice_get (values_of self) k ≡ Some value) }
     {
         match distance(self.stride.direction, self.first, value) {
             None => None,

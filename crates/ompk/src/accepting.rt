@@ -77,10 +77,13 @@ fn judge_data(
     kernel: &Kernel,
     directives: &Directives,
 ) -> Result<Vec<ParallelLoop>, Refusal>
-    ensures listed { IfOk result (λ loops. AreParallelLoops directives.now (kernel_of kernel.now) loops.items) }
+    ensures listed { IfOk result (λ loops. AreParallelLoops directives.now (kernel_of kernel.now)
+        loops.items) }
     ensures definite { IfOk result (λ _. IsDefinite no_privates (kernel_of kernel.now)) }
-    ensures private { IfOk result (λ _. ItemsHave directives.now IsPrivate [] (kernel_of kernel.now).body) }
-    ensures refusal { IfErr result (λ r. (r ≡ OutOfMemory) ⊎ RefusesData directives.now (kernel_of kernel.now) r) }
+    ensures private { IfOk result (λ _. ItemsHave directives.now IsPrivate []
+        (kernel_of kernel.now).body) }
+    ensures refusal { IfErr result
+        (λ r. (r ≡ OutOfMemory) ⊎ RefusesData directives.now (kernel_of kernel.now) r) }
 {
     match (definite(alloc, kernel), classify(alloc, kernel, directives)) {
         (Ok(()), Ok(loops)) => Ok(loops),
@@ -101,7 +104,8 @@ fn judge_data(
 fn judge(alloc: Global, kernel: &Kernel, text: &[u8]) -> Result<Vec<ParallelLoop>, Refusal>
     requires { ReadsText text.now (kernel_of kernel.now) }
     ensures passed { IfOk result (λ _. HasPassed text.now (kernel_of kernel.now)) }
-    ensures listed { IfOk result (λ loops. AreParallelLoops text.now (kernel_of kernel.now) loops.items) }
+    ensures listed { IfOk result (λ loops. AreParallelLoops text.now (kernel_of kernel.now)
+        loops.items) }
     ensures refusal { IfErr result (RefusesPasses text.now (kernel_of kernel.now)) }
 {
     let directives = Directives::read(alloc, text)?;
@@ -113,7 +117,7 @@ fn judge(alloc: Global, kernel: &Kernel, text: &[u8]) -> Result<Vec<ParallelLoop
 }
 
 // Accepts the kernel of a text, or refuses it.
-fn accepted(alloc: Global, kernel: Kernel, text: &[u8]) -> Result<Checked, Refusal>
+fn accept_kernel(alloc: Global, kernel: Kernel, text: &[u8]) -> Result<Checked, Refusal>
     requires { ReadsText text.now (kernel_of kernel) }
     ensures is { IfOk result (λ checked. checked ≡ record { text = text.now; kernel = kernel }) }
     ensures refusal { IfErr result (RefusesKernel text.now (kernel_of kernel)) }
@@ -138,5 +142,5 @@ pub fn check(alloc: Global, text: &[u8]) -> Result<Checked, Refusal>
     ensures refusal { IfErr result (RefusesText text.now) }
 {
     let kernel = parse(alloc, text)?;
-    accepted(alloc, kernel, text)
+    accept_kernel(alloc, kernel, text)
 }

@@ -42,13 +42,16 @@ fn read<'a, R: Files + AllocGlobal>(rt: &R, name: &'a str) -> Result<Vec<u8>, Fa
 }
 
 // The kernel of a file.
-fn checked<'a, R: Files + AllocGlobal>(rt: &R, file: &'a str) -> Result<Checked, Fault<'a>> {
+fn accept_file<'a, R: Files + AllocGlobal>(rt: &R, file: &'a str) -> Result<Checked, Fault<'a>> {
     let text = read(rt, file)?;
     Ok(check(rt.alloc(), text.as_slice())?)
 }
 
 // The bytes of an input, none where no file is named.
-fn given<'a, R: Files + AllocGlobal>(rt: &R, input: Option<&'a str>) -> Result<Vec<u8>, Fault<'a>> {
+fn read_input<'a, R: Files + AllocGlobal>(
+    rt: &R,
+    input: Option<&'a str>,
+) -> Result<Vec<u8>, Fault<'a>> {
     match input {
         Some(name) => read(rt, name),
         None => Ok(Vec::new(rt.alloc())),
@@ -68,8 +71,8 @@ where
     S: Sink,
     requires { S.failed sink.old + 1 < 2 ^ 64 }
 {
-    let kernel = checked(rt, file)?;
-    let bytes = given(rt, input)?;
+    let kernel = accept_file(rt, file)?;
+    let bytes = read_input(rt, input)?;
     let given = bytes.as_slice();
     Ok(run(rt, rt.alloc(), &kernel, given, workers, &OpenGate, sink)?)
 }
@@ -86,8 +89,8 @@ where
     S: Sink,
     requires { S.failed sink.old + 1 < 2 ^ 64 }
 {
-    let kernel = checked(rt, file)?;
-    let bytes = given(rt, input)?;
+    let kernel = accept_file(rt, file)?;
+    let bytes = read_input(rt, input)?;
     Ok(seq(rt.alloc(), &kernel, bytes.as_slice(), sink)?)
 }
 
@@ -98,7 +101,7 @@ where
     S: Sink,
     requires { S.failed sink.old + 1 < 2 ^ 64 }
 {
-    checked(rt, file)?;
+    accept_file(rt, file)?;
     Ok(put_all(sink, b"accepted\n")?)
 }
 

@@ -89,7 +89,8 @@ fn command<'a>(alloc: Global) -> Result<Command<'a>, AllocError> {
 
 // 1 to 64, without leading zeros.
 fn workers_of(text: &str) -> Option<Workers>
-    ensures { IfSome result (λ workers. (is_decimal text.now ≡ true) × (decimal_from 0 text.now ≡ workers)) }
+    ensures { IfSome result
+        (λ workers. (is_decimal text.now ≡ true) × (decimal_from 0 text.now ≡ workers)) }
 {
     match text.as_bytes() {
         [ones @ b'1'..=b'9'] => Workers::new(u64::from(*ones - b'0')),

@@ -67,8 +67,10 @@ fn cause_words(cause: Cause) -> &'static [u8]
 // Puts these one behind another.
 fn put_parts<S: Sink>(sink: &mut S, parts: &[&[u8]]) -> Result<(), Refusal>
     requires { S.failed sink.old + 1 < 2 ^ 64 }
-    ensures all { OnOk result (S.told sink.new ≡ S.told sink.old ++ joined (map (λ part. part.now) parts.now)) }
-    ensures beginning { AddsBeginning (S.told sink.old) (S.told sink.new) (joined (map (λ part. part.now) parts.now)) }
+    ensures all { OnOk result (S.told sink.new
+        ≡ S.told sink.old ++ joined (map (λ part. part.now) parts.now)) }
+    ensures beginning { AddsBeginning (S.told sink.old) (S.told sink.new)
+        (joined (map (λ part. part.now) parts.now)) }
     ensures sound { OnOk result (S.failed sink.new ≡ S.failed sink.old) }
     ensures counted { OnErr result (S.failed sink.new ≡ S.failed sink.old + 1) }
     ensures refusal { IfErr result (λ refusal. refusal ≡ Refusal.OutputFailed) }
@@ -83,8 +85,10 @@ fn put_parts<S: Sink>(sink: &mut S, parts: &[&[u8]]) -> Result<(), Refusal>
 fn put_start_at<S: Sink>(sink: &mut S, number: u8, place: Option<Place>) -> Result<(), Refusal>
     requires number { number < 100 }
     requires room { S.failed sink.old + 1 < 2 ^ 64 }
-    ensures all { OnOk result (S.told sink.new ≡ S.told sink.old ++ joined (head_text number ∷ start_parts place)) }
-    ensures beginning { AddsBeginning (S.told sink.old) (S.told sink.new) (joined (head_text number ∷ start_parts place)) }
+    ensures all { OnOk result (S.told sink.new
+        ≡ S.told sink.old ++ joined (head_text number ∷ start_parts place)) }
+    ensures beginning { AddsBeginning (S.told sink.old) (S.told sink.new)
+        (joined (head_text number ∷ start_parts place)) }
     ensures sound { OnOk result (S.failed sink.new ≡ S.failed sink.old) }
     ensures counted { OnErr result (S.failed sink.new ≡ S.failed sink.old + 1) }
     ensures refusal { IfErr result (λ refusal. refusal ≡ Refusal.OutputFailed) }
@@ -109,8 +113,11 @@ fn put_start_at<S: Sink>(sink: &mut S, number: u8, place: Option<Place>) -> Resu
 // Those of a refusal.
 fn put_start<S: Sink>(sink: &mut S, refusal: &Refusal) -> Result<(), Refusal>
     requires { S.failed sink.old + 1 < 2 ^ 64 }
-    ensures all { OnOk result (S.told sink.new ≡ S.told sink.old ++ joined (head_text (number_of refusal.now) ∷ start_parts (place_of refusal.now))) }
-    ensures beginning { AddsBeginning (S.told sink.old) (S.told sink.new) (joined (head_text (number_of refusal.now) ∷ start_parts (place_of refusal.now))) }
+    ensures all { OnOk result (S.told sink.new
+        ≡ S.told sink.old ++ joined (head_text (number_of refusal.now)
+        ∷ start_parts (place_of refusal.now))) }
+    ensures beginning { AddsBeginning (S.told sink.old) (S.told sink.new)
+        (joined (head_text (number_of refusal.now) ∷ start_parts (place_of refusal.now))) }
     ensures sound { OnOk result (S.failed sink.new ≡ S.failed sink.old) }
     ensures counted { OnErr result (S.failed sink.new ≡ S.failed sink.old + 1) }
     ensures refusal { IfErr result (λ refusal. refusal ≡ Refusal.OutputFailed) }
@@ -121,8 +128,10 @@ fn put_start<S: Sink>(sink: &mut S, refusal: &Refusal) -> Result<(), Refusal>
 // An array, and where its two accesses stand.
 fn put_accesses<S: Sink>(sink: &mut S, accesses: &NotShown) -> Result<(), Refusal>
     requires { S.failed sink.old + 1 < 2 ^ 64 }
-    ensures all { OnOk result (S.told sink.new ≡ S.told sink.old ++ joined (access_parts accesses.now)) }
-    ensures beginning { AddsBeginning (S.told sink.old) (S.told sink.new) (joined (access_parts accesses.now)) }
+    ensures all { OnOk result (S.told sink.new
+        ≡ S.told sink.old ++ joined (access_parts accesses.now)) }
+    ensures beginning { AddsBeginning (S.told sink.old) (S.told sink.new)
+        (joined (access_parts accesses.now)) }
     ensures sound { OnOk result (S.failed sink.new ≡ S.failed sink.old) }
     ensures counted { OnErr result (S.failed sink.new ≡ S.failed sink.old + 1) }
     ensures refusal { IfErr result (λ refusal. refusal ≡ Refusal.OutputFailed) }
@@ -150,8 +159,10 @@ fn put_accesses<S: Sink>(sink: &mut S, accesses: &NotShown) -> Result<(), Refusa
 // Those, and the end of the line.
 fn tell_accesses<S: Sink>(sink: &mut S, accesses: &NotShown) -> Result<(), Refusal>
     requires { S.failed sink.old + 1 < 2 ^ 64 }
-    ensures all { OnOk result (S.told sink.new ≡ S.told sink.old ++ joined (access_parts accesses.now ++ codes "\n" ∷ [])) }
-    ensures beginning { AddsBeginning (S.told sink.old) (S.told sink.new) (joined (access_parts accesses.now ++ codes "\n" ∷ [])) }
+    ensures all { OnOk result (S.told sink.new
+        ≡ S.told sink.old ++ joined (access_parts accesses.now ++ codes "\n" ∷ [])) }
+    ensures beginning { AddsBeginning (S.told sink.old) (S.told sink.new)
+        (joined (access_parts accesses.now ++ codes "\n" ∷ [])) }
     ensures sound { OnOk result (S.failed sink.new ≡ S.failed sink.old) }
     ensures counted { OnErr result (S.failed sink.new ≡ S.failed sink.old + 1) }
     ensures refusal { IfErr result (λ refusal. refusal ≡ Refusal.OutputFailed) }
@@ -176,8 +187,10 @@ fn put_index<S: Sink>(sink: &mut S, index: u64) -> Result<(), Refusal>
 // All its indexes.
 fn put_indexes<S: Sink>(sink: &mut S, indexes: &[u64]) -> Result<(), Refusal>
     requires { S.failed sink.old + 1 < 2 ^ 64 }
-    ensures all { OnOk result (S.told sink.new ≡ S.told sink.old ++ joined (map index_text indexes.now)) }
-    ensures beginning { AddsBeginning (S.told sink.old) (S.told sink.new) (joined (map index_text indexes.now)) }
+    ensures all { OnOk result (S.told sink.new
+        ≡ S.told sink.old ++ joined (map index_text indexes.now)) }
+    ensures beginning { AddsBeginning (S.told sink.old) (S.told sink.new)
+        (joined (map index_text indexes.now)) }
     ensures sound { OnOk result (S.failed sink.new ≡ S.failed sink.old) }
     ensures counted { OnErr result (S.failed sink.new ≡ S.failed sink.old + 1) }
     ensures refusal { IfErr result (λ refusal. refusal ≡ Refusal.OutputFailed) }
@@ -191,8 +204,10 @@ fn put_indexes<S: Sink>(sink: &mut S, indexes: &[u64]) -> Result<(), Refusal>
 // Those, and the end of the line.
 fn tell_indexes<S: Sink>(sink: &mut S, indexes: &[u64]) -> Result<(), Refusal>
     requires { S.failed sink.old + 1 < 2 ^ 64 }
-    ensures all { OnOk result (S.told sink.new ≡ S.told sink.old ++ joined (map index_text indexes.now ++ codes "\n" ∷ [])) }
-    ensures beginning { AddsBeginning (S.told sink.old) (S.told sink.new) (joined (map index_text indexes.now ++ codes "\n" ∷ [])) }
+    ensures all { OnOk result (S.told sink.new
+        ≡ S.told sink.old ++ joined (map index_text indexes.now ++ codes "\n" ∷ [])) }
+    ensures beginning { AddsBeginning (S.told sink.old) (S.told sink.new)
+        (joined (map index_text indexes.now ++ codes "\n" ∷ [])) }
     ensures sound { OnOk result (S.failed sink.new ≡ S.failed sink.old) }
     ensures counted { OnErr result (S.failed sink.new ≡ S.failed sink.old + 1) }
     ensures refusal { IfErr result (λ refusal. refusal ≡ Refusal.OutputFailed) }
@@ -204,8 +219,10 @@ fn tell_indexes<S: Sink>(sink: &mut S, indexes: &[u64]) -> Result<(), Refusal>
 // Two iterations, and the array of an element that both touch.
 fn put_iterations<S: Sink>(sink: &mut S, conflict: &Conflict) -> Result<(), Refusal>
     requires { S.failed sink.old + 1 < 2 ^ 64 }
-    ensures all { OnOk result (S.told sink.new ≡ S.told sink.old ++ joined (iteration_parts conflict.now)) }
-    ensures beginning { AddsBeginning (S.told sink.old) (S.told sink.new) (joined (iteration_parts conflict.now)) }
+    ensures all { OnOk result (S.told sink.new
+        ≡ S.told sink.old ++ joined (iteration_parts conflict.now)) }
+    ensures beginning { AddsBeginning (S.told sink.old) (S.told sink.new)
+        (joined (iteration_parts conflict.now)) }
     ensures sound { OnOk result (S.failed sink.new ≡ S.failed sink.old) }
     ensures counted { OnErr result (S.failed sink.new ≡ S.failed sink.old + 1) }
     ensures refusal { IfErr result (λ refusal. refusal ≡ Refusal.OutputFailed) }
@@ -227,8 +244,12 @@ fn put_iterations<S: Sink>(sink: &mut S, conflict: &Conflict) -> Result<(), Refu
 // Those, and the element's indexes.
 fn tell_iterations<S: Sink>(sink: &mut S, conflict: &Conflict) -> Result<(), Refusal>
     requires { S.failed sink.old + 1 < 2 ^ 64 }
-    ensures all { OnOk result (S.told sink.new ≡ S.told sink.old ++ joined (iteration_parts conflict.now ++ (map index_text conflict.now.indexes.items ++ codes "\n" ∷ []))) }
-    ensures beginning { AddsBeginning (S.told sink.old) (S.told sink.new) (joined (iteration_parts conflict.now ++ (map index_text conflict.now.indexes.items ++ codes "\n" ∷ []))) }
+    ensures all { OnOk result (S.told sink.new
+        ≡ S.told sink.old ++ joined (iteration_parts conflict.now
+        ++ (map index_text conflict.now.indexes.items ++ codes "\n" ∷ []))) }
+    ensures beginning { AddsBeginning (S.told sink.old) (S.told sink.new)
+        (joined (iteration_parts conflict.now
+        ++ (map index_text conflict.now.indexes.items ++ codes "\n" ∷ []))) }
     ensures sound { OnOk result (S.failed sink.new ≡ S.failed sink.old) }
     ensures counted { OnErr result (S.failed sink.new ≡ S.failed sink.old + 1) }
     ensures refusal { IfErr result (λ refusal. refusal ≡ Refusal.OutputFailed) }
@@ -240,8 +261,14 @@ fn tell_iterations<S: Sink>(sink: &mut S, conflict: &Conflict) -> Result<(), Ref
 // Two accesses that conflict.
 fn tell_conflict<S: Sink>(sink: &mut S, conflict: &Conflict) -> Result<(), Refusal>
     requires { S.failed sink.old + 1 < 2 ^ 64 }
-    ensures all { OnOk result (S.told sink.new ≡ S.told sink.old ++ joined (access_parts conflict.now.accesses ++ (iteration_parts conflict.now ++ (map index_text conflict.now.indexes.items ++ codes "\n" ∷ [])))) }
-    ensures beginning { AddsBeginning (S.told sink.old) (S.told sink.new) (joined (access_parts conflict.now.accesses ++ (iteration_parts conflict.now ++ (map index_text conflict.now.indexes.items ++ codes "\n" ∷ [])))) }
+    ensures all { OnOk result (S.told sink.new
+        ≡ S.told sink.old ++ joined (access_parts conflict.now.accesses
+        ++ (iteration_parts conflict.now
+        ++ (map index_text conflict.now.indexes.items ++ codes "\n" ∷ [])))) }
+    ensures beginning { AddsBeginning (S.told sink.old) (S.told sink.new)
+        (joined (access_parts conflict.now.accesses
+        ++ (iteration_parts conflict.now
+        ++ (map index_text conflict.now.indexes.items ++ codes "\n" ∷ [])))) }
     ensures sound { OnOk result (S.failed sink.new ≡ S.failed sink.old) }
     ensures counted { OnErr result (S.failed sink.new ≡ S.failed sink.old + 1) }
     ensures refusal { IfErr result (λ refusal. refusal ≡ Refusal.OutputFailed) }
@@ -253,8 +280,11 @@ fn tell_conflict<S: Sink>(sink: &mut S, conflict: &Conflict) -> Result<(), Refus
 // A faulty line of an input.
 fn tell_line<S: Sink>(sink: &mut S, line: u64, cause: &[u8]) -> Result<(), Refusal>
     requires { S.failed sink.old + 1 < 2 ^ 64 }
-    ensures all { OnOk result (S.told sink.new ≡ S.told sink.old ++ joined ((decimal line ∷ codes ": " ∷ cause.now ∷ []) ++ codes "\n" ∷ [])) }
-    ensures beginning { AddsBeginning (S.told sink.old) (S.told sink.new) (joined ((decimal line ∷ codes ": " ∷ cause.now ∷ []) ++ codes "\n" ∷ [])) }
+    ensures all { OnOk result (S.told sink.new
+        ≡ S.told sink.old ++ joined ((decimal line ∷ codes ": " ∷ cause.now ∷ []) ++ codes "\n"
+        ∷ [])) }
+    ensures beginning { AddsBeginning (S.told sink.old) (S.told sink.new)
+        (joined ((decimal line ∷ codes ": " ∷ cause.now ∷ []) ++ codes "\n" ∷ [])) }
     ensures sound { OnOk result (S.failed sink.new ≡ S.failed sink.old) }
     ensures counted { OnErr result (S.failed sink.new ≡ S.failed sink.old + 1) }
     ensures refusal { IfErr result (λ refusal. refusal ≡ Refusal.OutputFailed) }
@@ -266,8 +296,10 @@ fn tell_line<S: Sink>(sink: &mut S, line: u64, cause: &[u8]) -> Result<(), Refus
 // What is said further, and the end of the line.
 fn tell_details<S: Sink>(sink: &mut S, refusal: &Refusal) -> Result<(), Refusal>
     requires { S.failed sink.old + 1 < 2 ^ 64 }
-    ensures all { OnOk result (S.told sink.new ≡ S.told sink.old ++ joined (detail_parts refusal.now ++ codes "\n" ∷ [])) }
-    ensures beginning { AddsBeginning (S.told sink.old) (S.told sink.new) (joined (detail_parts refusal.now ++ codes "\n" ∷ [])) }
+    ensures all { OnOk result (S.told sink.new
+        ≡ S.told sink.old ++ joined (detail_parts refusal.now ++ codes "\n" ∷ [])) }
+    ensures beginning { AddsBeginning (S.told sink.old) (S.told sink.new)
+        (joined (detail_parts refusal.now ++ codes "\n" ∷ [])) }
     ensures sound { OnOk result (S.failed sink.new ≡ S.failed sink.old) }
     ensures counted { OnErr result (S.failed sink.new ≡ S.failed sink.old + 1) }
     ensures refusal { IfErr result (λ refusal. refusal ≡ Refusal.OutputFailed) }
@@ -283,8 +315,10 @@ fn tell_details<S: Sink>(sink: &mut S, refusal: &Refusal) -> Result<(), Refusal>
 // Its words.
 fn put_words<S: Sink>(sink: &mut S, refusal: &Refusal) -> Result<(), Refusal>
     requires { S.failed sink.old + 1 < 2 ^ 64 }
-    ensures all { OnOk result (S.told sink.new ≡ S.told sink.old ++ joined (message.words_of refusal.now ∷ [])) }
-    ensures beginning { AddsBeginning (S.told sink.old) (S.told sink.new) (joined (message.words_of refusal.now ∷ [])) }
+    ensures all { OnOk result (S.told sink.new
+        ≡ S.told sink.old ++ joined (message.words_of refusal.now ∷ [])) }
+    ensures beginning { AddsBeginning (S.told sink.old) (S.told sink.new)
+        (joined (message.words_of refusal.now ∷ [])) }
     ensures sound { OnOk result (S.failed sink.new ≡ S.failed sink.old) }
     ensures counted { OnErr result (S.failed sink.new ≡ S.failed sink.old + 1) }
     ensures refusal { IfErr result (λ refusal. refusal ≡ Refusal.OutputFailed) }
@@ -295,8 +329,11 @@ fn put_words<S: Sink>(sink: &mut S, refusal: &Refusal) -> Result<(), Refusal>
 // What is wrong, and what is said further.
 fn tell_words<S: Sink>(sink: &mut S, refusal: &Refusal) -> Result<(), Refusal>
     requires { S.failed sink.old + 1 < 2 ^ 64 }
-    ensures all { OnOk result (S.told sink.new ≡ S.told sink.old ++ joined (message.words_of refusal.now ∷ (detail_parts refusal.now ++ codes "\n" ∷ []))) }
-    ensures beginning { AddsBeginning (S.told sink.old) (S.told sink.new) (joined (message.words_of refusal.now ∷ (detail_parts refusal.now ++ codes "\n" ∷ []))) }
+    ensures all { OnOk result (S.told sink.new
+        ≡ S.told sink.old ++ joined (message.words_of refusal.now
+        ∷ (detail_parts refusal.now ++ codes "\n" ∷ []))) }
+    ensures beginning { AddsBeginning (S.told sink.old) (S.told sink.new)
+        (joined (message.words_of refusal.now ∷ (detail_parts refusal.now ++ codes "\n" ∷ []))) }
     ensures sound { OnOk result (S.failed sink.new ≡ S.failed sink.old) }
     ensures counted { OnErr result (S.failed sink.new ≡ S.failed sink.old + 1) }
     ensures refusal { IfErr result (λ refusal. refusal ≡ Refusal.OutputFailed) }

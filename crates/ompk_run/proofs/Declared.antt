@@ -2,7 +2,7 @@
 use Rattle.std.specs.Prelude.{ℕ, Bool, true, false, ◌≡◌, ◌≢◌, ◌≤◌, if◌then◌else◌, List, [], ◌∷◌, ◌++◌, length, Option, Some, None, codes}
 use Rattle.std.proofs.Common.{sym, ap, ◌∙◌, subst, arith}
 use Rattle.semantics.specs.Tree.{Name, Declaration, Kernel}
-use Rattle.semantics.specs.Source.Token.{Token, Word, Digits, Quoted, Sign, Header, Line, Semicolon, CloseBrace}
+use Rattle.semantics.specs.Source.Token.{Token, Word, IntegerConstant, StringLiteral, Punctuator, Header, Line, Semicolon, CloseBrace}
 use Rattle.semantics.specs.Source.Cuts.{is_name, Stands, word, number, text, symbol, Cuts, end, blank, line_end, comment_line, comment, directive, header, token}
 use Rattle.semantics.specs.Source.Scope.{Scope, Entity, AVariable, AConstant, same_name, find, with_constants}
 use Rattle.semantics.specs.Source.Grammar.{ReadsLengths, no_lengths, dimension, ReadsDecls, no_decls, enum, object, headers, ReadsText}
@@ -12,9 +12,9 @@ use Rattle.seqrun_io.proofs.InputLaw.{itself}
 -- each word is a name
 abbrev IsNamed : Token → Type 0
 IsNamed (Word w) = is_name w ≡ true
-IsNamed (Digits n suffix) = Unit {0}
-IsNamed (Quoted cs open') = Unit {0}
-IsNamed (Sign s) = Unit {0}
+IsNamed (IntegerConstant n suffix) = Unit {0}
+IsNamed (StringLiteral cs open') = Unit {0}
+IsNamed (Punctuator s) = Unit {0}
 IsNamed (Header h) = Unit {0}
 IsNamed (Line n) = Unit {0}
 
@@ -81,12 +81,12 @@ lengths_positive (dimension {n = n} e c r) = (let le : 1 ≤ Rattle.std.specs.Pr
 
 variables_in : {scope scope' : Scope} {next : ℕ} {ts : List Token} {cs : List (Name × ℕ)} {vs : List Declaration} → ReadsDecls scope next ts cs vs scope' → AreNamed ts → AreVariables vs
 variables_in no_decls h = tt
-variables_in (enum {ts = ts} {us = us} c r) h = variables_in r (behind ts (Sign CloseBrace ∷ Sign Semicolon ∷ us) h.1.1).1.1
+variables_in (enum {ts = ts} {us = us} c r) h = variables_in r (behind ts (Punctuator CloseBrace ∷ Punctuator Semicolon ∷ us) h.1.1).1.1
 variables_in (object {scope = scope} {next = next} {name = name} {ns = ns} {ts = ts} {us = us} free le l r) h = (
   h.1.0,
   others r name (bound_here scope name (AVariable next (length ns))),
   lengths_positive l,
-  variables_in r (behind ts (Sign Semicolon ∷ us) h.1.1).1,
+  variables_in r (behind ts (Punctuator Semicolon ∷ us) h.1.1).1,
 )
 
 -- so a text's variables can be named in an input

@@ -57,7 +57,8 @@ fn is_open(lowered: &LoweredLoop, frame: &Frame) -> bool
 
 // The size of the chunks of the loop behind the directive line at this place, where its clause asks for one.
 fn chunk_size(loops: &[ParallelLoop], directive: Place) -> Option<ChunkSize>
-    ensures { MatchOption result (SchedulesNone loops.now directive) (λ size. Schedules loops.now directive (Some size)) }
+    ensures { MatchOption result (SchedulesNone loops.now directive)
+        (λ size. Schedules loops.now directive (Some size)) }
 {
     for parallel in loops {
         if parallel.line == directive {
@@ -68,14 +69,15 @@ fn chunk_size(loops: &[ParallelLoop], directive: Place) -> Option<ChunkSize>
 }
 
 // The loop that a team runs for the statement behind the directive line at this place.
-pub(crate) fn handed(
+pub(crate) fn loop_for_team(
     loops: &[ParallelLoop],
     directive: Place,
     stmt: &Stmt,
     frame: &Frame,
     store: &Store,
 ) -> Option<LoweredLoop>
-    ensures { MatchOption result (IsRunByOne loops.now directive (stmt_of stmt.now) (locals_of frame.now) store.now)
+    ensures { MatchOption result
+        (IsRunByOne loops.now directive (stmt_of stmt.now) (locals_of frame.now) store.now)
         (IsHanded loops.now directive (stmt_of stmt.now) (locals_of frame.now) store.now) }
 {
     let size = chunk_size(loops, directive)?;

@@ -35,9 +35,13 @@ pub fn run<R: Threads + Wait + Sync, G: Gate, S: Sink>(
     sink: &mut S,
 ) -> Result<(), Refusal>
     requires { S.failed sink.old + 1 < 2 ^ 64 }
-    ensures all { OnOk result (WritesAll (tree_of checked.now) input.now (S.told sink.old) (S.told sink.new)) }
-    ensures beginning { WritesABeginning (tree_of checked.now) input.now (S.told sink.old) (S.told sink.new) }
-    ensures refusal { IfErr result (λ refusal. RefusesRightly (tree_of checked.now) input.now (S.failed sink.old) (S.failed sink.new) (number_of refusal)) }
+    ensures all { OnOk result (WritesAll (tree_of checked.now) input.now (S.told sink.old)
+        (S.told sink.new)) }
+    ensures beginning { WritesABeginning (tree_of checked.now) input.now (S.told sink.old)
+        (S.told sink.new) }
+    ensures refusal { IfErr result
+        (λ refusal. RefusesRightly (tree_of checked.now) input.now (S.failed sink.old)
+        (S.failed sink.new) (number_of refusal)) }
     ensures fault { IfErr result (NamesTheFault (tree_of checked.now) input.now) }
     ensures output { IfErr result (NamesTheOutput (S.failed sink.old) (S.failed sink.new)) }
 {
@@ -68,9 +72,13 @@ pub fn seq<S: Sink>(
     sink: &mut S,
 ) -> Result<(), Refusal>
     requires { S.failed sink.old + 1 < 2 ^ 64 }
-    ensures all { OnOk result (WritesAll (tree_of checked.now) input.now (S.told sink.old) (S.told sink.new)) }
-    ensures beginning { WritesABeginning (tree_of checked.now) input.now (S.told sink.old) (S.told sink.new) }
-    ensures refusal { IfErr result (λ refusal. RefusesRightly (tree_of checked.now) input.now (S.failed sink.old) (S.failed sink.new) (number_of refusal)) }
+    ensures all { OnOk result (WritesAll (tree_of checked.now) input.now (S.told sink.old)
+        (S.told sink.new)) }
+    ensures beginning { WritesABeginning (tree_of checked.now) input.now (S.told sink.old)
+        (S.told sink.new) }
+    ensures refusal { IfErr result
+        (λ refusal. RefusesRightly (tree_of checked.now) input.now (S.failed sink.old)
+        (S.failed sink.new) (number_of refusal)) }
     ensures fault { IfErr result (NamesTheFault (tree_of checked.now) input.now) }
     ensures output { IfErr result (NamesTheOutput (S.failed sink.old) (S.failed sink.new)) }
 {

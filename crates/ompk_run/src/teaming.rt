@@ -13,7 +13,7 @@ ghost use Rattle.seqrun_value.specs.Standing.{locals_of, standing};
 ghost use Rattle.seqrun_io.specs.Told.{AddsBeginning, Refuses};
 ghost use Rattle.seqrun.specs.Ran.{Ran, Ended, text_of, lengths_of};
 
-use crate::handing::handed;
+use crate::handing::loop_for_team;
 use flow::ParallelLoop;
 use ktree::{Item, Place, Refusal, Stmt, Workers};
 use seqrun::{increment, run_item, statement};
@@ -45,14 +45,21 @@ fn run_construct<R: Threads + Wait + Sync, G: Gate>(
     store: &mut Store,
 ) -> Result<bool, Refusal>
     requires { IsSome (run (stmt_of stmt.now) (standing frame.old store.old)) }
-    ensures ran { IfOk result (λ taken. IsTrue taken → Ended (run (stmt_of stmt.now) (standing frame.old store.old)) (standing frame.old store.old) (standing frame.new store.new)) }
-    ensures handed { IfOk result (λ taken. IsTrue taken → (l : LoweredLoop) × IsHanded team.now.loops.now directive (stmt_of stmt.now) (locals_of frame.old) store.old l) }
-    ensures kept { IfOk result (λ taken. taken ≡ false → IsRunByOne team.now.loops.now directive (stmt_of stmt.now) (locals_of frame.old) store.old) }
-    ensures left { IfOk result (λ taken. taken ≡ false → standing frame.new store.new ≡ standing frame.old store.old) }
+    ensures ran { IfOk result (λ taken. IsTrue taken
+        → Ended (run (stmt_of stmt.now) (standing frame.old store.old))
+        (standing frame.old store.old) (standing frame.new store.new)) }
+    ensures handed { IfOk result (λ taken. IsTrue taken
+        → (l : LoweredLoop) × IsHanded team.now.loops.now directive (stmt_of stmt.now)
+        (locals_of frame.old) store.old l) }
+    ensures kept { IfOk result (λ taken. taken ≡ false
+        → IsRunByOne team.now.loops.now directive (stmt_of stmt.now) (locals_of frame.old)
+        store.old) }
+    ensures left { IfOk result (λ taken. taken ≡ false
+        → standing frame.new store.new ≡ standing frame.old store.old) }
     ensures refusal { IfErr result (λ refusal. refusal ≡ OutOfMemory) }
     ensures shape { lengths_of store.new ≡ lengths_of store.old }
 {
-    let Some(lowered) = handed(team.loops, directive, stmt, frame, store) else {
+    let Some(lowered) = loop_for_team(team.loops, directive, stmt, frame, store) else {
         return Ok(false);
     };
     run_loop(
@@ -69,7 +76,8 @@ fn run_construct<R: Threads + Wait + Sync, G: Gate>(
 
 // Where a directive line stands.
 fn directive_place(item: &Item) -> Option<Place>
-    ensures { MatchOption result ((place : Places) → item.now ≡ Directive place → ⊥) (λ place. item.now ≡ Directive place) }
+    ensures { MatchOption result ((place : Places) → item.now ≡ Directive place → ⊥)
+        (λ place. item.now ≡ Directive place) }
 {
     match item {
         Item::Directive(place) => Some(*place),
@@ -88,8 +96,11 @@ fn team_statement<R: Threads + Wait + Sync, G: Gate, S: Sink>(
 ) -> Result<(), Refusal>
     requires room { S.failed sink.old + 1 < 2 ^ 64 }
     requires runs { IsSome (run (stmt_of stmt.now) (standing frame.old store.old)) }
-    ensures ran { OnOk result (Ran (run (stmt_of stmt.now) (standing frame.old store.old)) (standing frame.old store.old) (standing frame.new store.new) (S.told sink.old) (S.told sink.new)) }
-    ensures beginning { AddsBeginning (S.told sink.old) (S.told sink.new) (text_of (run (stmt_of stmt.now) (standing frame.old store.old))) }
+    ensures ran { OnOk result (Ran (run (stmt_of stmt.now) (standing frame.old store.old))
+        (standing frame.old store.old) (standing frame.new store.new) (S.told sink.old)
+        (S.told sink.new)) }
+    ensures beginning { AddsBeginning (S.told sink.old) (S.told sink.new)
+        (text_of (run (stmt_of stmt.now) (standing frame.old store.old))) }
     ensures sound { OnOk result (S.failed sink.new ≡ S.failed sink.old) }
     ensures refusal { IfErr result (Refuses (S.failed sink.old) (S.failed sink.new)) }
     ensures shape { lengths_of store.new ≡ lengths_of store.old }
@@ -134,8 +145,11 @@ pub(crate) fn team_block<R: Threads + Wait + Sync, G: Gate, S: Sink>(
 ) -> Result<(), Refusal>
     requires room { S.failed sink.old + 1 < 2 ^ 64 }
     requires runs { IsSome (run_items (items_of items.now) (standing frame.old store.old)) }
-    ensures ran { OnOk result (Ran (run_items (items_of items.now) (standing frame.old store.old)) (standing frame.old store.old) (standing frame.new store.new) (S.told sink.old) (S.told sink.new)) }
-    ensures beginning { AddsBeginning (S.told sink.old) (S.told sink.new) (text_of (run_items (items_of items.now) (standing frame.old store.old))) }
+    ensures ran { OnOk result (Ran (run_items (items_of items.now) (standing frame.old store.old))
+        (standing frame.old store.old) (standing frame.new store.new) (S.told sink.old)
+        (S.told sink.new)) }
+    ensures beginning { AddsBeginning (S.told sink.old) (S.told sink.new)
+        (text_of (run_items (items_of items.now) (standing frame.old store.old))) }
     ensures sound { OnOk result (S.failed sink.new ≡ S.failed sink.old) }
     ensures refusal { IfErr result (Refuses (S.failed sink.old) (S.failed sink.new)) }
     ensures shape { lengths_of store.new ≡ lengths_of store.old }
@@ -159,9 +173,14 @@ fn team_item<R: Threads + Wait + Sync, G: Gate, S: Sink>(
     sink: &mut S,
 ) -> Result<(), Refusal>
     requires room { S.failed sink.old + 1 < 2 ^ 64 }
-    requires runs { IsSome (run_items (with_item item.now no_items) (standing frame.old store.old)) }
-    ensures ran { OnOk result (Ran (run_items (with_item item.now no_items) (standing frame.old store.old)) (standing frame.old store.old) (standing frame.new store.new) (S.told sink.old) (S.told sink.new)) }
-    ensures beginning { AddsBeginning (S.told sink.old) (S.told sink.new) (text_of (run_items (with_item item.now no_items) (standing frame.old store.old))) }
+    requires runs { IsSome (run_items (with_item item.now no_items)
+        (standing frame.old store.old)) }
+    ensures ran { OnOk result (Ran
+        (run_items (with_item item.now no_items) (standing frame.old store.old))
+        (standing frame.old store.old) (standing frame.new store.new) (S.told sink.old)
+        (S.told sink.new)) }
+    ensures beginning { AddsBeginning (S.told sink.old) (S.told sink.new)
+        (text_of (run_items (with_item item.now no_items) (standing frame.old store.old))) }
     ensures sound { OnOk result (S.failed sink.new ≡ S.failed sink.old) }
     ensures refusal { IfErr result (Refuses (S.failed sink.old) (S.failed sink.new)) }
     ensures shape { lengths_of store.new ≡ lengths_of store.old }

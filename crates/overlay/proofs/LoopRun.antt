@@ -7,7 +7,7 @@ use Rattle.std.proofs.lemmas.Bool.{eq-eqb, eqb-true, eqb-false, ltb-true, lt-ltb
 use Rattle.semantics.specs.Tree as Tree
 use Rattle.semantics.specs.Meaning.State.{State, Outside, Holds, Write, Declared, Assigned, cells_after, renewed, same_indexes, overwritten, look, look_in, is_there, is_object_in, assign_at}
 use Rattle.semantics.specs.Meaning.Value.{value, holds, both, both_then, by_test, map_option, operate}
-use Rattle.semantics.specs.Meaning.Runs.{Effect, nothing, one_write, joined, then_from, assigned, incremented, turns, most_turns, run, run_items}
+use Rattle.semantics.specs.Meaning.Runs.{Effect, nothing, one_write, joined, then_from, assigned, incremented, turns, greatest_trip_count, run, run_items}
 use Rattle.std.proofs.lemmas.Bool.Decides.{nat_tests}
 use Rattle.std.proofs.lemmas.Bool.{ltb-false}
 use Rattle.semantics.specs.Loops.Nest.{at_value}
@@ -239,9 +239,9 @@ module _ (ks : List Kept) (l : LoweredLoop) (locals : Locals) (name : Tree.Name)
 
   -- the loop runs, and writes no text
   pub loop_runs : run (statement_of name l) (state_with ks locals) ≡ Some (record { writes = loop_writes; text = [] })
-  unfolding most_turns
+  unfolding greatest_trip_count
   loop_runs =
-      ap (map_option (joined (one_write (Declared l.counter.0 (Some 0))))) (turns_run most_turns l.bound 0 (omega arith) (omega arith))
+      ap (map_option (joined (one_write (Declared l.counter.0 (Some 0))))) (turns_run greatest_trip_count l.bound 0 (omega arith) (omega arith))
 
   -- and leaves each element with what its own iteration gave it
   pub loop_leaves : overwritten (state_with ks locals) loop_writes ≡ state_at l.bound

@@ -25,7 +25,8 @@ fn operand_value(
     requires covers { OperandCovers bound arrays.now operand }
     requires counter { length arrays.now ≤ counter.0 }
     requires iteration { iteration < bound }
-    ensures { value (at_value (state_of arrays.now) counter.0 iteration) (operand_of counter.0 operand) ≡ Some result }
+    ensures { value (at_value (state_of arrays.now) counter.0 iteration)
+        (operand_of counter.0 operand) ≡ Some result }
 {
     match operand {
         Operand::Element(array) => arrays[array.0 as usize].values()[iteration as usize],
@@ -93,9 +94,13 @@ pub struct Changes {
 impl Changes {
     /// Overwrites the store by these writes, and changes nothing else. A chunk's writes are released from their store first.
     pub fn apply(self, store: &mut Store)
-        requires { Covers (self.work.first + length self.values.items) (slice_get store.old self.target.0) }
-        ensures state { state_of store.new ≡ overwritten (state_of store.old) (writes_from self.target.0 self.work.first self.values.items) }
-        ensures store { store.new ≡ rewritten_at store.old self.target.0 self.work.first self.values.items }
+        requires { Covers (self.work.first + length self.values.items)
+            (slice_get store.old self.target.0) }
+        ensures state { state_of store.new
+            ≡ overwritten (state_of store.old)
+            (writes_from self.target.0 self.work.first self.values.items) }
+        ensures store { store.new ≡ rewritten_at store.old self.target.0 self.work.first
+            self.values.items }
     {
         store.write(self.target, self.work.first, self.values.as_slice());
     }
@@ -132,7 +137,8 @@ pub fn run_chunk<'l, 's>(
 ) -> Result<Piece<'l, 's>, Refusal>
     requires fits { Fits lowered.now store.now }
     requires work { work.first + work.count ≤ lowered.now.bound }
-    ensures piece { IfOk result (λ p. (p.lowered ≡ lowered.now) × (p.store ≡ store.now) × (p.work ≡ work)) }
+    ensures piece { IfOk result (λ p. (p.lowered ≡ lowered.now) × (p.store ≡ store.now)
+        × (p.work ≡ work)) }
     ensures refusal { IfErr result (λ refusal. refusal ≡ Refusal.OutOfMemory) }
 {
     let mut values = Vec::with_capacity(alloc, work.count as usize)?;

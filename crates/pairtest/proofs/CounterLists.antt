@@ -1,7 +1,7 @@
 -- The counters of loops, as unknowns.
 use Rattle.std.proofs.Common.{◌≡◌, ℕ, ℤ, pos, zero, suc, ◌+◌, ◌<◌, ◌-ℤ◌, List, [], ◌∷◌, ◌++◌, length, get_or, take, drop, refl, sym, ap, ◌∙◌, subst, arith}
 use Rattle.pairtest.specs.Equations.{Unknown, unknown, IsWithin, CoefficientsWithin}
-use Rattle.pairtest.specs.Cases.{coefficient, counters}
+use Rattle.pairtest.specs.DirectionVectors.{coefficient, counters}
 
 -- one element less, and then more of them
 pub drop-first : {A : Type 0} (n : ℕ) (xs : List A) → drop n (drop 1 xs) ≡ drop (suc n) xs

@@ -12,7 +12,7 @@ use Rattle.pairtest.specs.declared.access.Subscript.{Subscript}
 use Rattle.pairtest.specs.declared.access.Access.{Access}
 use Rattle.pairtest.specs.declared.access.Nest.{Nest}
 use Rattle.pairtest.specs.Equations.{Unknown, unknown, Equation, equation, least_sum, greatest_sum, IsGreatestDivisor, IsRefuted}
-use Rattle.pairtest.specs.Cases.{coefficient, counters, unknowns, case_equation, dimensions, IsCaseRefuted}
+use Rattle.pairtest.specs.DirectionVectors.{coefficient, counters, unknowns, direction_equation, dimensions, IsDirectionRefuted}
 use Rattle.pairtest.specs.Meetings.{Turn, value_at, counter_sum, AreBelow, IsTurn, Meet, IsOneLoop, lone, IsLine, LinesMeet, OneLoopIsExact}
 use Rattle.pairtest.proofs.Solutions.{times-sum, times-one, zero-times, difference-times, refuted_pairs_do_not_meet_lem}
 
@@ -193,23 +193,23 @@ lone_unknowns nest x y n a loops ix iy =
     rw (loops, ix, iy, at) (lone_counters ms a (unknown (a -ℤ a) (n - 1) ∷ unknown (pos 0 -ℤ a) (n - 1) ∷ []))
 
 -- the case of the only loop
-line_case : (nest : Nest) (x y : Access) (n : ℕ) (a b c : ℤ) → IsOneLoop nest n → IsLine nest x a b → IsLine nest y a c → ¬ (LinesMeet n a b c) → IsCaseRefuted nest 0 x y
+line_case : (nest : Nest) (x y : Access) (n : ℕ) (a b c : ℤ) → IsOneLoop nest n → IsLine nest x a b → IsLine nest y a c → ¬ (LinesMeet n a b c) → IsDirectionRefuted nest 0 x y
 line_case nest x y n a b c one first second none = by (line_refuted n a b c none)
   where
     ms : List ℕ
     ms = nest.serial.items
 
-    by : (n < 2) ⊎ IsRefuted (equation (line_unknowns a n) ((c -ℤ b) +ℤ a)) → IsCaseRefuted nest 0 x y
+    by : (n < 2) ⊎ IsRefuted (equation (line_unknowns a n) ((c -ℤ b) +ℤ a)) → IsDirectionRefuted nest 0 x y
     by (inl few) = inl (inl (subst (λ (ns : List ℕ). slice_index ns 0 < 2) (sym one.loops) few))
     by (inr refuted) =
         let pairs : dimensions x y ≡ (first.subscript, second.subscript) ∷ [] = ap (λ (ss : List Subscript). zip ss y.subscripts.items) first.one ∙ ap (λ (ts : List Subscript). zip (first.subscript ∷ []) ts) second.one in
-        let whole : case_equation nest 0 x y first.subscript second.subscript ≡ equation (idle ms (line_unknowns a n)) ((c -ℤ b) +ℤ a) =
+        let whole : direction_equation nest 0 x y first.subscript second.subscript ≡ equation (idle ms (line_unknowns a n)) ((c -ℤ b) +ℤ a) =
         let es = first.coefficients in let ls = second.coefficients in
         let cb = first.constant in let cc' = second.constant in
         let us = lone_unknowns nest x y n a one.loops first.inner second.inner in
         let at = lone_coefficient ms a in
         rw (es, ls, cb, cc', us, at) refl in
-        inr (subst (λ (ds : List (Subscript × Subscript)). Any (λ d. IsRefuted (case_equation nest 0 x y d.0 d.1)) ds) (sym pairs)
+        inr (subst (λ (ds : List (Subscript × Subscript)). Any (λ d. IsRefuted (direction_equation nest 0 x y d.0 d.1)) ds) (sym pairs)
         (0, (first.subscript, second.subscript), omega arith, refl, subst (λ (e : Equation). IsRefuted e) (sym whole) (idle_all ms (line_unknowns a n) ((c -ℤ b) +ℤ a) refuted)))
 
 -- ---- accesses that meet
@@ -280,7 +280,7 @@ one_loop_is_exact_lem nest x y n a b c one first second = (
   λ refuted m. refuted_pairs_do_not_meet_lem nest x y _ _ refuted (lines_meet nest x y n a b c one first second m),
   λ none m l.
       let only : m ≡ 0 = let long : length nest.loops.items ≡ 1 = ap length one.loops in omega arith in
-      subst (λ (j : ℕ). IsCaseRefuted nest j x y × IsCaseRefuted nest j y x) (sym only) (
+      subst (λ (j : ℕ). IsDirectionRefuted nest j x y × IsDirectionRefuted nest j y x) (sym only) (
         line_case nest x y n a b c one first second none,
         line_case nest y x n a c b one second first
             (λ k. none (record { k = k.l; l = k.k; k_below = k.l_below; l_below = k.k_below; apart = λ e. k.apart (sym e); equal = sym k.equal })),

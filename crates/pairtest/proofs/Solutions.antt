@@ -10,7 +10,7 @@ use Rattle.pairtest.specs.declared.access.Subscript.{Subscript}
 use Rattle.pairtest.specs.declared.access.Access.{Access}
 use Rattle.pairtest.specs.declared.access.Nest.{Nest}
 use Rattle.pairtest.specs.Equations.{Unknown, sum_at, AreValues, HasSolution}
-use Rattle.pairtest.specs.Cases.{coefficient, counters, place_of, turns_of, differing, case_equation, dimensions, IsCaseRefuted}
+use Rattle.pairtest.specs.DirectionVectors.{coefficient, counters, place_of, turns_of, differing, direction_equation, dimensions, IsDirectionRefuted}
 use Rattle.pairtest.specs.Meetings.{Turn, counter_sum, value_at, AreBelow, IsTurn, RefutedPairsDoNotMeet}
 use Rattle.pairtest.proofs.Sums.{refuted_has_none}
 use Rattle.pairtest.proofs.CounterLists.{drop-first}
@@ -183,7 +183,7 @@ parts_joined sa la ea sb lj ek l sc ec sd ld o p ca cb vs vt ha hb hc hd ho hp h
 
 -- accesses that meet solve the equation of each dimension in the case of the first loop that differs
 pub solved : (nest : Nest) (x y : Access) (s t : Turn) (a b : Subscript) (m : ℕ) → IsTurn nest x s → IsTurn nest y t → s.serial ≡ t.serial → m < length nest.loops.items
-    → take m s.nest ≡ take m t.nest → get_or s.nest m 0 < get_or t.nest m 0 → value_at a s ≡ value_at b t → HasSolution (case_equation nest m x y a b)
+    → take m s.nest ≡ take m t.nest → get_or s.nest m 0 < get_or t.nest m 0 → value_at a s ≡ value_at b t → HasSolution (direction_equation nest m x y a b)
 solved nest x y s t a b m first second together l same less equal =
     let es = a.coefficients.items in
     let ls = b.coefficients.items in
@@ -258,7 +258,7 @@ first_apart (k ∷ ks) (l ∷ ls) (n ∷ ns) h g ne =
 
 -- a case that is refuted has no meeting
 case_apart : (nest : Nest) (x y : Access) (s t : Turn) (m : ℕ) → IsTurn nest x s → IsTurn nest y t → s.serial ≡ t.serial → m < length nest.loops.items
-    → take m s.nest ≡ take m t.nest → get_or s.nest m 0 < get_or t.nest m 0 → All (λ d. value_at d.0 s ≡ value_at d.1 t) (dimensions x y) → ¬ (IsCaseRefuted nest m x y)
+    → take m s.nest ≡ take m t.nest → get_or s.nest m 0 < get_or t.nest m 0 → All (λ d. value_at d.0 s ≡ value_at d.1 t) (dimensions x y) → ¬ (IsDirectionRefuted nest m x y)
 case_apart nest x y s t m first second together l same less equal (inl (inl few)) =
     let below : get_or t.nest m 0 < turns_of nest m = AreBelow-get_or m t.nest nest.loops.items second.nest_loops l in
     omega (arith, below, less, few)
@@ -270,7 +270,7 @@ case_apart nest x y s t m first second together l same less equal (inl (inr none
     (Contains-append_cases nest.loops.items (x.inner.items ++ y.inner.items) 0 c))
     (Contains-append_cases nest.serial.items (nest.loops.items ++ (x.inner.items ++ y.inner.items)) 0 none)
 case_apart nest x y s t m first second together l same less equal (inr (k, d, there, is, refuted)) =
-    refuted_has_none (case_equation nest m x y d.0 d.1) refuted
+    refuted_has_none (direction_equation nest m x y d.0 d.1) refuted
     (solved nest x y s t d.0 d.1 m first second together l same less (subst (λ (e : Subscript × Subscript). value_at e.0 s ≡ value_at e.1 t) is (equal k d there)))
 
 -- the same of the pairs the other way round

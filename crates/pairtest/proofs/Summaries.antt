@@ -10,12 +10,12 @@ use Rattle.std.proofs.lemmas.Slice.Zip.{length-zip, get_or-zip}
 use Rattle.std.proofs.lemmas.List.Quantifiers.{Any-push}
 use Rattle.std.proofs.Common.{length-append}
 use Rattle.pairtest.specs.declared.reach.Reach.{Reach}
-use Rattle.pairtest.specs.Equations.{Unknown, unknown, equation, last_product, least_sum, greatest_sum, IsRefuted, IsWithin, CoefficientsWithin}
+use Rattle.pairtest.specs.Equations.{Unknown, unknown, equation, last_product, least_sum, greatest_sum, IsRefutedByGcd, IsRefutedByBounds, IsWithin, CoefficientsWithin}
 use Rattle.pairtest.specs.Reached.{Summarizes}
 use Rattle.std.proofs.Math.Nat.{zero-dvd, dvd_of_mod-eq-zero, mod-eq-zero_of_dvd}
 use Rattle.std.proofs.lemmas.Bool.Decides.{Decides-eqb, Decides-ltb, nat_tests}
 use Rattle.std.specs.Prelude.{nat_eq, nat_lt, int_lt}
-use Rattle.pairtest.specs.Cases.{coefficient, counters}
+use Rattle.pairtest.specs.DirectionVectors.{coefficient, counters}
 use Rattle.pairtest.proofs.CounterLists.{counters-more, counters-append}
 use Rattle.pairtest.proofs.Sums.{least_sum-append, greatest_sum-append, least_sum-below, greatest_sum-above, greatest_divisor-push, saturated_low_more, saturated_high_more, below_saturated, above_saturated}
 
@@ -48,21 +48,16 @@ summarizes_push r us c n d far low high h within is gcd lower higher =
     plus : (a b : ℤ) → a +ℤ b ≡ a +ℤ (b +ℤ pos 0)
     plus a b = omega (arith, ints)
 
--- what is kept of a sum refutes its equation
-pub refuted_by_divisor : (r : Reach) (us : List Unknown) (right : ℤ) → Summarizes r us → ¬ (r.divisor ∣ unsigned_abs right) → IsRefuted (equation us right)
-refuted_by_divisor r us right h remains = inl (record { divisor = r.divisor; greatest = h.divisor; remains = remains })
+-- what is kept of a sum decides the bounds test
+pub refuted_below : (r : Reach) (us : List Unknown) (right : ℤ) → Summarizes r us → IsWithin (2 ^ 62) right → right <ℤ r.least → IsRefutedByBounds (equation us right)
+refuted_below r us right h within low = inl ((below_saturated right r.least (least_sum us) within (least_sum-below us) h.least).0 low)
 
-pub refuted_below : (r : Reach) (us : List Unknown) (right : ℤ) → Summarizes r us → IsWithin (2 ^ 62) right → right <ℤ r.least → IsRefuted (equation us right)
-refuted_below r us right h within low = inr (inl ((below_saturated right r.least (least_sum us) within (least_sum-below us) h.least).0 low))
+pub refuted_above : (r : Reach) (us : List Unknown) (right : ℤ) → Summarizes r us → IsWithin (2 ^ 62) right → r.greatest <ℤ right → IsRefutedByBounds (equation us right)
+refuted_above r us right h within high = inr ((above_saturated right r.greatest (greatest_sum us) within (greatest_sum-above us) h.greatest).0 high)
 
-pub refuted_above : (r : Reach) (us : List Unknown) (right : ℤ) → Summarizes r us → IsWithin (2 ^ 62) right → r.greatest <ℤ right → IsRefuted (equation us right)
-refuted_above r us right h within high = inr (inr ((above_saturated right r.greatest (greatest_sum us) within (greatest_sum-above us) h.greatest).0 high))
-
--- where nothing that is kept of the sum refutes its equation, nothing does
-pub not_refuted : (r : Reach) (us : List Unknown) (right : ℤ) → Summarizes r us → IsWithin (2 ^ 62) right → r.divisor ∣ unsigned_abs right → ¬ (right <ℤ r.least) → ¬ (r.greatest <ℤ right) → ¬ (IsRefuted (equation us right))
-not_refuted r us right h within divides low high (inl i) = i.remains (dvd_trans i.divisor (h.divisor.greatest i.divisor i.greatest.divides) divides)
-not_refuted r us right h within divides low high (inr (inl k)) = low ((below_saturated right r.least (least_sum us) within (least_sum-below us) h.least).1 k)
-not_refuted r us right h within divides low high (inr (inr k)) = high ((above_saturated right r.greatest (greatest_sum us) within (greatest_sum-above us) h.greatest).1 k)
+pub not_refuted : (r : Reach) (us : List Unknown) (right : ℤ) → Summarizes r us → IsWithin (2 ^ 62) right → ¬ (right <ℤ r.least) → ¬ (r.greatest <ℤ right) → ¬ (IsRefutedByBounds (equation us right))
+not_refuted r us right h within low high (inl k) = low ((below_saturated right r.least (least_sum us) within (least_sum-below us) h.least).1 k)
+not_refuted r us right h within low high (inr k) = high ((above_saturated right r.greatest (greatest_sum us) within (greatest_sum-above us) h.greatest).1 k)
 
 -- the remainder tells whether a number is a multiple
 pub is_multiple : (d k n m : ℕ) → k ≡ d → n ≡ m → (nat_eq (n % k) 0 ≡ true) ↔ (d ∣ m)
@@ -95,13 +90,13 @@ counters_step r q us es ls ts i c n l is turns h more =
     ∙ ap (λ (vs : List Unknown). us ++ vs) (sym (counters-more es ls ts i l)) in
     subst (λ (vs : List Unknown). Summarizes q vs) next (more (us ++ so_far) h)
 
--- between the ends, the divisor decides
-pub decided_by_divisor : (r : Reach) (us : List Unknown) (right : ℤ) (b : Bool) → Summarizes r us → IsWithin (2 ^ 62) right → ¬ (right <ℤ r.least) → ¬ (r.greatest <ℤ right)
-    → ((b ≡ true) ↔ (r.divisor ∣ unsigned_abs right)) → (not b ≡ true) ↔ IsRefuted (equation us right)
-decided_by_divisor r us right true h within low high is =
-    (λ (t : false ≡ true). absurd cc, λ e. absurd (not_refuted r us right h within (is.0 refl) low high e))
-decided_by_divisor r us right false h within low high is =
-    (λ t. refuted_by_divisor r us right h (λ d. let t : false ≡ true = is.1 d in absurd cc), λ e. refl)
+-- the divisor decides the GCD test
+pub decided_by_divisor : (r : Reach) (us : List Unknown) (right : ℤ) (b : Bool) → Summarizes r us
+    → ((b ≡ true) ↔ (r.divisor ∣ unsigned_abs right)) → (not b ≡ true) ↔ IsRefutedByGcd (equation us right)
+decided_by_divisor r us right true h is =
+    (λ (t : false ≡ true). absurd cc, λ i. absurd (i.remains (dvd_trans i.divisor (h.divisor.greatest i.divisor i.greatest.divides) (is.0 refl))))
+decided_by_divisor r us right false h is =
+    (λ t. record { divisor = r.divisor; greatest = h.divisor; remains = λ d. let t : false ≡ true = is.1 d in absurd cc }, λ e. refl)
 
 -- a comparison that came out false, also of numbers read back from bits
 pub not_less : (a b x y : ℤ) → x ≡ a → y ≡ b → int_lt x y ≡ false → ¬ (a <ℤ b)

@@ -49,7 +49,7 @@ pub record IsGreatestDivisor (us : List Unknown) (g : ℕ) : Type 0 where
   pub greatest : (d : ℕ) → DividesAll d us → d ∣ g
 
 -- the greatest common divisor of the coefficients does not divide the right side
-pub record IsIndivisible (e : Equation) : Type 0 where
+pub record IsRefutedByGcd (e : Equation) : Type 0 where
   pub divisor : ℕ
   pub greatest : IsGreatestDivisor e.unknowns divisor
   pub remains : ¬ (divisor ∣ unsigned_abs e.right)
@@ -69,12 +69,12 @@ greatest_sum [] = pos 0
 greatest_sum (u ∷ us) = int_max (last_product u) (pos 0) +ℤ greatest_sum us
 
 -- the right side is below the least value of the sum, or above the greatest
-abbrev pub IsOutside : Equation → Type 0
-IsOutside e = (e.right <ℤ least_sum e.unknowns) ⊎ (greatest_sum e.unknowns <ℤ e.right)
+abbrev pub IsRefutedByBounds : Equation → Type 0
+IsRefutedByBounds e = (e.right <ℤ least_sum e.unknowns) ⊎ (greatest_sum e.unknowns <ℤ e.right)
 
 -- one of the two tests shows that the equation has no solution
 abbrev pub IsRefuted : Equation → Type 0
-IsRefuted e = IsIndivisible e ⊎ IsOutside e
+IsRefuted e = IsRefutedByGcd e ⊎ IsRefutedByBounds e
 
 -- a number is at most so large in absolute value
 abbrev pub IsWithin : ℕ → ℤ → Type 0

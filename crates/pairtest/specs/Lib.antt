@@ -1,4 +1,4 @@
 pub mod Equations
-pub mod Cases
+pub mod DirectionVectors
 pub mod Reached
 pub mod Meetings

@@ -3,7 +3,7 @@ use Rattle.std.specs.Prelude.{◌≡◌, ◌≢◌, ℕ, ℤ, pos, ◌<◌, ◌+
 use Rattle.pairtest.specs.declared.access.Subscript.{Subscript}
 use Rattle.pairtest.specs.declared.access.Access.{Access}
 use Rattle.pairtest.specs.declared.access.Nest.{Nest}
-use Rattle.pairtest.specs.Cases.{coefficient, dimensions, AllRefuted}
+use Rattle.pairtest.specs.DirectionVectors.{coefficient, dimensions, AllRefuted}
 
 -- a turn of the loops round an access: the counters of the serial loops, of the nest, and of the body's own
 pub record Turn : Type 0 where

@@ -1,7 +1,7 @@
 //! Accesses of arrays, and the loops round them.
 
 ghost use Rattle.std.specs.Prelude.{◌≡◌, ◌+◌, ◌<◌, ◌^◌, length};
-ghost use Rattle.pairtest.specs.Cases.{place_of, turns_of};
+ghost use Rattle.pairtest.specs.DirectionVectors.{place_of, turns_of};
 
 use ktree::{Place, VarId};
 
@@ -53,7 +53,7 @@ impl Nest {
     }
 
     /// How many turns one of the nest's loops takes at most.
-    pub(crate) fn turns(&self, at: usize) -> u64
+    pub(crate) fn trip_count(&self, at: usize) -> u64
         requires { at < length self.now.loops.items }
         ensures { result ≡ turns_of self.now at }
     {

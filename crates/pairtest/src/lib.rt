@@ -2,10 +2,10 @@
 #![tactic(auto)]
 
 mod access;
-mod case;
+mod direction;
 mod laws;
 mod reach;
 
 pub use access::{Access, Mode, Nest, PastLimit, Subscript};
-pub use case::independent;
+pub use direction::independent;
 pub use laws::{one_loop_is_exact, refuted_equations_have_no_solution, refuted_pairs_do_not_meet};

@@ -2,8 +2,8 @@
 
 ghost use Rattle.std.specs.Prelude.{◌≡◌, ◌+◌, ◌-◌, ◌<◌, ◌≤◌, ◌^◌, ℤ, pos, ◌+ℤ◌, ◌-ℤ◌, ◌*ℤ◌, List, ◌++◌, [], ◌∷◌, ◌↔◌, unsigned_abs, slice_index_or, drop, IfOk, IfErr, IsTrue};
 ghost use Rattle.std.specs.Int.{◌∣◌};
-ghost use Rattle.pairtest.specs.Equations.{Unknown, unknown, last_product, NumbersWithin, CoefficientsWithin, IsWithin, IsRefuted, equation};
-ghost use Rattle.pairtest.specs.Cases.{coefficient as coefficient_of, counters};
+ghost use Rattle.pairtest.specs.Equations.{Unknown, unknown, last_product, NumbersWithin, CoefficientsWithin, IsWithin, IsRefutedByGcd, IsRefutedByBounds, IsRefuted, equation};
+ghost use Rattle.pairtest.specs.DirectionVectors.{coefficient as coefficient_of, counters};
 ghost use Rattle.pairtest.specs.Reached.{Summarizes};
 
 use crate::access::PastLimit;
@@ -13,7 +13,7 @@ use affine::gcd;
 const GREATEST: u128 = 1 << 62;
 
 /// The number, where it is within the limit.
-pub(crate) fn fitting(number: i128) -> Result<i128, PastLimit>
+pub(crate) fn within_limit(number: i128) -> Result<i128, PastLimit>
     ensures ok { IfOk result (λ fits. (fits ≡ number) × IsWithin (2 ^ 62) number) }
     ensures err { IfErr result (λ _. ¬ (IsWithin (2 ^ 62) number)) }
 {
@@ -101,7 +101,8 @@ impl Reach {
     ///
     /// Fails exactly where the coefficient passes the limit.
     pub(crate) fn with(self, coefficient: i128, values: u64) -> Result<Reach, PastLimit>
-        ensures ok { IfOk result (λ after. (us : List Unknown) → Summarizes self us → Summarizes after (us ++ unknown coefficient values ∷ [])) }
+        ensures ok { IfOk result (λ after. (us : List Unknown) → Summarizes self us
+            → Summarizes after (us ++ unknown coefficient values ∷ [])) }
         ensures err { IfErr result (λ _. ¬ (IsWithin (2 ^ 62) coefficient)) }
     {
         if coefficient.unsigned_abs() > GREATEST {
@@ -126,8 +127,10 @@ impl Reach {
         later: &[i64],
         turns: &[u64],
     ) -> Result<Reach, PastLimit>
-        ensures ok { IfOk result (λ after. (us : List Unknown) → Summarizes self us → Summarizes after (us ++ counters earlier.now later.now turns.now)) }
-        ensures err { IfErr result (λ _. ¬ (CoefficientsWithin (2 ^ 62) (counters earlier.now later.now turns.now))) }
+        ensures ok { IfOk result (λ after. (us : List Unknown) → Summarizes self us
+            → Summarizes after (us ++ counters earlier.now later.now turns.now)) }
+        ensures err { IfErr result
+            (λ _. ¬ (CoefficientsWithin (2 ^ 62) (counters earlier.now later.now turns.now))) }
     {
         let mut reach = self;
         for (at, turns) in turns.iter().enumerate() {
@@ -148,8 +151,11 @@ impl Reach {
         turns: &[u64],
         last: &[u64],
     ) -> Result<Reach, PastLimit>
-        ensures ok { IfOk result (λ after. (us : List Unknown) → Summarizes self us → Summarizes after (us ++ counters earlier.now later.now (turns.now ++ last.now))) }
-        ensures err { IfErr result (λ _. ¬ (CoefficientsWithin (2 ^ 62) (counters earlier.now later.now (turns.now ++ last.now)))) }
+        ensures ok { IfOk result (λ after. (us : List Unknown) → Summarizes self us
+            → Summarizes after (us ++ counters earlier.now later.now (turns.now ++ last.now))) }
+        ensures err { IfErr result
+            (λ _. ¬ (CoefficientsWithin (2 ^ 62)
+            (counters earlier.now later.now (turns.now ++ last.now)))) }
     {
         let reach = self.with_counters(earlier, later, turns)?;
         reach.with_counters(
@@ -159,12 +165,29 @@ impl Reach {
         )
     }
 
-    /// Whether the sum cannot have this value, by its divisor or by its ends.
-    pub(crate) fn misses(self, right: i128) -> bool
-        requires { IsWithin (2 ^ 62) right }
-        ensures { (us : List Unknown) → Summarizes self us → IsTrue result ↔ IsRefuted (equation us right) }
+    /// Whether the GCD test shows that the sum never has this value: the divisor of its coefficients does not divide it.
+    fn gcd_test(self, right: i128) -> bool
+        ensures { (us : List Unknown) → Summarizes self us
+            → IsTrue result ↔ IsRefutedByGcd (equation us right) }
     {
-        let outside = right < self.least || self.greatest < right;
-        outside || !divides(self.divisor, right)
+        !divides(self.divisor, right)
+    }
+
+    /// Whether the bounds test shows that the sum never has this value: it is below the least or above the greatest.
+    fn bounds_test(self, right: i128) -> bool
+        requires { IsWithin (2 ^ 62) right }
+        ensures { (us : List Unknown) → Summarizes self us
+            → IsTrue result ↔ IsRefutedByBounds (equation us right) }
+    {
+        right < self.least || self.greatest < right
+    }
+
+    /// Whether one of the two tests shows that the sum never has this value.
+    pub(crate) fn refutes(self, right: i128) -> bool
+        requires { IsWithin (2 ^ 62) right }
+        ensures { (us : List Unknown) → Summarizes self us
+            → IsTrue result ↔ IsRefuted (equation us right) }
+    {
+        self.gcd_test(right) | self.bounds_test(right)
     }
 }

@@ -4,7 +4,7 @@ use Rattle.std.proofs.Common.{sym, ap, ◌∙◌}
 use Rattle.std.proofs.lemmas.List.{map-append, reverse-append}
 use Rattle.affine.specs.Affine.{Affine}
 use Rattle.nest_loop.specs.declared.head.Canonical.{Canonical}
-use Rattle.pairtest_counter.specs.declared.level.Level.{Level}
+use Rattle.pairtest_counter.specs.declared.level.EnclosingLoop.{EnclosingLoop}
 
 -- forms of the same numbers, as they are held and as they are seen
 pub same_form : (f g inside_f inside_g : Affine) → inside_f ≡ f → inside_g ≡ g → inside_g.constant ≡ inside_f.constant → inside_g.terms ≡ inside_f.terms → g ≡ f
@@ -20,7 +20,7 @@ same_canonical l m variables strides bounds starts limits =
     ∙ ap (λ a. record { variable = l.variable; stride = l.stride; bound = l.bound; start = l.start; limit = a }) limits
 
 -- the first loop behind the others
-pub first_last : (levels : List Level) (v : Level) (vs : List Level) (found items : List Canonical) (l : Canonical) → levels ≡ v ∷ vs → found ≡ map (λ u. u.canonical) (reverse vs)
+pub first_last : (levels : List EnclosingLoop) (v : EnclosingLoop) (vs : List EnclosingLoop) (found items : List Canonical) (l : Canonical) → levels ≡ v ∷ vs → found ≡ map (λ u. u.canonical) (reverse vs)
     → items ≡ found ++ (l ∷ []) → l ≡ v.canonical → items ≡ map (λ u. u.canonical) (reverse levels)
 first_last levels v vs found items l e is more same =
     more ∙ ap (λ ls. ls ++ (l ∷ [])) is ∙ ap (λ a. map (λ u. u.canonical) (reverse vs) ++ (a ∷ [])) same ∙ sym (map-append (λ u. u.canonical) (reverse vs) (v ∷ []))

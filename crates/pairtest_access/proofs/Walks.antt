@@ -8,7 +8,7 @@ use Rattle.ktree.specs.declared.statement.Head.{Head}
 use Rattle.ktree.specs.declared.statement.PrintPart.{PrintPart}
 use Rattle.ktree.specs.declared.statement.Item.{Item, Directive, Local, Statement'}
 use Rattle.affine.specs.declared.interval.Side.{Side}
-use Rattle.pairtest_counter.specs.declared.level.Level.{Level}
+use Rattle.pairtest_counter.specs.declared.level.EnclosingLoop.{EnclosingLoop}
 use Rattle.pairtest_counter.specs.Levels.{Nesting}
 use Rattle.pairtest.specs.declared.access.Mode.TheVariants.{Writes}
 use Rattle.affine_expr.specs.declared.faults.Fault.{Fault}
@@ -99,7 +99,7 @@ pub left : (n inner after : Nesting) (x : Tree.Variable) (start : Tree.Source) (
 left n inner after x start test step body enters box levels =
     let box' : after.box ≡ n.box = box ∙ ap (λ (m : Nesting). drop 1 m.box) enters.now in
     let levels' : after.levels ≡ n.levels = levels ∙ ap (λ (m : Nesting). drop 1 m.levels) enters.now in
-    ap (λ (ss : List Side). record { box = ss; levels = after.levels }) box' ∙ ap (λ (vs : List Level). record { box = n.box; levels = vs }) levels'
+    ap (λ (ss : List Side). record { box = ss; levels = after.levels }) box' ∙ ap (λ (vs : List EnclosingLoop). record { box = n.box; levels = vs }) levels'
 
 -- an assignment
 pub assign_walked : (n : Nesting) (x : Tree.Variable) (es : Tree.Exprs) (e : Tree.Source) (b m a : Finder) → MeetsAll b (named n Writes x es) m → MeetsAll m (source_sites n e) a

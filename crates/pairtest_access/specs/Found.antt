@@ -3,7 +3,7 @@ use Rattle.std.specs.Prelude.{ℕ, zero, suc, ◌≡◌, ◌⊎◌, ◌-◌, ℤ
 use Rattle.semantics.specs.Tree.{Expr, Exprs, no_exprs, more_exprs}
 use Rattle.affine.specs.Affine.{Affine, coefficient_at}
 use Rattle.affine_expr.specs.Forms.{form_of}
-use Rattle.pairtest_counter.specs.declared.level.Level.{Level}
+use Rattle.pairtest_counter.specs.declared.level.EnclosingLoop.{EnclosingLoop}
 use Rattle.pairtest_counter.specs.Counters.{InCounters}
 use Rattle.pairtest_counter.specs.Levels.{Nesting}
 use Rattle.pairtest.specs.declared.access.Subscript.{Subscript}
@@ -37,7 +37,7 @@ abbrev pub HasNoForms : Site → Type 0
 HasNoForms s = (ts : List Subscript) → AreEach (IsSubscript s.round) s.subscripts ts → ⊥
 
 -- of loops inside each other, the innermost first, those inside the first so many, the outermost first
-abbrev pub inner_loops : ℕ → List Level → List Level
+abbrev pub inner_loops : ℕ → List EnclosingLoop → List EnclosingLoop
 inner_loops outer levels = reverse (take (length levels - outer) levels)
 
 -- an access as the test of pairs has it, so many loops being outside the body

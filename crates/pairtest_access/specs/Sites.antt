@@ -1,9 +1,9 @@
 -- The element accesses of a body, each inside the loops round it, in order of place. (C11 6.5.2.1, 6.5.16; OpenMP 5.2, 4.4.1)
 use Rattle.std.specs.Prelude.{◌≡◌, List, [], ◌∷◌, ◌++◌, Option, Some, None}
-use Rattle.semantics.specs.Tree.{Variable, Expr, Literal, Constant, Object, Unary, Binary, Choose, Exprs, no_exprs, more_exprs, Cond, NotZero, Compare, Not, Both, Either, Source, Number, Truth, Increment, PrintPart, Characters, Decimal, Stmt, Assign, Update, If, IfElse, For, Block, Print, Items, no_items, mark, local, stmt}
+use Rattle.semantics.specs.Tree.{Variable, Expr, Literal, Constant, Object, Unary, Binary, Conditional, Exprs, no_exprs, more_exprs, Cond, NotZero, Compare, Not, LogicalAnd, LogicalOr, Source, Number, Truth, Increment, PrintPart, Characters, Decimal, Stmt, Assign, Update, If, IfElse, For, Block, Print, Items, no_items, mark, local, stmt}
 use Rattle.affine.specs.declared.interval.Interval.{Interval}
 use Rattle.nest_loop.specs.Loops.{IsLoop, inside}
-use Rattle.pairtest_counter.specs.declared.level.Level.{Level}
+use Rattle.pairtest_counter.specs.declared.level.EnclosingLoop.{EnclosingLoop}
 use Rattle.pairtest_counter.specs.Levels.{Nesting, AreLevels}
 use Rattle.pairtest.specs.declared.access.Mode.{Mode}
 use Rattle.pairtest.specs.declared.access.Mode.TheVariants.{Reads, Writes}
@@ -29,15 +29,15 @@ abbrev mutual
   expr_sites n (Object x es) = named n Reads x es
   expr_sites n (Unary op a) = expr_sites n a
   expr_sites n (Binary op a b) = expr_sites n a ++ expr_sites n b
-  expr_sites n (Choose c a b) = cond_sites n c ++ (expr_sites n a ++ expr_sites n b)
+  expr_sites n (Conditional c a b) = cond_sites n c ++ (expr_sites n a ++ expr_sites n b)
 
   -- those of a condition
   pub cond_sites : Nesting → Cond → List Site
   cond_sites n (NotZero a) = expr_sites n a
   cond_sites n (Compare op a b) = expr_sites n a ++ expr_sites n b
   cond_sites n (Not c) = cond_sites n c
-  cond_sites n (Both c d) = cond_sites n c ++ cond_sites n d
-  cond_sites n (Either c d) = cond_sites n c ++ cond_sites n d
+  cond_sites n (LogicalAnd c d) = cond_sites n c ++ cond_sites n d
+  cond_sites n (LogicalOr c d) = cond_sites n c ++ cond_sites n d
 
 -- those of a right side
 abbrev pub source_sites : Nesting → Source → List Site
@@ -61,7 +61,7 @@ part_sites n (p ∷ ps) = printed_sites n p ++ part_sites n ps
 
 -- a loop of the text is entered inside others, and they are together as loops inside each other are
 pub record IsInside (before : Nesting) (x : Variable) (start : Source) (test : Cond) (step : Increment) (body : Stmt) (after : Nesting) : Type 0 where
-  pub level : Level
+  pub level : EnclosingLoop
   pub numbers : Interval
   pub is : IsLoop before.box x start test step body level.canonical numbers
   pub now : after ≡ record { box = inside before.box x numbers; levels = level ∷ before.levels }

@@ -12,7 +12,7 @@ use crate::told::Touched;
 use affine_expr::Fault;
 use ktree::Stmt;
 use pairtest::Access;
-use pairtest_counter::Chain;
+use pairtest_counter::EnclosingLoops;
 use std::alloc::Global;
 
 /// Every element access of a body, in order of place, where the loops of the chain stand round the body; the target of an
@@ -24,8 +24,13 @@ use std::alloc::Global;
 ///
 /// The fault of a loop that is not canonical, may wrap or is one too many, and of a subscript without a form in the variables;
 /// `OutOfMemory`.
-pub fn accesses(alloc: Global, chain: &mut Chain, body: &Stmt) -> Result<Vec<Access>, Fault>
-    ensures ok { IfOk result (λ found. (ss : List Site) × Sites chain.old (stmt_of body.now) ss × AreMet (length chain.old.levels) ss found.items) }
+pub fn accesses(
+    alloc: Global,
+    chain: &mut EnclosingLoops,
+    body: &Stmt,
+) -> Result<Vec<Access>, Fault>
+    ensures ok { IfOk result (λ found. (ss : List Site) × Sites chain.old (stmt_of body.now) ss
+        × AreMet (length chain.old.levels) ss found.items) }
     ensures err { IfErr result (Because (IsStuck chain.old (stmt_of body.now))) }
     ensures back { OnOk result (chain.new ≡ chain.old) }
 {
@@ -45,13 +50,14 @@ pub fn accesses(alloc: Global, chain: &mut Chain, body: &Stmt) -> Result<Vec<Acc
 /// # Errors
 ///
 /// The fault of a loop that is not canonical, may wrap or is one too many, and of a subscript without a form; `OutOfMemory`.
-pub fn touched(
+pub fn access_at(
     alloc: Global,
-    chain: &mut Chain,
+    chain: &mut EnclosingLoops,
     body: &Stmt,
     number: usize,
 ) -> Result<Option<Touched>, Fault>
-    ensures ok { IfOk result (λ told. (ss : List Site) × Sites chain.old (stmt_of body.now) ss × IsTold (length chain.old.levels) (slice_get ss number) told) }
+    ensures ok { IfOk result (λ told. (ss : List Site) × Sites chain.old (stmt_of body.now) ss
+        × IsTold (length chain.old.levels) (slice_get ss number) told) }
     ensures err { IfErr result (Because (IsStuck chain.old (stmt_of body.now))) }
     ensures back { OnOk result (chain.new ≡ chain.old) }
 {

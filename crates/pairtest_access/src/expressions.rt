@@ -11,7 +11,7 @@ use crate::finder::Finder;
 use affine_expr::Fault;
 use ktree::{Cond, Expr, PrintPart, Source, Target};
 use pairtest::Mode;
-use pairtest_counter::Chain;
+use pairtest_counter::EnclosingLoops;
 use std::alloc::Global;
 
 /// Meets the accesses of an expression inside the loops of a chain.
@@ -19,11 +19,12 @@ use std::alloc::Global;
 #[tactic(auto, using(crate::proofs::Walks::joined, crate::proofs::Walks::lacks_before, crate::proofs::Walks::lacks_behind))]
 pub(crate) fn expr(
     alloc: Global,
-    chain: &Chain,
+    chain: &EnclosingLoops,
     finder: &mut Finder,
     expression: &Expr,
 ) -> Result<(), Fault>
-    ensures ok { OnOk result (MeetsAll finder.old (expr_sites chain.now (expr_of expression.now)) finder.new) }
+    ensures ok { OnOk result (MeetsAll finder.old (expr_sites chain.now (expr_of expression.now))
+        finder.new) }
     ensures err { IfErr result (Because (Lacks (expr_sites chain.now (expr_of expression.now)))) }
 {
     match expression {
@@ -42,7 +43,7 @@ pub(crate) fn expr(
             expr(alloc, chain, finder, left)?;
             expr(alloc, chain, finder, right)
         }
-        Expr::Choose(test, left, right) => {
+        Expr::Conditional(test, left, right) => {
             cond(alloc, chain, finder, test)?;
             expr(alloc, chain, finder, left)?;
             expr(alloc, chain, finder, right)
@@ -55,11 +56,12 @@ pub(crate) fn expr(
 #[tactic(auto, using(crate::proofs::Walks::joined, crate::proofs::Walks::lacks_before, crate::proofs::Walks::lacks_behind))]
 pub(crate) fn cond(
     alloc: Global,
-    chain: &Chain,
+    chain: &EnclosingLoops,
     finder: &mut Finder,
     condition: &Cond,
 ) -> Result<(), Fault>
-    ensures ok { OnOk result (MeetsAll finder.old (cond_sites chain.now (cond_of condition.now)) finder.new) }
+    ensures ok { OnOk result (MeetsAll finder.old (cond_sites chain.now (cond_of condition.now))
+        finder.new) }
     ensures err { IfErr result (Because (Lacks (cond_sites chain.now (cond_of condition.now)))) }
 {
     match condition {
@@ -69,11 +71,11 @@ pub(crate) fn cond(
             expr(alloc, chain, finder, right)
         }
         Cond::Not(inner) => cond(alloc, chain, finder, inner),
-        Cond::Both(left, right) => {
+        Cond::LogicalAnd(left, right) => {
             cond(alloc, chain, finder, left)?;
             cond(alloc, chain, finder, right)
         }
-        Cond::Either(left, right) => {
+        Cond::LogicalOr(left, right) => {
             cond(alloc, chain, finder, left)?;
             cond(alloc, chain, finder, right)
         }
@@ -83,12 +85,16 @@ pub(crate) fn cond(
 /// Meets the object that is assigned.
 pub(crate) fn target(
     alloc: Global,
-    chain: &Chain,
+    chain: &EnclosingLoops,
     finder: &mut Finder,
     assigned: &Target,
 ) -> Result<(), Fault>
-    ensures ok { OnOk result (MeetsAll finder.old (named chain.now Writes assigned.now.variable.0 (exprs_of assigned.now.subscripts.items)) finder.new) }
-    ensures err { IfErr result (Because (Lacks (named chain.now Writes assigned.now.variable.0 (exprs_of assigned.now.subscripts.items)))) }
+    ensures ok { OnOk result (MeetsAll finder.old
+        (named chain.now Writes assigned.now.variable.0 (exprs_of assigned.now.subscripts.items))
+        finder.new) }
+    ensures err { IfErr result
+        (Because (Lacks (named chain.now Writes assigned.now.variable.0
+        (exprs_of assigned.now.subscripts.items)))) }
 {
     finder.meet(
         alloc,
@@ -103,11 +109,12 @@ pub(crate) fn target(
 /// Meets those of a right side.
 pub(crate) fn source(
     alloc: Global,
-    chain: &Chain,
+    chain: &EnclosingLoops,
     finder: &mut Finder,
     value: &Source,
 ) -> Result<(), Fault>
-    ensures ok { OnOk result (MeetsAll finder.old (source_sites chain.now (source_of value.now)) finder.new) }
+    ensures ok { OnOk result (MeetsAll finder.old (source_sites chain.now (source_of value.now))
+        finder.new) }
     ensures err { IfErr result (Because (Lacks (source_sites chain.now (source_of value.now)))) }
 {
     match value {
@@ -119,11 +126,12 @@ pub(crate) fn source(
 /// Meets those of an initialiser.
 pub(crate) fn start(
     alloc: Global,
-    chain: &Chain,
+    chain: &EnclosingLoops,
     finder: &mut Finder,
     value: &Option<Source>,
 ) -> Result<(), Fault>
-    ensures ok { OnOk result (MeetsAll finder.old (start_sites chain.now (start_of value.now)) finder.new) }
+    ensures ok { OnOk result (MeetsAll finder.old (start_sites chain.now (start_of value.now))
+        finder.new) }
     ensures err { IfErr result (Because (Lacks (start_sites chain.now (start_of value.now)))) }
 {
     match value {
@@ -133,8 +141,14 @@ pub(crate) fn start(
 }
 
 /// Meets those of one of printf's arguments.
-fn part(alloc: Global, chain: &Chain, finder: &mut Finder, part: &PrintPart) -> Result<(), Fault>
-    ensures ok { OnOk result (MeetsAll finder.old (printed_sites chain.now (part_of part.now)) finder.new) }
+fn part(
+    alloc: Global,
+    chain: &EnclosingLoops,
+    finder: &mut Finder,
+    part: &PrintPart,
+) -> Result<(), Fault>
+    ensures ok { OnOk result (MeetsAll finder.old (printed_sites chain.now (part_of part.now))
+        finder.new) }
     ensures err { IfErr result (Because (Lacks (printed_sites chain.now (part_of part.now)))) }
 {
     match part {
@@ -147,11 +161,12 @@ fn part(alloc: Global, chain: &Chain, finder: &mut Finder, part: &PrintPart) -> 
 #[tactic(auto, using(crate::proofs::Walks::next_part))]
 pub(crate) fn parts(
     alloc: Global,
-    chain: &Chain,
+    chain: &EnclosingLoops,
     finder: &mut Finder,
     parts: &[PrintPart],
 ) -> Result<(), Fault>
-    ensures ok { OnOk result (MeetsAll finder.old (part_sites chain.now (map part_of parts.now)) finder.new) }
+    ensures ok { OnOk result (MeetsAll finder.old (part_sites chain.now (map part_of parts.now))
+        finder.new) }
     ensures err { IfErr result (Because (Lacks (part_sites chain.now (map part_of parts.now)))) }
 {
     for printed in parts {

@@ -11,9 +11,9 @@ ghost use Rattle.pairtest_access.specs.Walk.{MeetsAll};
 use crate::subscripts::{inner_canonicals, inner_counts, subscripts, variable_forms};
 use crate::told::Touched;
 use affine_expr::Fault;
-use ktree::{Expr, Mention, VarId};
+use ktree::{Expr, NamePlaces, VarId};
 use pairtest::{Access, Mode};
-use pairtest_counter::Chain;
+use pairtest_counter::EnclosingLoops;
 use std::alloc::Global;
 
 /// Which of the accesses that are still to come are wanted: every one, or the one with so many before it alone.
@@ -36,15 +36,23 @@ pub(crate) struct Finder {
 /// An access inside the loops of a chain, not counted where its subscripts pass the limits.
 fn access(
     alloc: Global,
-    chain: &Chain,
+    chain: &EnclosingLoops,
     outer: usize,
     mode: Mode,
     array: VarId,
     expressions: &[Expr],
-    mention: &Mention,
+    mention: &NamePlaces,
 ) -> Result<Access, Fault>
-    ensures ok { IfOk result (IsMet outer (record { round = chain.now; mode = mode; array = array.0; subscripts = exprs_of expressions.now })) }
-    ensures err { IfErr result (Because ((ts : List subscripts.Subscript) → AreEach (IsSubscript chain.now) (exprs_of expressions.now) ts → ⊥)) }
+    ensures ok { IfOk result (IsMet outer
+        (record {
+          round = chain.now;
+          mode = mode;
+          array = array.0;
+          subscripts = exprs_of expressions.now;
+        })) }
+    ensures err { IfErr result
+        (Because ((ts : List subscripts.Subscript)
+        → AreEach (IsSubscript chain.now) (exprs_of expressions.now) ts → ⊥)) }
 {
     let (is_counted, subscripts) = match subscripts(alloc, chain, expressions, mention) {
         Ok(found) => (true, found),
@@ -62,15 +70,17 @@ fn access(
 }
 
 /// What is told of an access inside the loops of a chain.
-fn touched(
+fn describe_access(
     alloc: Global,
-    chain: &Chain,
+    chain: &EnclosingLoops,
     outer: usize,
     expressions: &[Expr],
-    mention: &Mention,
+    mention: &NamePlaces,
 ) -> Result<Touched, Fault>
     ensures ok { IfOk result (IsTouched outer chain.now (exprs_of expressions.now)) }
-    ensures err { IfErr result (Because ((ts : List subscripts.Subscript) → AreEach (IsSubscript chain.now) (exprs_of expressions.now) ts → ⊥)) }
+    ensures err { IfErr result
+        (Because ((ts : List subscripts.Subscript)
+        → AreEach (IsSubscript chain.now) (exprs_of expressions.now) ts → ⊥)) }
 {
     Ok(Touched {
         subscripts: variable_forms(alloc, chain, expressions, mention)?,
@@ -83,14 +93,16 @@ impl Finder {
     pub(crate) fn meet(
         &mut self,
         alloc: Global,
-        chain: &Chain,
+        chain: &EnclosingLoops,
         mode: Mode,
         array: VarId,
         expressions: &[Expr],
-        mention: &Mention,
+        mention: &NamePlaces,
     ) -> Result<(), Fault>
-        ensures ok { OnOk result (MeetsAll self.old (named chain.now mode array.0 (exprs_of expressions.now)) self.new) }
-        ensures err { IfErr result (Because (Lacks (named chain.now mode array.0 (exprs_of expressions.now)))) }
+        ensures ok { OnOk result (MeetsAll self.old
+            (named chain.now mode array.0 (exprs_of expressions.now)) self.new) }
+        ensures err { IfErr result
+            (Because (Lacks (named chain.now mode array.0 (exprs_of expressions.now)))) }
     {
         if expressions.is_empty() {
             return Ok(());
@@ -101,7 +113,7 @@ impl Finder {
                 self.accesses.push(found)?;
             }
             Wanted::Only(0) => {
-                let told = touched(alloc, chain, self.outer, expressions, mention)?;
+                let told = describe_access(alloc, chain, self.outer, expressions, mention)?;
                 self.touched = Some(told);
                 self.wanted = Wanted::Nothing;
             }

@@ -8,7 +8,7 @@ mod statements;
 mod subscripts;
 mod told;
 
-pub use body::{accesses, touched};
-pub use statements::entered;
+pub use body::{access_at, accesses};
+pub use statements::enter_loop;
 pub use subscripts::{inner_canonicals, inner_counts};
 pub use told::Touched;

@@ -12,17 +12,26 @@ use crate::expressions::{cond, expr, parts, source, start, target};
 use crate::finder::Finder;
 use affine_expr::Fault;
 use ktree::{Head, Item, Stmt};
-use pairtest_counter::Chain;
+use pairtest_counter::EnclosingLoops;
 use std::alloc::Global;
 
 /// Goes into a loop (OpenMP 5.2, 4.4.1).
 ///
 /// # Errors
 ///
-/// Those of [`Chain::enter`].
-pub fn entered(alloc: Global, chain: &mut Chain, head: &Head, body: &Stmt) -> Result<(), Fault>
-    ensures err { IfErr result (Because ((inner : Nesting) → IsInside chain.old head.now.variable.0 (source_of head.now.start) (cond_of head.now.test) (increment_of head.now.step) (stmt_of body.now) inner → ⊥)) }
-    ensures ok { OnOk result (IsInside chain.old head.now.variable.0 (source_of head.now.start) (cond_of head.now.test) (increment_of head.now.step) (stmt_of body.now) chain.new) }
+/// Those of [`EnclosingLoops::enter`].
+pub fn enter_loop(
+    alloc: Global,
+    chain: &mut EnclosingLoops,
+    head: &Head,
+    body: &Stmt,
+) -> Result<(), Fault>
+    ensures err { IfErr result
+        (Because ((inner : Nesting) → IsInside chain.old head.now.variable.0
+        (source_of head.now.start) (cond_of head.now.test) (increment_of head.now.step)
+        (stmt_of body.now) inner → ⊥)) }
+    ensures ok { OnOk result (IsInside chain.old head.now.variable.0 (source_of head.now.start)
+        (cond_of head.now.test) (increment_of head.now.step) (stmt_of body.now) chain.new) }
 {
     match chain.enter(alloc, head, body) {
         Ok(()) => {}
@@ -37,12 +46,13 @@ pub fn entered(alloc: Global, chain: &mut Chain, head: &Head, body: &Stmt) -> Re
 #[tactic(auto, using(crate::proofs::Walks::assign_walked, crate::proofs::Walks::update_walked, crate::proofs::Walks::if_walked, crate::proofs::Walks::if_else_walked))]
 pub(crate) fn statement(
     alloc: Global,
-    chain: &mut Chain,
+    chain: &mut EnclosingLoops,
     finder: &mut Finder,
     walked: &Stmt,
 ) -> Result<(), Fault>
     ensures err { IfErr result (Because (IsStuck chain.old (stmt_of walked.now))) }
-    ensures ok { OnOk result ((ss : List Site) × Sites chain.old (stmt_of walked.now) ss × MeetsAll finder.old ss finder.new) }
+    ensures ok { OnOk result ((ss : List Site) × Sites chain.old (stmt_of walked.now) ss
+        × MeetsAll finder.old ss finder.new) }
     ensures back { OnOk result (chain.new ≡ chain.old) }
 {
     match walked {
@@ -63,7 +73,7 @@ pub(crate) fn statement(
             }
         }
         Stmt::For(head, body) => {
-            match entered(alloc, chain, head, body) {
+            match enter_loop(alloc, chain, head, body) {
                 Ok(()) => {}
                 Err(fault) => return Err(fault),
             }
@@ -81,9 +91,15 @@ pub(crate) fn statement(
 
 /// Meets those of a block's items.
 #[cycle(statement)]
-fn block(alloc: Global, chain: &mut Chain, finder: &mut Finder, items: &[Item]) -> Result<(), Fault>
+fn block(
+    alloc: Global,
+    chain: &mut EnclosingLoops,
+    finder: &mut Finder,
+    items: &[Item],
+) -> Result<(), Fault>
     ensures err { IfErr result (Because (AreStuck chain.old (items_of items.now))) }
-    ensures ok { OnOk result ((ss : List Site) × ItemsSites chain.old (items_of items.now) ss × MeetsAll finder.old ss finder.new) }
+    ensures ok { OnOk result ((ss : List Site) × ItemsSites chain.old (items_of items.now) ss
+        × MeetsAll finder.old ss finder.new) }
     ensures back { OnOk result (chain.new ≡ chain.old) }
 {
     for item in items {
@@ -97,9 +113,16 @@ fn block(alloc: Global, chain: &mut Chain, finder: &mut Finder, items: &[Item]) 
 
 /// Meets those of an item alone.
 #[cycle(statement)]
-fn one_item(alloc: Global, chain: &mut Chain, finder: &mut Finder, item: &Item) -> Result<(), Fault>
+fn one_item(
+    alloc: Global,
+    chain: &mut EnclosingLoops,
+    finder: &mut Finder,
+    item: &Item,
+) -> Result<(), Fault>
     ensures err { IfErr result (Because (AreStuck chain.old (with_item item.now no_items))) }
-    ensures ok { OnOk result ((ss : List Site) × ItemsSites chain.old (with_item item.now no_items) ss × MeetsAll finder.old ss finder.new) }
+    ensures ok { OnOk result ((ss : List Site)
+        × ItemsSites chain.old (with_item item.now no_items) ss
+        × MeetsAll finder.old ss finder.new) }
     ensures back { OnOk result (chain.new ≡ chain.old) }
 {
     match item {

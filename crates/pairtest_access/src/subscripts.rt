@@ -11,10 +11,10 @@ ghost use Rattle.pairtest_access.specs.Found.{AreEach, IsSubscript, coefficients
 
 use affine::{Form, Term};
 use affine_expr::{Fault, form_of, subscript_place};
-use ktree::{Expr, Mention, Place};
+use ktree::{Expr, NamePlaces, Place};
 use nest_loop::Canonical;
 use pairtest::Subscript;
-use pairtest_counter::{Chain, Level};
+use pairtest_counter::{EnclosingLoop, EnclosingLoops};
 use std::alloc::Global;
 
 /// The coefficient of the counter of the loop with so many loops round it.
@@ -46,12 +46,14 @@ fn coefficients(alloc: Global, form: &Form, levels: usize) -> Result<Vec<i64>, F
 /// A subscript in the counters of the loops of a chain.
 fn subscript(
     alloc: Global,
-    chain: &Chain,
+    chain: &EnclosingLoops,
     expression: &Expr,
     place: Place,
 ) -> Result<Subscript, Fault>
     ensures ok { IfOk result (IsSubscript chain.now (expr_of expression.now)) }
-    ensures err { IfErr result (Because ((t : subscripts.Subscript) → IsSubscript chain.now (expr_of expression.now) t → ⊥)) }
+    ensures err { IfErr result
+        (Because ((t : subscripts.Subscript) → IsSubscript chain.now (expr_of expression.now) t
+        → ⊥)) }
 {
     let form = form_of(alloc, expression, chain.bounds(), place)?;
     let counted = chain.in_counters(alloc, &form, place)?;
@@ -64,12 +66,15 @@ fn subscript(
 /// The subscripts of an access in the counters of the loops of a chain.
 pub(crate) fn subscripts(
     alloc: Global,
-    chain: &Chain,
+    chain: &EnclosingLoops,
     expressions: &[Expr],
-    mention: &Mention,
+    mention: &NamePlaces,
 ) -> Result<Vec<Subscript>, Fault>
-    ensures ok { IfOk result (λ found. AreEach (IsSubscript chain.now) (exprs_of expressions.now) found.items) }
-    ensures err { IfErr result (Because ((ts : List subscripts.Subscript) → AreEach (IsSubscript chain.now) (exprs_of expressions.now) ts → ⊥)) }
+    ensures ok { IfOk result (λ found. AreEach (IsSubscript chain.now) (exprs_of expressions.now)
+        found.items) }
+    ensures err { IfErr result
+        (Because ((ts : List subscripts.Subscript)
+        → AreEach (IsSubscript chain.now) (exprs_of expressions.now) ts → ⊥)) }
 {
     let mut found = Vec::new(alloc);
     for (i, expression) in expressions.iter().enumerate() {
@@ -82,12 +87,15 @@ pub(crate) fn subscripts(
 /// The forms of the subscripts of an access in the variables of the loops of a chain.
 pub(crate) fn variable_forms(
     alloc: Global,
-    chain: &Chain,
+    chain: &EnclosingLoops,
     expressions: &[Expr],
-    mention: &Mention,
+    mention: &NamePlaces,
 ) -> Result<Vec<Form>, Fault>
-    ensures ok { IfOk result (λ found. AreEach (λ e f. form_of chain.now.box e ≡ Some f) (exprs_of expressions.now) found.items) }
-    ensures err { IfErr result (Because ((ts : List subscripts.Subscript) → AreEach (IsSubscript chain.now) (exprs_of expressions.now) ts → ⊥)) }
+    ensures ok { IfOk result (λ found. AreEach (λ e f. form_of chain.now.box e ≡ Some f)
+        (exprs_of expressions.now) found.items) }
+    ensures err { IfErr result
+        (Because ((ts : List subscripts.Subscript)
+        → AreEach (IsSubscript chain.now) (exprs_of expressions.now) ts → ⊥)) }
 {
     let mut found = Vec::new(alloc);
     for (i, expression) in expressions.iter().enumerate() {
@@ -98,7 +106,7 @@ pub(crate) fn variable_forms(
 }
 
 /// The loops of a chain inside the first so many, the innermost first.
-fn inner_loops(chain: &Chain, outer: usize) -> &[Level]
+fn inner_loops(chain: &EnclosingLoops, outer: usize) -> &[EnclosingLoop]
     ensures { reverse result.now ≡ inner_loops outer chain.now.levels }
 {
     let levels = chain.levels();
@@ -106,7 +114,7 @@ fn inner_loops(chain: &Chain, outer: usize) -> &[Level]
 }
 
 /// How often loops turn at most, the last loop first.
-fn counts(alloc: Global, levels: &[Level]) -> Result<Vec<u64>, Fault>
+fn counts(alloc: Global, levels: &[EnclosingLoop]) -> Result<Vec<u64>, Fault>
     ensures ok { IfOk result (λ found. found.items ≡ map (λ v. v.most) (reverse levels.now)) }
     ensures err { IfErr result (λ fault. fault ≡ OutOfMemory) }
 {
@@ -119,7 +127,7 @@ fn counts(alloc: Global, levels: &[Level]) -> Result<Vec<u64>, Fault>
 }
 
 /// The canonical loops, the last loop first.
-fn canonicals(alloc: Global, levels: &[Level]) -> Result<Vec<Canonical>, Fault>
+fn canonicals(alloc: Global, levels: &[EnclosingLoop]) -> Result<Vec<Canonical>, Fault>
     ensures ok { IfOk result (λ found. found.items ≡ map (λ v. v.canonical) (reverse levels.now)) }
     ensures err { IfErr result (λ fault. fault ≡ OutOfMemory) }
 {
@@ -132,16 +140,22 @@ fn canonicals(alloc: Global, levels: &[Level]) -> Result<Vec<Canonical>, Fault>
 }
 
 /// How often the loops of a chain inside the first so many turn at most, the outermost first.
-pub fn inner_counts(alloc: Global, chain: &Chain, outer: usize) -> Result<Vec<u64>, Fault>
-    ensures ok { IfOk result (λ found. found.items ≡ map (λ v. v.most) (inner_loops outer chain.now.levels)) }
+pub fn inner_counts(alloc: Global, chain: &EnclosingLoops, outer: usize) -> Result<Vec<u64>, Fault>
+    ensures ok { IfOk result (λ found. found.items
+        ≡ map (λ v. v.most) (inner_loops outer chain.now.levels)) }
     ensures err { IfErr result (λ fault. fault ≡ OutOfMemory) }
 {
     counts(alloc, inner_loops(chain, outer))
 }
 
 /// The canonical loops of a chain inside the first so many, the outermost first.
-pub fn inner_canonicals(alloc: Global, chain: &Chain, outer: usize) -> Result<Vec<Canonical>, Fault>
-    ensures ok { IfOk result (λ found. found.items ≡ map (λ v. v.canonical) (inner_loops outer chain.now.levels)) }
+pub fn inner_canonicals(
+    alloc: Global,
+    chain: &EnclosingLoops,
+    outer: usize,
+) -> Result<Vec<Canonical>, Fault>
+    ensures ok { IfOk result (λ found. found.items
+        ≡ map (λ v. v.canonical) (inner_loops outer chain.now.levels)) }
     ensures err { IfErr result (λ fault. fault ≡ OutOfMemory) }
 {
     canonicals(alloc, inner_loops(chain, outer))

@@ -5,7 +5,7 @@ use Rattle.std.specs.declared.result.Result.TheVariants.{Ok, Err}
 use Rattle.std.proofs.Common.{refl, sym, ap, ◌∙◌, subst, arith}
 use Rattle.affine.specs.declared.interval.Side.{Side}
 use Rattle.affine.specs.Box.{side}
-use Rattle.semantics.specs.Tree.{Variable, Source, Cond, NotZero, Compare, Not, Both, Either, Increment, Stmt}
+use Rattle.semantics.specs.Tree.{Variable, Source, Cond, NotZero, Compare, Not, LogicalAnd, LogicalOr, Increment, Stmt}
 use Rattle.affine.specs.declared.interval.Interval.{Interval}
 use Rattle.nest_loop.specs.declared.head.Canonical.{Canonical}
 use Rattle.nest_loop.specs.Most.{IsMost}
@@ -17,36 +17,36 @@ use Rattle.nest_loop.specs.Canonical.{is_variable, stride_of, bound_after, canon
 use Rattle.nest_loop.specs.Loops.{IsLoop, inside}
 use Rattle.nest_loop.proofs.Laws.{canonical_well}
 use Rattle.pairtest_counter.specs.Counters.{Given, AreForms}
-use Rattle.pairtest_counter.specs.declared.level.Level.{Level}
+use Rattle.pairtest_counter.specs.declared.level.EnclosingLoop.{EnclosingLoop}
 use Rattle.ktree.specs.View.{source_of, cond_of, increment_of}
 use Rattle.ktree.specs.declared.statement.Head.{Head}
 use Rattle.pairtest_counter.specs.declared.level.Inner.{Inner}
 use Rattle.pairtest_counter.specs.Levels.{Nesting, IsLevel, AreLevels, IsInner, with_inner, Enters}
 
 -- as many loops as sides
-pub as_many : (box : List Side) (vs : List Level) → AreLevels box vs → length box ≡ length vs
+pub as_many : (box : List Side) (vs : List EnclosingLoop) → AreLevels box vs → length box ≡ length vs
 as_many [] [] h = refl
 as_many [] (v ∷ vs) h = absurd h
 as_many (s ∷ ss) [] h = absurd h
 as_many (s ∷ ss) (v ∷ vs) h = let e = as_many ss vs h.1 in omega arith
 
-pub left_behind : (box : List Side) (vs : List Level) → AreLevels box vs → AreLevels (drop 1 box) (drop 1 vs)
+pub left_behind : (box : List Side) (vs : List EnclosingLoop) → AreLevels box vs → AreLevels (drop 1 box) (drop 1 vs)
 left_behind [] [] h = tt
 left_behind [] (v ∷ vs) h = absurd h
 left_behind (s ∷ ss) [] h = absurd h
 left_behind (s ∷ ss) (v ∷ vs) h = h.1
 
 -- what is left where the innermost loop is left
-pub left_over : (box box' : List Side) (vs vs' : List Level) → AreLevels box vs → box' ≡ drop 1 box → vs' ≡ remove vs 0 → AreLevels box' vs'
+pub left_over : (box box' : List Side) (vs vs' : List EnclosingLoop) → AreLevels box vs → box' ≡ drop 1 box → vs' ≡ remove vs 0 → AreLevels box' vs'
 left_over box box' vs vs' h p q =
     subst (λ (ss : List Side). AreLevels ss vs') (sym p) (subst (AreLevels (drop 1 box)) (sym (q ∙ first_gone vs)) (left_behind box vs h))
   where
-    first_gone : (us : List Level) → remove us 0 ≡ drop 1 us
+    first_gone : (us : List EnclosingLoop) → remove us 0 ≡ drop 1 us
     first_gone [] = refl
     first_gone (u ∷ us) = refl
 
 -- a loop is entered inside few others
-pub few_outer : (box : List Side) (vs : List Level) (n : ℕ) → AreLevels box vs → length box < 8 → n ≡ length vs → n ≤ 8
+pub few_outer : (box : List Side) (vs : List EnclosingLoop) (n : ℕ) → AreLevels box vs → length box < 8 → n ≡ length vs → n ≤ 8
 few_outer box vs n h few e = let m = as_many box vs h in omega arith
 
 -- ---- the loop of a head is one of its variable
@@ -70,8 +70,8 @@ canonical_named box x start (Compare op a ub) step l e =
     (if_there (is_variable x a) (canonical_by x (stride_of x step) (bound_after op (stride_of x step)) (start_form box start) (form_of box ub)) l e)
 canonical_named box x start (NotZero c) step l e = absurd (cc e)
 canonical_named box x start (Not c) step l e = absurd (cc e)
-canonical_named box x start (Both c d) step l e = absurd (cc e)
-canonical_named box x start (Either c d) step l e = absurd (cc e)
+canonical_named box x start (LogicalAnd c d) step l e = absurd (cc e)
+canonical_named box x start (LogicalOr c d) step l e = absurd (cc e)
 
 -- the loop of a head is as the loops of a chain are
 pub inner_level : (n : Nesting) (head : Head) (body : Stmt) (v : Inner) → IsInner n head body v → IsLevel n.box n.levels (side v.level.canonical.variable.0 v.numbers.least v.numbers.greatest) v.level
@@ -87,7 +87,7 @@ inner_level n head body v h =
     }
 
 -- a loop inside others, whose parts were found one after another
-pub inner_made : (n inside : Nesting) (head : Head) (body : Stmt) (l : Canonical) (i : Interval) (v : Level) → inside ≡ n
+pub inner_made : (n inside : Nesting) (head : Head) (body : Stmt) (l : Canonical) (i : Interval) (v : EnclosingLoop) → inside ≡ n
     → IsLoop inside.box head.variable.0 (source_of head.start) (cond_of head.test) (increment_of head.step) body l i → v.canonical ≡ l → IsMost inside.box l v.most
     → Given (AreForms inside.levels l) v.forms → IsInner n head body (record { level = v; numbers = i })
 inner_made n inside head body l i v same is e most forms =
@@ -116,16 +116,16 @@ on_ok (Ok a) h e = h
 on_ok (Err x) h e = absurd (cc e)
 
 -- an insertion that succeeded
-pub inserted : {E : Type 0} (vs us : List Level) (v : Level) (r : Result (Unit {0}) E) → us ≡ (if is_ok r then insert vs 0 v else vs) → is_err r ≡ false → us ≡ v ∷ vs
+pub inserted : {E : Type 0} (vs us : List EnclosingLoop) (v : EnclosingLoop) (r : Result (Unit {0}) E) → us ≡ (if is_ok r then insert vs 0 v else vs) → is_err r ≡ false → us ≡ v ∷ vs
 inserted vs us v (Ok a) e f = e ∙ first vs
   where
-    first : (ws : List Level) → insert ws 0 v ≡ v ∷ ws
+    first : (ws : List EnclosingLoop) → insert ws 0 v ≡ v ∷ ws
     first [] = refl
     first (w ∷ ws) = refl
 inserted vs us v (Err x) e f = absurd (cc f)
 
 -- the loops with one more are sound, and those that stayed
-pub put_inside : {E : Type 0} (r : Result (Unit {0}) E) (n : Nesting) (v : Inner) (box : List Side) (vs : List Level) → AreLevels n.box n.levels
+pub put_inside : {E : Type 0} (r : Result (Unit {0}) E) (n : Nesting) (v : Inner) (box : List Side) (vs : List EnclosingLoop) → AreLevels n.box n.levels
     → IsLevel n.box n.levels (side v.level.canonical.variable.0 v.numbers.least v.numbers.greatest) v.level → OnOk r (box ≡ inside n.box v.level.canonical.variable.0 v.numbers)
     → OnOk r (vs ≡ v.level ∷ n.levels) → OnErr r (box ≡ n.box) → OnErr r (vs ≡ n.levels) → AreLevels box vs
 put_inside (Ok u) n v box vs all is b e same_box same =
@@ -134,16 +134,16 @@ put_inside (Err x) n v box vs all is b e same_box same =
     subst (λ (ss : List Side). AreLevels ss vs) (sym same_box) (subst (AreLevels n.box) (sym same) all)
 
 -- they are those with one more
-pub put_whole : {E : Type 0} (r : Result (Unit {0}) E) (n before : Nesting) (v : Inner) (box : List Side) (vs : List Level) → n ≡ before → OnOk r (box ≡ inside n.box v.level.canonical.variable.0 v.numbers)
+pub put_whole : {E : Type 0} (r : Result (Unit {0}) E) (n before : Nesting) (v : Inner) (box : List Side) (vs : List EnclosingLoop) → n ≡ before → OnOk r (box ≡ inside n.box v.level.canonical.variable.0 v.numbers)
     → OnOk r (vs ≡ v.level ∷ n.levels) → OnOk r (record { box = box; levels = vs } ≡ with_inner before v)
 put_whole (Err x) n before v box vs same b e = tt
 put_whole (Ok u) n before v box vs same b e =
-    ap (λ (ss : List Side). record { box = ss; levels = vs }) b ∙ ap (λ (us : List Level). record { box = inside n.box v.level.canonical.variable.0 v.numbers; levels = us }) e
+    ap (λ (ss : List Side). record { box = ss; levels = vs }) b ∙ ap (λ (us : List EnclosingLoop). record { box = inside n.box v.level.canonical.variable.0 v.numbers; levels = us }) e
     ∙ ap (λ (m : Nesting). with_inner m v) same
 
 -- they are those from before
-pub put_none : {E : Type 0} (r : Result (Unit {0}) E) (n before : Nesting) (box : List Side) (vs : List Level) → n ≡ before → OnErr r (box ≡ n.box) → OnErr r (vs ≡ n.levels)
+pub put_none : {E : Type 0} (r : Result (Unit {0}) E) (n before : Nesting) (box : List Side) (vs : List EnclosingLoop) → n ≡ before → OnErr r (box ≡ n.box) → OnErr r (vs ≡ n.levels)
     → OnErr r (record { box = box; levels = vs } ≡ before)
 put_none (Ok u) n before box vs same b e = tt
 put_none (Err x) n before box vs same b e =
-    ap (λ (ss : List Side). record { box = ss; levels = vs }) b ∙ ap (λ (us : List Level). record { box = n.box; levels = us }) e ∙ same
+    ap (λ (ss : List Side). record { box = ss; levels = vs }) b ∙ ap (λ (us : List EnclosingLoop). record { box = n.box; levels = us }) e ∙ same

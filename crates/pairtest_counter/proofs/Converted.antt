@@ -11,7 +11,7 @@ use Rattle.affine.specs.Arithmetic.{constant_form, variable_form, sum_form, mult
 use Rattle.affine.specs.Limits.{Fits, Refuses}
 use Rattle.nest_loop.specs.declared.stride.Stride.{Stride}
 use Rattle.nest_loop.specs.declared.head.Canonical.{Canonical}
-use Rattle.pairtest_counter.specs.declared.level.Level.{Level}
+use Rattle.pairtest_counter.specs.declared.level.EnclosingLoop.{EnclosingLoop}
 use Rattle.pairtest_counter.specs.declared.level.Forms.{Forms}
 use Rattle.pairtest_counter.specs.Counters.{place_in, Adds, none_left, one_more, InCounters, AreForms, IsProduct, IsWay, IsStepped, IsReached, AreFormsBetween, Stops, Makes, step_by, stepped, form_way, reached}
 use Rattle.nest_loop.specs.Most.{way}
@@ -25,33 +25,33 @@ stops_too place P Q r f (inl m) = inl m
 stops_too place P Q r f (inr l) = inr (l.0, λ b q. let p = f b q in l.1 p.0 p.1)
 
 -- a sum that begins with a term
-pub record Begins (levels : List Level) (sum : Affine) (t : Term) (ts : List Term) (g : Affine) : Type 0 where
+pub record Begins (levels : List EnclosingLoop) (sum : Affine) (t : Term) (ts : List Term) (g : Affine) : Type 0 where
   pub product : Affine
   pub is : IsProduct levels t product
   pub fits : Fits (sum_form sum product)
   pub rest : Adds levels (sum_form sum product) ts g
 
-pub begun : (levels : List Level) (sum : Affine) (t : Term) (ts : List Term) (g : Affine) → Adds levels sum (t ∷ ts) g → Begins levels sum t ts g
+pub begun : (levels : List EnclosingLoop) (sum : Affine) (t : Term) (ts : List Term) (g : Affine) → Adds levels sum (t ∷ ts) g → Begins levels sum t ts g
 begun levels sum t ts g (one_more {p = p} e f s r) = record { product = multiple_form p t.coefficient; is = record { place = p; at = e; is = refl; fits = f }; fits = s; rest = r }
 
-pub begin : (levels : List Level) (sum product : Affine) (t : Term) (ts : List Term) (g : Affine) → IsProduct levels t product → Fits (sum_form sum product) → Adds levels (sum_form sum product) ts g → Adds levels sum (t ∷ ts) g
+pub begin : (levels : List EnclosingLoop) (sum product : Affine) (t : Term) (ts : List Term) (g : Affine) → IsProduct levels t product → Fits (sum_form sum product) → Adds levels (sum_form sum product) ts g → Adds levels sum (t ∷ ts) g
 begin levels sum product t ts g h s r =
     one_more h.at (subst Fits h.is h.fits) (subst (λ (f : Affine). Fits (sum_form sum f)) h.is s) (subst (λ (f : Affine). Adds levels (sum_form sum f) ts g) h.is r)
 
-same_product : (levels : List Level) (t : Term) (f g : Affine) → IsProduct levels t f → IsProduct levels t g → f ≡ g
+same_product : (levels : List EnclosingLoop) (t : Term) (f g : Affine) → IsProduct levels t f → IsProduct levels t g → f ≡ g
 same_product levels t f g h k = h.is ∙ ap (λ (p : Affine). multiple_form p t.coefficient) (same_Some h.place k.place (sym h.at ∙ k.at)) ∙ sym k.is
 
 -- ---- where a sum stops
 
-pub product_stops : (levels : List Level) (place : Place) (sum : Affine) (t : Term) (ts : List Term) (r : Refusal) → Stops place (IsProduct levels t) r → Stops place (Adds levels sum (t ∷ ts)) r
+pub product_stops : (levels : List EnclosingLoop) (place : Place) (sum : Affine) (t : Term) (ts : List Term) (r : Refusal) → Stops place (IsProduct levels t) r → Stops place (Adds levels sum (t ∷ ts)) r
 product_stops levels place sum t ts r h = stops_too place (IsProduct levels t) (Adds levels sum (t ∷ ts)) r (λ g a. let b = begun levels sum t ts g a in (b.product, b.is)) h
 
-pub sum_stops : (levels : List Level) (place : Place) (sum product : Affine) (t : Term) (ts : List Term) (r : Refusal) → IsProduct levels t product → Refuses place (sum_form sum product) r → Stops place (Adds levels sum (t ∷ ts)) r
+pub sum_stops : (levels : List EnclosingLoop) (place : Place) (sum product : Affine) (t : Term) (ts : List Term) (r : Refusal) → IsProduct levels t product → Refuses place (sum_form sum product) r → Stops place (Adds levels sum (t ∷ ts)) r
 sum_stops levels place sum product t ts r h (inl m) = inl m
 sum_stops levels place sum product t ts r h (inr l) =
     inr (l.0, λ g a. let b = begun levels sum t ts g a in l.1 (subst (λ (f : Affine). Fits (sum_form sum f)) (same_product levels t b.product product b.is h) b.fits))
 
-pub rest_stops : (levels : List Level) (place : Place) (sum product : Affine) (t : Term) (ts : List Term) (r : Refusal) → IsProduct levels t product → Stops place (Adds levels (sum_form sum product) ts) r → Stops place (Adds levels sum (t ∷ ts)) r
+pub rest_stops : (levels : List EnclosingLoop) (place : Place) (sum product : Affine) (t : Term) (ts : List Term) (r : Refusal) → IsProduct levels t product → Stops place (Adds levels (sum_form sum product) ts) r → Stops place (Adds levels sum (t ∷ ts)) r
 rest_stops levels place sum product t ts r h s =
     stops_too place (Adds levels (sum_form sum product) ts) (Adds levels sum (t ∷ ts)) r
     (λ g a. let b = begun levels sum t ts g a in (g, subst (λ (f : Affine). Adds levels (sum_form sum f) ts g) (same_product levels t b.product product b.is h) b.rest)) s
@@ -61,25 +61,25 @@ makes_too place P Q (Ok a) f g h = f a h
 makes_too place P Q (Err e) f g h = stops_too place P Q e (λ a q. (a, g a q)) h
 
 -- a variable of another loop
-pub other_loop : (levels outer : List Level) (level : Level) (t : Term) (place : Place) (r : Result Affine Refusal) → levels ≡ level ∷ outer → (level.canonical.variable.0 == t.variable.0) ≡ false
+pub other_loop : (levels outer : List EnclosingLoop) (level : EnclosingLoop) (t : Term) (place : Place) (r : Result Affine Refusal) → levels ≡ level ∷ outer → (level.canonical.variable.0 == t.variable.0) ≡ false
     → Makes r place (IsProduct outer t) → Makes r place (IsProduct levels t)
 other_loop levels outer level t place r e ne h =
     let x = t.variable.0 in
-    let same : place_in levels x ≡ place_in outer x = ap (λ (vs : List Level). place_in vs x) e ∙ ap (λ (b : Bool). cond b (option_map (λ (f : Forms). f.place) level.forms) (place_in outer x)) ne in
+    let same : place_in levels x ≡ place_in outer x = ap (λ (vs : List EnclosingLoop). place_in vs x) e ∙ ap (λ (b : Bool). cond b (option_map (λ (f : Forms). f.place) level.forms) (place_in outer x)) ne in
     makes_too place (IsProduct outer t) (IsProduct levels t) r
     (λ f p. record { place = p.place; at = same ∙ p.at; is = p.is; fits = p.fits })
     (λ f p. record { place = p.place; at = sym same ∙ p.at; is = p.is; fits = p.fits }) h
 
 -- no term is left
-pub nothing_added : (levels : List Level) (sum : Affine) (ts : List Term) → length ts ≡ 0 → Adds levels sum ts sum
+pub nothing_added : (levels : List EnclosingLoop) (sum : Affine) (ts : List Term) → length ts ≡ 0 → Adds levels sum ts sum
 nothing_added levels sum [] e = none_left
 nothing_added levels sum (t ∷ ts) e = absurd (omega arith)
 
 -- the terms are these
-pub of_terms : {ts us : List Term} (levels : List Level) (sum : Affine) (place : Place) (r : Refusal) → ts ≡ us → Stops place (Adds levels sum us) r → Stops place (Adds levels sum ts) r
+pub of_terms : {ts us : List Term} (levels : List EnclosingLoop) (sum : Affine) (place : Place) (r : Refusal) → ts ≡ us → Stops place (Adds levels sum us) r → Stops place (Adds levels sum ts) r
 of_terms levels sum place r e h = subst (λ (vs : List Term). Stops place (Adds levels sum vs) r) (sym e) h
 
-pub sum_made : (levels : List Level) (sum product next : Affine) (t : Term) (ts us : List Term) (place : Place) (r : Result Affine Refusal) → us ≡ t ∷ ts → IsProduct levels t product → next ≡ sum_form sum product → Fits next
+pub sum_made : (levels : List EnclosingLoop) (sum product next : Affine) (t : Term) (ts us : List Term) (place : Place) (r : Result Affine Refusal) → us ≡ t ∷ ts → IsProduct levels t product → next ≡ sum_form sum product → Fits next
     → Makes r place (Adds levels next ts) → Makes r place (Adds levels sum us)
 sum_made levels sum product next t ts us place r e p is fits h =
     let fits' : Fits (sum_form sum product) = subst Fits is fits in
@@ -90,7 +90,7 @@ sum_made levels sum product next t ts us place r e p is fits h =
     (λ g a. let b = begun levels sum t ts g a in subst (λ (f : Affine). Adds levels (sum_form sum f) ts g) (same_product levels t b.product product b.is p) b.rest) h')
 
 -- a form is one form in the counters
-pub same_sum : (levels : List Level) (ts : List Term) (sum f g : Affine) → Adds levels sum ts f → Adds levels sum ts g → f ≡ g
+pub same_sum : (levels : List EnclosingLoop) (ts : List Term) (sum f g : Affine) → Adds levels sum ts f → Adds levels sum ts g → f ≡ g
 same_sum levels [] sum f g none_left none_left = refl
 same_sum levels (t ∷ ts) sum f g a b =
     let x = begun levels sum t ts f a in
@@ -134,7 +134,7 @@ place_stops n l start limit place r = stops_too place (IsStepped n l.stride star
 pub reach_stops : (n : ℕ) (l : Canonical) (start limit : Affine) (place : Place) (r : Refusal) → Stops place (IsReached l start limit) r → Stops place (AreFormsBetween n l start limit) r
 reach_stops n l start limit place r = stops_too place (IsReached l start limit) (AreFormsBetween n l start limit) r (λ f a. (f.reach, a.reach))
 
-of_ends : (outer : List Level) (l : Canonical) (start limit : Affine) (n : ℕ) (f : Forms) → n ≡ length outer → InCounters outer l.start start → InCounters outer l.limit limit → AreFormsBetween n l start limit f
+of_ends : (outer : List EnclosingLoop) (l : Canonical) (start limit : Affine) (n : ℕ) (f : Forms) → n ≡ length outer → InCounters outer l.start start → InCounters outer l.limit limit → AreFormsBetween n l start limit f
     → AreForms outer l f
 of_ends outer l start limit n f e s t b =
     record {
@@ -149,7 +149,7 @@ of_ends outer l start limit n f e s t b =
       reach_fits = b.reach.fits;
     }
 
-to_ends : (outer : List Level) (l : Canonical) (start limit : Affine) (n : ℕ) (f : Forms) → n ≡ length outer → InCounters outer l.start start → InCounters outer l.limit limit → AreForms outer l f
+to_ends : (outer : List EnclosingLoop) (l : Canonical) (start limit : Affine) (n : ℕ) (f : Forms) → n ≡ length outer → InCounters outer l.start start → InCounters outer l.limit limit → AreForms outer l f
     → AreFormsBetween n l start limit f
 to_ends outer l start limit n f e s t a =
     let p = same_sum outer l.start.terms (constant_form l.start.constant) a.start start a.starts s in
@@ -163,7 +163,7 @@ to_ends outer l start limit n f e s t a =
       };
     }
 
-pub forms_made : (outer : List Level) (l : Canonical) (start limit : Affine) (n : ℕ) (place : Place) (r : Result Forms Refusal) → n ≡ length outer → InCounters outer l.start start → InCounters outer l.limit limit
+pub forms_made : (outer : List EnclosingLoop) (l : Canonical) (start limit : Affine) (n : ℕ) (place : Place) (r : Result Forms Refusal) → n ≡ length outer → InCounters outer l.start start → InCounters outer l.limit limit
     → Makes r place (AreFormsBetween n l start limit) → Makes r place (AreForms outer l)
 forms_made outer l start limit n place r e s t =
     makes_too place (AreFormsBetween n l start limit) (AreForms outer l) r (λ f. of_ends outer l start limit n f e s t) (λ f. to_ends outer l start limit n f e s t)

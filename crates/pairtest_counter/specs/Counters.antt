@@ -15,7 +15,7 @@ use Rattle.nest_loop.specs.declared.stride.Direction.TheVariants.{Rising, Fallin
 use Rattle.nest_loop.specs.declared.head.Canonical.{Canonical}
 use Rattle.nest_loop.specs.Sides.{end_shift}
 use Rattle.nest_loop.specs.Most.{way}
-use Rattle.pairtest_counter.specs.declared.level.Level.{Level}
+use Rattle.pairtest_counter.specs.declared.level.EnclosingLoop.{EnclosingLoop}
 use Rattle.pairtest_counter.specs.declared.level.Forms.{Forms}
 
 -- how far a variable goes with each step, below 0 where it falls
@@ -24,18 +24,18 @@ step_by Rising by = pos by
 step_by Falling by = pos 0 -ℤ pos by
 
 -- the variable of a loop inside others as a form in their counters, the innermost loop first; a variable of no loop is 0
-abbrev pub place_in : List Level → Variable → Option Affine
+abbrev pub place_in : List EnclosingLoop → Variable → Option Affine
 place_in [] x = Some (constant_form (pos 0))
 place_in (v ∷ vs) x = if v.canonical.variable.0 == x then option_map (λ f. f.place) v.forms else place_in vs x
 
 -- a form in the counters and further terms in the variables are together this form in the counters, and each form on the way keeps the limits
-pub data Adds (levels : List Level) : Affine → List Term → Affine → Type 0 where
+pub data Adds (levels : List EnclosingLoop) : Affine → List Term → Affine → Type 0 where
   none_left : {f : Affine} → Adds levels f [] f
   one_more : {f p g : Affine} {t : Term} {ts : List Term} → place_in levels t.variable.0 ≡ Some p → Fits (multiple_form p t.coefficient)
       → Fits (sum_form f (multiple_form p t.coefficient)) → Adds levels (sum_form f (multiple_form p t.coefficient)) ts g → Adds levels f (t ∷ ts) g
 
 -- a form in the variables of loops is this form in their counters
-abbrev pub InCounters : List Level → Affine → Affine → Type 0
+abbrev pub InCounters : List EnclosingLoop → Affine → Affine → Type 0
 InCounters levels f g = Adds levels (constant_form f.constant) f.terms g
 
 -- a start and as many steps as the counter of the next loop says
@@ -52,7 +52,7 @@ abbrev pub reached : Canonical → Affine → Affine → Affine
 reached l start limit = sum_form (form_way l.stride.direction start limit) (constant_form (way l.stride.direction (pos 0) (end_shift l.stride.direction l.bound)))
 
 -- the variable of a loop inside others and how far its end lies behind its start, as forms in the counters, and each form on the way keeps the limits
-pub record AreForms (outer : List Level) (l : Canonical) (f : Forms) : Type 0 where
+pub record AreForms (outer : List EnclosingLoop) (l : Canonical) (f : Forms) : Type 0 where
   pub start : Affine
   pub limit : Affine
   pub starts : InCounters outer l.start start
@@ -77,7 +77,7 @@ abbrev pub Makes : {A : Type 0} → Result A Refusal → Place → (A → Type 0
 Makes result place P = MatchResult result P (Stops place P)
 
 -- what a term is in the counters
-pub record IsProduct (levels : List Level) (t : Term) (f : Affine) : Type 0 where
+pub record IsProduct (levels : List EnclosingLoop) (t : Term) (f : Affine) : Type 0 where
   pub place : Affine
   pub at : place_in levels t.variable.0 ≡ Some place
   pub is : f ≡ multiple_form place t.coefficient

@@ -10,17 +10,17 @@ use Rattle.affine.specs.Box.{side}
 use Rattle.nest_loop.specs.Sides.{CannotWrap, IsSide}
 use Rattle.nest_loop.specs.Loops.{IsLoop, inside}
 use Rattle.nest_loop.specs.Most.{distance, IsMost}
-use Rattle.pairtest_counter.specs.declared.level.Level.{Level}
+use Rattle.pairtest_counter.specs.declared.level.EnclosingLoop.{EnclosingLoop}
 use Rattle.pairtest_counter.specs.declared.level.Inner.{Inner}
 use Rattle.pairtest_counter.specs.Counters.{step_by, Given, AreForms}
 
 -- some loops inside each other, the innermost first: the numbers that their variables may have, and the loops
 pub record Nesting : Type 0 where
   pub box : List Side
-  pub levels : List Level
+  pub levels : List EnclosingLoop
 
 -- a loop inside others never wraps, its variable has these numbers, it turns so often at most, and it has these forms in the counters
-pub record IsLevel (box : List Side) (outer : List Level) (s : Side) (v : Level) : Type 0 where
+pub record IsLevel (box : List Side) (outer : List EnclosingLoop) (s : Side) (v : EnclosingLoop) : Type 0 where
   pub numbers : Interval
   pub are : IsSide box v.canonical numbers
   pub is : s ≡ side v.canonical.variable.0 numbers.least numbers.greatest
@@ -30,7 +30,7 @@ pub record IsLevel (box : List Side) (outer : List Level) (s : Side) (v : Level)
   pub forms : Given (AreForms outer v.canonical) v.forms
 
 -- so each loop of some
-abbrev pub AreLevels : List Side → List Level → Type 0
+abbrev pub AreLevels : List Side → List EnclosingLoop → Type 0
 AreLevels [] [] = Unit {0}
 AreLevels [] (v ∷ vs) = ⊥
 AreLevels (s ∷ ss) [] = ⊥
@@ -49,19 +49,19 @@ with_inner n v = record { box = inside n.box v.level.canonical.variable.0 v.numb
 -- a loop of the text was entered, inside those before
 abbrev pub Enters : Nesting → Nesting → Head → Stmt → Type 0
 Enters before after head body =
-    (v : Level) × (i : Interval)
+    (v : EnclosingLoop) × (i : Interval)
     × IsLoop before.box head.variable.0 (source_of head.start) (cond_of head.test) (increment_of head.step) body v.canonical i
     × (after ≡ record { box = inside before.box head.variable.0 i; levels = v ∷ before.levels })
 
 -- the values of the variables of loops inside each other after so many steps of each, the loops counted from 0 and the outermost first; every other variable is 0
-abbrev pub values_at : List Level → (ℕ → ℤ) → Variable → ℤ
+abbrev pub values_at : List EnclosingLoop → (ℕ → ℤ) → Variable → ℤ
 values_at [] steps = λ x. pos 0
 values_at (v ∷ vs) steps =
     with_value (values_at vs steps) v.canonical.variable.0
     (value v.canonical.start (values_at vs steps) +ℤ step_by v.canonical.stride.direction v.canonical.stride.by *ℤ steps (length vs))
 
 -- a turn of loops inside each other: so many steps of each loop stay within its reach
-abbrev pub IsTurn : List Level → (ℕ → ℤ) → Type 0
+abbrev pub IsTurn : List EnclosingLoop → (ℕ → ℤ) → Type 0
 IsTurn [] steps = Unit {0}
 IsTurn (v ∷ vs) steps =
     (pos 0 ≤ℤ steps (length vs)) × ((pos v.canonical.stride.by *ℤ steps (length vs)) ≤ℤ distance v.canonical (values_at vs steps)) × IsTurn vs steps

@@ -16,22 +16,22 @@ ghost use Rattle.pairtest_counter.specs.Counters.{InCounters, AreForms, Given};
 ghost use Rattle.pairtest_counter.specs.Levels.{IsLevel, IsInner, with_inner, Enters, AreLevels};
 
 use crate::convert::{forms_of, in_counters};
-use crate::level::{Forms, Inner, Level};
+use crate::level::{EnclosingLoop, Forms, Inner};
 use affine::{Form, Interval, VarBox};
 use affine_expr::Fault;
 use ktree::{Head, Place, Refusal, Stmt, VarId};
-use nest_loop::{Canonical, loop_of, most_turns};
+use nest_loop::{Canonical, greatest_trip_count, loop_of};
 use std::alloc::Global;
 use std::marker::Model;
 
 /// Loops inside each other. Contracts see the numbers that their variables may have and the loops, the innermost first.
 #[derive(Drop)]
-pub struct Chain {
+pub struct EnclosingLoops {
     bounds: VarBox,
-    levels: Vec<Level>,
+    levels: Vec<EnclosingLoop>,
 }
 
-impl Model for Chain {
+impl Model for EnclosingLoops {
     ghost use Rattle.pairtest_counter.specs.Levels.{Nesting, AreLevels};
 
     ghost Value = { Nesting };
@@ -52,7 +52,7 @@ fn is_limit(refusal: &Refusal) -> bool
 fn forms_within(
     alloc: Global,
     canonical: &Canonical,
-    outer: &[Level],
+    outer: &[EnclosingLoop],
     place: Place,
 ) -> Result<Option<Forms>, Fault>
     requires { length outer.now ≤ 8 }
@@ -77,9 +77,9 @@ fn level_of(
     alloc: Global,
     canonical: Canonical,
     bounds: &VarBox,
-    outer: &[Level],
+    outer: &[EnclosingLoop],
     place: Place,
-) -> Result<Level, Fault>
+) -> Result<EnclosingLoop, Fault>
     requires few { length outer.now ≤ 8 }
     requires well { IsWell canonical }
     requires stays { CannotWrap bounds.now canonical }
@@ -88,9 +88,9 @@ fn level_of(
     ensures forms { IfOk result (λ level. Given (AreForms outer.now canonical) level.forms) }
     ensures err { IfErr result (λ fault. fault ≡ OutOfMemory) }
 {
-    let most = most_turns(alloc, &canonical, bounds, place)?;
+    let most = greatest_trip_count(alloc, &canonical, bounds, place)?;
     let forms = forms_within(alloc, &canonical, outer, place)?;
-    Ok(Level {
+    Ok(EnclosingLoop {
         canonical,
         most,
         forms,
@@ -98,46 +98,47 @@ fn level_of(
 }
 
 /// Gives the variable of a loop its numbers, and says whether the box took them.
-fn bound(bounds: &mut VarBox, variable: VarId, numbers: Interval, place: Place) -> bool
+fn bind_variable(bounds: &mut VarBox, variable: VarId, numbers: Interval, place: Place) -> bool
     ensures ok { result ≡ true → bounds.new ≡ inside bounds.old variable.0 numbers }
     ensures err { result ≡ false → bounds.new ≡ bounds.old }
 {
     let least = i128::from(numbers.least);
     let greatest = i128::from(numbers.greatest);
-    bounds.bound(variable, least, greatest, place).is_ok()
+    bounds.bind(variable, least, greatest, place).is_ok()
 }
 
 /// Puts a loop and the numbers of its variable before those of others, which stay as they are where memory runs out.
 fn put_inside(
     bounds: &mut VarBox,
-    levels: &mut Vec<Level>,
+    levels: &mut Vec<EnclosingLoop>,
     inner: Inner,
     place: Place,
 ) -> Result<(), Fault>
-    ensures numbers { OnOk result (bounds.new ≡ inside bounds.old inner.level.canonical.variable.0 inner.numbers) }
+    ensures numbers { OnOk result (bounds.new
+        ≡ inside bounds.old inner.level.canonical.variable.0 inner.numbers) }
     ensures levels { OnOk result (levels.new.items ≡ inner.level ∷ levels.old.items) }
     ensures same_numbers { OnErr result (bounds.new ≡ bounds.old) }
     ensures same_levels { OnErr result (levels.new.items ≡ levels.old.items) }
     ensures fault { IfErr result (λ fault. fault ≡ OutOfMemory) }
 {
     let variable = inner.level.canonical.variable;
-    if !bound(bounds, variable, inner.numbers, place) {
+    if !bind_variable(bounds, variable, inner.numbers, place) {
         return Err(Fault::OutOfMemory);
     }
     if levels.insert(0, inner.level).is_err() {
-        bounds.unbound();
+        bounds.unbind();
         return Err(Fault::OutOfMemory);
     }
     Ok(())
 }
 
-impl Chain {
+impl EnclosingLoops {
     /// No loop at all.
-    pub fn new(alloc: Global) -> Chain
+    pub fn new(alloc: Global) -> EnclosingLoops
         ensures numbers { result.box ≡ [] }
         ensures levels { result.levels ≡ [] }
     {
-        Chain {
+        EnclosingLoops {
             bounds: VarBox::new(alloc),
             levels: Vec::new(alloc),
         }
@@ -151,7 +152,7 @@ impl Chain {
     }
 
     /// The loops, the innermost first.
-    pub fn levels(&self) -> &[Level]
+    pub fn levels(&self) -> &[EnclosingLoop]
         ensures all { result.now ≡ self.now.levels }
         ensures sound { AreLevels self.now.box self.now.levels }
     {
@@ -161,8 +162,12 @@ impl Chain {
     /// The loop of a head inside those of the chain.
     fn inner(&self, alloc: Global, head: &Head, body: &Stmt) -> Result<Inner, Fault>
         ensures ok { IfOk result (IsInner self.now head.now (stmt_of body.now)) }
-        ensures fault { IfErr result (λ fault. (fault ≡ OutOfMemory) ⊎ ((l : canonicals.Canonical) (i : intervals.Interval)
-            → IsLoop self.now.box head.now.variable.0 (source_of head.now.start) (cond_of head.now.test) (increment_of head.now.step) (stmt_of body.now) l i → ⊥)) }
+        ensures fault { IfErr result
+            (λ fault. (fault ≡ OutOfMemory)
+            ⊎ ((l : canonicals.Canonical) (i : intervals.Interval)
+            → IsLoop self.now.box head.now.variable.0 (source_of head.now.start)
+            (cond_of head.now.test) (increment_of head.now.step) (stmt_of body.now) l i
+            → ⊥)) }
     {
         let made = loop_of(alloc, head, body, &self.bounds)?;
         let numbers = made.numbers;
@@ -173,7 +178,9 @@ impl Chain {
 
     /// Puts a loop inside those of the chain, which stay as they are where memory runs out.
     fn put(&mut self, inner: Inner, place: Place) -> Result<(), Fault>
-        requires { IsLevel self.old.box self.old.levels (side inner.level.canonical.variable.0 inner.numbers.least inner.numbers.greatest) inner.level }
+        requires { IsLevel self.old.box self.old.levels
+            (side inner.level.canonical.variable.0 inner.numbers.least inner.numbers.greatest)
+            inner.level }
         ensures ok { OnOk result (self.new ≡ with_inner self.old inner) }
         ensures err { OnErr result (self.new ≡ self.old) }
         ensures fault { IfErr result (λ fault. fault ≡ OutOfMemory) }
@@ -190,8 +197,12 @@ impl Chain {
     pub fn enter(&mut self, alloc: Global, head: &Head, body: &Stmt) -> Result<(), Fault>
         ensures ok { OnOk result (Enters self.old self.new head.now (stmt_of body.now)) }
         ensures err { OnErr result (self.new ≡ self.old) }
-        ensures fault { IfErr result (λ fault. (fault ≡ OutOfMemory) ⊎ ((l : canonicals.Canonical) (i : intervals.Interval)
-            → IsLoop self.old.box head.now.variable.0 (source_of head.now.start) (cond_of head.now.test) (increment_of head.now.step) (stmt_of body.now) l i → ⊥)) }
+        ensures fault { IfErr result
+            (λ fault. (fault ≡ OutOfMemory)
+            ⊎ ((l : canonicals.Canonical) (i : intervals.Interval)
+            → IsLoop self.old.box head.now.variable.0 (source_of head.now.start)
+            (cond_of head.now.test) (increment_of head.now.step) (stmt_of body.now) l i
+            → ⊥)) }
     {
         let inner = self.inner(alloc, head, body)?;
         self.put(inner, head.place)
@@ -203,7 +214,7 @@ impl Chain {
         ensures numbers { self.new.box ≡ drop 1 self.old.box }
         ensures levels { self.new.levels ≡ drop 1 self.old.levels }
     {
-        self.bounds.unbound();
+        self.bounds.unbind();
         self.levels.remove(0);
     }
 
@@ -214,7 +225,10 @@ impl Chain {
     /// `Limit` at the place, where a number of a form on the way is above 2^62 in absolute value; `OutOfMemory`.
     pub fn in_counters(&self, alloc: Global, form: &Form, place: Place) -> Result<Form, Fault>
         ensures ok { IfOk result (λ found. InCounters self.now.levels form.now found) }
-        ensures err { IfErr result (λ fault. (fault ≡ OutOfMemory) ⊎ ((fault ≡ Limit place) × ((g : Affine) → InCounters self.now.levels form.now g → ⊥))) }
+        ensures err { IfErr result
+            (λ fault. (fault ≡ OutOfMemory)
+            ⊎ ((fault ≡ Limit place) × ((g : Affine) → InCounters self.now.levels form.now g
+            → ⊥))) }
     {
         match in_counters(alloc, self.levels.as_slice(), form, place) {
             Ok(found) => Ok(found),

@@ -9,7 +9,7 @@ ghost use Rattle.nest_loop.specs.Most.{way};
 ghost use Rattle.nest_loop.specs.Sides.{end_shift};
 ghost use Rattle.pairtest_counter.specs.Counters.{step_by, Adds, InCounters, AreForms, IsProduct, IsWay, IsStepped, IsReached, AreFormsBetween, Makes};
 
-use crate::level::{Forms, Level};
+use crate::level::{EnclosingLoop, Forms};
 use affine::{Form, Term};
 use ktree::{Place, Refusal, VarId};
 use nest_loop::{Bound, Canonical, Direction, Stride};
@@ -27,14 +27,19 @@ fn constant(alloc: Global, number: i64, place: Place) -> Result<Form, Refusal>
 }
 
 /// A term, its variable being a form in the counters.
-fn scaled(alloc: Global, levels: &[Level], term: &Term, place: Place) -> Result<Form, Refusal>
+fn scale_term(
+    alloc: Global,
+    levels: &[EnclosingLoop],
+    term: &Term,
+    place: Place,
+) -> Result<Form, Refusal>
     ensures { Makes result place (IsProduct levels.now term.now) }
 {
     let Some((level, outer)) = levels.split_first() else {
         return constant(alloc, 0, place)?.scale(term.coefficient, place);
     };
     if level.canonical.variable != term.variable {
-        return scaled(alloc, outer, term, place);
+        return scale_term(alloc, outer, term, place);
     }
     match &level.forms {
         Some(forms) => forms.place.scale(term.coefficient, place),
@@ -43,9 +48,9 @@ fn scaled(alloc: Global, levels: &[Level], term: &Term, place: Place) -> Result<
 }
 
 /// A form in the counters, and further terms in the variables.
-fn added(
+fn add_terms(
     alloc: Global,
-    levels: &[Level],
+    levels: &[EnclosingLoop],
     sum: Form,
     terms: &[Term],
     place: Place,
@@ -55,22 +60,22 @@ fn added(
     let Some((term, terms)) = terms.split_first() else {
         return Ok(sum);
     };
-    let product = scaled(alloc, levels, term, place)?;
+    let product = scale_term(alloc, levels, term, place)?;
     let sum = sum.add(&product, place)?;
-    added(alloc, levels, sum, terms, place)
+    add_terms(alloc, levels, sum, terms, place)
 }
 
 /// A form in the variables of loops as one in their counters.
 pub fn in_counters(
     alloc: Global,
-    levels: &[Level],
+    levels: &[EnclosingLoop],
     form: &Form,
     place: Place,
 ) -> Result<Form, Refusal>
     ensures { Makes result place (InCounters levels.now form.now) }
 {
     let constant = constant(alloc, form.constant_term(), place)?;
-    added(alloc, levels, constant, form.terms(), place)
+    add_terms(alloc, levels, constant, form.terms(), place)
 }
 
 /// How far a variable goes with each step.
@@ -85,7 +90,8 @@ fn step_by(stride: Stride) -> i64
 
 /// The steps of a loop, as a form in its counter.
 fn steps(alloc: Global, counter: VarId, stride: Stride, place: Place) -> Result<Form, Refusal>
-    ensures ok { IfOk result (λ form. form ≡ multiple_form (variable_form counter.0) (step_by stride.direction stride.by)) }
+    ensures ok { IfOk result (λ form. form
+        ≡ multiple_form (variable_form counter.0) (step_by stride.direction stride.by)) }
     ensures err { IfErr result (λ refusal. refusal ≡ refusals.OutOfMemory) }
 {
     match Form::variable(alloc, counter).scale(step_by(stride), place) {
@@ -166,7 +172,7 @@ fn forms_between(
 /// The forms of a loop inside others, in the counters of these and its own.
 pub fn forms_of(
     alloc: Global,
-    outer: &[Level],
+    outer: &[EnclosingLoop],
     canonical: &Canonical,
     counter: VarId,
     place: Place,

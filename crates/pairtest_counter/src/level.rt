@@ -14,7 +14,7 @@ pub struct Forms {
 /// A loop inside others: how often it turns at most, wherever the variables round it have values of theirs, and its forms in
 /// the counters; none, where a number of these is above 2^62 in absolute value.
 #[derive(Drop)]
-pub struct Level {
+pub struct EnclosingLoop {
     pub canonical: Canonical,
     pub most: u64,
     pub forms: Option<Forms>,
@@ -23,6 +23,6 @@ pub struct Level {
 /// A loop inside others, and the numbers that its variable may have.
 #[derive(Drop)]
 pub(crate) struct Inner {
-    pub level: Level,
+    pub level: EnclosingLoop,
     pub numbers: Interval,
 }

@@ -5,5 +5,5 @@ mod chain;
 mod convert;
 mod level;
 
-pub use chain::Chain;
-pub use level::{Forms, Level};
+pub use chain::EnclosingLoops;
+pub use level::{EnclosingLoop, Forms};

@@ -1,7 +1,7 @@
 -- The words of clauses: cut off one by one, in one way only.
 use Rattle.std.specs.Prelude.{Bool, true, false, ◌≡◌, ◌==◌, ◌<◌, List, [], ◌∷◌, ◌++◌, length, codes, Option, Some, None, MatchOption, option_map, is_some, is_none}
 use Rattle.std.proofs.Common.{refl, sym, ap, ◌∙◌, subst, inl, inr, arith}
-use Rattle.semantics.specs.Source.Token.{Token, Word, Sign, OpenParen, Comma}
+use Rattle.semantics.specs.Source.Token.{Token, Word, Punctuator, OpenParen, Comma}
 use Rattle.pragma.specs.Clauses.{Part, Plain, Sized, Deep, words_of, Held, adds, HasFurther, no_further, next, next_behind_comma, HasForm, no_clauses, first, IsBehindComma}
 use Rattle.pragma.specs.Forms.{held}
 use Rattle.pragma.specs.declared.clauses.Form.{Form}
@@ -11,7 +11,7 @@ not_empty Plain ts e = absurd (cc e)
 not_empty (Sized w) ts e = absurd (cc e)
 not_empty (Deep w) ts e = absurd (cc e)
 
-no_comma : (p : Part) (ts us : List Token) → words_of p ++ ts ≡ Sign Comma ∷ us → ⊥
+no_comma : (p : Part) (ts us : List Token) → words_of p ++ ts ≡ Punctuator Comma ∷ us → ⊥
 no_comma Plain ts us e = absurd (cc e)
 no_comma (Sized w) ts us e = absurd (cc e)
 no_comma (Deep w) ts us e = absurd (cc e)
@@ -58,7 +58,7 @@ same_further (next_behind_comma p t a) (next_behind_comma q u b) e = let s = sam
 
 -- a clause at the front, behind a comma or none
 further_from : (ts vs us : List Token) (p : Part) (h g : Held) → IsBehindComma ts vs → vs ≡ words_of p ++ us → HasFurther us h → adds p h ≡ Some g → HasFurther ts g
-further_from ts vs us p h g (inl c) e t a = subst (λ xs. HasFurther xs g) (sym (c ∙ ap (λ xs. Sign Comma ∷ xs) e)) (next_behind_comma p t a)
+further_from ts vs us p h g (inl c) e t a = subst (λ xs. HasFurther xs g) (sym (c ∙ ap (λ xs. Punctuator Comma ∷ xs) e)) (next_behind_comma p t a)
 further_from ts vs us p h g (inr c) e t a = subst (λ xs. HasFurther xs g) (sym (sym c.0 ∙ e)) (next p t a)
 
 record Cut (vs : List Token) (g : Held) : Type 0 where
@@ -116,11 +116,11 @@ shorter ts vs us p b e = bound b
     a = subst (λ xs. length us < length xs) (sym e) (shorter_rest p us)
 
     bound : IsBehindComma ts vs → length us < length ts
-    bound (inl c) = let l : length ts ≡ length (Sign Comma ∷ vs) = ap length c in omega (arith, a, l)
+    bound (inl c) = let l : length ts ≡ length (Punctuator Comma ∷ vs) = ap length c in omega (arith, a, l)
     bound (inr c) = let l : length vs ≡ length ts = ap length c.0 in omega (arith, a, l)
 
 -- what stands behind `schedule` is no clause, unless `dynamic` follows
-pub not_dynamic : {a b : List Token} → a ≡ Sign OpenParen ∷ b → ((ts : List Token) → b ≡ Word (codes "dynamic") ∷ ts → ⊥) → (p : Part) (us : List Token) → Word (codes "schedule") ∷ a ≡ words_of p ++ us → ⊥
+pub not_dynamic : {a b : List Token} → a ≡ Punctuator OpenParen ∷ b → ((ts : List Token) → b ≡ Word (codes "dynamic") ∷ ts → ⊥) → (p : Part) (us : List Token) → Word (codes "schedule") ∷ a ≡ words_of p ++ us → ⊥
 not_dynamic d n Plain us e = n _ (tails (sym d ∙ tails e))
 not_dynamic d n (Sized w) us e = n _ (tails (sym d ∙ tails e))
 not_dynamic d n (Deep w) us e = differ (ap begins_c e)
@@ -134,10 +134,10 @@ some_there None P Q e m = absurd (cc e)
 some_there (Some x) P Q e m = (x, m)
 
 -- the clauses behind `parallel for`
-pub form_of : {ts us vs : List Token} (h : Held) → ts ≡ Word (codes "parallel") ∷ us → us ≡ Word (codes "for") ∷ vs → ((xs : List Token) → vs ≡ Sign Comma ∷ xs → ⊥) → HasFurther vs h → HasForm ts h
+pub form_of : {ts us vs : List Token} (h : Held) → ts ≡ Word (codes "parallel") ∷ us → us ≡ Word (codes "for") ∷ vs → ((xs : List Token) → vs ≡ Punctuator Comma ∷ xs → ⊥) → HasFurther vs h → HasForm ts h
 form_of h d e n t = subst (λ xs. HasForm xs h) (sym (d ∙ ap (λ xs. Word (codes "parallel") ∷ xs) e)) (opens n t)
   where
-    opens : {vs : List Token} {h : Held} → ((xs : List Token) → vs ≡ Sign Comma ∷ xs → ⊥) → HasFurther vs h → HasForm (Word (codes "parallel") ∷ Word (codes "for") ∷ vs) h
+    opens : {vs : List Token} {h : Held} → ((xs : List Token) → vs ≡ Punctuator Comma ∷ xs → ⊥) → HasFurther vs h → HasForm (Word (codes "parallel") ∷ Word (codes "for") ∷ vs) h
     opens n no_further = no_clauses
     opens n (next p t a) = first p t a
     opens n (next_behind_comma p t a) = absurd (n _ refl)

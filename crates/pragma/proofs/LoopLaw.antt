@@ -5,7 +5,7 @@ use Rattle.std.specs.List.{list_all}
 use Rattle.std.proofs.Common.{refl, sym, ap, ◌∙◌, subst, inl, inr}
 use Rattle.std.proofs.lemmas.Bool.{cond-true, leb-true}
 use Rattle.semantics.specs.Tree.{Name}
-use Rattle.semantics.specs.Source.Token.{Token, Word, Sign, Comma}
+use Rattle.semantics.specs.Source.Token.{Token, Word, Punctuator, Comma}
 use Rattle.semantics.specs.Source.Text.{is_directive_line, behind_omp}
 use Rattle.semantics.specs.Source.Cuts.{is_decimal, decimal_from}
 use Rattle.semantics.specs.Directives.Directive.{Clause, ParallelFor}
@@ -167,7 +167,7 @@ held_further (grammar.next {ts} {us} r f) k c s =
     record { numbers = h.numbers; has = subst (λ xs. HasFurther (xs ++ us) h.numbers) (sym h.is) (next h.part h.has h.sum); size = h.size; depth = h.depth }
 held_further (grammar.next_behind_comma {ts} {us} r f) k c s =
     let h = held_one s r (held_further f) in
-    record { numbers = h.numbers; has = subst (λ xs. HasFurther (Sign Comma ∷ (xs ++ us)) h.numbers) (sym h.is) (next_behind_comma h.part h.has h.sum); size = h.size; depth = h.depth }
+    record { numbers = h.numbers; has = subst (λ xs. HasFurther (Punctuator Comma ∷ (xs ++ us)) h.numbers) (sym h.is) (next_behind_comma h.part h.has h.sum); size = h.size; depth = h.depth }
 
 held_form : {ts : List Token} {cs : List (Clause Name)} {k c : Option ℕ} → ReadsDirective ts (ParallelFor cs) → Says cs k c → HeldAll (HasForm ts) k c
 held_form (parallel_for grammar.no_clauses a o) nothing = record { numbers = (None, None); has = no_clauses; size = no_number; depth = no_number }

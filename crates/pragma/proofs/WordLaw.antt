@@ -3,7 +3,7 @@ use Rattle.std.specs.Prelude.{ℕ, suc, Bool, true, false, ◌||◌, ◌==◌, �
 use Rattle.std.proofs.Common.{cond, refl, sym, ap, ◌∙◌, append_assoc, append-nil, arith}
 use Rattle.std.proofs.lemmas.Bool.{cond-true, cond-false}
 use Rattle.semantics.specs.Source.Text.{is_blank, skip_blanks}
-use Rattle.semantics.specs.Source.Token.{Word, Sign, Symbol, OpenParen, CloseParen, Comma, Colon}
+use Rattle.semantics.specs.Source.Token.{Word, Punctuator, Symbol, OpenParen, CloseParen, Comma, Colon}
 use Rattle.semantics.specs.Directives.DirectiveGrammar.{ends_run, with_mark, with_run, words_from, words}
 use Rattle.pragma.specs.Words.{symbol_at, run_length}
 
@@ -70,11 +70,11 @@ pub no_word : (bs rest : List ℕ) → rest ≡ skip_blanks bs → length rest �
 no_word bs [] e h = words_skip bs ∙ ap words (sym e)
 no_word bs (b ∷ rest) e h = absurd (omega arith)
 
-pub sign_word : (bs text : List ℕ) (b : ℕ) (rest : List ℕ) (s : Symbol) → text ≡ skip_blanks bs → text ≡ b ∷ rest → symbol_at b ≡ Some s → words bs ≡ Sign s ∷ words rest
+pub sign_word : (bs text : List ℕ) (b : ℕ) (rest : List ℕ) (s : Symbol) → text ≡ skip_blanks bs → text ≡ b ∷ rest → symbol_at b ≡ Some s → words bs ≡ Punctuator s ∷ words rest
 sign_word bs text b rest s e f h =
     let plain = head_is_no_blank bs b rest (sym e ∙ f) in
     let found = marked (b == 40) (b == 41) (b == 44) (b == 58) s h in
-    words_skip bs ∙ ap words (sym e ∙ f) ∙ cond-true _ _ _ (ends_like b true plain found.0) ∙ cond-false _ _ _ plain ∙ ap (λ m. Sign m ∷ words rest) found.1
+    words_skip bs ∙ ap words (sym e ∙ f) ∙ cond-true _ _ _ (ends_like b true plain found.0) ∙ cond-false _ _ _ plain ∙ ap (λ m. Punctuator m ∷ words rest) found.1
 
 pub run_word : (bs text : List ℕ) (b : ℕ) (rest run behind : List ℕ) (n : ℕ) → text ≡ skip_blanks bs → text ≡ b ∷ rest → symbol_at b ≡ None
     → n ≡ run_length text → run ≡ take n text → behind ≡ drop n text → words bs ≡ Word run ∷ words behind

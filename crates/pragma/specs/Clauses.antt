@@ -1,7 +1,7 @@
 -- The lines of `parallel for` that are read so far: with a dynamic schedule and collapsed loops, or without.
 use Rattle.std.specs.Prelude.{ℕ, Bool, true, ◌≡◌, ◌⊎◌, ◌&&◌, nat_le, if◌then◌else◌, List, [], ◌∷◌, ◌++◌, Option, Some, None, codes}
 use Rattle.semantics.specs.Tree.{Name}
-use Rattle.semantics.specs.Source.Token.{Token, Word, Sign, Comma}
+use Rattle.semantics.specs.Source.Token.{Token, Word, Punctuator, Comma}
 use Rattle.semantics.specs.Source.Text.{is_directive_line, behind_omp}
 use Rattle.semantics.specs.Source.Cuts.{is_decimal, decimal_from}
 use Rattle.semantics.specs.Directives.Directive.{Clause, ScheduledBy, DynamicSize, Collapse, ParallelFor}
@@ -31,7 +31,7 @@ pub data Part : Type 0 where
 -- the words of each
 abbrev pub words_of : Part → List Token
 words_of Plain = called (codes "schedule") (Word (codes "dynamic") ∷ [])
-words_of (Sized w) = called (codes "schedule") (Word (codes "dynamic") ∷ Sign Comma ∷ Word w ∷ [])
+words_of (Sized w) = called (codes "schedule") (Word (codes "dynamic") ∷ Punctuator Comma ∷ Word w ∷ [])
 words_of (Deep w) = called (codes "collapse") (Word w ∷ [])
 
 -- the words of the two numbers; a size that is left out is 1
@@ -49,7 +49,7 @@ adds p h = None
 pub data HasFurther : List Token → Held → Type 0 where
   no_further : HasFurther [] (None, None)
   next : {ts : List Token} {h g : Held} (p : Part) → HasFurther ts h → adds p h ≡ Some g → HasFurther (words_of p ++ ts) g
-  next_behind_comma : {ts : List Token} {h g : Held} (p : Part) → HasFurther ts h → adds p h ≡ Some g → HasFurther (Sign Comma ∷ (words_of p ++ ts)) g
+  next_behind_comma : {ts : List Token} {h g : Held} (p : Part) → HasFurther ts h → adds p h ≡ Some g → HasFurther (Punctuator Comma ∷ (words_of p ++ ts)) g
 
 -- `parallel for`, and clauses that begin with no comma
 pub data HasForm : List Token → Held → Type 0 where
@@ -69,4 +69,4 @@ pub data IsCounted (most : ℕ) : Option (List ℕ) → Option ℕ → Type 0 wh
 
 -- behind a comma, if one comes first
 abbrev pub IsBehindComma : List Token → List Token → Type 0
-IsBehindComma ts us = (ts ≡ Sign Comma ∷ us) ⊎ ((us ≡ ts) × ((xs : List Token) → ts ≡ Sign Comma ∷ xs → ⊥))
+IsBehindComma ts us = (ts ≡ Punctuator Comma ∷ us) ⊎ ((us ≡ ts) × ((xs : List Token) → ts ≡ Punctuator Comma ∷ xs → ⊥))

@@ -2,13 +2,13 @@
 use Rattle.std.specs.Prelude.{ℕ, suc, ◌==◌, if◌then◌else◌, List, [], ◌∷◌, Option, Some, None}
 use Rattle.semantics.specs.Source.Token as meant
 use Rattle.semantics.specs.Directives.DirectiveGrammar.{ends_run}
-use Rattle.pragma.specs.declared.word.Sign.{Sign}
-use Rattle.pragma.specs.declared.word.Sign.TheVariants.{OpenParen, CloseParen, Comma, Colon}
+use Rattle.pragma.specs.declared.word.Punctuator.{Punctuator}
+use Rattle.pragma.specs.declared.word.Punctuator.TheVariants.{OpenParen, CloseParen, Comma, Colon}
 use Rattle.pragma.specs.declared.word.Word.{Word}
 use Rattle.pragma.specs.declared.word.Word.TheVariants as found
 
 -- a sign as a symbol of the definitions
-abbrev pub symbol_of : Sign → meant.Symbol
+abbrev pub symbol_of : Punctuator → meant.Symbol
 symbol_of OpenParen = meant.OpenParen
 symbol_of CloseParen = meant.CloseParen
 symbol_of Comma = meant.Comma
@@ -17,7 +17,7 @@ symbol_of Colon = meant.Colon
 -- a word as a token of the definitions
 abbrev pub token_of : Word → meant.Token
 token_of (found.Run bytes) = meant.Word bytes.now
-token_of (found.Sign sign) = meant.Sign (symbol_of sign)
+token_of (found.Punctuator sign) = meant.Punctuator (symbol_of sign)
 
 -- the symbol that a byte is
 abbrev pub symbol_at : ℕ → Option meant.Symbol

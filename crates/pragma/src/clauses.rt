@@ -7,7 +7,7 @@ ghost use Rattle.pragma.specs.Clauses.{IsBehindComma, is_literal, Held, adds, Ha
 ghost use Rattle.pragma.specs.Forms.{part_of, held, IsNext};
 
 use crate::schedule::{is_decimal, value};
-use crate::word::{Sign, Word, behind_sign, behind_word, next_word};
+use crate::word::{Punctuator, Word, behind_sign, behind_word, next_word};
 
 /// A clause, and the word of its number.
 #[derive(Clone, Copy)]
@@ -31,7 +31,7 @@ pub struct Form<'l> {
 fn behind_comma(text: &[u8]) -> &[u8]
     ensures { IsBehindComma (words text.now) (words result.now) }
 {
-    match behind_sign(text, Sign::Comma) {
+    match behind_sign(text, Punctuator::Comma) {
         Some(rest) => rest,
         None => text,
     }
@@ -46,25 +46,28 @@ fn is_literal(word: &[u8]) -> bool
 
 /// A word and the parenthesis behind it.
 fn number(text: &[u8]) -> Option<(&[u8], &[u8])>
-    ensures { MatchOption result ((w : List ℕ) (ts : List token.Token) → words text.now ≡ token.Word w ∷ token.Sign token.CloseParen ∷ ts → ⊥)
-        (λ found. words text.now ≡ token.Word found.0.now ∷ token.Sign token.CloseParen ∷ words found.1.now) }
+    ensures { MatchOption result
+        ((w : List ℕ) (ts : List token.Token)
+        → words text.now ≡ token.Word w ∷ token.Punctuator token.CloseParen ∷ ts → ⊥)
+        (λ found. words text.now ≡ token.Word found.0.now ∷ token.Punctuator token.CloseParen
+        ∷ words found.1.now) }
 {
     let (Word::Run(word), rest) = next_word(text)? else {
         return None;
     };
-    Some((word, behind_sign(rest, Sign::CloseParen)?))
+    Some((word, behind_sign(rest, Punctuator::CloseParen)?))
 }
 
 /// The clause behind `schedule`, and what stands behind it.
 fn schedule_part(text: &[u8]) -> Option<(Part<'_>, &[u8])>
     ensures { IsNext (token.Word (codes "schedule") ∷ words text.now) result }
 {
-    let text = behind_sign(text, Sign::OpenParen)?;
+    let text = behind_sign(text, Punctuator::OpenParen)?;
     let text = behind_word(text, b"dynamic")?;
-    if let Some(rest) = behind_sign(text, Sign::CloseParen) {
+    if let Some(rest) = behind_sign(text, Punctuator::CloseParen) {
         return Some((Part::Plain, rest));
     }
-    let (word, rest) = number(behind_sign(text, Sign::Comma)?)?;
+    let (word, rest) = number(behind_sign(text, Punctuator::Comma)?)?;
     Some((Part::Sized(word), rest))
 }
 
@@ -72,7 +75,7 @@ fn schedule_part(text: &[u8]) -> Option<(Part<'_>, &[u8])>
 fn collapse_part(text: &[u8]) -> Option<(Part<'_>, &[u8])>
     ensures { IsNext (token.Word (codes "collapse") ∷ words text.now) result }
 {
-    let (word, rest) = number(behind_sign(text, Sign::OpenParen)?)?;
+    let (word, rest) = number(behind_sign(text, Punctuator::OpenParen)?)?;
     Some((Part::Deep(word), rest))
 }
 
@@ -87,7 +90,7 @@ fn next_part(text: &[u8]) -> Option<(Part<'_>, &[u8])>
 }
 
 /// A clause before others, if it has no number below 1 and none of its kind is among them.
-fn added<'l>(part: Part<'l>, form: Form<'l>) -> Option<Form<'l>>
+fn add_clause<'l>(part: Part<'l>, form: Form<'l>) -> Option<Form<'l>>
     ensures { option_map held result ≡ adds (part_of part.entry) (held form.entry) }
 {
     match part {
@@ -109,7 +112,8 @@ fn added<'l>(part: Part<'l>, form: Form<'l>) -> Option<Form<'l>>
 
 /// The clauses up to the line's end, each behind a comma or none.
 fn further(text: &[u8]) -> Option<Form<'_>>
-    ensures { MatchOption result ((h : Held) → HasFurther (words text.now) h → ⊥) (λ form. HasFurther (words text.now) (held form)) }
+    ensures { MatchOption result ((h : Held) → HasFurther (words text.now) h → ⊥)
+        (λ form. HasFurther (words text.now) (held form)) }
 {
     if next_word(text).is_none() {
         return Some(Form {
@@ -118,16 +122,17 @@ fn further(text: &[u8]) -> Option<Form<'_>>
         });
     }
     let (part, rest) = next_part(behind_comma(text))?;
-    added(part, further(rest)?)
+    add_clause(part, further(rest)?)
 }
 
 /// The words of a `parallel for` directive: none, or those of its numbers.
 pub fn read_form(text: &[u8]) -> Option<Form<'_>>
-    ensures { MatchOption result ((h : Held) → HasForm (words text.now) h → ⊥) (λ form. HasForm (words text.now) (held form)) }
+    ensures { MatchOption result ((h : Held) → HasForm (words text.now) h → ⊥)
+        (λ form. HasForm (words text.now) (held form)) }
 {
     let text = behind_word(text, b"parallel")?;
     let text = behind_word(text, b"for")?;
-    if behind_sign(text, Sign::Comma).is_some() {
+    if behind_sign(text, Punctuator::Comma).is_some() {
         return None;
     }
     further(text)

@@ -5,6 +5,7 @@ ghost use Rattle.semantics.specs.Directives.DirectiveGrammar.{ReadsNumber};
 ghost use Rattle.ktree.specs.declared.refusal.Refusal.TheVariants as refusals;
 ghost use Rattle.pragma.specs.Faults.{IsFault};
 ghost use Rattle.pragma.specs.Clauses.{IsCounted, ReadsLoop, HasLoop};
+ghost use Rattle.pragma.specs.Parallel.{associated};
 
 use crate::clauses::read_form;
 use crate::collapse::Collapse;
@@ -19,6 +20,18 @@ pub struct ParallelFor {
     pub schedule: Option<ChunkSize>,
     /// The number of loops of `collapse(c)` (OpenMP 5.2, 4.4.3).
     pub collapse: Option<Collapse>,
+}
+
+impl ParallelFor {
+    /// How many loops the directive associates: one where no `collapse` stands (OpenMP 5.2, 4.4.3).
+    pub fn associated_loops(self) -> u64
+        ensures { result ≡ associated self.collapse }
+    {
+        match self.collapse {
+            None => 1,
+            Some(collapse) => collapse.get(),
+        }
+    }
 }
 
 /// The number of loops that a word is: a decimal from 1 to 4.
@@ -37,7 +50,9 @@ fn depth(word: &[u8]) -> Option<Collapse>
 /// The size of the chunks, within its limit.
 fn schedule_within(word: Option<&[u8]>, place: Place) -> Result<Option<ChunkSize>, Refusal>
     ensures ok { IfOk result (IsCounted (2 ^ 24) (option_map (λ w. w.now) word.entry)) }
-    ensures err { IfErr result (λ r. (r ≡ refusals.Limit place) × ((k : Option ℕ) → IsCounted (2 ^ 24) (option_map (λ w. w.now) word.entry) k → ⊥)) }
+    ensures err { IfErr result
+        (λ r. (r ≡ refusals.Limit place)
+        × ((k : Option ℕ) → IsCounted (2 ^ 24) (option_map (λ w. w.now) word.entry) k → ⊥)) }
 {
     let Some(word) = word else {
         return Ok(None);
@@ -51,7 +66,9 @@ fn schedule_within(word: Option<&[u8]>, place: Place) -> Result<Option<ChunkSize
 /// The number of loops, within its limit.
 fn collapse_within(word: Option<&[u8]>, place: Place) -> Result<Option<Collapse>, Refusal>
     ensures ok { IfOk result (IsCounted 4 (option_map (λ w. w.now) word.entry)) }
-    ensures err { IfErr result (λ r. (r ≡ refusals.Limit place) × ((c : Option ℕ) → IsCounted 4 (option_map (λ w. w.now) word.entry) c → ⊥)) }
+    ensures err { IfErr result
+        (λ r. (r ≡ refusals.Limit place)
+        × ((c : Option ℕ) → IsCounted 4 (option_map (λ w. w.now) word.entry) c → ⊥)) }
 {
     let Some(word) = word else {
         return Ok(None);
@@ -69,7 +86,9 @@ fn collapse_within(word: Option<&[u8]>, place: Place) -> Result<Option<Collapse>
 /// a decimal c above 4 is refused by `Limit`, and every other line by `Directive`.
 pub fn parallel_for(line: &[u8], place: Place) -> Result<ParallelFor, Refusal>
     ensures ok { IfOk result (λ d. ReadsLoop line.now d.schedule d.collapse) }
-    ensures err { IfErr result (λ r. IsFault place (HasLoop line.now) r × ((k c : Option ℕ) → ReadsLoop line.now k c → ⊥)) }
+    ensures err { IfErr result
+        (λ r. IsFault place (HasLoop line.now) r
+        × ((k c : Option ℕ) → ReadsLoop line.now k c → ⊥)) }
 {
     let Some(text) = behind_omp(line) else {
         return Err(Refusal::Directive(place));

@@ -16,4 +16,4 @@ pub use combined::{ParallelFor, parallel_for};
 pub use faults::Fault;
 pub use lines::Directives;
 pub use placed::first_fault;
-pub use word::{Sign, Word, next_word};
+pub use word::{Punctuator, Word, next_word};

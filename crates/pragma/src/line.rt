@@ -16,7 +16,8 @@ fn behind<'l>(bytes: &'l [u8], word: &[u8]) -> Option<&'l [u8]>
 /// What stands behind blanks and the word `omp`, which ends there.
 fn behind_omp_word(bytes: &[u8]) -> Option<&[u8]>
     ensures { MatchOption result (is_omp_rest bytes.now ≡ false)
-        (λ rest. (is_omp_rest bytes.now ≡ true) × (rest.now ≡ behind omp_word (skip_blanks bytes.now))) }
+        (λ rest. (is_omp_rest bytes.now ≡ true)
+        × (rest.now ≡ behind omp_word (skip_blanks bytes.now))) }
 {
     if !matches!(bytes, [b' ' | b'\t', ..]) {
         return None;
@@ -33,7 +34,8 @@ fn behind_omp_word(bytes: &[u8]) -> Option<&[u8]>
 /// What stands behind `pragma`, blanks and `omp`.
 fn behind_pragma(bytes: &[u8]) -> Option<&[u8]>
     ensures { MatchOption result (is_pragma_rest bytes.now ≡ false)
-        (λ rest. (is_pragma_rest bytes.now ≡ true) × (rest.now ≡ behind omp_word (skip_blanks (behind pragma_word bytes.now)))) }
+        (λ rest. (is_pragma_rest bytes.now ≡ true)
+        × (rest.now ≡ behind omp_word (skip_blanks (behind pragma_word bytes.now)))) }
 {
     match behind(bytes, b"pragma") {
         None => None,

@@ -95,8 +95,11 @@ impl<'t> Directives<'t> {
     ///
     /// As [`parallel_for`]'s, of the line of that place.
     pub fn at(&self, place: Place) -> Result<ParallelFor, Refusal>
-        ensures ok { IfOk result (λ d. ReadsLoop (line_at self.now place.line) d.schedule d.collapse) }
-        ensures err { IfErr result (λ r. IsFault place (HasLoop (line_at self.now place.line)) r × ((k c : Option ℕ) → ReadsLoop (line_at self.now place.line) k c → ⊥)) }
+        ensures ok { IfOk result (λ d. ReadsLoop (line_at self.now place.line) d.schedule
+            d.collapse) }
+        ensures err { IfErr result
+            (λ r. IsFault place (HasLoop (line_at self.now place.line)) r
+            × ((k c : Option ℕ) → ReadsLoop (line_at self.now place.line) k c → ⊥)) }
     {
         parallel_for(self.line(place.line), place)
     }

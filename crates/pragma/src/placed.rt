@@ -58,7 +58,8 @@ fn item_line(item: &Item) -> Option<Place>
 
 /// The body of a `for`.
 fn body(statement: &Stmt) -> Option<&Stmt>
-    ensures { MatchOption result (IsPlainFor (stmt_of statement.now) → ⊥) (λ body. IsPlainFor (stmt_of statement.now) ↔ (has_line (stmt_of body.now) ≡ false)) }
+    ensures { MatchOption result (IsPlainFor (stmt_of statement.now) → ⊥)
+        (λ body. IsPlainFor (stmt_of statement.now) ↔ (has_line (stmt_of body.now) ≡ false)) }
 {
     match statement {
         Stmt::For(_, body) => Some(body),
@@ -69,7 +70,8 @@ fn body(statement: &Stmt) -> Option<&Stmt>
 /// The body of a `for` that stands first.
 fn first_body(items: &[Item]) -> Option<&Stmt>
     ensures { (n : ℕ) → MatchOption result (FirstHas IsPlainLoop [] n (items_of items.now) → ⊥)
-        (λ body. FirstHas IsPlainLoop [] n (items_of items.now) ↔ (has_line (stmt_of body.now) ≡ false)) }
+        (λ body. FirstHas IsPlainLoop [] n (items_of items.now)
+        ↔ (has_line (stmt_of body.now) ≡ false)) }
 {
     match items {
         [] => None,
@@ -104,7 +106,8 @@ fn directive_fault(directives: &Directives, place: Place, rest: &[Item]) -> Opti
 
 /// What is wrong with an item that is a directive line, before these items.
 fn item_line_fault(directives: &Directives, item: &Item, rest: &[Item]) -> Option<Fault>
-    ensures { Judges result (FirstLineHas directives.now (with_item item.now no_items) (items_of rest.now)) }
+    ensures { Judges result
+        (FirstLineHas directives.now (with_item item.now no_items) (items_of rest.now)) }
 {
     match item {
         Item::Directive(place) => directive_fault(directives, *place, rest),

@@ -51,7 +51,9 @@ pub fn value(digits: &[u8]) -> Option<u64>
 /// The size that a word is: a decimal from 1 to 2^24.
 pub fn size(word: &[u8], place: Place) -> Result<ChunkSize, Refusal>
     ensures ok { IfOk result (ReadsNumber (2 ^ 24) word.now) }
-    ensures err { IfErr result (λ r. IsFault place (IsLarge word.now) r × ((k : ℕ) → ReadsNumber (2 ^ 24) word.now k → ⊥)) }
+    ensures err { IfErr result
+        (λ r. IsFault place (IsLarge word.now) r
+        × ((k : ℕ) → ReadsNumber (2 ^ 24) word.now k → ⊥)) }
 {
     if !is_decimal(word) {
         return Err(Refusal::Directive(place));

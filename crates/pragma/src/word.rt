@@ -8,7 +8,7 @@ ghost use Rattle.pragma.specs.Words.{token_of, symbol_of, symbol_at, run_length}
 
 /// One of the four signs that are words of their own.
 #[derive(Clone, Copy, Debug, PartialEq, Eq)]
-pub enum Sign {
+pub enum Punctuator {
     OpenParen,
     CloseParen,
     Comma,
@@ -19,7 +19,7 @@ pub enum Sign {
 #[derive(Clone, Copy, Debug, PartialEq, Eq)]
 pub enum Word<'l> {
     Run(&'l [u8]),
-    Sign(Sign),
+    Punctuator(Punctuator),
 }
 
 /// Whether a byte is a space or a tab.
@@ -30,14 +30,14 @@ pub fn is_blank(byte: u8) -> bool
 }
 
 /// The sign that a byte is.
-fn sign_at(byte: u8) -> Option<Sign>
+fn sign_at(byte: u8) -> Option<Punctuator>
     ensures { option_map symbol_of result ≡ symbol_at byte }
 {
     match byte {
-        b'(' => Some(Sign::OpenParen),
-        b')' => Some(Sign::CloseParen),
-        b',' => Some(Sign::Comma),
-        b':' => Some(Sign::Colon),
+        b'(' => Some(Punctuator::OpenParen),
+        b')' => Some(Punctuator::CloseParen),
+        b',' => Some(Punctuator::Comma),
+        b':' => Some(Punctuator::Colon),
         _ => None,
     }
 }
@@ -76,14 +76,15 @@ fn run_length(bytes: &[u8]) -> usize
 
 /// The first word, and what stands behind it.
 pub fn next_word(text: &[u8]) -> Option<(Word<'_>, &[u8])>
-    ensures { MatchOption result (words text.now ≡ []) (λ next. words text.now ≡ token_of next.0 ∷ words next.1.now) }
+    ensures { MatchOption result (words text.now ≡ [])
+        (λ next. words text.now ≡ token_of next.0 ∷ words next.1.now) }
 {
     let text = skip_blanks(text);
     let Some((first, behind)) = text.split_first() else {
         return None;
     };
     if let Some(sign) = sign_at(*first) {
-        return Some((Word::Sign(sign), behind));
+        return Some((Word::Punctuator(sign), behind));
     }
     let (run, behind) = text.split_at(run_length(text));
     Some((Word::Run(run), behind))
@@ -91,7 +92,9 @@ pub fn next_word(text: &[u8]) -> Option<(Word<'_>, &[u8])>
 
 /// What stands behind this word, if it comes next.
 pub fn behind_word<'l>(text: &'l [u8], word: &[u8]) -> Option<&'l [u8]>
-    ensures { MatchOption result ((ts : List meant.Token) → words text.now ≡ meant.Word word.now ∷ ts → ⊥) (λ rest. words text.now ≡ meant.Word word.now ∷ words rest.now) }
+    ensures { MatchOption result
+        ((ts : List meant.Token) → words text.now ≡ meant.Word word.now ∷ ts → ⊥)
+        (λ rest. words text.now ≡ meant.Word word.now ∷ words rest.now) }
 {
     match next_word(text)? {
         (Word::Run(run), rest) if run == word => Some(rest),
@@ -100,11 +103,13 @@ pub fn behind_word<'l>(text: &'l [u8], word: &[u8]) -> Option<&'l [u8]>
 }
 
 /// What stands behind this sign, if it comes next.
-pub fn behind_sign(text: &[u8], sign: Sign) -> Option<&[u8]>
-    ensures { MatchOption result ((ts : List meant.Token) → words text.now ≡ meant.Sign (symbol_of sign) ∷ ts → ⊥) (λ rest. words text.now ≡ meant.Sign (symbol_of sign) ∷ words rest.now) }
+pub fn behind_sign(text: &[u8], sign: Punctuator) -> Option<&[u8]>
+    ensures { MatchOption result
+        ((ts : List meant.Token) → words text.now ≡ meant.Punctuator (symbol_of sign) ∷ ts → ⊥)
+        (λ rest. words text.now ≡ meant.Punctuator (symbol_of sign) ∷ words rest.now) }
 {
     match next_word(text)? {
-        (Word::Sign(found), rest) if found == sign => Some(rest),
+        (Word::Punctuator(found), rest) if found == sign => Some(rest),
         _ => None,
     }
 }

@@ -109,7 +109,8 @@ fn guided(alloc: Global, iterations: u64, workers: u64, size: u64) -> Result<Vec
     requires most { iterations ≤ 2 ^ 24 }
     requires workers { 0 < workers }
     requires size { 0 < size }
-    ensures { IfOk result (λ chunks. map chunk_of chunks.items ≡ cut (GuidedKind size) iterations workers) }
+    ensures { IfOk result (λ chunks. map chunk_of chunks.items
+        ≡ cut (GuidedKind size) iterations workers) }
 {
     let mut chunks = Vec::new(alloc);
     let mut first = 0;

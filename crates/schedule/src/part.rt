@@ -41,7 +41,8 @@ pub fn static_init(n: u64, workers: Workers, worker: u64, size: Option<u64>) -> 
     requires iterations { n ≤ 2 ^ 24 }
     requires worker { worker < workers }
     requires size { IfSome size (λ k. (1 ≤ k) × (k ≤ 2 ^ 24)) }
-    ensures { result ≡ record { kind = static_kind size; iterations = n; workers = workers; worker = worker } }
+    ensures { result ≡ record
+        { kind = static_kind size; iterations = n; workers = workers; worker = worker } }
 {
     StaticPart {
         iterations: n,
@@ -81,7 +82,8 @@ fn share_number(iterations: u64, workers: u64, worker: u64, j: u64) -> Option<u6
     requires { worker < workers }
     ensures number { let count = length (cut PlainStatic iterations workers) in
         result ≡ slice_get (own_chunks PlainStatic count workers worker) j }
-    ensures within { IfSome result (λ number. number < length (cut PlainStatic iterations workers)) }
+    ensures within { IfSome result
+        (λ number. number < length (cut PlainStatic iterations workers)) }
 {
     (j == 0 && worker < share_count(iterations, workers)).then_some(worker)
 }
@@ -92,7 +94,8 @@ fn block_number(iterations: u64, size: u64, workers: u64, worker: u64, j: u64) -
     requires worker { worker < workers }
     ensures number { let count = length (cut (Static size) iterations workers) in
         result ≡ slice_get (own_chunks (Static size) count workers worker) j }
-    ensures within { IfSome result (λ number. number < length (cut (Static size) iterations workers)) }
+    ensures within { IfSome result
+        (λ number. number < length (cut (Static size) iterations workers)) }
 {
     let count = block_count(iterations, size);
     let number = workers.checked_mul(j)?.checked_add(worker)?;

@@ -5,7 +5,7 @@ use Rattle.std.proofs.Common.{cond, refl, sym, ap, ◌∙◌, arith}
 use Rattle.std.proofs.lemmas.Bool.{eqb-true}
 use Rattle.semantics.specs.Tree.{Kernel, strip}
 use Rattle.semantics.specs.Source.Text.{first_line, starts_with, is_directive_line, erase, erase_from}
-use Rattle.semantics.specs.Source.Token.{Token, Word, Digits, Quoted, Sign, Header, Line}
+use Rattle.semantics.specs.Source.Token.{Token, Word, IntegerConstant, StringLiteral, Punctuator, Header, Line}
 use Rattle.semantics.specs.Source.Cuts.{Tokens, has_trigraph, is_header, headers_first, starts_with_place, places_follow}
 use Rattle.semantics.specs.Source.Grammar.{ReadsText}
 use Rattle.semantics.proofs.StripLaw.{drop_lines}
@@ -62,18 +62,18 @@ plain_left d (b ∷ bs) h = go (λ e. plain_left e bs (second_or ((63 == b) && s
 any_left : (ts : List Token) → list_any is_header (drop_lines ts) ≡ list_any is_header ts
 any_left [] = refl
 any_left (Word w ∷ ts) = any_left ts
-any_left (Digits n s ∷ ts) = any_left ts
-any_left (Quoted cs o ∷ ts) = any_left ts
-any_left (Sign s ∷ ts) = any_left ts
+any_left (IntegerConstant n s ∷ ts) = any_left ts
+any_left (StringLiteral cs o ∷ ts) = any_left ts
+any_left (Punctuator s ∷ ts) = any_left ts
 any_left (Header h ∷ ts) = refl
 any_left (Line n ∷ ts) = any_left ts
 
 none_first : (seen : List ℕ) (ts : List Token) → not (list_any is_header ts) ≡ true → headers_first seen ts ≡ true
 none_first seen [] h = refl
 none_first seen (Word w ∷ ts) h = h
-none_first seen (Digits n s ∷ ts) h = h
-none_first seen (Quoted cs o ∷ ts) h = h
-none_first seen (Sign s ∷ ts) h = h
+none_first seen (IntegerConstant n s ∷ ts) h = h
+none_first seen (StringLiteral cs o ∷ ts) h = h
+none_first seen (Punctuator s ∷ ts) h = h
 none_first seen (Header n ∷ ts) h = absurd (true-is_not-false (sym h))
 none_first seen (Line n ∷ ts) h = h
 
@@ -83,28 +83,28 @@ none_left seen ts h = none_first seen (drop_lines ts) (ap not (any_left ts) ∙ 
 headers_left : (seen : List ℕ) (ts : List Token) → headers_first seen ts ≡ true → headers_first seen (drop_lines ts) ≡ true
 headers_left seen [] h = refl
 headers_left seen (Word w ∷ ts) h = none_left seen (Word w ∷ ts) h
-headers_left seen (Digits n s ∷ ts) h = none_left seen (Digits n s ∷ ts) h
-headers_left seen (Quoted cs o ∷ ts) h = none_left seen (Quoted cs o ∷ ts) h
-headers_left seen (Sign s ∷ ts) h = none_left seen (Sign s ∷ ts) h
+headers_left seen (IntegerConstant n s ∷ ts) h = none_left seen (IntegerConstant n s ∷ ts) h
+headers_left seen (StringLiteral cs o ∷ ts) h = none_left seen (StringLiteral cs o ∷ ts) h
+headers_left seen (Punctuator s ∷ ts) h = none_left seen (Punctuator s ∷ ts) h
 headers_left seen (Header n ∷ ts) h = and_true _ _ (first_of _ (headers_first (n ∷ seen) ts) h) (headers_left (n ∷ seen) ts (second_of _ (headers_first (n ∷ seen) ts) h))
 headers_left seen (Line n ∷ ts) h = none_left seen (Line n ∷ ts) h
 
 place_left : (ts : List Token) → starts_with_place ts ≡ true → starts_with_place (drop_lines ts) ≡ true
 place_left [] h = h
 place_left (Word w ∷ ts) h = h
-place_left (Digits n s ∷ ts) h = h
-place_left (Quoted cs o ∷ ts) h = h
-place_left (Sign s ∷ ts) h = h
+place_left (IntegerConstant n s ∷ ts) h = h
+place_left (StringLiteral cs o ∷ ts) h = h
+place_left (Punctuator s ∷ ts) h = h
 place_left (Header n ∷ ts) h = h
 place_left (Line n ∷ ts) h = absurd (true-is_not-false (sym h))
 
 places_left : (ts : List Token) → places_follow ts ≡ true → places_follow (drop_lines ts) ≡ true
 places_left [] h = refl
 places_left (Word w ∷ ts) h = places_left ts h
-places_left (Digits n s ∷ ts) h = places_left ts h
-places_left (Quoted cs false ∷ ts) h = places_left ts h
-places_left (Quoted cs true ∷ ts) h = and_true _ _ (place_left ts (first_of (starts_with_place ts) (places_follow ts) h)) (places_left ts (second_of (starts_with_place ts) (places_follow ts) h))
-places_left (Sign s ∷ ts) h = places_left ts h
+places_left (IntegerConstant n s ∷ ts) h = places_left ts h
+places_left (StringLiteral cs false ∷ ts) h = places_left ts h
+places_left (StringLiteral cs true ∷ ts) h = and_true _ _ (place_left ts (first_of (starts_with_place ts) (places_follow ts) h)) (places_left ts (second_of (starts_with_place ts) (places_follow ts) h))
+places_left (Punctuator s ∷ ts) h = places_left ts h
 places_left (Header n ∷ ts) h = places_left ts h
 places_left (Line n ∷ ts) h = places_left ts h
 

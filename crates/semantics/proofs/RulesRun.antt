@@ -4,7 +4,7 @@ use Rattle.std.proofs.Common.{refl, ap, ◌∙◌, arith}
 use Rattle.semantics.specs.Tree.{Cond, Increment, Stmt, Items}
 use Rattle.semantics.specs.Meaning.State.{State, Write, Declared, overwritten}
 use Rattle.semantics.specs.Meaning.Value.{holds, map_option}
-use Rattle.semantics.specs.Meaning.Runs.{Effect, joined, then_from, declares, declared, incremented, turns, most_turns, run, run_items}
+use Rattle.semantics.specs.Meaning.Runs.{Effect, joined, then_from, declares, declared, incremented, turns, greatest_trip_count, run, run_items}
 use Rattle.semantics.specs.Meaning.Steps.{effect, Steps, Turns, StepsItems, assigns, updates, if_holds, if_not, first, second, loops, block, prints, over, turn, over_items, passed, declares_one, does_one}
 
 then_some : (s : State) (o : Option Effect) (next : State → Option Effect) (ws us : List Write) (t q : List ℕ) → o ≡ Some (effect ws t) → next (overwritten s ws) ≡ Some (effect us q) → then_from s o next ≡ Some (effect (ws ++ us) (t ++ q))
@@ -20,7 +20,7 @@ mutual
   steps_run (first f r) = rw f (steps_run r)
   steps_run (second f r) = rw f (steps_run r)
   steps_run (loops {x = x} {test = test} {step = step} {body = body} {s = s} {v = v} {ws = ws} {t = t} f le r) =
-      then_some s _ (turns most_turns (λ u. holds u test) (run body) (λ u. incremented u step)) (Declared x (Some v) ∷ []) ws [] t (ap (declares x) f) (turns_run r most_turns le)
+      then_some s _ (turns greatest_trip_count (λ u. holds u test) (run body) (λ u. incremented u step)) (Declared x (Some v) ∷ []) ws [] t (ap (declares x) f) (turns_run r greatest_trip_count le)
   steps_run (block r) = items_run r
   steps_run (prints f) = rw f refl
 

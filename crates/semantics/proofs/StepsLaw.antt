@@ -4,7 +4,7 @@ use Rattle.std.proofs.Common.{refl, ap, ◌∙◌, subst, arith, cond}
 use Rattle.semantics.specs.Tree.{Variable, Cond, Source, Increment, PrintPart, Stmt, Assign, Update, If, IfElse, For, Block, Print, Items, no_items, mark, local, stmt}
 use Rattle.semantics.specs.Meaning.State.{State, Assigned, overwritten, is_object}
 use Rattle.semantics.specs.Meaning.Value.{values, holds, source_value, by_test, map_option}
-use Rattle.semantics.specs.Meaning.Runs.{Effect, nothing, one_write, joined, then_from, declares, declared, assigned, incremented, print_text, turns, most_turns, run, run_items}
+use Rattle.semantics.specs.Meaning.Runs.{Effect, nothing, one_write, joined, then_from, declares, declared, assigned, incremented, print_text, turns, greatest_trip_count, run, run_items}
 use Rattle.semantics.specs.Meaning.Steps.{Steps, Turns, StepsItems, assigns, updates, if_holds, if_not, first, second, loops, block, prints, over, turn, over_items, passed, declares_one, does_one}
 use Rattle.std.proofs.lemmas.Option.{same_Some}
 
@@ -103,10 +103,10 @@ module _ (test : Cond) (step : Increment) (body : Stmt) (does : (s : State) (e :
       let c = chosen (holds s test) (one_turn m s) (Some nothing) e h in
       goes_on m s e c.yes c.test c.is (λ u f. turns_steps m u f)
 
-for_steps : (x : Variable) (name : _) (start : Source) (test : Cond) (step : Increment) (body : Stmt) (s : State) (o : Option ℕ) (a b : Effect) → source_value s start ≡ o → declares x o ≡ Some a → TurnsTo test step body most_turns (overwritten s a.writes) b → DoesStmt (For x name start test step body) s (joined a b)
+for_steps : (x : Variable) (name : _) (start : Source) (test : Cond) (step : Increment) (body : Stmt) (s : State) (o : Option ℕ) (a b : Effect) → source_value s start ≡ o → declares x o ≡ Some a → TurnsTo test step body greatest_trip_count (overwritten s a.writes) b → DoesStmt (For x name start test step body) s (joined a b)
 for_steps x name start test step body s None a b p q t = absurd cc
 for_steps x name start test step body s (Some v) a b p q t =
-    subst (λ f. TurnsTo test step body most_turns (overwritten s f.writes) b → DoesStmt (For x name start test step body) s (joined f b)) (same_Some _ _ q) (λ r. loops p r.at_most r.made) t
+    subst (λ f. TurnsTo test step body greatest_trip_count (overwritten s f.writes) b → DoesStmt (For x name start test step body) s (joined f b)) (same_Some _ _ q) (λ r. loops p r.at_most r.made) t
 
 mutual
   -- what the function gives, the rules give
@@ -120,9 +120,9 @@ mutual
       let p = chosen (holds s c) (run a s) (run b s) e h in
       two_ways c a b s e p.yes p.test p.is (run_steps a s e) (run_steps b s e)
   run_steps (For x name start test step body) s e h =
-      let p = parted s (declared s x (Some start)) (turns most_turns (λ u. holds u test) (run body) (λ u. incremented u step)) e h in
+      let p = parted s (declared s x (Some start)) (turns greatest_trip_count (λ u. holds u test) (run body) (λ u. incremented u step)) e h in
       subst (DoesStmt (For x name start test step body) s) p.whole
-      (for_steps x name start test step body s (source_value s start) p.a p.b refl p.one (turns_steps test step body (run_steps body) most_turns (overwritten s p.a.writes) p.b p.two))
+      (for_steps x name start test step body s (source_value s start) p.a p.b refl p.one (turns_steps test step body (run_steps body) greatest_trip_count (overwritten s p.a.writes) p.b p.two))
   run_steps (Block items) s e h = block (items_steps items s e h)
   run_steps (Print parts) s e h = print_steps parts s (print_text s parts) e refl h
 

@@ -1,7 +1,7 @@
 -- Each symbol begins no line end, blank or directive line, and holds no line end.
 use Rattle.std.specs.Prelude.{ℕ, Bool, true, false, not, ◌==◌, ◌&&◌, ◌≡◌, List, [], ◌∷◌, ◌++◌}
 use Rattle.std.proofs.Common.{refl}
-use Rattle.semantics.specs.Source.Token.{Symbol, Semicolon, Comma, OpenParen, CloseParen, OpenBracket, CloseBracket, OpenBrace, CloseBrace, PlusPlus, MinusMinus, Becomes, PlusBecomes, MinusBecomes, TimesBecomes, AndBecomes, OrBecomes, XorBecomes, PlusSign, MinusSign, Star, Slash, Percent, Amp, Bar, Caret, Tilde, Bang, Question, Colon, DoubleLess, DoubleGreater, LessSign, LessEqualSign, GreaterSign, GreaterEqualSign, DoubleEqual, BangEqual, DoubleAmp, DoubleBar}
+use Rattle.semantics.specs.Source.Token.{Symbol, Semicolon, Comma, OpenParen, CloseParen, OpenBracket, CloseBracket, OpenBrace, CloseBrace, PlusPlus, MinusMinus, EqualSign, PlusEqual, MinusEqual, TimesEqual, AmpEqual, BarEqual, CaretEqual, PlusSign, MinusSign, Star, Slash, Percent, Amp, Bar, Caret, Tilde, Bang, Question, Colon, DoubleLess, DoubleGreater, LessSign, LessEqualSign, GreaterSign, GreaterEqualSign, DoubleEqual, BangEqual, DoubleAmp, DoubleBar}
 use Rattle.semantics.specs.Source.Cuts.{symbol_text, is_line}
 
 -- a byte that begins no line end, blank or directive line
@@ -23,13 +23,13 @@ symbol_starts OpenBrace us = refl
 symbol_starts CloseBrace us = refl
 symbol_starts PlusPlus us = refl
 symbol_starts MinusMinus us = refl
-symbol_starts Becomes us = refl
-symbol_starts PlusBecomes us = refl
-symbol_starts MinusBecomes us = refl
-symbol_starts TimesBecomes us = refl
-symbol_starts AndBecomes us = refl
-symbol_starts OrBecomes us = refl
-symbol_starts XorBecomes us = refl
+symbol_starts EqualSign us = refl
+symbol_starts PlusEqual us = refl
+symbol_starts MinusEqual us = refl
+symbol_starts TimesEqual us = refl
+symbol_starts AmpEqual us = refl
+symbol_starts BarEqual us = refl
+symbol_starts CaretEqual us = refl
 symbol_starts PlusSign us = refl
 symbol_starts MinusSign us = refl
 symbol_starts Star us = refl
@@ -64,13 +64,13 @@ symbol_line OpenBrace = refl
 symbol_line CloseBrace = refl
 symbol_line PlusPlus = refl
 symbol_line MinusMinus = refl
-symbol_line Becomes = refl
-symbol_line PlusBecomes = refl
-symbol_line MinusBecomes = refl
-symbol_line TimesBecomes = refl
-symbol_line AndBecomes = refl
-symbol_line OrBecomes = refl
-symbol_line XorBecomes = refl
+symbol_line EqualSign = refl
+symbol_line PlusEqual = refl
+symbol_line MinusEqual = refl
+symbol_line TimesEqual = refl
+symbol_line AmpEqual = refl
+symbol_line BarEqual = refl
+symbol_line CaretEqual = refl
 symbol_line PlusSign = refl
 symbol_line MinusSign = refl
 symbol_line Star = refl

@@ -3,7 +3,7 @@ use Rattle.std.specs.Prelude.{[], ◌∷◌, codes, IsSome}
 use Rattle.std.proofs.Common.{refl}
 use Rattle.semantics.specs.Tree
 use Rattle.semantics.specs.Meaning.State.{State}
-use Rattle.semantics.specs.Meaning.Runs.{run, most_turns}
+use Rattle.semantics.specs.Meaning.Runs.{run, greatest_trip_count}
 
 abbrev pub line : Tree.Stmt
 line = Tree.Print (Tree.Decimal (Tree.Object 1 Tree.no_exprs) ∷ Tree.Characters (codes "\n") ∷ [])
@@ -13,5 +13,5 @@ loop_of body = Tree.For 1 (codes "i") (Tree.Number (Tree.Literal 9 Tree.Ull)) (T
 
 -- it has a run from any state
 pub counts : (s : State) → IsSome (run (loop_of line) s)
-unfolding most_turns
+unfolding greatest_trip_count
 counts s = refl

@@ -3,7 +3,7 @@ use Rattle.std.proofs.Common.{◌≡◌, ℕ, zero, suc, ◌+◌, ◌-◌, ◌<�
 use Rattle.semantics.specs.Tree.{Source}
 use Rattle.semantics.specs.Meaning.State.{State, Holds, Write, with_local, written, overwritten}
 use Rattle.semantics.specs.Meaning.Value.{by_test, map_option, source_value}
-use Rattle.semantics.specs.Meaning.Runs.{Effect, nothing, joined, then_from, declared, turns, most_turns}
+use Rattle.semantics.specs.Meaning.Runs.{Effect, nothing, joined, then_from, declared, turns, greatest_trip_count}
 use Rattle.seqrun_io.specs.Told.{AddsBeginning}
 use Rattle.seqrun_io.proofs.Beginnings.{whole, of_front, of_rest}
 use Rattle.seqrun.specs.Ran.{Ran, Ended, text_of}
@@ -101,10 +101,10 @@ module _ (test : State → Option Bool) (body step : State → Option Effect) wh
   others n s = then_from s (body s) (λ t. then_from t (step t) (turns n test body step))
 
   -- a loop as it begins
-  pub loop_begun : (s s' : State) (x : ℕ) (start : Source) (v : ℕ) (t : List ℕ) → source_value s start ≡ Some v → s' ≡ with_local s x (Holds v) → Going (then_from s (declared s x (Some start)) (turns most_turns test body step)) (turns (most_turns - 0) test body step s') s s' t t
-  unfolding most_turns
+  pub loop_begun : (s s' : State) (x : ℕ) (start : Source) (v : ℕ) (t : List ℕ) → source_value s start ≡ Some v → s' ≡ with_local s x (Holds v) → Going (then_from s (declared s x (Some start)) (turns greatest_trip_count test body step)) (turns (greatest_trip_count - 0) test body step s') s s' t t
+  unfolding greatest_trip_count
   loop_begun s s' x start v t is e =
-      going_on _ (declared s x (Some start)) (turns most_turns test body step) s s s' t t t (going_from _ s t) (ran_from_ended _ s s' t (value_declared s s' x start v is e))
+      going_on _ (declared s x (Some start)) (turns greatest_trip_count test body step) s s s' t t t (going_from _ s t) (ran_from_ended _ s s' t (value_declared s s' x start v is e))
 
   test_of_both : (o : Option Bool) (a b : Option Effect) → IsSome (by_test o a b) → IsSome o
   test_of_both None a b h = cc
@@ -121,11 +121,11 @@ module _ (test : State → Option Bool) (body step : State → Option Effect) wh
   turns_over (suc n) s e = ap (λ o. by_test o (others n s) (Some nothing)) e
 
   -- and goes on where it holds
-  pub turns_on : (k : ℕ) (s : State) → k < 18446744073709551615 → test s ≡ Some true → turns (most_turns - k) test body step s ≡ others (most_turns - (k + 1)) s
-  unfolding most_turns
+  pub turns_on : (k : ℕ) (s : State) → k < 18446744073709551615 → test s ≡ Some true → turns (greatest_trip_count - k) test body step s ≡ others (greatest_trip_count - (k + 1)) s
+  unfolding greatest_trip_count
   turns_on k s lt e =
-      let n : most_turns - k ≡ suc (most_turns - (k + 1)) = omega arith in
-      ap (λ m. turns m test body step s) n ∙ ap (λ o. by_test o (others (most_turns - (k + 1)) s) (Some nothing)) e
+      let n : greatest_trip_count - k ≡ suc (greatest_trip_count - (k + 1)) = omega arith in
+      ap (λ m. turns m test body step s) n ∙ ap (λ o. by_test o (others (greatest_trip_count - (k + 1)) s) (Some nothing)) e
 
   turns_none : (o : Option Bool) → IsSome (by_test o None (Some nothing)) → by_test o None (Some nothing) ≡ Some nothing
   turns_none None h = cc
@@ -133,18 +133,18 @@ module _ (test : State → Option Bool) (body step : State → Option Effect) wh
   turns_none (Some false) h = refl
 
   -- no turn is left after the last
-  pub turns_last : (k : ℕ) (s : State) → 18446744073709551615 ≤ k → IsSome (turns (most_turns - k) test body step s) → turns (most_turns - k) test body step s ≡ Some nothing
-  unfolding most_turns
+  pub turns_last : (k : ℕ) (s : State) → 18446744073709551615 ≤ k → IsSome (turns (greatest_trip_count - k) test body step s) → turns (greatest_trip_count - k) test body step s ≡ Some nothing
+  unfolding greatest_trip_count
   turns_last k s le h =
-      let n : most_turns - k ≡ 0 = omega arith in
+      let n : greatest_trip_count - k ≡ 0 = omega arith in
       ap (λ m. turns m test body step s) n ∙ turns_none (test s) (subst (λ m. IsSome (turns m test body step s)) n h)
 
   -- a loop's run after its body, and before its step
-  pub after_body : (all : Option Effect) (k : ℕ) (s s' s'' : State) (t t' t'' : List ℕ) → k < 18446744073709551615 → test s' ≡ Some true → Going all (turns (most_turns - k) test body step s') s s' t t' → Ran (body s') s' s'' t' t'' → Going all (then_from s'' (step s'') (turns (most_turns - (k + 1)) test body step)) s s'' t t''
+  pub after_body : (all : Option Effect) (k : ℕ) (s s' s'' : State) (t t' t'' : List ℕ) → k < 18446744073709551615 → test s' ≡ Some true → Going all (turns (greatest_trip_count - k) test body step s') s s' t t' → Ran (body s') s' s'' t' t'' → Going all (then_from s'' (step s'') (turns (greatest_trip_count - (k + 1)) test body step)) s s'' t t''
   after_body all k s s' s'' t t' t'' lt e g d =
-      going_on all (body s') (λ u. then_from u (step u) (turns (most_turns - (k + 1)) test body step)) s s' s'' t t' t'' (going_same all _ _ s s' t t' (turns_on k s' lt e) g) d
+      going_on all (body s') (λ u. then_from u (step u) (turns (greatest_trip_count - (k + 1)) test body step)) s s' s'' t t' t'' (going_same all _ _ s s' t t' (turns_on k s' lt e) g) d
 
   -- a loop that stops in its body
-  pub body_begun : (all : Option Effect) (k : ℕ) (s s' : State) (t t' t'' : List ℕ) → k < 18446744073709551615 → test s' ≡ Some true → Going all (turns (most_turns - k) test body step s') s s' t t' → IsSome all → AddsBeginning t' t'' (text_of (body s')) → AddsBeginning t t'' (text_of all)
+  pub body_begun : (all : Option Effect) (k : ℕ) (s s' : State) (t t' t'' : List ℕ) → k < 18446744073709551615 → test s' ≡ Some true → Going all (turns (greatest_trip_count - k) test body step s') s s' t t' → IsSome all → AddsBeginning t' t'' (text_of (body s')) → AddsBeginning t t'' (text_of all)
   body_begun all k s s' t t' t'' lt e g h begun =
-      going_begun all (body s') (λ u. then_from u (step u) (turns (most_turns - (k + 1)) test body step)) s s' t t' t'' (going_same all _ _ s s' t t' (turns_on k s' lt e) g) h begun
+      going_begun all (body s') (λ u. then_from u (step u) (turns (greatest_trip_count - (k + 1)) test body step)) s s' t t' t'' (going_same all _ _ s s' t t' (turns_on k s' lt e) g) h begun

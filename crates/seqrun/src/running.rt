@@ -31,8 +31,11 @@ pub fn statement<S: Sink>(
 ) -> Result<(), Refusal>
     requires room { S.failed sink.old + 1 < 2 ^ 64 }
     requires runs { IsSome (run (stmt_of stmt.now) (standing frame.old store.old)) }
-    ensures ran { OnOk result (Ran (run (stmt_of stmt.now) (standing frame.old store.old)) (standing frame.old store.old) (standing frame.new store.new) (S.told sink.old) (S.told sink.new)) }
-    ensures beginning { AddsBeginning (S.told sink.old) (S.told sink.new) (text_of (run (stmt_of stmt.now) (standing frame.old store.old))) }
+    ensures ran { OnOk result (Ran (run (stmt_of stmt.now) (standing frame.old store.old))
+        (standing frame.old store.old) (standing frame.new store.new) (S.told sink.old)
+        (S.told sink.new)) }
+    ensures beginning { AddsBeginning (S.told sink.old) (S.told sink.new)
+        (text_of (run (stmt_of stmt.now) (standing frame.old store.old))) }
     ensures sound { OnOk result (S.failed sink.new ≡ S.failed sink.old) }
     ensures refusal { IfErr result (Refuses (S.failed sink.old) (S.failed sink.new)) }
     ensures shape { lengths_of store.new ≡ lengths_of store.old }
@@ -88,8 +91,11 @@ pub fn block<S: Sink>(
 ) -> Result<(), Refusal>
     requires room { S.failed sink.old + 1 < 2 ^ 64 }
     requires runs { IsSome (run_items (items_of items.now) (standing frame.old store.old)) }
-    ensures ran { OnOk result (Ran (run_items (items_of items.now) (standing frame.old store.old)) (standing frame.old store.old) (standing frame.new store.new) (S.told sink.old) (S.told sink.new)) }
-    ensures beginning { AddsBeginning (S.told sink.old) (S.told sink.new) (text_of (run_items (items_of items.now) (standing frame.old store.old))) }
+    ensures ran { OnOk result (Ran (run_items (items_of items.now) (standing frame.old store.old))
+        (standing frame.old store.old) (standing frame.new store.new) (S.told sink.old)
+        (S.told sink.new)) }
+    ensures beginning { AddsBeginning (S.told sink.old) (S.told sink.new)
+        (text_of (run_items (items_of items.now) (standing frame.old store.old))) }
     ensures sound { OnOk result (S.failed sink.new ≡ S.failed sink.old) }
     ensures refusal { IfErr result (Refuses (S.failed sink.old) (S.failed sink.new)) }
     ensures shape { lengths_of store.new ≡ lengths_of store.old }
@@ -114,9 +120,14 @@ pub fn run_item<S: Sink>(
     sink: &mut S,
 ) -> Result<(), Refusal>
     requires room { S.failed sink.old + 1 < 2 ^ 64 }
-    requires runs { IsSome (run_items (with_item item.now no_items) (standing frame.old store.old)) }
-    ensures ran { OnOk result (Ran (run_items (with_item item.now no_items) (standing frame.old store.old)) (standing frame.old store.old) (standing frame.new store.new) (S.told sink.old) (S.told sink.new)) }
-    ensures beginning { AddsBeginning (S.told sink.old) (S.told sink.new) (text_of (run_items (with_item item.now no_items) (standing frame.old store.old))) }
+    requires runs { IsSome (run_items (with_item item.now no_items)
+        (standing frame.old store.old)) }
+    ensures ran { OnOk result (Ran
+        (run_items (with_item item.now no_items) (standing frame.old store.old))
+        (standing frame.old store.old) (standing frame.new store.new) (S.told sink.old)
+        (S.told sink.new)) }
+    ensures beginning { AddsBeginning (S.told sink.old) (S.told sink.new)
+        (text_of (run_items (with_item item.now no_items) (standing frame.old store.old))) }
     ensures sound { OnOk result (S.failed sink.new ≡ S.failed sink.old) }
     ensures refusal { IfErr result (Refuses (S.failed sink.old) (S.failed sink.new)) }
     ensures shape { lengths_of store.new ≡ lengths_of store.old }

@@ -9,14 +9,16 @@ ghost use Rattle.seqrun_value.specs.Standing.{standing};
 ghost use Rattle.seqrun.specs.Ran.{Ended, lengths_of, updated_by};
 
 use ktree::{BinaryOp, Expr, Increment, Source, VarId};
-use seqrun_value::{Frame, Slot, element, operated, place, source_value, value};
+use seqrun_value::{Frame, Slot, binary_value, element, place, source_value, value};
 use std::alloc::AllocError;
 use store::Store;
 
 /// What an object holds that is there and holds a number.
 fn read(variable: VarId, subscripts: &[Expr], frame: &Frame, store: &Store) -> u64
-    requires { IsSome (option_and_then (λ ks. look (standing frame.now store.now) variable.0 ks) (values (standing frame.now store.now) (exprs_of subscripts.now))) }
-    ensures { option_and_then (λ ks. look (standing frame.now store.now) variable.0 ks) (values (standing frame.now store.now) (exprs_of subscripts.now)) ≡ Some result }
+    requires { IsSome (option_and_then (λ ks. look (standing frame.now store.now) variable.0 ks)
+        (values (standing frame.now store.now) (exprs_of subscripts.now))) }
+    ensures { option_and_then (λ ks. look (standing frame.now store.now) variable.0 ks)
+        (values (standing frame.now store.now) (exprs_of subscripts.now)) ≡ Some result }
 {
     match frame.slot(variable) {
         Slot::Holds(v) => v,
@@ -36,8 +38,12 @@ pub(crate) fn assign(
     subscripts: &[Expr],
     n: u64,
 ) -> Result<(), AllocError>
-    requires { IsSome (assigned (standing frame.old store.old) variable.0 (values (standing frame.old store.old) (exprs_of subscripts.now)) (Some n)) }
-    ensures done { OnOk result (Ended (assigned (standing frame.old store.old) variable.0 (values (standing frame.old store.old) (exprs_of subscripts.now)) (Some n)) (standing frame.old store.old) (standing frame.new store.new)) }
+    requires { IsSome (assigned (standing frame.old store.old) variable.0
+        (values (standing frame.old store.old) (exprs_of subscripts.now)) (Some n)) }
+    ensures done { OnOk result (Ended
+        (assigned (standing frame.old store.old) variable.0
+        (values (standing frame.old store.old) (exprs_of subscripts.now)) (Some n))
+        (standing frame.old store.old) (standing frame.new store.new)) }
     ensures shape { lengths_of store.new ≡ lengths_of store.old }
 {
     match frame.slot(variable) {
@@ -61,12 +67,16 @@ pub(crate) fn update(
     op: BinaryOp,
     n: u64,
 ) -> Result<(), AllocError>
-    requires { IsSome (updated_by (standing frame.old store.old) variable.0 (exprs_of subscripts.now) (binary_of op) (Some n)) }
-    ensures done { OnOk result (Ended (updated_by (standing frame.old store.old) variable.0 (exprs_of subscripts.now) (binary_of op) (Some n)) (standing frame.old store.old) (standing frame.new store.new)) }
+    requires { IsSome (updated_by (standing frame.old store.old) variable.0
+        (exprs_of subscripts.now) (binary_of op) (Some n)) }
+    ensures done { OnOk result (Ended
+        (updated_by (standing frame.old store.old) variable.0 (exprs_of subscripts.now)
+        (binary_of op) (Some n)) (standing frame.old store.old)
+        (standing frame.new store.new)) }
     ensures shape { lengths_of store.new ≡ lengths_of store.old }
 {
     let old = read(variable, subscripts, frame, store);
-    let new = operated(op, old, n);
+    let new = binary_value(op, old, n);
     assign(frame, store, variable, subscripts, new)
 }
 
@@ -78,7 +88,9 @@ pub(crate) fn declare(
     start: &Option<Source>,
 ) -> Result<(), AllocError>
     requires { IsSome (declared (standing frame.old store.now) variable.0 (start_of start.now)) }
-    ensures { OnOk result (Ended (declared (standing frame.old store.now) variable.0 (start_of start.now)) (standing frame.old store.now) (standing frame.new store.now)) }
+    ensures { OnOk result (Ended
+        (declared (standing frame.old store.now) variable.0 (start_of start.now))
+        (standing frame.old store.now) (standing frame.new store.now)) }
 {
     match start {
         None => frame.set(variable, Slot::Empty),
@@ -97,7 +109,9 @@ pub(crate) fn declare(
 /// Where memory runs out.
 pub fn increment(frame: &mut Frame, store: &mut Store, step: &Increment) -> Result<(), AllocError>
     requires { IsSome (incremented (standing frame.old store.old) (increment_of step.now)) }
-    ensures done { OnOk result (Ended (incremented (standing frame.old store.old) (increment_of step.now)) (standing frame.old store.old) (standing frame.new store.new)) }
+    ensures done { OnOk result (Ended
+        (incremented (standing frame.old store.old) (increment_of step.now))
+        (standing frame.old store.old) (standing frame.new store.new)) }
     ensures shape { lengths_of store.new ≡ lengths_of store.old }
 {
     match step {

@@ -19,8 +19,10 @@ const HELD: usize = 1 << 16;
 // Text that is put in large pieces: adds these bytes behind those that are held.
 fn add<S: Sink>(sink: &mut S, held: &mut Vec<u8>, bytes: &[u8]) -> Result<(), Refusal>
     requires { S.failed sink.old + 1 < 2 ^ 64 }
-    ensures added { OnOk result (Holds (S.told sink.old) (S.told sink.new) held.new.items (held.old.items ++ bytes.now)) }
-    ensures beginning { AddsBeginning (S.told sink.old) (S.told sink.new) (held.old.items ++ bytes.now) }
+    ensures added { OnOk result (Holds (S.told sink.old) (S.told sink.new) held.new.items
+        (held.old.items ++ bytes.now)) }
+    ensures beginning { AddsBeginning (S.told sink.old) (S.told sink.new)
+        (held.old.items ++ bytes.now) }
     ensures sound { OnOk result (S.failed sink.new ≡ S.failed sink.old) }
     ensures refusal { IfErr result (Refuses (S.failed sink.old) (S.failed sink.new)) }
 {
@@ -35,8 +37,10 @@ fn add<S: Sink>(sink: &mut S, held: &mut Vec<u8>, bytes: &[u8]) -> Result<(), Re
 // A space and the decimal, for each of these.
 fn add_values<S: Sink>(sink: &mut S, held: &mut Vec<u8>, values: &[u64]) -> Result<(), Refusal>
     requires { S.failed sink.old + 1 < 2 ^ 64 }
-    ensures added { OnOk result (Holds (S.told sink.old) (S.told sink.new) held.new.items (held.old.items ++ flat_map value_text values.now)) }
-    ensures beginning { AddsBeginning (S.told sink.old) (S.told sink.new) (held.old.items ++ flat_map value_text values.now) }
+    ensures added { OnOk result (Holds (S.told sink.old) (S.told sink.new) held.new.items
+        (held.old.items ++ flat_map value_text values.now)) }
+    ensures beginning { AddsBeginning (S.told sink.old) (S.told sink.new)
+        (held.old.items ++ flat_map value_text values.now) }
     ensures sound { OnOk result (S.failed sink.new ≡ S.failed sink.old) }
     ensures refusal { IfErr result (Refuses (S.failed sink.old) (S.failed sink.new)) }
 {
@@ -57,8 +61,10 @@ fn add_line<S: Sink>(
 ) -> Result<(), Refusal>
     requires room { S.failed sink.old + 1 < 2 ^ 64 }
     requires lengths { array.now.lengths ≡ declaration.now.lengths.items }
-    ensures added { OnOk result (Holds (S.told sink.old) (S.told sink.new) held.new.items (held.old.items ++ line_of (declaration_of declaration.now) array.now)) }
-    ensures beginning { AddsBeginning (S.told sink.old) (S.told sink.new) (held.old.items ++ line_of (declaration_of declaration.now) array.now) }
+    ensures added { OnOk result (Holds (S.told sink.old) (S.told sink.new) held.new.items
+        (held.old.items ++ line_of (declaration_of declaration.now) array.now)) }
+    ensures beginning { AddsBeginning (S.told sink.old) (S.told sink.new)
+        (held.old.items ++ line_of (declaration_of declaration.now) array.now) }
     ensures sound { OnOk result (S.failed sink.new ≡ S.failed sink.old) }
     ensures refusal { IfErr result (Refuses (S.failed sink.old) (S.failed sink.new)) }
 {
@@ -81,8 +87,10 @@ pub fn dump<S: Sink>(
 ) -> Result<(), Refusal>
     requires room { S.failed sink.old + 1 < 2 ^ 64 }
     requires lengths { HasLengths (map declaration_of declarations.now) store.now }
-    ensures all { OnOk result (S.told sink.new ≡ S.told sink.old ++ dumped (map declaration_of declarations.now) (state_of store.now)) }
-    ensures beginning { AddsBeginning (S.told sink.old) (S.told sink.new) (dumped (map declaration_of declarations.now) (state_of store.now)) }
+    ensures all { OnOk result (S.told sink.new
+        ≡ S.told sink.old ++ dumped (map declaration_of declarations.now) (state_of store.now)) }
+    ensures beginning { AddsBeginning (S.told sink.old) (S.told sink.new)
+        (dumped (map declaration_of declarations.now) (state_of store.now)) }
     ensures sound { OnOk result (S.failed sink.new ≡ S.failed sink.old) }
     ensures refusal { IfErr result (Refuses (S.failed sink.old) (S.failed sink.new)) }
 {

@@ -100,7 +100,9 @@ fn spaces(text: &[u8]) -> usize
 // The values behind a name, each behind a space, or none where a word is no number.
 fn read_values(alloc: Global, text: &[u8]) -> Result<Option<Vec<u64>>, AllocError>
     requires { StartsWithSpace text.now }
-    ensures { IfOk result (λ read. MatchOption read (list_all is_value (words_behind text.now) ≡ false) (λ values. AreRead text.now values.items)) }
+    ensures { IfOk result (λ read. MatchOption read
+        (list_all is_value (words_behind text.now) ≡ false)
+        (λ values. AreRead text.now values.items)) }
 {
     let mut values = Vec::new(alloc);
     let mut rest = text;
@@ -157,7 +159,8 @@ fn read_line(
     requires few { elements (map declaration_of declarations.now) ≤ 2 ^ 24 }
     requires places { ArePlaces (map declaration_of declarations.now) places.now }
     requires count { length seen.now ≡ length declarations.now }
-    ensures right { IfOk result (λ read. IsRight (map declaration_of declarations.now) seen.now line.now read.0 read.1.items) }
+    ensures right { IfOk result (λ read. IsRight (map declaration_of declarations.now) seen.now
+        line.now read.0 read.1.items) }
     ensures fault { IfErr result (IsFault (map declaration_of declarations.now) seen.now line.now) }
 {
     if !is_formed(line) {

@@ -31,7 +31,8 @@ pub trait Sink {
         requires { failed self.old + 1 < 2 ^ 64 }
         ensures within { IfOk result (λ count. count ≤ length bytes.now) }
         ensures some { IfOk result (λ count. 0 < length bytes.now → 0 < count) }
-        ensures taken { IfOk result (λ count. told self.new ≡ told self.old ++ take count bytes.now) }
+        ensures taken { IfOk result (λ count. told self.new
+            ≡ told self.old ++ take count bytes.now) }
         ensures sound { OnOk result (failed self.new ≡ failed self.old) }
         ensures refused { OnErr result (told self.new ≡ told self.old) }
         ensures counted { OnErr result (failed self.new ≡ failed self.old + 1) };
@@ -159,7 +160,8 @@ impl<W: Write> Sink for Writer<W> {
         requires { self.old.failures + 1 < 2 ^ 64 }
         ensures within { IfOk result (λ count. count ≤ length bytes.now) }
         ensures some { IfOk result (λ count. 0 < length bytes.now → 0 < count) }
-        ensures taken { IfOk result (λ count. self.new.bytes ≡ self.old.bytes ++ take count bytes.now) }
+        ensures taken { IfOk result (λ count. self.new.bytes
+            ≡ self.old.bytes ++ take count bytes.now) }
         ensures sound { OnOk result (self.new.failures ≡ self.old.failures) }
         ensures refused { OnErr result (self.new.bytes ≡ self.old.bytes) }
         ensures counted { OnErr result (self.new.failures ≡ self.old.failures + 1) }

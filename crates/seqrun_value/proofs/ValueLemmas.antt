@@ -15,7 +15,7 @@ use Rattle.seqrun_value.specs.Standing.{offset_from, way_from, place_in, cell_in
 use Rattle.seqrun_value.specs.declared.frame.Slot.{Slot}
 use Rattle.ktree.specs.View.{expr_of, row_of, exprs_of}
 use Rattle.ktree.specs.declared.place.VarId.{VarId}
-use Rattle.ktree.specs.declared.expression.Mention.{Mention}
+use Rattle.ktree.specs.declared.expression.NamePlaces.{NamePlaces}
 use Rattle.ktree.specs.declared.expression.Expr.{Expr, Object, Object', Row_of-Expr, end_of-Expr, more_of-Expr, items-the_row-Expr, items_hidden-the_row-Expr-0}
 
 -- the subscripts of an object, as a list
@@ -27,7 +27,7 @@ abbrev row_at : Expr → (n : Count) × Row_of-Expr n
 row_at (Object' x shape row place) = (_, row)
 row_at _ = (_, end_of-Expr)
 
-pub object_of : (x : VarId) (subs : Vec Expr Global) (mention : Mention) → expr_of (Object x subs mention) ≡ Tree.Object x.0 (exprs_of subs.items)
+pub object_of : (x : VarId) (subs : Vec Expr Global) (mention : NamePlaces) → expr_of (Object x subs mention) ≡ Tree.Object x.0 (exprs_of subs.items)
 object_of x subs mention =
     let row = row_at (Object x subs mention) in
     ap (Tree.Object x.0) (row_items row.0 row.1 ∙ ap exprs_of (items_hidden-the_row-Expr-0 subs))
@@ -126,7 +126,7 @@ cell_is a is = go (within a.lengths is) ∙ ap (λ o. option_and_then (λ k. sli
     go false = refl
 
 -- an object that is no local lies in its array
-pub object_in : (frame : List Slot) (store : List Kept) (x : VarId) (subs : Vec Expr Global) (mention : Mention) (a : Kept) → (standing frame store).locals x.0 ≡ Outside → a ≡ get_or store x.0 a → IsSome (value (standing frame store) (expr_of (Object x subs mention))) → value (standing frame store) (expr_of (Object x subs mention)) ≡ cell_in a (values (standing frame store) (exprs_of subs.items))
+pub object_in : (frame : List Slot) (store : List Kept) (x : VarId) (subs : Vec Expr Global) (mention : NamePlaces) (a : Kept) → (standing frame store).locals x.0 ≡ Outside → a ≡ get_or store x.0 a → IsSome (value (standing frame store) (expr_of (Object x subs mention))) → value (standing frame store) (expr_of (Object x subs mention)) ≡ cell_in a (values (standing frame store) (exprs_of subs.items))
 object_in frame store x subs mention a out is h =
     ap (value s) (object_of x subs mention) ∙ along (values s (exprs_of subs.items)) ∙ lies (values s (exprs_of subs.items)) (slice_get store x.0) refl (subst IsSome (ap (value s) (object_of x subs mention) ∙ along (values s (exprs_of subs.items))) h)
   where

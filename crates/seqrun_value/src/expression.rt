@@ -6,7 +6,7 @@ ghost use Rattle.ktree.specs.View.{expr_of, exprs_of, cond_of, source_of};
 ghost use Rattle.seqrun_value.specs.Standing.{standing, place_in, cell_in};
 
 use crate::frame::{Frame, Slot};
-use crate::operators::{changed, compared, operated};
+use crate::operators::{binary_value, comparison_holds, unary_value};
 use ktree::{Cond, Expr, Source};
 use store::{Array, Store};
 
@@ -27,13 +27,13 @@ pub fn value(expr: &Expr, frame: &Frame, store: &Store) -> u64
                 element(subscripts, array, frame, store)
             }
         },
-        Expr::Unary(op, a) => changed(*op, value(a, frame, store)),
+        Expr::Unary(op, a) => unary_value(*op, value(a, frame, store)),
         Expr::Binary(op, a, b) => {
             let left = value(a, frame, store);
             let right = value(b, frame, store);
-            operated(*op, left, right)
+            binary_value(*op, left, right)
         }
-        Expr::Choose(c, a, b) => {
+        Expr::Conditional(c, a, b) => {
             if holds(c, frame, store) {
                 value(a, frame, store)
             } else {
@@ -55,17 +55,17 @@ pub fn holds(cond: &Cond, frame: &Frame, store: &Store) -> bool
         Cond::Compare(op, a, b, _place) => {
             let left = value(a, frame, store);
             let right = value(b, frame, store);
-            compared(*op, left, right)
+            comparison_holds(*op, left, right)
         }
         Cond::Not(c) => !holds(c, frame, store),
-        Cond::Both(c, d) => {
+        Cond::LogicalAnd(c, d) => {
             if holds(c, frame, store) {
                 holds(d, frame, store)
             } else {
                 false
             }
         }
-        Cond::Either(c, d) => {
+        Cond::LogicalOr(c, d) => {
             if holds(c, frame, store) {
                 true
             } else {
@@ -89,8 +89,10 @@ pub fn source_value(source: &Source, frame: &Frame, store: &Store) -> u64
 /// Where an element lies among its array's values, row by row, if it is there (C11 6.5.2.1, 3).
 #[cycle(value)]
 pub fn place(subscripts: &[Expr], array: &Array, frame: &Frame, store: &Store) -> u64
-    requires { IsSome (cell_in array.now (values (standing frame.now store.now) (exprs_of subscripts.now))) }
-    ensures { place_in array.now (values (standing frame.now store.now) (exprs_of subscripts.now)) ≡ Some result }
+    requires { IsSome (cell_in array.now
+        (values (standing frame.now store.now) (exprs_of subscripts.now))) }
+    ensures { place_in array.now (values (standing frame.now store.now) (exprs_of subscripts.now))
+        ≡ Some result }
 {
     let lengths = array.lengths();
     // The number of its values, which fits, bounds each step of the way.
@@ -105,8 +107,10 @@ pub fn place(subscripts: &[Expr], array: &Array, frame: &Frame, store: &Store) -
 /// What an element holds that is there.
 #[cycle(value)]
 pub fn element(subscripts: &[Expr], array: &Array, frame: &Frame, store: &Store) -> u64
-    requires { IsSome (cell_in array.now (values (standing frame.now store.now) (exprs_of subscripts.now))) }
-    ensures { cell_in array.now (values (standing frame.now store.now) (exprs_of subscripts.now)) ≡ Some result }
+    requires { IsSome (cell_in array.now
+        (values (standing frame.now store.now) (exprs_of subscripts.now))) }
+    ensures { cell_in array.now (values (standing frame.now store.now) (exprs_of subscripts.now))
+        ≡ Some result }
 {
     let at = place(subscripts, array, frame, store);
     let cells = array.values();

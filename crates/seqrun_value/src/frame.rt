@@ -57,8 +57,11 @@ impl Frame {
     ///
     /// Where memory runs out; all variables then stand as they did.
     pub fn set(&mut self, variable: VarId, slot: Slot) -> Result<(), AllocError>
-        ensures ok { OnOk result ((ks : List Kept) → standing self.new ks ≡ with_local (standing self.old ks) variable.0 (slot_of (Some slot))) }
-        ensures err { OnErr result ((ks : List Kept) → standing self.new ks ≡ standing self.old ks) }
+        ensures ok { OnOk result ((ks : List Kept)
+            → standing self.new ks ≡ with_local (standing self.old ks) variable.0
+            (slot_of (Some slot))) }
+        ensures err { OnErr result
+            ((ks : List Kept) → standing self.new ks ≡ standing self.old ks) }
     {
         let slots = &mut self.slots;
         let index = variable.0 as usize;

@@ -7,4 +7,4 @@ mod operators;
 
 pub use expression::{element, holds, place, source_value, value};
 pub use frame::{Frame, Slot};
-pub use operators::operated;
+pub use operators::binary_value;

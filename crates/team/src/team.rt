@@ -55,15 +55,20 @@ fn run_all<'l, 's, R: Threads + Wait + Sync, G: Gate>(
     requires count { drawing.now.count ≡ length chunks.now }
     requires seats { All (λ member. member.seat ≡ fresh drawing.now) members.items }
     ensures len { IfOk result (λ v. vec_len v ≡ vec_len members) }
-    ensures ends { IfOk result (λ v. AreFinished lowered.now store.now chunks.now drawing.now v.items) }
+    ensures ends { IfOk result (λ v. AreFinished lowered.now store.now chunks.now drawing.now
+        v.items) }
     ensures refusal { IfErr result (λ refusal. refusal ≡ Refusal.OutOfMemory) }
 {
     thread::scope(
         thread::scope_env(),
         rt,
         |scope| -> Result<Vec<Result<Finished, Refusal>>, Refusal>
-            requires { Fits lowered.now store.now × IsCut lowered.now.bound chunks.now × (drawing.now.count ≡ length chunks.now) × All (λ member. member.seat ≡ fresh drawing.now) members.items }
-            ensures ends { IfOk result (λ v. (vec_len v ≡ vec_len members) × AreFinished lowered.entry.now store.entry.now chunks.entry.now drawing.entry.now v.items) }
+            requires { Fits lowered.now store.now × IsCut lowered.now.bound chunks.now
+                × (drawing.now.count ≡ length chunks.now)
+                × All (λ member. member.seat ≡ fresh drawing.now) members.items }
+            ensures ends { IfOk result (λ v. (vec_len v ≡ vec_len members)
+                × AreFinished lowered.entry.now store.entry.now chunks.entry.now drawing.entry.now
+                v.items) }
             ensures refusal { IfErr result (λ refusal. refusal ≡ Refusal.OutOfMemory) }
         {
             let promise = Job {
@@ -77,8 +82,11 @@ fn run_all<'l, 's, R: Threads + Wait + Sync, G: Gate>(
                 let child = scope.spawn_with(
                     promise,
                     move || -> Result<Finished, Refusal>
-                        requires { Fits lowered.now store.now × IsCut lowered.now.bound chunks.now × (drawing.now.count ≡ length chunks.now) × (member.seat ≡ fresh drawing.now) }
-                        ensures { IfOk result (λ f. IsFinished lowered.entry.now store.entry.now chunks.entry.now drawing.entry.now f) }
+                        requires { Fits lowered.now store.now × IsCut lowered.now.bound chunks.now
+                            × (drawing.now.count ≡ length chunks.now)
+                            × (member.seat ≡ fresh drawing.now) }
+                        ensures { IfOk result (λ f. IsFinished lowered.entry.now store.entry.now
+                            chunks.entry.now drawing.entry.now f) }
                     { work(alloc, lowered, store, chunks, drawing, member, gate) },
                 );
                 let Ok(child) = child else {
@@ -119,8 +127,11 @@ fn collect<'l, 's>(
 
 /// Ends the borrow of the store, piece by piece.
 fn release_all<'l, 's>(alloc: Global, pieces: Vec<Piece<'l, 's>>) -> Result<Vec<Changes>, Refusal>
-    ensures changes { (lowered : LoweredLoop) (store : List Kept) (chunks : List Chunk) → All (IsPieceOf lowered store chunks) pieces.entry.items → IfOk result (λ cs. All (IsChange lowered store chunks) cs.items) }
-    ensures numbers { IfOk result (λ cs. map (λ c. c.work.chunk.0) cs.items ≡ map (λ p. p.work.chunk.0) pieces.entry.items) }
+    ensures changes { (lowered : LoweredLoop) (store : List Kept) (chunks : List Chunk)
+        → All (IsPieceOf lowered store chunks) pieces.entry.items
+        → IfOk result (λ cs. All (IsChange lowered store chunks) cs.items) }
+    ensures numbers { IfOk result (λ cs. map (λ c. c.work.chunk.0) cs.items
+        ≡ map (λ p. p.work.chunk.0) pieces.entry.items) }
     ensures refusal { IfErr result (λ refusal. refusal ≡ Refusal.OutOfMemory) }
 {
     let mut changes = Vec::with_capacity(alloc, pieces.len())?;
@@ -133,7 +144,8 @@ fn release_all<'l, 's>(alloc: Global, pieces: Vec<Piece<'l, 's>>) -> Result<Vec<
 /// Overwrites the store by the writes of all chunks; no two chunks have an element in common.
 fn apply_all(store: &mut Store, lowered: &LoweredLoop, changes: Vec<Changes>)
     requires fits { Fits lowered.now store.old }
-    requires changes { (chunks : List Chunk) × All (IsChange lowered.now store.old chunks) changes.items }
+    requires changes { (chunks : List Chunk)
+        × All (IsChange lowered.now store.old chunks) changes.items }
     ensures written { All (IsWritten lowered.now store.old store.new) changes.items }
     ensures others { KeepsOthers lowered.now store.old store.new }
 {
@@ -165,7 +177,8 @@ fn run_workers<'l, 's, R: Threads + Wait + Sync, G: Gate>(
     requires fits { Fits lowered.now store.now }
     requires cut { IsCut lowered.now.bound chunks.now }
     requires few { length chunks.now ≤ 2 ^ 24 }
-    ensures drawing { IfOk result (λ r. (r.0.count ≡ length chunks.now) × (r.0.seats ≡ workers) × (1 ≤ r.0.seats)) }
+    ensures drawing { IfOk result (λ r. (r.0.count ≡ length chunks.now) × (r.0.seats ≡ workers)
+        × (1 ≤ r.0.seats)) }
     ensures len { IfOk result (λ r. vec_len r.1 ≡ workers) }
     ensures ends { IfOk result (λ r. AreFinished lowered.now store.now chunks.now r.0 r.1.items) }
     ensures refusal { IfErr result (λ refusal. refusal ≡ Refusal.OutOfMemory) }
@@ -199,7 +212,8 @@ fn run_chunks<R: Threads + Wait + Sync, G: Gate>(
     requires bound { lowered.now.bound ≤ 2 ^ 24 }
     ensures everyone { IfOk result (λ end. vec_len end.seats ≡ workers) }
     ensures back { IfOk result (λ end. AreBack end.drawing end.seats.items) }
-    ensures changes { IfOk result (λ end. AreDrawn lowered.now store.now (chunks_of_loop lowered.now workers) end.drawing end.seats.items end.changes.items) }
+    ensures changes { IfOk result (λ end. AreDrawn lowered.now store.now
+        (chunks_of_loop lowered.now workers) end.drawing end.seats.items end.changes.items) }
     ensures refusal { IfErr result (λ refusal. refusal ≡ Refusal.OutOfMemory) }
 {
     let chunks = chunks_of(alloc, lowered, workers)?;
@@ -216,7 +230,9 @@ fn run_chunks<R: Threads + Wait + Sync, G: Gate>(
 /// What all chunks of a loop write: where all seats are back, no chunk was left out.
 fn all_changes(end: TeamEnd) -> Vec<Changes>
     requires { AreBack end.drawing end.seats.items }
-    ensures { (lowered : LoweredLoop) (store : List Kept) (chunks : List Chunk) → AreDrawn lowered store chunks end.drawing end.seats.items end.changes.items → AreAll lowered store chunks result.items }
+    ensures { (lowered : LoweredLoop) (store : List Kept) (chunks : List Chunk)
+        → AreDrawn lowered store chunks end.drawing end.seats.items end.changes.items
+        → AreAll lowered store chunks result.items }
 {
     let TeamEnd {
         drawing,
@@ -245,8 +261,11 @@ pub fn run_loop<R: Threads + Wait + Sync, G: Gate>(
 ) -> Result<(), Refusal>
     requires fits { Fits lowered.now store.old }
     requires bound { lowered.now.bound ≤ 2 ^ 24 }
-    ensures runs { OnOk result ((name : List ℕ) (locals : Locals) → Shows lowered.now locals → RunsAsTheLoop (statement_of name lowered.now) no_roles (state_with store.old locals) (state_with store.new locals) []) }
-    ensures ends { OnOk result ((name : List ℕ) (locals : Locals) → Shows lowered.now locals → RunsTo lowered.now name (state_with store.old locals) (state_with store.new locals)) }
+    ensures runs { OnOk result ((name : List ℕ) (locals : Locals) → Shows lowered.now locals
+        → RunsAsTheLoop (statement_of name lowered.now) no_roles (state_with store.old locals)
+        (state_with store.new locals) []) }
+    ensures ends { OnOk result ((name : List ℕ) (locals : Locals) → Shows lowered.now locals
+        → RunsTo lowered.now name (state_with store.old locals) (state_with store.new locals)) }
     ensures shape { map (λ k. k.lengths) store.new ≡ map (λ k. k.lengths) store.old }
     ensures refusal { IfErr result (λ refusal. refusal ≡ Refusal.OutOfMemory) }
 {

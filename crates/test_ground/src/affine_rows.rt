@@ -40,7 +40,7 @@ type Sides<'a> = &'a [(VarId, i128, i128)];
 fn box_of(alloc: Global, sides: Sides<'_>) -> Result<VarBox, Refusal> {
     let mut bounds = VarBox::new(alloc);
     for (variable, least, greatest) in sides {
-        bounds.bound(*variable, *least, *greatest, HERE)?;
+        bounds.bind(*variable, *least, *greatest, HERE)?;
     }
     Ok(bounds)
 }
@@ -183,15 +183,15 @@ fn has_first(bounds: &VarBox) -> bool {
 /// A box with the values of `j` taken back.
 fn without_last(alloc: Global) -> Result<VarBox, Refusal> {
     let mut bounds = box_of(alloc, &[(I, 1, 2)])?;
-    bounds.bound(J, 5, 6, HERE)?;
-    bounds.unbound();
+    bounds.bind(J, 5, 6, HERE)?;
+    bounds.unbind();
     Ok(bounds)
 }
 
 /// A copy of a box, with values for `i` once more, of which there are none.
 fn emptied(bounds: &VarBox) -> Result<VarBox, Refusal> {
     let mut copy = bounds.clone()?;
-    copy.bound(I, 4, 3, HERE)?;
+    copy.bind(I, 4, 3, HERE)?;
     Ok(copy)
 }
 

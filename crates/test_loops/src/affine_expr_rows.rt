@@ -10,8 +10,8 @@ const HERE: Place = Place { line: 3, column: 5 };
 
 /// The box of i from 0 to 7 and j from 0 to 3.
 fn bound_both(bounds: &mut VarBox) -> Result<(), Refusal> {
-    bounds.bound(I, 0, 7, HERE)?;
-    bounds.bound(J, 0, 3, HERE)
+    bounds.bind(I, 0, 7, HERE)?;
+    bounds.bind(J, 0, 3, HERE)
 }
 
 /// The number and the coefficients of i and j of a form in a box.

@@ -5,7 +5,7 @@ use crate::texts::{
 };
 use affine::VarBox;
 use affine_expr::Fault;
-use ktree::{Expr, Kernel, Mention, Source, Stmt, Suffix, Target};
+use ktree::{Expr, Kernel, NamePlaces, Source, Stmt, Suffix, Target};
 use nest::*;
 use nest_space::{Space, Value};
 use pragma::Directives;
@@ -194,7 +194,7 @@ fn loops_inside_each_other(rt: HostRuntime) {
 fn assignment_at_i(alloc: Global) -> Result<Stmt, AllocError> {
     let mut subscripts = Vec::new(alloc);
     subscripts.push(Expr::Object(I, Vec::new(alloc), name(alloc, at(3, 3))))?;
-    let mention = Mention {
+    let mention = NamePlaces {
         name: at(3, 1),
         subscripts: Vec::from_slice(alloc, &[at(3, 3)])?,
     };
@@ -373,7 +373,7 @@ fn iterations(alloc: Global, statement: &Stmt, bounds: &VarBox) -> Option<u64> {
 /// The same where the numbers of `x` are 0 to 9.
 fn iterations_by_x(alloc: Global, statement: &Stmt) -> Option<u64> {
     let mut bounds = VarBox::new(alloc);
-    if bounds.bound(X, 0, 9, at(1, 1)).is_err() {
+    if bounds.bind(X, 0, 9, at(1, 1)).is_err() {
         return None;
     }
     iterations(alloc, statement, &bounds)

@@ -2,7 +2,7 @@
 //! and a local `x`, the variable 3. The variables that the given lines declare have the numbers from 4 on.
 
 use cparse::parse;
-use ktree::{Item, Kernel, Mention, Place, Stmt, VarId};
+use ktree::{Item, Kernel, NamePlaces, Place, Stmt, VarId};
 use std::alloc::{AllocError, Global};
 
 /// The array `A`.
@@ -60,8 +60,8 @@ pub(crate) fn kernel_with(alloc: Global, lines: &str, last: Stmt) -> Result<Kern
 }
 
 /// A name at a place, without subscripts.
-pub(crate) fn name(alloc: Global, place: Place) -> Mention {
-    Mention {
+pub(crate) fn name(alloc: Global, place: Place) -> NamePlaces {
+    NamePlaces {
         name: place,
         subscripts: Vec::new(alloc),
     }

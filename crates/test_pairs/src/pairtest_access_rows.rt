@@ -4,7 +4,7 @@ use cparse::parse;
 use ktree::{Head, Item, Kernel, Stmt, VarId};
 use pairtest::{Access, Mode};
 use pairtest_access::*;
-use pairtest_counter::Chain;
+use pairtest_counter::EnclosingLoops;
 use std::alloc::Global;
 
 /// A loop with `i` from 3 on, by two: `i` is 3 more than twice the steps.
@@ -40,7 +40,7 @@ fn first_loop(kernel: &Kernel) -> Option<(&Head, &Stmt)> {
 
 /// The accesses of a loop's body.
 fn listed_in(alloc: Global, head: &Head, body: &Stmt) -> Option<Vec<Access>> {
-    let mut chain = Chain::new(alloc);
+    let mut chain = EnclosingLoops::new(alloc);
     chain.enter(alloc, head, body).ok()?;
     accesses(alloc, &mut chain, body).ok()
 }
@@ -109,9 +109,9 @@ fn told_of(told: &Touched) -> Option<Told> {
 
 /// What is told of the access of a loop's body with so many before it, where it has one; None where that is refused.
 fn told_in(alloc: Global, head: &Head, body: &Stmt, number: usize) -> Option<Option<Told>> {
-    let mut chain = Chain::new(alloc);
+    let mut chain = EnclosingLoops::new(alloc);
     chain.enter(alloc, head, body).ok()?;
-    match touched(alloc, &mut chain, body, number) {
+    match access_at(alloc, &mut chain, body, number) {
         Ok(Some(told)) => Some(told_of(&told)),
         Ok(None) => Some(None),
         Err(_) => None,

@@ -67,7 +67,8 @@ fn keeps_what_it_took(rt: HostRuntime) {
 
 /// `A`, of so many elements.
 fn declared(alloc: Global, length: u64) -> Result<Vec<Declaration>, AllocError>
-    ensures { IfOk result (λ ds. map declaration_of ds.items ≡ record { name = codes "A"; lengths = length ∷ [] } ∷ []) }
+    ensures { IfOk result (λ ds. map declaration_of ds.items
+        ≡ record { name = codes "A"; lengths = length ∷ [] } ∷ []) }
 {
     let name = String::from_str(alloc, "A")?;
     let lengths = Vec::from_slice(alloc, &[length])?;

@@ -10,7 +10,7 @@ ghost use Rattle.seqrun_value.specs.declared.frame.Slot.{Slot};
 
 use crate::stores::{holds, one_array};
 use ktree::{
-    BinaryOp, CompareOp, Cond, Expr, Head, Increment, Item, Local, Mention, Place, PrintPart,
+    BinaryOp, CompareOp, Cond, Expr, Head, Increment, Item, Local, NamePlaces, Place, PrintPart,
     Refusal, Source, Stmt, Suffix, Target, VarId,
 };
 use seqrun::*;
@@ -30,8 +30,8 @@ fn number(n: u64) -> Expr
     Expr::Literal(n, Suffix::Ull)
 }
 
-fn mention(alloc: Global) -> Mention {
-    Mention {
+fn mention(alloc: Global) -> NamePlaces {
+    NamePlaces {
         name: HERE,
         subscripts: Vec::new(alloc),
     }
@@ -46,7 +46,8 @@ fn local(alloc: Global) -> Expr
 
 /// `local < n`
 fn below(alloc: Global, n: u64) -> Result<Cond, AllocError>
-    ensures { IfOk result (λ c. cond_of c ≡ Tree.Compare Tree.Less (Tree.Object 1 Tree.no_exprs) (Tree.Literal n Tree.Ull)) }
+    ensures { IfOk result (λ c. cond_of c
+        ≡ Tree.Compare Tree.Less (Tree.Object 1 Tree.no_exprs) (Tree.Literal n Tree.Ull)) }
 {
     let left = Box::new(alloc, local(alloc))?;
     let right = Box::new(alloc, number(n))?;
@@ -55,7 +56,8 @@ fn below(alloc: Global, n: u64) -> Result<Cond, AllocError>
 
 /// `A[at]`
 fn element(alloc: Global, at: u64) -> Result<Target, AllocError>
-    ensures { IfOk result (λ t. (e : _) × (t.variable.0 ≡ 0) × (t.subscripts.items ≡ e ∷ []) × (expr_of e ≡ Tree.Literal at Tree.Ull)) }
+    ensures { IfOk result (λ t. (e : _) × (t.variable.0 ≡ 0) × (t.subscripts.items ≡ e ∷ [])
+        × (expr_of e ≡ Tree.Literal at Tree.Ull)) }
 {
     let mut subscripts = Vec::new(alloc);
     subscripts.push(number(at))?;
@@ -68,7 +70,9 @@ fn element(alloc: Global, at: u64) -> Result<Target, AllocError>
 
 /// `A[at] = n;`
 fn assignment(alloc: Global, at: u64, n: u64) -> Result<Box<Stmt>, AllocError>
-    ensures { IfOk result (λ s. stmt_of s.value ≡ Tree.Assign 0 (Tree.more_exprs (Tree.Literal at Tree.Ull) Tree.no_exprs) (Tree.Number (Tree.Literal n Tree.Ull))) }
+    ensures { IfOk result (λ s. stmt_of s.value
+        ≡ Tree.Assign 0 (Tree.more_exprs (Tree.Literal at Tree.Ull) Tree.no_exprs)
+        (Tree.Number (Tree.Literal n Tree.Ull))) }
 {
     let target = element(alloc, at)?;
     Ok(Box::new(alloc, Stmt::Assign(target, Source::Number(number(n))))?)
@@ -76,7 +80,9 @@ fn assignment(alloc: Global, at: u64, n: u64) -> Result<Box<Stmt>, AllocError>
 
 /// `A[at] op= n;`
 fn update(alloc: Global, at: u64, op: BinaryOp, n: u64) -> Result<Box<Stmt>, AllocError>
-    ensures { IfOk result (λ s. stmt_of s.value ≡ Tree.Update 0 (Tree.more_exprs (Tree.Literal at Tree.Ull) Tree.no_exprs) (binary_of op) (Tree.Literal n Tree.Ull)) }
+    ensures { IfOk result (λ s. stmt_of s.value
+        ≡ Tree.Update 0 (Tree.more_exprs (Tree.Literal at Tree.Ull) Tree.no_exprs) (binary_of op)
+        (Tree.Literal n Tree.Ull)) }
 {
     let target = element(alloc, at)?;
     Ok(Box::new(alloc, Stmt::Update(target, op, number(n)))?)
@@ -84,7 +90,9 @@ fn update(alloc: Global, at: u64, op: BinaryOp, n: u64) -> Result<Box<Stmt>, All
 
 /// `printf("%llu\n", local);`
 fn line(alloc: Global) -> Result<Box<Stmt>, AllocError>
-    ensures { IfOk result (λ s. stmt_of s.value ≡ Tree.Print (Tree.Decimal (Tree.Object 1 Tree.no_exprs) ∷ Tree.Characters (codes "\n") ∷ [])) }
+    ensures { IfOk result (λ s. stmt_of s.value
+        ≡ Tree.Print (Tree.Decimal (Tree.Object 1 Tree.no_exprs) ∷ Tree.Characters (codes "\n")
+        ∷ [])) }
 {
     let characters = PrintPart::Characters(Vec::from_slice(alloc, b"\n")?);
     let parts = vec![in alloc; PrintPart::Decimal(local(alloc)), characters]?;
@@ -93,7 +101,10 @@ fn line(alloc: Global) -> Result<Box<Stmt>, AllocError>
 
 /// `for (local = 9; local < 12; local++) body`
 fn turns(alloc: Global, body: Box<Stmt>) -> Result<Box<Stmt>, AllocError>
-    ensures { IfOk result (λ s. stmt_of s.value ≡ Tree.For 1 (codes "i") (Tree.Number (Tree.Literal 9 Tree.Ull)) (Tree.Compare Tree.Less (Tree.Object 1 Tree.no_exprs) (Tree.Literal 12 Tree.Ull)) (Tree.Up 1) (stmt_of body.value)) }
+    ensures { IfOk result (λ s. stmt_of s.value
+        ≡ Tree.For 1 (codes "i") (Tree.Number (Tree.Literal 9 Tree.Ull))
+        (Tree.Compare Tree.Less (Tree.Object 1 Tree.no_exprs) (Tree.Literal 12 Tree.Ull))
+        (Tree.Up 1) (stmt_of body.value)) }
 {
     let test = below(alloc, 12)?;
     let name = String::from_str(alloc, "i")?;
@@ -111,7 +122,8 @@ fn turns(alloc: Global, body: Box<Stmt>) -> Result<Box<Stmt>, AllocError>
 
 /// The loop that prints, which has a run wherever it stands.
 fn counting(alloc: Global) -> Result<Box<Stmt>, AllocError>
-    ensures { IfOk result (λ s. (frame : List Slot) (ks : List Kept) → IsSome (run (stmt_of s.value) (standing frame ks))) }
+    ensures { IfOk result (λ s. (frame : List Slot) (ks : List Kept)
+        → IsSome (run (stmt_of s.value) (standing frame ks))) }
 {
     let body = line(alloc)?;
     let stmt = turns(alloc, body)?;
@@ -120,7 +132,9 @@ fn counting(alloc: Global) -> Result<Box<Stmt>, AllocError>
 
 /// `unsigned long long i = n;`
 fn declaration(alloc: Global, n: u64) -> Result<Item, AllocError>
-    ensures { IfOk result (λ i. (rest : Tree.Items) → with_item i rest ≡ Tree.local 1 (codes "i") (Some (Tree.Number (Tree.Literal n Tree.Ull))) rest) }
+    ensures { IfOk result (λ i. (rest : Tree.Items)
+        → with_item i rest ≡ Tree.local 1 (codes "i") (Some (Tree.Number (Tree.Literal n Tree.Ull)))
+        rest) }
 {
     Ok(Item::Local(Local {
         variable: VarId(1),
@@ -144,7 +158,8 @@ fn refused<S: Sink>(alloc: Global, stmt: &Stmt, store: &mut Store, sink: &mut S)
 
 /// Whether a statement leaves these values of three, 7 each, and writes these bytes.
 fn leaves(alloc: Global, stmt: &Stmt, values: &[u64], output: &[u8]) -> bool
-    requires { IsSome (run (stmt_of stmt.now) (standing [] (record { lengths = 3 ∷ []; values = 7 ∷ 7 ∷ 7 ∷ [] } ∷ []))) }
+    requires { IsSome (run (stmt_of stmt.now)
+        (standing [] (record { lengths = 3 ∷ []; values = 7 ∷ 7 ∷ 7 ∷ [] } ∷ []))) }
 {
     let Ok(mut store) = one_array(alloc, &[7, 7, 7]) else {
         return false;
@@ -171,7 +186,13 @@ fn updates_take_the_old_value(rt: HostRuntime) -> Result<(), Fail> {
 
 /// A choice by the local: the first element is 1 or 2.
 fn chosen(alloc: Global) -> Result<Box<Stmt>, AllocError>
-    ensures { IfOk result (λ s. stmt_of s.value ≡ Tree.IfElse (Tree.Compare Tree.Less (Tree.Object 1 Tree.no_exprs) (Tree.Literal 4 Tree.Ull)) (Tree.Assign 0 (Tree.more_exprs (Tree.Literal 0 Tree.Ull) Tree.no_exprs) (Tree.Number (Tree.Literal 1 Tree.Ull))) (Tree.Assign 0 (Tree.more_exprs (Tree.Literal 0 Tree.Ull) Tree.no_exprs) (Tree.Number (Tree.Literal 2 Tree.Ull)))) }
+    ensures { IfOk result (λ s. stmt_of s.value
+        ≡ Tree.IfElse (Tree.Compare Tree.Less (Tree.Object 1 Tree.no_exprs)
+        (Tree.Literal 4 Tree.Ull)) (Tree.Assign 0
+        (Tree.more_exprs (Tree.Literal 0 Tree.Ull) Tree.no_exprs)
+        (Tree.Number (Tree.Literal 1 Tree.Ull)))
+        (Tree.Assign 0 (Tree.more_exprs (Tree.Literal 0 Tree.Ull) Tree.no_exprs)
+        (Tree.Number (Tree.Literal 2 Tree.Ull)))) }
 {
     let then = assignment(alloc, 0, 1)?;
     let other = assignment(alloc, 0, 2)?;
@@ -181,7 +202,14 @@ fn chosen(alloc: Global) -> Result<Box<Stmt>, AllocError>
 
 /// A declaration of the local and a choice by it.
 fn body(alloc: Global) -> Result<Vec<Item>, AllocError>
-    ensures { IfOk result (λ is. items_of is.items ≡ Tree.local 1 (codes "i") (Some (Tree.Number (Tree.Literal 4 Tree.Ull))) (Tree.stmt (Tree.IfElse (Tree.Compare Tree.Less (Tree.Object 1 Tree.no_exprs) (Tree.Literal 4 Tree.Ull)) (Tree.Assign 0 (Tree.more_exprs (Tree.Literal 0 Tree.Ull) Tree.no_exprs) (Tree.Number (Tree.Literal 1 Tree.Ull))) (Tree.Assign 0 (Tree.more_exprs (Tree.Literal 0 Tree.Ull) Tree.no_exprs) (Tree.Number (Tree.Literal 2 Tree.Ull)))) Tree.no_items)) }
+    ensures { IfOk result (λ is. items_of is.items
+        ≡ Tree.local 1 (codes "i") (Some (Tree.Number (Tree.Literal 4 Tree.Ull)))
+        (Tree.stmt (Tree.IfElse (Tree.Compare Tree.Less (Tree.Object 1 Tree.no_exprs)
+        (Tree.Literal 4 Tree.Ull)) (Tree.Assign 0
+        (Tree.more_exprs (Tree.Literal 0 Tree.Ull) Tree.no_exprs)
+        (Tree.Number (Tree.Literal 1 Tree.Ull)))
+        (Tree.Assign 0 (Tree.more_exprs (Tree.Literal 0 Tree.Ull) Tree.no_exprs)
+        (Tree.Number (Tree.Literal 2 Tree.Ull)))) Tree.no_items)) }
 {
     let choice = chosen(alloc)?;
     let mut items = Vec::new(alloc);
@@ -192,7 +220,8 @@ fn body(alloc: Global) -> Result<Vec<Item>, AllocError>
 
 /// Whether items leave these values of three, 7 each.
 fn leave(alloc: Global, items: &[Item], values: &[u64]) -> bool
-    requires { IsSome (run_items (items_of items.now) (standing [] (record { lengths = 3 ∷ []; values = 7 ∷ 7 ∷ 7 ∷ [] } ∷ []))) }
+    requires { IsSome (run_items (items_of items.now)
+        (standing [] (record { lengths = 3 ∷ []; values = 7 ∷ 7 ∷ 7 ∷ [] } ∷ []))) }
 {
     let Ok(mut store) = one_array(alloc, &[7, 7, 7]) else {
         return false;
@@ -238,7 +267,8 @@ impl Write for OneByte {
 
 /// Whether a statement over that writer is refused as an output that failed, and the sink failed once.
 fn fails_once(alloc: Global, stmt: &Stmt) -> Result<bool, AllocError>
-    requires { IsSome (run (stmt_of stmt.now) (standing [] (record { lengths = 3 ∷ []; values = 7 ∷ 7 ∷ 7 ∷ [] } ∷ []))) }
+    requires { IsSome (run (stmt_of stmt.now)
+        (standing [] (record { lengths = 3 ∷ []; values = 7 ∷ 7 ∷ 7 ∷ [] } ∷ []))) }
 {
     let mut store = one_array(alloc, &[7, 7, 7])?;
     let mut sink = Writer::new(OneByte { calls: 0 });

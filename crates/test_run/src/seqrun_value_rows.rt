@@ -8,7 +8,7 @@ ghost use Rattle.seqrun_value.specs.Standing.{standing};
 ghost use Rattle.seqrun_value.specs.declared.frame.Slot.TheVariants as slots;
 
 use crate::stores::one_array;
-use ktree::{BinaryOp, CompareOp, Cond, Expr, Mention, Place, Source, Suffix, VarId};
+use ktree::{BinaryOp, CompareOp, Cond, Expr, NamePlaces, Place, Source, Suffix, VarId};
 use seqrun_value::*;
 use std::alloc::{AllocError, Global};
 use std::test::Fail;
@@ -40,7 +40,7 @@ fn compare(alloc: Global, op: CompareOp, a: Expr, b: Expr) -> Result<Cond, Alloc
 fn local(alloc: Global) -> Expr
     ensures { expr_of result ≡ Tree.Object 1 Tree.no_exprs }
 {
-    let mention = Mention {
+    let mention = NamePlaces {
         name: HERE,
         subscripts: Vec::new(alloc),
     };
@@ -49,9 +49,10 @@ fn local(alloc: Global) -> Expr
 
 /// An element of the array, which is the variable 0.
 fn element(alloc: Global, at: Expr) -> Result<Expr, AllocError>
-    ensures { IfOk result (λ e. expr_of e ≡ Tree.Object 0 (Tree.more_exprs (expr_of at) Tree.no_exprs)) }
+    ensures { IfOk result (λ e. expr_of e
+        ≡ Tree.Object 0 (Tree.more_exprs (expr_of at) Tree.no_exprs)) }
 {
-    let mention = Mention {
+    let mention = NamePlaces {
         name: HERE,
         subscripts: Vec::new(alloc),
     };
@@ -72,7 +73,10 @@ fn frame(alloc: Global) -> Result<Frame, AllocError>
 
 /// Whether this is the value of an expression in that frame, over an array of five elements, 7 each.
 fn is_value(alloc: Global, expr: &Expr, wanted: u64) -> Result<bool, AllocError>
-    requires { IsSome (meaning.value (standing (slots.Outside ∷ slots.Holds 3 ∷ []) (record { lengths = 5 ∷ []; values = 7 ∷ 7 ∷ 7 ∷ 7 ∷ 7 ∷ [] } ∷ [])) (expr_of expr.now)) }
+    requires { IsSome (meaning.value
+        (standing (slots.Outside ∷ slots.Holds 3 ∷ [])
+        (record { lengths = 5 ∷ []; values = 7 ∷ 7 ∷ 7 ∷ 7 ∷ 7 ∷ [] } ∷ []))
+        (expr_of expr.now)) }
 {
     let frame = frame(alloc)?;
     let store = one_array(alloc, &[7, 7, 7, 7, 7])?;
@@ -81,7 +85,10 @@ fn is_value(alloc: Global, expr: &Expr, wanted: u64) -> Result<bool, AllocError>
 
 /// `A[local + 1] - 8`
 fn difference(alloc: Global) -> Result<Expr, AllocError>
-    ensures { IfOk result (λ e. expr_of e ≡ Tree.Binary Tree.Minus (Tree.Object 0 (Tree.more_exprs (Tree.Binary Tree.Plus (Tree.Object 1 Tree.no_exprs) (Tree.Literal 1 Tree.Ull)) Tree.no_exprs)) (Tree.Literal 8 Tree.Ull)) }
+    ensures { IfOk result (λ e. expr_of e
+        ≡ Tree.Binary Tree.Minus (Tree.Object 0
+        (Tree.more_exprs (Tree.Binary Tree.Plus (Tree.Object 1 Tree.no_exprs)
+        (Tree.Literal 1 Tree.Ull)) Tree.no_exprs)) (Tree.Literal 8 Tree.Ull)) }
 {
     let next = binary(alloc, BinaryOp::Plus, local(alloc), number(1))?;
     let at_next = element(alloc, next)?;
@@ -97,7 +104,10 @@ fn numbers_wrap(rt: HostRuntime) -> Result<(), Fail> {
 
 /// Whether a condition holds there.
 fn is_met(alloc: Global, cond: &Cond) -> Result<bool, AllocError>
-    requires { IsSome (meaning.holds (standing (slots.Outside ∷ slots.Holds 3 ∷ []) (record { lengths = 5 ∷ []; values = 7 ∷ 7 ∷ 7 ∷ 7 ∷ 7 ∷ [] } ∷ [])) (cond_of cond.now)) }
+    requires { IsSome (meaning.holds
+        (standing (slots.Outside ∷ slots.Holds 3 ∷ [])
+        (record { lengths = 5 ∷ []; values = 7 ∷ 7 ∷ 7 ∷ 7 ∷ 7 ∷ [] } ∷ []))
+        (cond_of cond.now)) }
 {
     let frame = frame(alloc)?;
     let store = one_array(alloc, &[7, 7, 7, 7, 7])?;
@@ -114,7 +124,10 @@ fn comparisons_hold(rt: HostRuntime) -> Result<(), Fail> {
 
 /// Whether a source is worth one there.
 fn is_one(alloc: Global, source: &Source) -> Result<bool, AllocError>
-    requires { IsSome (meaning.source_value (standing (slots.Outside ∷ slots.Holds 3 ∷ []) (record { lengths = 5 ∷ []; values = 7 ∷ 7 ∷ 7 ∷ 7 ∷ 7 ∷ [] } ∷ [])) (source_of source.now)) }
+    requires { IsSome (meaning.source_value
+        (standing (slots.Outside ∷ slots.Holds 3 ∷ [])
+        (record { lengths = 5 ∷ []; values = 7 ∷ 7 ∷ 7 ∷ 7 ∷ 7 ∷ [] } ∷ []))
+        (source_of source.now)) }
 {
     let frame = frame(alloc)?;
     let store = one_array(alloc, &[7, 7, 7, 7, 7])?;

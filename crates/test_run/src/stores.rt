@@ -7,7 +7,8 @@ use store::{Array, Store};
 
 /// The store of one array of one dimension that holds these values.
 pub(crate) fn one_array(alloc: Global, values: &[u64]) -> Result<Store, AllocError>
-    ensures { IfOk result (λ s. s ≡ record { lengths = length values.now ∷ []; values = values.now } ∷ []) }
+    ensures { IfOk result (λ s. s
+        ≡ record { lengths = length values.now ∷ []; values = values.now } ∷ []) }
 {
     let lengths = Vec::from_slice(alloc, &[values.len() as u64])?;
     let values = Vec::from_slice(alloc, values)?;

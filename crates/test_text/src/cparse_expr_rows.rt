@@ -86,10 +86,10 @@ fn are_sum(alloc: Global, tokens: &[Lexeme]) -> bool {
 #[test]
 fn products_are_tighter_than_sums(rt: HostRuntime) {
     let tokens = [
-        token(1, Kind::Digits(Some(1), Suffix::Bare)),
-        token(3, Kind::Sign(Symbol::PlusSign)),
-        token(5, Kind::Digits(Some(2), Suffix::Bare)),
-        token(7, Kind::Sign(Symbol::Star)),
+        token(1, Kind::IntegerConstant(Some(1), Suffix::Bare)),
+        token(3, Kind::Punctuator(Symbol::PlusSign)),
+        token(5, Kind::IntegerConstant(Some(2), Suffix::Bare)),
+        token(7, Kind::Punctuator(Symbol::Star)),
         token(9, Kind::Word("x")),
     ];
     assert!(rt; are_sum(rt.alloc(), &tokens));
@@ -111,12 +111,12 @@ fn misfit_column(alloc: Global, tokens: &[Lexeme]) -> Option<u32> {
 #[test]
 fn condition_is_no_operand_of_a_product(rt: HostRuntime) {
     let tokens = [
-        token(1, Kind::Sign(Symbol::MinusSign)),
-        token(2, Kind::Sign(Symbol::OpenParen)),
+        token(1, Kind::Punctuator(Symbol::MinusSign)),
+        token(2, Kind::Punctuator(Symbol::OpenParen)),
         token(3, Kind::Word("x")),
-        token(4, Kind::Sign(Symbol::CloseParen)),
-        token(6, Kind::Sign(Symbol::Star)),
-        token(8, Kind::Sign(Symbol::Bang)),
+        token(4, Kind::Punctuator(Symbol::CloseParen)),
+        token(6, Kind::Punctuator(Symbol::Star)),
+        token(8, Kind::Punctuator(Symbol::Bang)),
         token(9, Kind::Word("y")),
     ];
     assert_eq!(rt; misfit_column(rt.alloc(), &tokens), Some(6));
@@ -125,12 +125,12 @@ fn condition_is_no_operand_of_a_product(rt: HostRuntime) {
 #[test]
 fn operation_at_fault_counts_as_typed(rt: HostRuntime) {
     let tokens = [
-        token(1, Kind::Sign(Symbol::MinusSign)),
-        token(2, Kind::Sign(Symbol::OpenParen)),
-        token(3, Kind::Digits(Some(1), Suffix::Bare)),
-        token(5, Kind::Sign(Symbol::DoubleGreater)),
-        token(8, Kind::Digits(Some(0), Suffix::Bare)),
-        token(9, Kind::Sign(Symbol::CloseParen)),
+        token(1, Kind::Punctuator(Symbol::MinusSign)),
+        token(2, Kind::Punctuator(Symbol::OpenParen)),
+        token(3, Kind::IntegerConstant(Some(1), Suffix::Bare)),
+        token(5, Kind::Punctuator(Symbol::DoubleGreater)),
+        token(8, Kind::IntegerConstant(Some(0), Suffix::Bare)),
+        token(9, Kind::Punctuator(Symbol::CloseParen)),
     ];
     assert_eq!(rt; misfit_column(rt.alloc(), &tokens), Some(5));
 }
@@ -139,7 +139,7 @@ fn operation_at_fault_counts_as_typed(rt: HostRuntime) {
 fn missing_operand_is_told_at_the_end(rt: HostRuntime) {
     let tokens = [
         token(1, Kind::Word("x")),
-        token(3, Kind::Sign(Symbol::PlusSign)),
+        token(3, Kind::Punctuator(Symbol::PlusSign)),
     ];
     let line = match read(rt.alloc(), &tokens) {
         Err(Stop::Syntax(place)) => place.line,

@@ -5,7 +5,7 @@ use cparse_cursor::lexeme::{Kind, Lexeme};
 use cparse_cursor::parsed::Parsed;
 use cparse_cursor::scope::{Entity, Scope, add, empty};
 use cparse_cursor::stop::Fault;
-use cparse_printf::printing::printed;
+use cparse_printf::printing::print_behind;
 use ctoken::Symbol;
 use ktree::{Place, PrintPart, Stmt, VarId};
 use std::alloc::{AllocError, Global};
@@ -59,7 +59,7 @@ fn read_among(alloc: Global, scope: &Scope, tokens: &[Lexeme]) -> Option<Reading
         scope,
         end: Place { line: 9, column: 1 },
     };
-    match printed(context, 64, Place { line: 1, column: 1 }, tokens) {
+    match print_behind(context, 64, Place { line: 1, column: 1 }, tokens) {
         Ok(parsed) => Some(summary(&parsed)),
         Err(_) => None,
     }
@@ -84,14 +84,14 @@ fn write_number(alloc: Global, tokens: &[Lexeme]) -> bool {
 #[test]
 fn printf_has_an_argument_for_each_place(rt: HostRuntime) {
     let tokens = [
-        token(7, Kind::Sign(Symbol::OpenParen)),
-        token(8, Kind::Quoted(b"s=%", true)),
+        token(7, Kind::Punctuator(Symbol::OpenParen)),
+        token(8, Kind::StringLiteral(b"s=%", true)),
         token(14, Kind::Word("PRIu64")),
-        token(21, Kind::Quoted(b"\\n", false)),
-        token(25, Kind::Sign(Symbol::Comma)),
+        token(21, Kind::StringLiteral(b"\\n", false)),
+        token(25, Kind::Punctuator(Symbol::Comma)),
         token(27, Kind::Word("s")),
-        token(28, Kind::Sign(Symbol::CloseParen)),
-        token(29, Kind::Sign(Symbol::Semicolon)),
+        token(28, Kind::Punctuator(Symbol::CloseParen)),
+        token(29, Kind::Punctuator(Symbol::Semicolon)),
     ];
     assert!(rt; write_number(rt.alloc(), &tokens));
 }

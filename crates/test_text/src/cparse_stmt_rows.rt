@@ -23,7 +23,7 @@ fn word<'t>(column: u32, name: &'t str) -> Lexeme<'t> {
 fn sign<'t>(column: u32, symbol: Symbol) -> Lexeme<'t> {
     let place = Place { line: 1, column };
     Lexeme {
-        kind: Kind::Sign(symbol),
+        kind: Kind::Punctuator(symbol),
         place,
     }
 }
@@ -31,7 +31,7 @@ fn sign<'t>(column: u32, symbol: Symbol) -> Lexeme<'t> {
 fn long<'t>(column: u32, value: u64) -> Lexeme<'t> {
     let place = Place { line: 1, column };
     Lexeme {
-        kind: Kind::Digits(Some(value), Suffix::Ull),
+        kind: Kind::IntegerConstant(Some(value), Suffix::Ull),
         place,
     }
 }
@@ -117,7 +117,7 @@ fn is_one_update(alloc: Global, tokens: &[Lexeme<'static>]) -> bool {
 fn update_ends_at_its_semicolon(rt: HostRuntime) {
     let tokens = [
         word(1, "s"),
-        sign(3, Symbol::XorBecomes),
+        sign(3, Symbol::CaretEqual),
         long(6, 5),
         sign(10, Symbol::Semicolon),
         sign(12, Symbol::CloseBrace),
@@ -145,7 +145,7 @@ fn local_is_no_name_behind_its_block(rt: HostRuntime) {
         sign(12, Symbol::Semicolon),
         sign(13, Symbol::CloseBrace),
         word(15, "x"),
-        sign(17, Symbol::Becomes),
+        sign(17, Symbol::EqualSign),
         long(19, 1),
         sign(23, Symbol::Semicolon),
     ];

@@ -115,8 +115,8 @@ fn cuts_each_kind(rt: HostRuntime) {
         TokenKind::Include(Header::Stdio),
         TokenKind::Line,
         TokenKind::Word,
-        TokenKind::Sign(Symbol::DoubleLess),
-        TokenKind::Sign(Symbol::Becomes),
+        TokenKind::Punctuator(Symbol::DoubleLess),
+        TokenKind::Punctuator(Symbol::EqualSign),
     ];
     assert!(rt; has_kinds(alloc, text, &kinds));
     assert_eq!(rt;
@@ -135,9 +135,9 @@ fn reads_literals(rt: HostRuntime) {
     let text = b"18446744073709551615ull 18446744073709551616 0\n";
     assert_eq!(rt; cut(alloc, text), Some((3, None)));
     let kinds = [
-        TokenKind::Digits(Some(18446744073709551615), Suffix::Ull),
-        TokenKind::Digits(None, Suffix::Bare),
-        TokenKind::Digits(Some(0), Suffix::Bare),
+        TokenKind::IntegerConstant(Some(18446744073709551615), Suffix::Ull),
+        TokenKind::IntegerConstant(None, Suffix::Bare),
+        TokenKind::IntegerConstant(Some(0), Suffix::Bare),
     ];
     assert!(rt; has_kinds(alloc, text, &kinds));
 }
@@ -146,7 +146,7 @@ fn reads_literals(rt: HostRuntime) {
 fn begins_with(alloc: Global, text: &[u8], wanted: &[u8]) -> bool {
     match token(alloc, text, 0) {
         Some(first) => {
-            first.kind == TokenKind::Quoted(true)
+            first.kind == TokenKind::StringLiteral(true)
                 && first.start <= text.len()
                 && first.length <= text.len() - first.start
                 && means(alloc, first.bytes(text), wanted)

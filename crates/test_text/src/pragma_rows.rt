@@ -23,7 +23,7 @@ fn has_words(text: &[u8], words: &[Word]) -> bool {
 fn words_are_cut(rt: HostRuntime) {
     let words = [
         Word::Run(b"a+b"),
-        Word::Sign(Sign::OpenParen),
+        Word::Punctuator(Punctuator::OpenParen),
         Word::Run(b"c"),
     ];
     assert!(rt; has_words(b" a+b(c", &words));

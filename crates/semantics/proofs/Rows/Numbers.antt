@@ -1,10 +1,10 @@
 -- They hold by computation.
 use Rattle.std.proofs.Common.{refl}
-use Rattle.semantics.specs.Meaning.Runs.{most_turns}
+use Rattle.semantics.specs.Meaning.Runs.{greatest_trip_count}
 use Rattle.semantics.specs.Rows.Numbers.{NumberRows}
 
 pub rows : NumberRows
-unfolding most_turns
+unfolding greatest_trip_count
 rows =
     record {
       plain = refl;

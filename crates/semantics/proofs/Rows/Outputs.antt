@@ -1,11 +1,11 @@
 -- They hold by computation, decimals by the standard library's own digits.
 use Rattle.std.proofs.Common.{refl}
 use Rattle.std.specs.Fmt.{digits}
-use Rattle.semantics.specs.Meaning.Runs.{most_turns}
+use Rattle.semantics.specs.Meaning.Runs.{greatest_trip_count}
 use Rattle.semantics.specs.Rows.Outputs.{OutputRows}
 
 pub rows : OutputRows
-unfolding most_turns digits
+unfolding greatest_trip_count digits
 rows =
     record {
       filled = refl;

@@ -2,7 +2,7 @@
 use Rattle.std.specs.Prelude.{[], ◌∷◌, pos, negsuc, codes}
 use Rattle.std.proofs.Common.{refl, arith}
 use Rattle.semantics.specs.Tree.{Bare}
-use Rattle.semantics.specs.Source.Token.{Word, Digits, Sign, Line, Semicolon, OpenParen, CloseParen, OpenBrace, CloseBrace, Becomes}
+use Rattle.semantics.specs.Source.Token.{Word, IntegerConstant, Punctuator, Line, Semicolon, OpenParen, CloseParen, OpenBrace, CloseBrace, EqualSign}
 use Rattle.semantics.specs.Source.Cuts.{Tokens, end, blank, line_end, directive, token, word, number, symbol}
 use Rattle.semantics.specs.Source.Scope.{AVariable}
 use Rattle.semantics.specs.Source.Expressions.{literal, tighter, no_subscripts}
@@ -24,7 +24,7 @@ small_cut =
           (token (word {w = codes "void"} refl refl) (blank refl (token (word {w = codes "kernel"} refl refl) (token (symbol {s = OpenParen} refl)
           (token (word {w = codes "void"} refl refl) (token (symbol {s = CloseParen} refl) (blank refl (token (symbol {s = OpenBrace} refl) (line_end
           (directive (codes "#pragma omp x") refl refl refl
-          (token (word {w = codes "s"} refl refl) (token (symbol {s = Becomes} refl) (token (number (codes "1") Bare refl refl) (token (symbol {s = Semicolon} refl)
+          (token (word {w = codes "s"} refl refl) (token (symbol {s = EqualSign} refl) (token (number (codes "1") Bare refl refl) (token (symbol {s = Semicolon} refl)
           (blank refl (token (symbol {s = CloseBrace} refl) (line_end end)))))))))))))))))))));
       headers = refl;
       places = refl;
@@ -36,8 +36,8 @@ small_reads =
       includes = [];
       scope = (codes "s", AVariable 0 0) ∷ [];
       next = 1;
-      decls = Word (codes "uint64_t") ∷ Word (codes "s") ∷ Sign Semicolon ∷ [];
-      body = Line 3 ∷ Word (codes "s") ∷ Sign Becomes ∷ Digits 1 Bare ∷ Sign Semicolon ∷ [];
+      decls = Word (codes "uint64_t") ∷ Word (codes "s") ∷ Punctuator Semicolon ∷ [];
+      body = Line 3 ∷ Word (codes "s") ∷ Punctuator EqualSign ∷ IntegerConstant 1 Bare ∷ Punctuator Semicolon ∷ [];
       all = refl;
       declared = object (record { word = refl; unused = refl }) (omega arith) no_lengths no_decls;
       items =

@@ -3,7 +3,7 @@ use Rattle.std.specs.Prelude.{ℕ, Bool, true, false, not, ◌==◌, ◌&&◌, �
 use Rattle.std.specs.List.{list_all}
 use Rattle.semantics.specs.Tree.{Name, Suffix}
 use Rattle.semantics.specs.Source.Text.{is_blank, is_directive_line, behind_omp}
-use Rattle.semantics.specs.Source.Token.{Token, Word, Sign, Symbol, OpenParen, CloseParen, Comma, Colon}
+use Rattle.semantics.specs.Source.Token.{Token, Word, Punctuator, Symbol, OpenParen, CloseParen, Comma, Colon}
 use Rattle.semantics.specs.Source.Cuts.{is_name, is_decimal, decimal_from, suffix_text}
 use Rattle.semantics.specs.Source.Typing.{in_range}
 use Rattle.semantics.specs.Source.Scope.{is_reserved}
@@ -20,7 +20,7 @@ mark_of b = if b == 40 then OpenParen else (if b == 41 then CloseParen else (if 
 
 -- a blank is no token
 abbrev pub with_mark : ℕ → List Token → List Token
-with_mark b ts = if is_blank b then ts else Sign (mark_of b) ∷ ts
+with_mark b ts = if is_blank b then ts else Punctuator (mark_of b) ∷ ts
 
 -- a run of no bytes is no token
 abbrev pub with_run : List ℕ → List Token → List Token
@@ -43,7 +43,7 @@ is_list_name w = is_name w && not (is_reserved w)
 -- names with commas between them (OpenMP 5.2, 3.2.1)
 pub data ReadsNames : List Token → List Name → Type 0 where
   only : {w : Name} → is_list_name w ≡ true → ReadsNames (Word w ∷ []) (w ∷ [])
-  further : {w : Name} {ts : List Token} {ws : List Name} → is_list_name w ≡ true → ReadsNames ts ws → ReadsNames (Word w ∷ Sign Comma ∷ ts) (w ∷ ws)
+  further : {w : Name} {ts : List Token} {ws : List Name} → is_list_name w ≡ true → ReadsNames ts ws → ReadsNames (Word w ∷ Punctuator Comma ∷ ts) (w ∷ ws)
 
 -- a bare literal from 1 to a greatest
 pub data ReadsNumber (most : ℕ) : List ℕ → ℕ → Type 0 where
@@ -52,17 +52,17 @@ pub data ReadsNumber (most : ℕ) : List ℕ → ℕ → Type 0 where
 -- what stands between the parentheses of a schedule clause; a size is 1..2^24
 pub data ReadsSchedule : List Token → Schedule → Type 0 where
   static_plain : ReadsSchedule (Word (codes "static") ∷ []) StaticPlain
-  static_size : {w : List ℕ} {k : ℕ} → ReadsNumber (2 ^ 24) w k → ReadsSchedule (Word (codes "static") ∷ Sign Comma ∷ Word w ∷ []) (StaticSize k)
+  static_size : {w : List ℕ} {k : ℕ} → ReadsNumber (2 ^ 24) w k → ReadsSchedule (Word (codes "static") ∷ Punctuator Comma ∷ Word w ∷ []) (StaticSize k)
   dynamic : ReadsSchedule (Word (codes "dynamic") ∷ []) (DynamicSize 1)
-  dynamic_size : {w : List ℕ} {k : ℕ} → ReadsNumber (2 ^ 24) w k → ReadsSchedule (Word (codes "dynamic") ∷ Sign Comma ∷ Word w ∷ []) (DynamicSize k)
+  dynamic_size : {w : List ℕ} {k : ℕ} → ReadsNumber (2 ^ 24) w k → ReadsSchedule (Word (codes "dynamic") ∷ Punctuator Comma ∷ Word w ∷ []) (DynamicSize k)
   guided : ReadsSchedule (Word (codes "guided") ∷ []) (GuidedSize 1)
-  guided_size : {w : List ℕ} {k : ℕ} → ReadsNumber (2 ^ 24) w k → ReadsSchedule (Word (codes "guided") ∷ Sign Comma ∷ Word w ∷ []) (GuidedSize k)
+  guided_size : {w : List ℕ} {k : ℕ} → ReadsNumber (2 ^ 24) w k → ReadsSchedule (Word (codes "guided") ∷ Punctuator Comma ∷ Word w ∷ []) (GuidedSize k)
   auto : ReadsSchedule (Word (codes "auto") ∷ []) Auto
   runtime : ReadsSchedule (Word (codes "runtime") ∷ []) Runtime
 
 -- a word and what stands in its parentheses
 abbrev pub called : Name → List Token → List Token
-called w ts = Word w ∷ Sign OpenParen ∷ (ts ++ Sign CloseParen ∷ [])
+called w ts = Word w ∷ Punctuator OpenParen ∷ (ts ++ Punctuator CloseParen ∷ [])
 
 -- a clause (OpenMP 5.2, 4.4.3, 4.4.4, 5.4, 5.5.8, 11.5.3, 15.6)
 pub data ReadsClause : List Token → Clause Name → Type 0 where
@@ -73,11 +73,11 @@ pub data ReadsClause : List Token → Clause Name → Type 0 where
   firstprivate : {ts : List Token} {ws : List Name} → ReadsNames ts ws → ReadsClause (called (codes "firstprivate") ts) (Firstprivate ws)
   lastprivate : {ts : List Token} {ws : List Name} → ReadsNames ts ws → ReadsClause (called (codes "lastprivate") ts) (Lastprivate ws)
   last_conditional : {ts : List Token} {ws : List Name} → ReadsNames ts ws →
-      ReadsClause (called (codes "lastprivate") (Word (codes "conditional") ∷ Sign Colon ∷ ts)) (LastConditional ws)
+      ReadsClause (called (codes "lastprivate") (Word (codes "conditional") ∷ Punctuator Colon ∷ ts)) (LastConditional ws)
   reduction : {ts : List Token} {ws : List Name} (op : ReduceOp) → ReadsNames ts ws →
-      ReadsClause (called (codes "reduction") (Word (op_text op) ∷ Sign Colon ∷ ts)) (Reduction op ws)
+      ReadsClause (called (codes "reduction") (Word (op_text op) ∷ Punctuator Colon ∷ ts)) (Reduction op ws)
   inscan : {w : Name} (op : ReduceOp) → is_list_name w ≡ true →
-      ReadsClause (called (codes "reduction") (Word (codes "inscan") ∷ Sign Comma ∷ Word (op_text op) ∷ Sign Colon ∷ Word w ∷ [])) (Inscan op w)
+      ReadsClause (called (codes "reduction") (Word (codes "inscan") ∷ Punctuator Comma ∷ Word (op_text op) ∷ Punctuator Colon ∷ Word w ∷ [])) (Inscan op w)
   schedule : {ts : List Token} {kind : Schedule} → ReadsSchedule ts kind → ReadsClause (called (codes "schedule") ts) (ScheduledBy kind)
   collapse : {w : List ℕ} {c : ℕ} → ReadsNumber 4 w c → ReadsClause (called (codes "collapse") (Word w ∷ [])) (Collapse c)
   ordered : ReadsClause (Word (codes "ordered") ∷ []) Ordered
@@ -89,7 +89,7 @@ pub data ReadsFurther : List Token → List (Clause Name) → Type 0 where
   no_further : ReadsFurther [] []
   next : {ts us : List Token} {c : Clause Name} {cs : List (Clause Name)} → ReadsClause ts c → ReadsFurther us cs → ReadsFurther (ts ++ us) (c ∷ cs)
   next_behind_comma : {ts us : List Token} {c : Clause Name} {cs : List (Clause Name)} →
-      ReadsClause ts c → ReadsFurther us cs → ReadsFurther (Sign Comma ∷ (ts ++ us)) (c ∷ cs)
+      ReadsClause ts c → ReadsFurther us cs → ReadsFurther (Punctuator Comma ∷ (ts ++ us)) (c ∷ cs)
 
 -- a list of clauses begins with no comma
 pub data ReadsClauses : List Token → List (Clause Name) → Type 0 where
@@ -166,7 +166,7 @@ pub data ReadsElement : List ℕ → Name × ℤ → Type 0 where
 pub data ReadsElements : List Token → List (Name × ℤ) → Type 0 where
   only_element : {w : List ℕ} {e : Name × ℤ} → ReadsElement w e → ReadsElements (Word w ∷ []) (e ∷ [])
   element : {w : List ℕ} {ts : List Token} {e : Name × ℤ} {es : List (Name × ℤ)} →
-      ReadsElement w e → ReadsElements ts es → ReadsElements (Word w ∷ Sign Comma ∷ ts) (e ∷ es)
+      ReadsElement w e → ReadsElements ts es → ReadsElements (Word w ∷ Punctuator Comma ∷ ts) (e ∷ es)
 
 -- a directive: its words, its clauses, and those that it may have
 pub data ReadsDirective : List Token → Directive Name → Type 0 where
@@ -179,9 +179,9 @@ pub data ReadsDirective : List Token → Directive Name → Type 0 where
   scan_inclusive : {w : Name} → is_list_name w ≡ true → ReadsDirective (Word (codes "scan") ∷ called (codes "inclusive") (Word w ∷ [])) (ScanInclusive w)
   scan_exclusive : {w : Name} → is_list_name w ≡ true → ReadsDirective (Word (codes "scan") ∷ called (codes "exclusive") (Word w ∷ [])) (ScanExclusive w)
   ordered_region : ReadsDirective (Word (codes "ordered") ∷ []) OrderedRegion
-  source : ReadsDirective (Word (codes "ordered") ∷ called (codes "doacross") (Word (codes "source") ∷ Sign Colon ∷ [])) DoacrossSource
+  source : ReadsDirective (Word (codes "ordered") ∷ called (codes "doacross") (Word (codes "source") ∷ Punctuator Colon ∷ [])) DoacrossSource
   sink : {ts : List Token} {es : List (Name × ℤ)} → ReadsElements ts es →
-      ReadsDirective (Word (codes "ordered") ∷ called (codes "doacross") (Word (codes "sink") ∷ Sign Colon ∷ ts)) (DoacrossSink es)
+      ReadsDirective (Word (codes "ordered") ∷ called (codes "doacross") (Word (codes "sink") ∷ Punctuator Colon ∷ ts)) (DoacrossSink es)
 
 -- a directive line, without its line end, is read as this directive
 pub record ReadsLine (line : List ℕ) (directive : Directive Name) : Type 0 where

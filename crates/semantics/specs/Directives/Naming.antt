@@ -1,7 +1,7 @@
 -- Which variables a construct names, and the clauses that they stand in (OpenMP 5.2, 5.1.1 and 5.4.1).
 use Rattle.std.specs.Prelude.{ℕ, Bool, true, false, not, ◌&&◌, ◌||◌, ◌≡◌, List, [], ◌∷◌, ◌++◌, filter, flat_map, All, Option, Some, None}
 use Rattle.std.specs.List.{list_any, list_all}
-use Rattle.semantics.specs.Tree.{Variable, Expr, Literal, Constant, Object, Unary, Binary, Choose, Exprs, no_exprs, more_exprs, Cond, NotZero, Compare, Not, Both, Either, Source, Number, Truth, Increment, Up, Down, Set, Change, PrintPart, Characters, Decimal, Stmt, Assign, Update, If, IfElse, For, Block, Print, Items, no_items, mark, local, stmt, Kernel}
+use Rattle.semantics.specs.Tree.{Variable, Expr, Literal, Constant, Object, Unary, Binary, Conditional, Exprs, no_exprs, more_exprs, Cond, NotZero, Compare, Not, LogicalAnd, LogicalOr, Source, Number, Truth, Increment, Up, Down, Set, Change, PrintPart, Characters, Decimal, Stmt, Assign, Update, If, IfElse, For, Block, Print, Items, no_items, mark, local, stmt, Kernel}
 use Rattle.semantics.specs.Directives.Directive.{Clause, DefaultNone, Shared, Private, Firstprivate, Lastprivate, LastConditional, Reduction, Inscan}
 use Rattle.semantics.specs.Directives.Annotated.{Directives, ReadsDirectives, IsResolved, clauses_at}
 use Rattle.semantics.specs.Directives.Placed.{is_well_placed}
@@ -15,7 +15,7 @@ abbrev mutual
   named_expr (Object x is) = x ∷ named_exprs is
   named_expr (Unary op a) = named_expr a
   named_expr (Binary op a b) = named_expr a ++ named_expr b
-  named_expr (Choose c a b) = named_cond c ++ named_expr a ++ named_expr b
+  named_expr (Conditional c a b) = named_cond c ++ named_expr a ++ named_expr b
 
   -- those of subscripts
   pub named_exprs : Exprs → List Variable
@@ -27,8 +27,8 @@ abbrev mutual
   named_cond (NotZero a) = named_expr a
   named_cond (Compare op a b) = named_expr a ++ named_expr b
   named_cond (Not c) = named_cond c
-  named_cond (Both c d) = named_cond c ++ named_cond d
-  named_cond (Either c d) = named_cond c ++ named_cond d
+  named_cond (LogicalAnd c d) = named_cond c ++ named_cond d
+  named_cond (LogicalOr c d) = named_cond c ++ named_cond d
 
 -- those of a right side
 abbrev pub named_source : Source → List Variable

@@ -1,6 +1,6 @@
 -- The element accesses of a loop's body, guards ignored, and the conflicts of iterations. (C11 5.1.2.4, 4; OpenMP 5.2, 1.4.1)
 use Rattle.std.specs.Prelude.{ℕ, ◌≡◌, ◌≢◌, ◌⊎◌, List, [], ◌∷◌, ◌++◌, Option, Some, None, Contains}
-use Rattle.semantics.specs.Tree.{Variable, Expr, Literal, Constant, Object, Unary, Binary, Choose, Exprs, no_exprs, more_exprs, Cond, NotZero, Compare, Not, Both, Either, Source, Number, Truth, PrintPart, Characters, Decimal, Stmt, Assign, Update, If, IfElse, For, Block, Print, Items, no_items, mark, local, stmt}
+use Rattle.semantics.specs.Tree.{Variable, Expr, Literal, Constant, Object, Unary, Binary, Conditional, Exprs, no_exprs, more_exprs, Cond, NotZero, Compare, Not, LogicalAnd, LogicalOr, Source, Number, Truth, PrintPart, Characters, Decimal, Stmt, Assign, Update, If, IfElse, For, Block, Print, Items, no_items, mark, local, stmt}
 use Rattle.semantics.specs.Meaning.State.{State}
 use Rattle.semantics.specs.Meaning.Value.{values}
 use Rattle.semantics.specs.Loops.Nest.{Loop, Vector, iterations, at_vector}
@@ -30,15 +30,15 @@ abbrev mutual
   expr_accesses inner (Object x is) = named x is Reads inner
   expr_accesses inner (Unary op a) = expr_accesses inner a
   expr_accesses inner (Binary op a b) = expr_accesses inner a ++ expr_accesses inner b
-  expr_accesses inner (Choose c a b) = cond_accesses inner c ++ expr_accesses inner a ++ expr_accesses inner b
+  expr_accesses inner (Conditional c a b) = cond_accesses inner c ++ expr_accesses inner a ++ expr_accesses inner b
 
   -- those of a condition
   pub cond_accesses : List Loop → Cond → List Access
   cond_accesses inner (NotZero a) = expr_accesses inner a
   cond_accesses inner (Compare op a b) = expr_accesses inner a ++ expr_accesses inner b
   cond_accesses inner (Not c) = cond_accesses inner c
-  cond_accesses inner (Both c d) = cond_accesses inner c ++ cond_accesses inner d
-  cond_accesses inner (Either c d) = cond_accesses inner c ++ cond_accesses inner d
+  cond_accesses inner (LogicalAnd c d) = cond_accesses inner c ++ cond_accesses inner d
+  cond_accesses inner (LogicalOr c d) = cond_accesses inner c ++ cond_accesses inner d
 
 -- those of a right side
 abbrev pub source_accesses : List Loop → Source → List Access

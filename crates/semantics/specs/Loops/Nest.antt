@@ -3,7 +3,7 @@ use Rattle.std.specs.Prelude.{ℕ, zero, suc, Bool, true, false, if◌then◌els
 use Rattle.semantics.specs.Tree.{Variable, Bare, Literal, Object, Expr, no_exprs, Plus, Less, Compare, Change, Source, Cond, Increment, Stmt, For, Block, Items, no_items, mark, local, stmt}
 use Rattle.semantics.specs.Meaning.State.{State, Holds, with_local, overwritten, look}
 use Rattle.semantics.specs.Meaning.Value.{source_value, holds, both, by_test, map_option}
-use Rattle.semantics.specs.Meaning.Runs.{incremented, most_turns}
+use Rattle.semantics.specs.Meaning.Runs.{incremented, greatest_trip_count}
 
 -- a loop without its body
 pub record Loop : Type 0 where
@@ -57,7 +57,7 @@ at_value s x v = with_local s x (Holds v)
 
 -- all the values, from the start on
 abbrev pub loop_values : Loop → State → Option (List ℕ)
-loop_values l s = option_and_then (λ v. values_from most_turns l (at_value s l.variable v)) (source_value s l.start)
+loop_values l s = option_and_then (λ v. values_from greatest_trip_count l (at_value s l.variable v)) (source_value s l.start)
 
 -- all lists, one after another, if each is there
 abbrev pub concat_options : {A : Type 0} → List (Option (List A)) → Option (List A)

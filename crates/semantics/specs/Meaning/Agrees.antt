@@ -1,7 +1,7 @@
 -- When two states are the same for whatever runs later.
 use Rattle.std.specs.Prelude.{ℕ, Bool, true, not, ◌==◌, ◌&&◌, ◌||◌, ◌≡◌, List, [], ◌∷◌, ◌++◌, Option, Some, None}
 use Rattle.std.specs.List.{list_any}
-use Rattle.semantics.specs.Tree.{Variable, Expr, Literal, Constant, Object, Unary, Binary, Choose, Exprs, no_exprs, more_exprs, Cond, NotZero, Compare, Not, Both, Either, Source, Number, Truth, Increment, Up, Down, Set, Change, PrintPart, Characters, Decimal, Stmt, Assign, Update, If, IfElse, For, Block, Print, Items, no_items, mark, local, stmt}
+use Rattle.semantics.specs.Tree.{Variable, Expr, Literal, Constant, Object, Unary, Binary, Conditional, Exprs, no_exprs, more_exprs, Cond, NotZero, Compare, Not, LogicalAnd, LogicalOr, Source, Number, Truth, Increment, Up, Down, Set, Change, PrintPart, Characters, Decimal, Stmt, Assign, Update, If, IfElse, For, Block, Print, Items, no_items, mark, local, stmt}
 use Rattle.semantics.specs.Meaning.State.{State}
 use Rattle.semantics.specs.Loops.Piece.{Roles, is_outside}
 
@@ -54,7 +54,7 @@ abbrev mutual
   names_expr V (Object x is) = V x && names_exprs V is
   names_expr V (Unary op a) = names_expr V a
   names_expr V (Binary op a b) = names_expr V a && names_expr V b
-  names_expr V (Choose c a b) = names_cond V c && names_expr V a && names_expr V b
+  names_expr V (Conditional c a b) = names_cond V c && names_expr V a && names_expr V b
 
   -- of subscripts
   pub names_exprs : (Variable → Bool) → Exprs → Bool
@@ -66,8 +66,8 @@ abbrev mutual
   names_cond V (NotZero e) = names_expr V e
   names_cond V (Compare op a b) = names_expr V a && names_expr V b
   names_cond V (Not c) = names_cond V c
-  names_cond V (Both c d) = names_cond V c && names_cond V d
-  names_cond V (Either c d) = names_cond V c && names_cond V d
+  names_cond V (LogicalAnd c d) = names_cond V c && names_cond V d
+  names_cond V (LogicalOr c d) = names_cond V c && names_cond V d
 
 -- of a right side
 abbrev pub names_source : (Variable → Bool) → Source → Bool

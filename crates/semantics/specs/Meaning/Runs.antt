@@ -71,8 +71,8 @@ turns (suc n) test body step s =
     by_test (test s) (then_from s (body s) (λ t. then_from t (step t) (turns n test body step))) (Some nothing)
 
 -- a loop that makes more turns than this has no run; no accepted loop comes near it
-unfoldable pub most_turns : ℕ
-most_turns = 2 ^ 64 - 1
+unfoldable pub greatest_trip_count : ℕ
+greatest_trip_count = 2 ^ 64 - 1
 
 abbrev mutual
   -- what a statement does from a state, if it has a run there (C11 6.8.2 to 6.8.5)
@@ -82,7 +82,7 @@ abbrev mutual
   run (If c a) s = by_test (holds s c) (run a s) (Some nothing)
   run (IfElse c a b) s = by_test (holds s c) (run a s) (run b s)
   run (For x name start test step body) s =
-      then_from s (declared s x (Some start)) (turns most_turns (λ t. holds t test) (run body) (λ t. incremented t step))
+      then_from s (declared s x (Some start)) (turns greatest_trip_count (λ t. holds t test) (run body) (λ t. incremented t step))
   run (Block items) s = run_items items s
   run (Print parts) s = map_option (λ t. record { writes = []; text = t }) (print_text s parts)
 

@@ -3,7 +3,7 @@ use Rattle.std.specs.Prelude.{ℕ, zero, suc, true, false, ◌≡◌, ◌≤◌,
 use Rattle.semantics.specs.Tree.{Variable, Name, BinaryOp, Exprs, Expr, Cond, Source, Increment, PrintPart, Stmt, Assign, Update, If, IfElse, For, Block, Print, Items, no_items, mark, local, stmt}
 use Rattle.semantics.specs.Meaning.State.{State, Write, Declared, Assigned, overwritten, is_object}
 use Rattle.semantics.specs.Meaning.Value.{values, holds, source_value}
-use Rattle.semantics.specs.Meaning.Runs.{Effect, declared, updated, incremented, print_text, most_turns}
+use Rattle.semantics.specs.Meaning.Runs.{Effect, declared, updated, incremented, print_text, greatest_trip_count}
 
 -- writes and a text
 abbrev pub effect : List Write → List ℕ → Effect
@@ -21,7 +21,7 @@ mutual
     first : {c : Cond} {a b : Stmt} {s : State} {ws : List Write} {t : List ℕ} → holds s c ≡ Some true → Steps a s ws t → Steps (IfElse c a b) s ws t
     second : {c : Cond} {a b : Stmt} {s : State} {ws : List Write} {t : List ℕ} → holds s c ≡ Some false → Steps b s ws t → Steps (IfElse c a b) s ws t
     loops : {x : Variable} {name : Name} {start : Source} {test : Cond} {step : Increment} {body : Stmt} {s : State} {v n : ℕ} {ws : List Write} {t : List ℕ} →
-        source_value s start ≡ Some v → n ≤ most_turns → Turns test step body n (overwritten s (Declared x (Some v) ∷ [])) ws t →
+        source_value s start ≡ Some v → n ≤ greatest_trip_count → Turns test step body n (overwritten s (Declared x (Some v) ∷ [])) ws t →
         Steps (For x name start test step body) s (Declared x (Some v) ∷ ws) t
     block : {items : Items} {s : State} {ws : List Write} {t : List ℕ} → StepsItems items s ws t → Steps (Block items) s ws t
     prints : {parts : List PrintPart} {s : State} {t : List ℕ} → print_text s parts ≡ Some t → Steps (Print parts) s [] t

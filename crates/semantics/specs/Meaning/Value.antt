@@ -1,6 +1,6 @@
 -- The values of expressions, by C11 6.5, in numbers below 2^64.
 use Rattle.std.specs.Prelude.{ℕ, zero, suc, Bool, true, false, not, ◌==◌, ◌+◌, ◌-◌, ◌*◌, ◌/◌, ◌%◌, ◌^◌, nat_lt, nat_le, if◌then◌else◌, List, [], ◌∷◌, Option, Some, None, option_and_then, bit_and, bit_or, bit_xor}
-use Rattle.semantics.specs.Tree.{UnaryOp, Negate, Complement, BinaryOp, Plus, Minus, Times, Divide, Remainder, BitAnd, BitOr, BitXor, ShiftLeft, ShiftRight, CompareOp, Less, LessEqual, Greater, GreaterEqual, Equal, NotEqual, Expr, Literal, Constant, Object, Unary, Binary, Choose, Exprs, no_exprs, more_exprs, Cond, NotZero, Compare, Not, Both, Either, Source, Number, Truth}
+use Rattle.semantics.specs.Tree.{UnaryOp, Negate, Complement, BinaryOp, Plus, Minus, Times, Divide, Remainder, BitAnd, BitOr, BitXor, ShiftLeft, ShiftRight, CompareOp, Less, LessEqual, Greater, GreaterEqual, Equal, NotEqual, Expr, Literal, Constant, Object, Unary, Binary, Conditional, Exprs, no_exprs, more_exprs, Cond, NotZero, Compare, Not, LogicalAnd, LogicalOr, Source, Number, Truth}
 use Rattle.semantics.specs.Meaning.State.{State, look}
 
 -- unary minus and complement, modulo 2^64 (C11 6.5.3.3 and 6.2.5, 9)
@@ -70,7 +70,7 @@ abbrev mutual
   value s (Object x is) = option_and_then (λ ks. look s x ks) (values s is)
   value s (Unary op a) = map_option (change op) (value s a)
   value s (Binary op a b) = both_then (operate op) (value s a) (value s b)
-  value s (Choose c a b) = by_test (holds s c) (value s a) (value s b)
+  value s (Conditional c a b) = by_test (holds s c) (value s a) (value s b)
 
   -- all of them, if each has a value
   pub values : State → Exprs → Option (List ℕ)
@@ -82,8 +82,8 @@ abbrev mutual
   holds s (NotZero e) = map_option (λ v. not (v == 0)) (value s e)
   holds s (Compare op a b) = both (compare op) (value s a) (value s b)
   holds s (Not c) = map_option not (holds s c)
-  holds s (Both c d) = by_test (holds s c) (holds s d) (Some false)
-  holds s (Either c d) = by_test (holds s c) (Some true) (holds s d)
+  holds s (LogicalAnd c d) = by_test (holds s c) (holds s d) (Some false)
+  holds s (LogicalOr c d) = by_test (holds s c) (Some true) (holds s d)
 
 -- a condition gives 1 or 0 (C11 6.5.8, 6)
 abbrev pub source_value : State → Source → Option ℕ

@@ -1,7 +1,7 @@
 -- Worked rows of loops: a conflict, pieces, joins, and the workers' machine.
 use Rattle.std.specs.Prelude.{map, filter_map, ℕ, ◌≡◌, [], ◌∷◌, List, Option, Some, None, true, false, flat_map}
 use Rattle.semantics.specs.Loops.Arrangement.{EachOnceBelow}
-use Rattle.semantics.specs.Tree.{Expr, Literal, Ull, Object, Binary, Plus, Minus, no_exprs, more_exprs, Exprs, Compare, Less, Greater, Number, Truth, NotZero, Both, Stmt, Assign, Update, If, Block, no_items, stmt, Print, Characters}
+use Rattle.semantics.specs.Tree.{Expr, Literal, Ull, Object, Binary, Plus, Minus, no_exprs, more_exprs, Exprs, Compare, Less, Greater, Number, Truth, NotZero, LogicalAnd, Stmt, Assign, Update, If, Block, no_items, stmt, Print, Characters}
 use Rattle.semantics.specs.Meaning.State.{State, look}
 use Rattle.semantics.specs.Meaning.Places.{below}
 use Rattle.semantics.specs.Loops.Nest.{Vector}
@@ -48,7 +48,7 @@ shifting = Assign 0 at_i (Number (a_at (Binary Minus (var 2) (num 1))))
 
 -- if (A[i] > 9) s = s && A[i], A zero: nothing is updated, and 5 stays 5
 abbrev pub guarded_and : Stmt
-guarded_and = If (Compare Greater (a_at (var 2)) (num 9)) (Assign 1 no_exprs (Truth (Both (NotZero (var 1)) (NotZero (a_at (var 2))))))
+guarded_and = If (Compare Greater (a_at (var 2)) (num 9)) (Assign 1 no_exprs (Truth (LogicalAnd (NotZero (var 1)) (NotZero (a_at (var 2))))))
 
 abbrev pub and_roles : Roles
 and_roles = record no_roles { reductions = (1, AndAlso) ∷ [] }

@@ -5,7 +5,7 @@ use Rattle.semantics.specs.Source.Text.{is_directive_line, erase, behind_omp, li
 use Rattle.semantics.specs.Source.Typing.{constant, typed, fit, in_range}
 use Rattle.semantics.specs.Meaning.Definite.{definite_items, known_at_start, no_privates, Privates}
 use Rattle.semantics.specs.Directives.DirectiveGrammar.{words}
-use Rattle.semantics.specs.Source.Token.{Word, Sign, OpenParen, CloseParen, Comma}
+use Rattle.semantics.specs.Source.Token.{Word, Punctuator, OpenParen, CloseParen, Comma}
 use Rattle.semantics.specs.Meaning.InputFault.{first_fault, WrongForm, UnknownName, NamedTwice, WrongCount, WrongNumber}
 
 abbrev pub num : ℕ → Expr
@@ -49,7 +49,7 @@ pub record ReaderRows : Type 0 where
   pub erase : erase (codes "a;" ++ 10 ∷ (codes "#pragma omp for" ++ 10 ∷ (codes "b;" ++ 10 ∷ []))) ≡ codes "a;" ++ 10 ∷ (10 ∷ (codes "b;" ++ 10 ∷ []))
   pub line : line_at (codes "a" ++ 10 ∷ (codes "bc" ++ 10 ∷ [])) 2 ≡ codes "bc"
   pub words : words (behind_omp (codes "#pragma omp for schedule(static , 3)")) ≡
-      Word (codes "for") ∷ Word (codes "schedule") ∷ Sign OpenParen ∷ Word (codes "static") ∷ Sign Comma ∷ Word (codes "3") ∷ Sign CloseParen ∷ []
+      Word (codes "for") ∷ Word (codes "schedule") ∷ Punctuator OpenParen ∷ Word (codes "static") ∷ Punctuator Comma ∷ Word (codes "3") ∷ Punctuator CloseParen ∷ []
   pub sum : constant (Binary Plus (num 1) (num 2)) ≡ Some 3
   pub too_big : constant (Binary Plus (num 2147483647) (num 1)) ≡ None
   pub below : constant (Binary Minus (num 2) (num 3)) ≡ None

@@ -1,7 +1,7 @@
 -- Worked rows of whole texts: a text with its tokens and its tree, and directive lines.
 use Rattle.std.specs.Prelude.{ℕ, List, [], ◌∷◌, ◌++◌, pos, negsuc, codes}
 use Rattle.semantics.specs.Tree.{Bare, Literal, no_exprs, Number, Assign, mark, stmt, no_items, Kernel}
-use Rattle.semantics.specs.Source.Token.{Token, Word, Digits, Sign, Line, Semicolon, OpenParen, CloseParen, OpenBrace, CloseBrace, Becomes}
+use Rattle.semantics.specs.Source.Token.{Token, Word, IntegerConstant, Punctuator, Line, Semicolon, OpenParen, CloseParen, OpenBrace, CloseBrace, EqualSign}
 use Rattle.semantics.specs.Source.Grammar.{ReadsText}
 use Rattle.semantics.specs.Directives.Directive.{ParallelFor, DoacrossSink, ScheduledBy, DynamicSize, Private}
 use Rattle.semantics.specs.Directives.DirectiveGrammar.{ReadsLine}
@@ -12,9 +12,9 @@ small = codes "uint64_t s;" ++ 10 ∷ (codes "void kernel(void) {" ++ 10 ∷ (co
 
 abbrev pub small_tokens : List Token
 small_tokens =
-    Word (codes "uint64_t") ∷ Word (codes "s") ∷ Sign Semicolon
-    ∷ Word (codes "void") ∷ Word (codes "kernel") ∷ Sign OpenParen ∷ Word (codes "void") ∷ Sign CloseParen ∷ Sign OpenBrace
-    ∷ Line 3 ∷ Word (codes "s") ∷ Sign Becomes ∷ Digits 1 Bare ∷ Sign Semicolon ∷ Sign CloseBrace ∷ []
+    Word (codes "uint64_t") ∷ Word (codes "s") ∷ Punctuator Semicolon
+    ∷ Word (codes "void") ∷ Word (codes "kernel") ∷ Punctuator OpenParen ∷ Word (codes "void") ∷ Punctuator CloseParen ∷ Punctuator OpenBrace
+    ∷ Line 3 ∷ Word (codes "s") ∷ Punctuator EqualSign ∷ IntegerConstant 1 Bare ∷ Punctuator Semicolon ∷ Punctuator CloseBrace ∷ []
 
 abbrev pub small_tree : Kernel
 small_tree =

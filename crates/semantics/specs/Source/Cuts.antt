@@ -4,7 +4,7 @@ use Rattle.std.specs.List.{list_any, list_all}
 use lib.Pointwise.{pointwise}
 use Rattle.semantics.specs.Tree.{Suffix, Bare, Ull}
 use Rattle.semantics.specs.Source.Text.{is_blank, skip_blanks, starts_with, behind, is_directive_line}
-use Rattle.semantics.specs.Source.Token.{Token, Word, Digits, Quoted, Sign, Header, Line, Symbol, Semicolon, Comma, OpenParen, CloseParen, OpenBracket, CloseBracket, OpenBrace, CloseBrace, PlusPlus, MinusMinus, Becomes, PlusBecomes, MinusBecomes, TimesBecomes, AndBecomes, OrBecomes, XorBecomes, PlusSign, MinusSign, Star, Slash, Percent, Amp, Bar, Caret, Tilde, Bang, Question, Colon, DoubleLess, DoubleGreater, LessSign, LessEqualSign, GreaterSign, GreaterEqualSign, DoubleEqual, BangEqual, DoubleAmp, DoubleBar}
+use Rattle.semantics.specs.Source.Token.{Token, Word, IntegerConstant, StringLiteral, Punctuator, Header, Line, Symbol, Semicolon, Comma, OpenParen, CloseParen, OpenBracket, CloseBracket, OpenBrace, CloseBrace, PlusPlus, MinusMinus, EqualSign, PlusEqual, MinusEqual, TimesEqual, AmpEqual, BarEqual, CaretEqual, PlusSign, MinusSign, Star, Slash, Percent, Amp, Bar, Caret, Tilde, Bang, Question, Colon, DoubleLess, DoubleGreater, LessSign, LessEqualSign, GreaterSign, GreaterEqualSign, DoubleEqual, BangEqual, DoubleAmp, DoubleBar}
 
 -- C11 6.4.2.1, digit
 abbrev pub is_digit : ℕ → Bool
@@ -60,13 +60,13 @@ symbol_text OpenBrace = codes "{"
 symbol_text CloseBrace = codes "}"
 symbol_text PlusPlus = codes "++"
 symbol_text MinusMinus = codes "--"
-symbol_text Becomes = codes "="
-symbol_text PlusBecomes = codes "+="
-symbol_text MinusBecomes = codes "-="
-symbol_text TimesBecomes = codes "*="
-symbol_text AndBecomes = codes "&="
-symbol_text OrBecomes = codes "|="
-symbol_text XorBecomes = codes "^="
+symbol_text EqualSign = codes "="
+symbol_text PlusEqual = codes "+="
+symbol_text MinusEqual = codes "-="
+symbol_text TimesEqual = codes "*="
+symbol_text AmpEqual = codes "&="
+symbol_text BarEqual = codes "|="
+symbol_text CaretEqual = codes "^="
 symbol_text PlusSign = codes "+"
 symbol_text MinusSign = codes "-"
 symbol_text Star = codes "*"
@@ -118,9 +118,9 @@ pub data Spells : List ℕ → List ℕ → Bool → Type 0 where
 pub data Stands : List ℕ → List ℕ → Token → Type 0 where
   word : {w rest : List ℕ} → is_name w ≡ true → stops is_word_byte rest ≡ true → Stands w rest (Word w)
   number : (ds : List ℕ) {rest : List ℕ} (suffix : Suffix) →
-      is_decimal ds ≡ true → stops (λ b. is_word_byte b || (b == 46)) rest ≡ true → Stands (ds ++ suffix_text suffix) rest (Digits (decimal_from 0 ds) suffix)
-  text : {bs cs rest : List ℕ} {open' : Bool} → Spells bs cs open' → Stands (34 ∷ (bs ++ 34 ∷ [])) rest (Quoted cs open')
-  symbol : {s : Symbol} {rest : List ℕ} → is_whole (symbol_text s) rest ≡ true → Stands (symbol_text s) rest (Sign s)
+      is_decimal ds ≡ true → stops (λ b. is_word_byte b || (b == 46)) rest ≡ true → Stands (ds ++ suffix_text suffix) rest (IntegerConstant (decimal_from 0 ds) suffix)
+  text : {bs cs rest : List ℕ} {open' : Bool} → Spells bs cs open' → Stands (34 ∷ (bs ++ 34 ∷ [])) rest (StringLiteral cs open')
+  symbol : {s : Symbol} {rest : List ℕ} → is_whole (symbol_text s) rest ≡ true → Stands (symbol_text s) rest (Punctuator s)
 
 -- behind the `#` of a directive line stands no other, and no backslash
 abbrev pub is_plain_directive : List ℕ → Bool
@@ -190,9 +190,9 @@ has_trigraph (b ∷ bs) = starts_with (codes "??") (b ∷ bs) || has_trigraph bs
 -- an include line
 abbrev pub is_header : Token → Bool
 is_header (Word w) = false
-is_header (Digits n suffix) = false
-is_header (Quoted cs open') = false
-is_header (Sign s) = false
+is_header (IntegerConstant n suffix) = false
+is_header (StringLiteral cs open') = false
+is_header (Punctuator s) = false
 is_header (Header h) = true
 is_header (Line n) = false
 
@@ -209,7 +209,7 @@ starts_with_place _ = false
 -- `PRIu64` stands behind each string that ends in a single % (C11 7.8.1)
 abbrev pub places_follow : List Token → Bool
 places_follow [] = true
-places_follow (Quoted cs true ∷ ts) = starts_with_place ts && places_follow ts
+places_follow (StringLiteral cs true ∷ ts) = starts_with_place ts && places_follow ts
 places_follow (t ∷ ts) = places_follow ts
 
 -- the tokens of a text, its lines numbered from 1: printable bytes, tabs and line feeds alone, and no trigraph

@@ -1,7 +1,7 @@
 -- The grammar of texts: what tree a text is read as.
 use Rattle.std.specs.Prelude.{ℕ, suc, ◌≡◌, ◌≤◌, ◌+◌, ◌^◌, List, [], ◌∷◌, ◌++◌, length, Some, codes}
 use Rattle.semantics.specs.Tree.{Name, Expr, Declaration, Kernel}
-use Rattle.semantics.specs.Source.Token.{Token, Word, Sign, Header, Semicolon, Comma, OpenParen, CloseParen, OpenBracket, CloseBracket, OpenBrace, CloseBrace, Becomes}
+use Rattle.semantics.specs.Source.Token.{Token, Word, Punctuator, Header, Semicolon, Comma, OpenParen, CloseParen, OpenBracket, CloseBracket, OpenBrace, CloseBrace, EqualSign}
 use Rattle.semantics.specs.Source.Typing.{constant}
 use Rattle.semantics.specs.Source.Cuts.{Tokens}
 use Rattle.semantics.specs.Meaning.Places.{size}
@@ -14,25 +14,25 @@ pub data ReadsLengths (scope : Scope) : List Token → List ℕ → Type 0 where
   no_lengths : ReadsLengths scope [] []
   dimension : {e : Expr} {n : ℕ} {ns : List ℕ} {ts us : List Token} →
       ReadsExpr scope 0 0 ts e → constant e ≡ Some (suc n) → ReadsLengths scope us ns →
-      ReadsLengths scope (Sign OpenBracket ∷ (ts ++ Sign CloseBracket ∷ us)) (suc n ∷ ns)
+      ReadsLengths scope (Punctuator OpenBracket ∷ (ts ++ Punctuator CloseBracket ∷ us)) (suc n ∷ ns)
 
 -- the enum constants of one declaration, each visible to those behind it (C11 6.7.2.2)
 pub data ReadsConstants : Scope → List Token → List (Name × ℕ) → Type 0 where
   only : {scope : Scope} {name : Name} {e : Expr} {n : ℕ} {ts : List Token} →
-      IsFree scope name → ReadsExpr scope 0 0 ts e → constant e ≡ Some n → ReadsConstants scope (Word name ∷ Sign Becomes ∷ ts) ((name, n) ∷ [])
+      IsFree scope name → ReadsExpr scope 0 0 ts e → constant e ≡ Some n → ReadsConstants scope (Word name ∷ Punctuator EqualSign ∷ ts) ((name, n) ∷ [])
   further : {scope : Scope} {name : Name} {e : Expr} {n : ℕ} {cs : List (Name × ℕ)} {ts us : List Token} →
       IsFree scope name → ReadsExpr scope 0 0 ts e → constant e ≡ Some n → ReadsConstants ((name, AConstant n) ∷ scope) us cs →
-      ReadsConstants scope (Word name ∷ Sign Becomes ∷ (ts ++ Sign Comma ∷ us)) ((name, n) ∷ cs)
+      ReadsConstants scope (Word name ∷ Punctuator EqualSign ∷ (ts ++ Punctuator Comma ∷ us)) ((name, n) ∷ cs)
 
 -- declarations, of 4 dimensions at most: the constants and variables of each, and what is visible behind them (C11 6.7)
 pub data ReadsDecls : Scope → ℕ → List Token → List (Name × ℕ) → List Declaration → Scope → Type 0 where
   no_decls : {scope : Scope} {next : ℕ} → ReadsDecls scope next [] [] [] scope
   enum : {scope scope' : Scope} {next : ℕ} {cs ds : List (Name × ℕ)} {vs : List Declaration} {ts us : List Token} →
       ReadsConstants scope ts cs → ReadsDecls (with_constants cs scope) next us ds vs scope' →
-      ReadsDecls scope next (Word (codes "enum") ∷ Sign OpenBrace ∷ (ts ++ Sign CloseBrace ∷ Sign Semicolon ∷ us)) (cs ++ ds) vs scope'
+      ReadsDecls scope next (Word (codes "enum") ∷ Punctuator OpenBrace ∷ (ts ++ Punctuator CloseBrace ∷ Punctuator Semicolon ∷ us)) (cs ++ ds) vs scope'
   object : {scope scope' : Scope} {next : ℕ} {name : Name} {ns : List ℕ} {cs : List (Name × ℕ)} {vs : List Declaration} {ts us : List Token} →
       IsFree scope name → length ns ≤ 4 → ReadsLengths scope ts ns → ReadsDecls ((name, AVariable next (length ns)) ∷ scope) (suc next) us cs vs scope' →
-      ReadsDecls scope next (Word (codes "uint64_t") ∷ Word name ∷ (ts ++ Sign Semicolon ∷ us)) cs (record { name = name; lengths = ns } ∷ vs) scope'
+      ReadsDecls scope next (Word (codes "uint64_t") ∷ Word name ∷ (ts ++ Punctuator Semicolon ∷ us)) cs (record { name = name; lengths = ns } ∷ vs) scope'
 
 -- the elements in all, a scalar being one
 abbrev pub elements : List Declaration → ℕ
@@ -51,7 +51,7 @@ pub record Reads (tokens : List Token) (tree : Kernel) : Type 0 where
   pub next : ℕ
   pub decls : List Token
   pub body : List Token
-  pub all : tokens ≡ headers includes ++ (decls ++ Word (codes "void") ∷ Word (codes "kernel") ∷ Sign OpenParen ∷ Word (codes "void") ∷ Sign CloseParen ∷ Sign OpenBrace ∷ (body ++ Sign CloseBrace ∷ []))
+  pub all : tokens ≡ headers includes ++ (decls ++ Word (codes "void") ∷ Word (codes "kernel") ∷ Punctuator OpenParen ∷ Word (codes "void") ∷ Punctuator CloseParen ∷ Punctuator OpenBrace ∷ (body ++ Punctuator CloseBrace ∷ []))
   pub declared : ReadsDecls [] 0 decls tree.constants tree.variables scope
   pub items : ReadsItems scope 1 (length tree.variables) body tree.body next
   pub statements : statement_count tree.body ≤ 4096

@@ -1,6 +1,6 @@
 -- Typed operands and constant expressions (C11 6.3.1.8 and 6.6).
 use Rattle.std.specs.Prelude.{ℕ, Bool, true, false, not, ◌==◌, ◌&&◌, ◌||◌, ◌+◌, ◌-◌, ◌*◌, ◌^◌, nat_lt, nat_le, if◌then◌else◌, Option, Some, None, is_some}
-use Rattle.semantics.specs.Tree.{Suffix, BinaryOp, Plus, Minus, Times, Divide, Remainder, BitAnd, BitOr, BitXor, ShiftLeft, ShiftRight, Bare, Ull, Expr, Literal, Constant, Object, Unary, Binary, Choose, Cond, NotZero, Compare, Not, Both, Either}
+use Rattle.semantics.specs.Tree.{Suffix, BinaryOp, Plus, Minus, Times, Divide, Remainder, BitAnd, BitOr, BitXor, ShiftLeft, ShiftRight, Bare, Ull, Expr, Literal, Constant, Object, Unary, Binary, Conditional, Cond, NotZero, Compare, Not, LogicalAnd, LogicalOr}
 use Rattle.semantics.specs.Meaning.Value.{both}
 
 -- a literal's range (C11 6.4.4.1)
@@ -18,7 +18,7 @@ typed (Unary op a) = typed a
 typed (Binary ShiftLeft a b) = typed a
 typed (Binary ShiftRight a b) = typed a
 typed (Binary op a b) = typed a || typed b
-typed (Choose c a b) = typed a || typed b
+typed (Conditional c a b) = typed a || typed b
 
 -- the range of `int` without its negative half
 abbrev pub in_int : ℕ → Option ℕ
@@ -44,7 +44,7 @@ constant (Constant name n) = Some n
 constant (Object x is) = None
 constant (Unary op a) = None
 constant (Binary op a b) = flat (both (int_operate op) (constant a) (constant b))
-constant (Choose c a b) = None
+constant (Conditional c a b) = None
 
 -- there, and not 0
 abbrev pub not_zero : Option ℕ → Bool
@@ -83,12 +83,12 @@ abbrev mutual
   plain (Object x is) = true
   plain (Unary op a) = plain a
   plain (Binary op a b) = plain a && plain b
-  plain (Choose c a b) = plain_cond c && plain a && plain b
+  plain (Conditional c a b) = plain_cond c && plain a && plain b
 
   -- of a condition
   pub plain_cond : Cond → Bool
   plain_cond (NotZero e) = plain e
   plain_cond (Compare op a b) = plain a && plain b
   plain_cond (Not c) = plain_cond c
-  plain_cond (Both c d) = plain_cond c && plain_cond d
-  plain_cond (Either c d) = plain_cond c && plain_cond d
+  plain_cond (LogicalAnd c d) = plain_cond c && plain_cond d
+  plain_cond (LogicalOr c d) = plain_cond c && plain_cond d

@@ -2,4 +2,4 @@ use Rattle.affine_expr.proofs.Keeping.{refused_form}
 use Rattle.affine_expr.proofs.kept.difference.Goals as goal
 
 pub returns-in-Err-clause-err : goal.returns-in-Err-clause-err
-returns-in-Err-clause-err c = refused_form c.args.place _ c.in-Err.refusal c.refused.result c.in-Err.ensures.refusal c.refused.ensures.limit c.refused.ensures.memory
+returns-in-Err-clause-err c = refused_form c.args.place _ c.in-Err.refusal c.fault_of_refusal.result c.in-Err.ensures.refusal c.fault_of_refusal.ensures.limit c.fault_of_refusal.ensures.memory

@@ -29,5 +29,5 @@ returns-in_ok-right-in-Binary-clause-err t c =
     let second : form_of box b ≡ Some right.form = search rules in
     let one : left.number ≡ is_number a = search rules in
     let other : right.number ≡ is_number b = search rules in
-    let stops : IfErr c.joined.result (Stops c.args.place (shape_by op left.number right.number) (operated op left.number right.number left.form right.form)) = search rules in
-    rw c.in-Binary.is (stops_joined c.args.place box op a b left.form right.form left.number right.number c.joined.result first one second other stops)
+    let stops : IfErr c.join.result (Stops c.args.place (shape_by op left.number right.number) (operated op left.number right.number left.form right.form)) = search rules in
+    rw c.in-Binary.is (stops_joined c.args.place box op a b left.form right.form left.number right.number c.join.result first one second other stops)

@@ -13,7 +13,7 @@ abbrev pub decreases-arms : goal.decreases-arms
 decreases-arms l = 32 * l.room + 29
 
 abbrev pub decreases-binary : goal.decreases-binary
-decreases-binary l = 32 * l.room + (6 + 2 * l.reach)
+decreases-binary l = 32 * l.room + (6 + 2 * l.precedence)
 
 abbrev pub decreases-further : goal.decreases-further
 decreases-further l = 32 * l.room + (7 + 2 * l.tighter)

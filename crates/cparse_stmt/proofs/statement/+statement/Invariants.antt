@@ -15,8 +15,8 @@ decreases-items l = 9 * l.room + 8
 abbrev pub decreases-item : goal.decreases-item
 decreases-item l = 9 * l.room + 7
 
-abbrev pub decreases-stated : goal.decreases-stated
-decreases-stated l = 9 * l.room + 6
+abbrev pub decreases-statement_item : goal.decreases-statement_item
+decreases-statement_item l = 9 * l.room + 6
 
 abbrev pub decreases-inner : goal.decreases-inner
 decreases-inner l = 9 * l.room + 5
@@ -24,11 +24,11 @@ decreases-inner l = 9 * l.room + 5
 abbrev pub decreases-statement : goal.decreases-statement
 decreases-statement l = 9 * l.room + 4
 
-abbrev pub decreases-counted : goal.decreases-counted
-decreases-counted l = 9 * l.room + 3
+abbrev pub decreases-count_statement : goal.decreases-count_statement
+decreases-count_statement l = 9 * l.room + 3
 
-abbrev pub decreases-headed : goal.decreases-headed
-decreases-headed l = 9 * l.room + 2
+abbrev pub decreases-statement_behind : goal.decreases-statement_behind
+decreases-statement_behind l = 9 * l.room + 2
 
 abbrev pub decreases-block : goal.decreases-block
 decreases-block l = 9 * l.room + 1

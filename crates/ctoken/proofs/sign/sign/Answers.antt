@@ -8,7 +8,7 @@ use Rattle.ctoken.proofs.sign.sign.Goals.{in-Some+in_default-long_symbol, in_def
 
 pub returns-in-Some-long_symbol : goal.returns-in-Some-long_symbol
 returns-in-Some-long_symbol c = (
-  meant.Sign (symbol_of c.in-Some-long_symbol.symbol),
+  meant.Punctuator (symbol_of c.in-Some-long_symbol.symbol),
   sign-long c.args.first c.in-Some.second.now c.args.rest.now c.in-Some._more.now (symbol_of c.in-Some-long_symbol.symbol) c.in-Some.ensures.cases.0
       (sym c.long_symbol.ensures ∙ ap (option_map symbol_of) c.in-Some-long_symbol.is),
   refl,
@@ -17,7 +17,7 @@ returns-in-Some-long_symbol c = (
 pub returns-in-Some-short_symbol : goal.returns-in-Some-short_symbol
 returns-in-Some-short_symbol c =
     let short = sym c.short_symbol.ensures ∙ ap (option_map symbol_of) c.in-Some-short_symbol.is in (
-      meant.Sign (symbol_of c.in-Some-short_symbol.symbol),
+      meant.Punctuator (symbol_of c.in-Some-short_symbol.symbol),
       elim c.match-split_first.branch [
         | in-Some+in_default-long_symbol w ↦
             sign-short c.args.first w.in-Some.second.now c.args.rest.now w.in-Some._more.now (symbol_of c.in-Some-short_symbol.symbol) w.in-Some.ensures.cases.0

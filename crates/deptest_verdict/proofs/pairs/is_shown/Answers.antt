@@ -1,5 +1,5 @@
 use Rattle.std.proofs.lemmas.Result.{IfErr-weaker}
-use Rattle.pairtest.specs.Cases.{AllWithin}
+use Rattle.pairtest.specs.DirectionVectors.{AllWithin}
 use Rattle.deptest_verdict.specs.Pairs.{IsPair}
 use Rattle.deptest_verdict.proofs.Showing.{shown_of_pair}
 use Rattle.deptest_verdict.proofs.pairs.is_shown.Goals as goal

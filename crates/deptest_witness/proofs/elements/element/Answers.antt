@@ -9,5 +9,5 @@ returns-in-Some c =
     let touch = c.args.touch.now in
     let values = c.in_ok-values.values.items in
     element_law (region_of c.args.region.now) (access_of touch) c.args.number values c.in-Some.there.items c.indexes.result c.in_ok-values.ensures.value
-    (turns_found touch.inner.now values c.in_ok-entered.field-0 c.in-Some.there c.in-Some.is c.in_ok-entered.ensures.turns)
+    (turns_found touch.inner.now values c.in_ok-first_turns.field-0 c.in-Some.there c.in-Some.is c.in_ok-first_turns.ensures.turns)
     (subst (λ vs. IfOk c.indexes.result (FoundIndexes touch.subscripts.now vs)) c.deref.ensures.value c.indexes.ensures)

@@ -9,5 +9,5 @@ returns-in-Err-clause-decides c = inr (λ h. c.in-Err.ensures.err.1 h.0 h.1 h.2)
 pub returns-clause-decides : goal.returns-clause-decides
 returns-clause-decides c =
     let line = c.in-Ok.line in
-    line_judged c.nest_first.result c.args.directives.now c.args.bounds.now c.args.place.line (items_of c.args.rest.now) line.schedule line.collapse c.associated.result
-    c.in-Ok.ensures.ok c.associated.ensures c.nest_first.ensures.decides
+    line_judged c.nest_first.result c.args.directives.now c.args.bounds.now c.args.place.line (items_of c.args.rest.now) line.schedule line.collapse c.associated_loops.result
+    c.in-Ok.ensures.ok c.associated_loops.ensures c.nest_first.ensures.decides

@@ -23,7 +23,7 @@ returns-in-Err-clause-err t c =
     let box = c.args.bounds.now in
     let b = stmt_of c.in-Some.level.body.now in
     let h = head_of c.in-Some.level.head.now in
-    told_so c.told.ensures
+    told_so c.form_fault.ensures
     (λ k. rectangular_head box h (n - 1) b
     (nest_down (λ loops. (ls : List Canonical) × AreRectangular box loops ls) n (n - 1) (stmt_of c.args.statement.now) b h (pred_is n c.if-depth-eq0.false) c.in-Some.ensures k))
     (no_head box h c.in-Err.ensures.err)

@@ -5,11 +5,11 @@ use Rattle.affine.specs.declared.interval.Side.{Side}
 use Rattle.affine_expr.specs.declared.faults.Fault.TheVariants.{OutOfMemory}
 use Rattle.nest.specs.Perfect.{NestHas}
 use Rattle.nest.specs.Heads.{head_of}
-use Rattle.nest.proofs.PerfectLaw.{AnyProduct, Known, pred_is, no_loops, nest_down, nest_up, no_level, passed_on, no_turns, product_head, product_rest, one_more}
+use Rattle.nest.proofs.PerfectLaw.{AnyProduct, DefinitelyAssigned, pred_is, no_loops, nest_down, nest_up, no_level, passed_on, no_turns, product_head, product_rest, one_more}
 use Rattle.nest.proofs.perfect.+product.Goals as goal
 
 pub returns-then-depth-eq0-clause-ok : goal.returns-then-depth-eq0-clause-ok
-returns-then-depth-eq0-clause-ok t c = no_loops (Known c.args.bounds.now (Some 1)) c.args.depth (stmt_of c.args.statement.now) c.if-depth-eq0.true (1, refl, (omega arith, refl))
+returns-then-depth-eq0-clause-ok t c = no_loops (DefinitelyAssigned c.args.bounds.now (Some 1)) c.args.depth (stmt_of c.args.statement.now) c.if-depth-eq0.true (1, refl, (omega arith, refl))
 
 pub returns-in_default-clause-err : goal.returns-in_default-clause-err
 returns-in_default-clause-err t c =
@@ -45,6 +45,6 @@ returns-clause-ok t c =
     let b = stmt_of c.in-Some.level.body.now in
     let h = head_of c.in-Some.level.head.now in
     let inner = c.in-Ok-product.inner in
-    nest_up (Known box c.within.result) n (n - 1) (stmt_of c.args.statement.now) b h (pred_is n c.if-depth-eq0.false) c.in-Some.ensures
+    nest_up (DefinitelyAssigned box c.within.result) n (n - 1) (stmt_of c.args.statement.now) b h (pred_is n c.if-depth-eq0.false) c.in-Some.ensures
     (one_more box h c.in-Ok.turning.numbers c.in-Ok.turning.most (n - 1) b inner c.within.result c.in-Ok.ensures.ok c.within.ensures
-    (subst (λ (x : List Side). NestHas (Known x inner) (n - 1) b) c.in-Ok-go_into.ensures.ok c.in-Ok-product.ensures.ok))
+    (subst (λ (x : List Side). NestHas (DefinitelyAssigned x inner) (n - 1) b) c.in-Ok-go_into.ensures.ok c.in-Ok-product.ensures.ok))

@@ -10,8 +10,8 @@ wraps-requires c =
     let head = c.args.head.now in
     canonical_well c.args.bounds.now head.variable.0 (source_of head.start) (cond_of head.test) (increment_of head.step) c.in-Ok.canonical c.in-Ok.ensures.ok
 
-pub most_turns-requires-clause-well : goal.most_turns-requires-clause-well
-most_turns-requires-clause-well c =
+pub greatest_trip_count-requires-clause-well : goal.greatest_trip_count-requires-clause-well
+greatest_trip_count-requires-clause-well c =
     let head = c.args.head.now in
     canonical_well c.args.bounds.now head.variable.0 (source_of head.start) (cond_of head.test) (increment_of head.step) c.in-Ok.canonical c.in-Ok.ensures.ok
 

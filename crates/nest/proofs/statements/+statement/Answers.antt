@@ -39,8 +39,8 @@ pub statement-returns-in-Err-statement-clause-decides : goal.statement-returns-i
 statement-returns-in-Err-statement-clause-decides t c =
     subst (λ (s : Stmt). (c.in-Err-statement.fault ≡ OutOfMemory) ⊎ (Has (asked c.args.question) c.args.bounds.now s → ⊥))
     (for_is c.args.walked.now c.in-For.head c.in-For.body c.deref-in-For-2.result.now c.in-For.is c.deref-in-For-2.ensures)
-    (body_refused (asked c.args.question) c.args.bounds.now c.entered.new.bounds c.in-For.head (stmt_of c.deref-in-For-2.result.now) c.in-Err-statement.fault
-    (subst (λ b. Entered c.args.bounds.now c.entered.new.bounds c.in-For.head (stmt_of b)) (c.deref-in-For.ensures ∙ sym c.deref-in-For-2.ensures) c.in-Ok.ensures.ok)
+    (body_refused (asked c.args.question) c.args.bounds.now c.enter_loop.new.bounds c.in-For.head (stmt_of c.deref-in-For-2.result.now) c.in-Err-statement.fault
+    (subst (λ b. Entered c.args.bounds.now c.enter_loop.new.bounds c.in-For.head (stmt_of b)) (c.deref-in-For.ensures ∙ sym c.deref-in-For-2.ensures) c.in-Ok.ensures.ok)
     c.in-Err-statement.ensures.decides)
 
 pub statement-returns-in-Block-clause-decides : goal.statement-returns-in-Block-clause-decides

@@ -7,4 +7,4 @@ pub returns-in-Err-clause-err : goal.returns-in-Err-clause-err
 returns-in-Err-clause-err c =
     let f = c.args.greater.now in
     let g = c.args.less.now in
-    of_memory c.args.place (plus_multiple f (negsuc 0) g) c.in-Err.refusal c.refused.result (difference_fits f g c.requires.greater c.requires.less) c.in-Err.ensures.refusal c.refused.ensures.memory
+    of_memory c.args.place (plus_multiple f (negsuc 0) g) c.in-Err.refusal c.fault_of_refusal.result (difference_fits f g c.requires.greater c.requires.less) c.in-Err.ensures.refusal c.fault_of_refusal.ensures.memory

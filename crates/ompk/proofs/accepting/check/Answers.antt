@@ -9,5 +9,5 @@ use Rattle.ompk.proofs.accepting.check.Goals as goal
 pub returns-clause-stands : goal.returns-clause-stands
 returns-clause-stands c =
     let read : Program = record { text = c.args.text.now; kernel = c.in_ok-kernel.kernel } in
-    IfOk-weaker c.accepted.result (λ p. p ≡ read) (λ p. StandsFor c.args.text.now (tree_of p))
-    (λ p e. subst (λ (q : Program). StandsFor c.args.text.now (tree_of q)) (sym e) (text_erased c.in_ok-kernel.ensures.ok)) c.accepted.ensures.is
+    IfOk-weaker c.accept_kernel.result (λ p. p ≡ read) (λ p. StandsFor c.args.text.now (tree_of p))
+    (λ p e. subst (λ (q : Program). StandsFor c.args.text.now (tree_of q)) (sym e) (text_erased c.in_ok-kernel.ensures.ok)) c.accept_kernel.ensures.is

@@ -2,7 +2,7 @@ use Rattle.std.proofs.Common.{◌+◌, ◌-◌, drop, Option, Some, IsSome, Bool
 use Rattle.std.specs.Result.{OnOk}
 use Rattle.semantics.specs.Meaning.State.{State}
 use Rattle.semantics.specs.Meaning.Value.{holds}
-use Rattle.semantics.specs.Meaning.Runs.{Effect, run, run_items, turns, most_turns, incremented}
+use Rattle.semantics.specs.Meaning.Runs.{Effect, run, run_items, turns, greatest_trip_count, incremented}
 use Rattle.ktree.specs.declared.expression.Cond.{Cond}
 use Rattle.ktree.specs.declared.statement.Increment.{Increment}
 use Rattle.ktree.specs.View.{cond_of, increment_of, source_of, stmt_of, items_of, with_item}
@@ -54,13 +54,13 @@ team_statement-loop-turn-init g t c =
 
 pub team_statement-holds-requires-in-loop-turn : goal.team_statement-holds-requires-in-loop-turn
 team_statement-holds-requires-in-loop-turn g t c =
-    test_some (test_of c.in-For.head.test) (run (stmt_of c.in-For.body.value)) (step_of c.in-For.head.step) (most_turns - c.loop-turn._turn) (standing c.loop-turn.frame c.loop-turn.store)
+    test_some (test_of c.in-For.head.test) (run (stmt_of c.in-For.body.value)) (step_of c.in-For.head.step) (greatest_trip_count - c.loop-turn._turn) (standing c.loop-turn.frame c.loop-turn.store)
     (rest_some _ _ _ _ _ _ c.loop-turn.invariant.0 c.requires.runs)
 
 pub team_statement-returns-then-not-holds-clause-ran : goal.team_statement-returns-then-not-holds-clause-ran
 team_statement-returns-then-not-holds-clause-ran g t c = going_over _ _ _ _ _
     (going_same _ _ _ _ _ _ _
-    (turns_over (test_of c.in-For.head.test) (run (stmt_of c.in-For.body.value)) (step_of c.in-For.head.step) (most_turns - c.loop-turn._turn) (standing c.loop-turn.frame c.loop-turn.store) (c.holds-in-loop-turn.ensures ∙ ap Some c.if-not-holds.true))
+    (turns_over (test_of c.in-For.head.test) (run (stmt_of c.in-For.body.value)) (step_of c.in-For.head.step) (greatest_trip_count - c.loop-turn._turn) (standing c.loop-turn.frame c.loop-turn.store) (c.holds-in-loop-turn.ensures ∙ ap Some c.if-not-holds.true))
     c.loop-turn.invariant.0)
 
 pub team_statement-returns-then-not-holds-clause-beginning : goal.team_statement-returns-then-not-holds-clause-beginning
@@ -74,7 +74,7 @@ team_statement-returns-in_err-team_statement-in-For-clause-beginning g t c =
 pub team_statement-increment-requires : goal.team_statement-increment-requires
 team_statement-increment-requires g t c =
     let k = after_body (test_of c.in-For.head.test) (run (stmt_of c.in-For.body.value)) (step_of c.in-For.head.step) _ c.loop-turn._turn _ _ (standing c.team_statement-in-loop-turn.new.frame c.team_statement-in-loop-turn.new.store) _ _ (g.S.Sink.told c.team_statement-in-loop-turn.new.sink) c.loop-turn-test.true (c.holds-in-loop-turn.ensures ∙ ap Some c.if-not-holds.false) c.loop-turn.invariant.0 (rw c.deref-in-loop-turn.ensures at c.in_ok-team_statement-in-For.ensures.ran) in
-    first_some (standing c.team_statement-in-loop-turn.new.frame c.team_statement-in-loop-turn.new.store) _ (turns (most_turns - (c.loop-turn._turn + 1)) (test_of c.in-For.head.test) (run (stmt_of c.in-For.body.value)) (step_of c.in-For.head.step)) (rest_some _ _ _ _ _ _ k c.requires.runs)
+    first_some (standing c.team_statement-in-loop-turn.new.frame c.team_statement-in-loop-turn.new.store) _ (turns (greatest_trip_count - (c.loop-turn._turn + 1)) (test_of c.in-For.head.test) (run (stmt_of c.in-For.body.value)) (step_of c.in-For.head.step)) (rest_some _ _ _ _ _ _ k c.requires.runs)
 
 pub team_statement-returns-in_err-increment-in-For-clause-beginning : goal.team_statement-returns-in_err-increment-in-For-clause-beginning
 team_statement-returns-in_err-increment-in-For-clause-beginning g t c =
@@ -84,7 +84,7 @@ team_statement-returns-in_err-increment-in-For-clause-beginning g t c =
 pub team_statement-loop-turn-preserved : goal.team_statement-loop-turn-preserved
 team_statement-loop-turn-preserved g t c =
     let k = after_body (test_of c.in-For.head.test) (run (stmt_of c.in-For.body.value)) (step_of c.in-For.head.step) _ c.loop-turn._turn _ _ (standing c.team_statement-in-loop-turn.new.frame c.team_statement-in-loop-turn.new.store) _ _ (g.S.Sink.told c.team_statement-in-loop-turn.new.sink) c.loop-turn-test.true (c.holds-in-loop-turn.ensures ∙ ap Some c.if-not-holds.false) c.loop-turn.invariant.0 (rw c.deref-in-loop-turn.ensures at c.in_ok-team_statement-in-For.ensures.ran) in (
-      going_on _ _ (turns (most_turns - (c.loop-turn._turn + 1)) (test_of c.in-For.head.test) (run (stmt_of c.in-For.body.value)) (step_of c.in-For.head.step)) _ _ _ _ _ _ k (ran_from_ended _ _ _ _ c.in_ok-increment-in-For.ensures.done),
+      going_on _ _ (turns (greatest_trip_count - (c.loop-turn._turn + 1)) (test_of c.in-For.head.test) (run (stmt_of c.in-For.body.value)) (step_of c.in-For.head.step)) _ _ _ _ _ _ k (ran_from_ended _ _ _ _ c.in_ok-increment-in-For.ensures.done),
       c.in_ok-team_statement-in-For.ensures.sound ∙ c.loop-turn.invariant.1,
       c.in_ok-increment-in-For.ensures.shape ∙ c.in_ok-team_statement-in-For.ensures.shape ∙ c.loop-turn.invariant.2,
     )

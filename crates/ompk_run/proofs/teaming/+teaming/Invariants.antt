@@ -1,6 +1,6 @@
 use Rattle.std.proofs.Common.{◌≡◌, ◌-◌, drop}
 use Rattle.semantics.specs.Meaning.Value.{holds}
-use Rattle.semantics.specs.Meaning.Runs.{run, run_items, turns, most_turns, incremented}
+use Rattle.semantics.specs.Meaning.Runs.{run, run_items, turns, greatest_trip_count, incremented}
 use Rattle.ktree.specs.View.{cond_of, increment_of, stmt_of, items_of}
 use Rattle.seqrun_value.specs.Standing.{standing}
 use Rattle.seqrun.specs.Ran.{lengths_of}
@@ -12,7 +12,7 @@ abbrev pub invariant-team_statement-loop-turn : goal.invariant-team_statement-lo
 invariant-team_statement-loop-turn g l =
     Going
     (run (stmt_of l.fn.stmt) (standing l.fn.frame l.fn.store))
-    (turns (most_turns - l._turn) (λ t. holds t (cond_of l.head.test)) (run (stmt_of l.body.value)) (λ t. incremented t (increment_of l.head.step)) (standing l.frame l.store))
+    (turns (greatest_trip_count - l._turn) (λ t. holds t (cond_of l.head.test)) (run (stmt_of l.body.value)) (λ t. incremented t (increment_of l.head.step)) (standing l.frame l.store))
     (standing l.fn.frame l.fn.store)
     (standing l.frame l.store)
     (g.S.Sink.told l.fn.sink)

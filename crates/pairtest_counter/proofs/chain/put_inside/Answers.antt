@@ -4,9 +4,9 @@ use Rattle.nest_loop.specs.Loops.{inside}
 use Rattle.pairtest_counter.proofs.Chains.{inserted}
 use Rattle.pairtest_counter.proofs.chain.put_inside.Goals as goal
 
-pub unbound-requires : goal.unbound-requires
-unbound-requires c =
-    let box : c.bound.new.bounds ≡ inside c.args.bounds.now c.args.inner.level.canonical.variable.0 c.args.inner.numbers = c.bound.ensures.ok (search rules) in
+pub unbind-requires : goal.unbind-requires
+unbind-requires c =
+    let box : c.bind_variable.new.bounds ≡ inside c.args.bounds.now c.args.inner.level.canonical.variable.0 c.args.inner.numbers = c.bind_variable.ensures.ok (search rules) in
     let e = ap (λ ss. length ss) box in omega arith
 
 pub returns-clause-levels : goal.returns-clause-levels

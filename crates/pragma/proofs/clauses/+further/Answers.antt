@@ -12,5 +12,5 @@ returns-then-is_none t c =
 
 pub returns : goal.returns
 returns t c =
-    one_more (words c.args.text.now) (words c.behind_comma.result.now) (words c.in_ok-part.rest.now) (part_of c.in_ok-part.part) (held c.in_ok-further.field-0) c.added.result
-    c.behind_comma.ensures c.in_ok-part.ensures c.in_ok-further.ensures c.added.ensures
+    one_more (words c.args.text.now) (words c.behind_comma.result.now) (words c.in_ok-part.rest.now) (part_of c.in_ok-part.part) (held c.in_ok-further.field-0) c.add_clause.result
+    c.behind_comma.ensures c.in_ok-part.ensures c.in_ok-further.ensures c.add_clause.ensures

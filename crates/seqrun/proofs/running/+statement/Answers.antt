@@ -2,7 +2,7 @@ use Rattle.std.proofs.Common.{rules, ◌+◌, ◌-◌, drop, Option, Some, IsSom
 use Rattle.std.specs.Result.{OnOk}
 use Rattle.semantics.specs.Meaning.State.{State}
 use Rattle.semantics.specs.Meaning.Value.{holds}
-use Rattle.semantics.specs.Meaning.Runs.{Effect, then_from, run, run_items, turns, most_turns, incremented}
+use Rattle.semantics.specs.Meaning.Runs.{Effect, then_from, run, run_items, turns, greatest_trip_count, incremented}
 use Rattle.ktree.specs.declared.expression.Cond.{Cond}
 use Rattle.ktree.specs.declared.statement.Increment.{Increment}
 use Rattle.ktree.specs.declared.statement.Item.{the_lemmas}
@@ -45,13 +45,13 @@ statement-loop-turn-init g t c =
 
 pub statement-holds-requires-in-loop-turn : goal.statement-holds-requires-in-loop-turn
 statement-holds-requires-in-loop-turn g t c =
-    test_some (test_of c.in-For.head.test) (run (stmt_of c.in-For.body.value)) (step_of c.in-For.head.step) (most_turns - c.loop-turn._turn) (standing c.loop-turn.frame c.loop-turn.store)
+    test_some (test_of c.in-For.head.test) (run (stmt_of c.in-For.body.value)) (step_of c.in-For.head.step) (greatest_trip_count - c.loop-turn._turn) (standing c.loop-turn.frame c.loop-turn.store)
     (rest_some _ _ _ _ _ _ c.loop-turn.invariant.0 c.requires.runs)
 
 pub statement-returns-then-not-holds-clause-ran : goal.statement-returns-then-not-holds-clause-ran
 statement-returns-then-not-holds-clause-ran g t c = going_over _ _ _ _ _
     (going_same _ _ _ _ _ _ _
-    (turns_over (test_of c.in-For.head.test) (run (stmt_of c.in-For.body.value)) (step_of c.in-For.head.step) (most_turns - c.loop-turn._turn) (standing c.loop-turn.frame c.loop-turn.store) (c.holds-in-loop-turn.ensures ∙ ap Some c.if-not-holds.true))
+    (turns_over (test_of c.in-For.head.test) (run (stmt_of c.in-For.body.value)) (step_of c.in-For.head.step) (greatest_trip_count - c.loop-turn._turn) (standing c.loop-turn.frame c.loop-turn.store) (c.holds-in-loop-turn.ensures ∙ ap Some c.if-not-holds.true))
     c.loop-turn.invariant.0)
 
 pub statement-returns-then-not-holds-clause-beginning : goal.statement-returns-then-not-holds-clause-beginning
@@ -61,7 +61,7 @@ pub statement-statement-requires-in-loop-turn : goal.statement-statement-require
 statement-statement-requires-in-loop-turn g t c κs within =
     let on = turns_on (test_of c.in-For.head.test) (run (stmt_of c.in-For.body.value)) (step_of c.in-For.head.step) c.loop-turn._turn (standing c.loop-turn.frame c.loop-turn.store) c.loop-turn-test.true (c.holds-in-loop-turn.ensures ∙ ap Some c.if-not-holds.false) in
     let s = standing c.loop-turn.frame c.loop-turn.store in
-    let h = first_some s (run (stmt_of c.in-For.body.value) s) (λ u. then_from u (step_of c.in-For.head.step u) (turns (most_turns - (c.loop-turn._turn + 1)) (test_of c.in-For.head.test) (run (stmt_of c.in-For.body.value)) (step_of c.in-For.head.step))) (rest_some _ _ _ _ _ _ (going_same _ _ _ _ _ _ _ on c.loop-turn.invariant.0) c.requires.runs) in
+    let h = first_some s (run (stmt_of c.in-For.body.value) s) (λ u. then_from u (step_of c.in-For.head.step u) (turns (greatest_trip_count - (c.loop-turn._turn + 1)) (test_of c.in-For.head.test) (run (stmt_of c.in-For.body.value)) (step_of c.in-For.head.step))) (rest_some _ _ _ _ _ _ (going_same _ _ _ _ _ _ _ on c.loop-turn.invariant.0) c.requires.runs) in
     (search (rules, the_lemmas), (within, (rw c.loop-turn.invariant.1 c.requires.room, rw c.deref-in-loop-turn.ensures h)))
 
 pub statement-returns-in_err-statement-in-For-clause-beginning : goal.statement-returns-in_err-statement-in-For-clause-beginning
@@ -72,7 +72,7 @@ statement-returns-in_err-statement-in-For-clause-beginning g t c =
 pub statement-increment-requires : goal.statement-increment-requires
 statement-increment-requires g t c =
     let k = after_body (test_of c.in-For.head.test) (run (stmt_of c.in-For.body.value)) (step_of c.in-For.head.step) _ c.loop-turn._turn _ _ (standing c.statement-in-loop-turn.new.frame c.statement-in-loop-turn.new.store) _ _ (g.S.Sink.told c.statement-in-loop-turn.new.sink) c.loop-turn-test.true (c.holds-in-loop-turn.ensures ∙ ap Some c.if-not-holds.false) c.loop-turn.invariant.0 (rw c.deref-in-loop-turn.ensures at c.in_ok-statement-in-For.ensures.ran) in
-    first_some (standing c.statement-in-loop-turn.new.frame c.statement-in-loop-turn.new.store) _ (turns (most_turns - (c.loop-turn._turn + 1)) (test_of c.in-For.head.test) (run (stmt_of c.in-For.body.value)) (step_of c.in-For.head.step)) (rest_some _ _ _ _ _ _ k c.requires.runs)
+    first_some (standing c.statement-in-loop-turn.new.frame c.statement-in-loop-turn.new.store) _ (turns (greatest_trip_count - (c.loop-turn._turn + 1)) (test_of c.in-For.head.test) (run (stmt_of c.in-For.body.value)) (step_of c.in-For.head.step)) (rest_some _ _ _ _ _ _ k c.requires.runs)
 
 pub statement-returns-in_err-increment-in-For-clause-beginning : goal.statement-returns-in_err-increment-in-For-clause-beginning
 statement-returns-in_err-increment-in-For-clause-beginning g t c =
@@ -82,7 +82,7 @@ statement-returns-in_err-increment-in-For-clause-beginning g t c =
 pub statement-loop-turn-preserved : goal.statement-loop-turn-preserved
 statement-loop-turn-preserved g t c =
     let k = after_body (test_of c.in-For.head.test) (run (stmt_of c.in-For.body.value)) (step_of c.in-For.head.step) _ c.loop-turn._turn _ _ (standing c.statement-in-loop-turn.new.frame c.statement-in-loop-turn.new.store) _ _ (g.S.Sink.told c.statement-in-loop-turn.new.sink) c.loop-turn-test.true (c.holds-in-loop-turn.ensures ∙ ap Some c.if-not-holds.false) c.loop-turn.invariant.0 (rw c.deref-in-loop-turn.ensures at c.in_ok-statement-in-For.ensures.ran) in (
-      going_on _ _ (turns (most_turns - (c.loop-turn._turn + 1)) (test_of c.in-For.head.test) (run (stmt_of c.in-For.body.value)) (step_of c.in-For.head.step)) _ _ _ _ _ _ k (ran_from_ended _ _ _ _ c.in_ok-increment-in-For.ensures.done),
+      going_on _ _ (turns (greatest_trip_count - (c.loop-turn._turn + 1)) (test_of c.in-For.head.test) (run (stmt_of c.in-For.body.value)) (step_of c.in-For.head.step)) _ _ _ _ _ _ k (ran_from_ended _ _ _ _ c.in_ok-increment-in-For.ensures.done),
       c.in_ok-statement-in-For.ensures.sound ∙ c.loop-turn.invariant.1,
       c.in_ok-increment-in-For.ensures.shape ∙ c.in_ok-statement-in-For.ensures.shape ∙ c.loop-turn.invariant.2,
     )

@@ -3,7 +3,7 @@ use Rattle.std.proofs.lemmas.Result.{IfOk-weaker, IfErr-weaker}
 use Rattle.pairtest.specs.declared.access.PastLimit.{PastLimit}
 use Rattle.pairtest.specs.declared.reach.Reach.{Reach}
 use Rattle.pairtest.specs.Equations.{Unknown, CoefficientsWithin}
-use Rattle.pairtest.specs.Cases.{counters}
+use Rattle.pairtest.specs.DirectionVectors.{counters}
 use Rattle.pairtest.specs.Reached.{Summarizes}
 use Rattle.pairtest.proofs.Summaries.{if_err_any, counters_joined, counters_first_within, counters_last_within}
 use Rattle.pairtest.proofs.reach.Reach.with_all_counters.Goals as goal

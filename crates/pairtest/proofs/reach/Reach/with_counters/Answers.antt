@@ -2,7 +2,7 @@ use Rattle.std.proofs.Common.{◌≡◌, ◌<◌, ◌^◌, length, ℤ, ◌-ℤ�
 use mir.Syntax.{w128}
 use Rattle.std.proofs.lemmas.Int.{ints}
 use Rattle.pairtest.specs.Equations.{IsWithin}
-use Rattle.pairtest.specs.Cases.{coefficient}
+use Rattle.pairtest.specs.DirectionVectors.{coefficient}
 use Rattle.pairtest.proofs.Summaries.{if_err_any, counters_step}
 use Rattle.pairtest.proofs.CounterLists.{counter_within}
 use Rattle.pairtest.proofs.reach.Reach.with_counters.Goals as goal

@@ -1,6 +1,6 @@
 use Rattle.std.proofs.Common.{List, ◌++◌, take}
 use Rattle.pairtest.specs.Equations.{Unknown}
-use Rattle.pairtest.specs.Cases.{counters}
+use Rattle.pairtest.specs.DirectionVectors.{counters}
 use Rattle.pairtest.specs.Reached.{Summarizes}
 use Rattle.pairtest.proofs.reach.Reach.with_counters.Given as goal
 

@@ -1,0 +1,28 @@
+use Rattle.std.specs.Prelude.{◌≡◌, map}
+use Rattle.std.proofs.Common.{◌∙◌}
+use Rattle.ktree.specs.View.{stmt_of, declaration_of}
+use Rattle.pairtest_access.specs.Found.{inner_loops}
+use Rattle.deptest_verdict.proofs.Verdicts.{as_before, never_told, first_told}
+use Rattle.deptest_verdict.proofs.telling.verdict_on.Goals as goal
+
+pub returns-in-None-clause-ok : goal.returns-in-None-clause-ok
+returns-in-None-clause-ok c =
+    let now = c.args.chain.now in
+    let body = stmt_of c.args.body.now in
+    let x = c.in-Ok.x in
+    let y = c.in-Ok-touched_by.y in
+    let loops : c.as_slice.result.now ≡ map (λ v. v.canonical) (inner_loops 0 now.levels) = c.as_slice.ensures.value ∙ c.in_ok-loops.ensures.ok in
+    let other = as_before now _ body c.args.pair.second y c.in-Ok.ensures.back c.in-Ok-touched_by.ensures.ok in
+    never_told (map declaration_of c.args.variables.now) now c.args.outer body c.args.pair c.in_ok-accesses.accesses x y c.as_slice.result.now c.in-Ok-find_meeting.found c.in_ok-accesses.ensures.ok
+    c.in-Ok.ensures.ok other loops c.in-Ok-find_meeting.ensures.none c.in-None.is
+
+pub returns-clause-ok : goal.returns-clause-ok
+returns-clause-ok c =
+    let now = c.args.chain.now in
+    let body = stmt_of c.args.body.now in
+    let x = c.in-Ok.x in
+    let y = c.in-Ok-touched_by.y in
+    let loops : c.as_slice.result.now ≡ map (λ v. v.canonical) (inner_loops 0 now.levels) = c.as_slice.ensures.value ∙ c.in_ok-loops.ensures.ok in
+    let other = as_before now _ body c.args.pair.second y c.in-Ok.ensures.back c.in-Ok-touched_by.ensures.ok in
+    first_told (map declaration_of c.args.variables.now) now c.args.outer body c.args.pair c.in_ok-accesses.accesses x y c.as_slice.result.now c.in-Ok-find_meeting.found c.in-Some.meeting c.in_ok-accesses.ensures.ok
+    c.in-Ok.ensures.ok other loops c.in-Ok-find_meeting.ensures.some c.in-Some.is

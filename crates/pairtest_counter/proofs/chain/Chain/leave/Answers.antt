@@ -1,5 +1,0 @@
-use Rattle.pairtest_counter.proofs.Chains.{left_over}
-use Rattle.pairtest_counter.proofs.chain.Chain.leave.Goals as goal
-
-pub invariant_of-self : goal.invariant_of-self
-invariant_of-self c = left_over c.self.inside.bounds c.unbound.new.self c.self.inside.levels.items c.remove.new.self.items c.self.invariant c.unbound.ensures c.remove.ensures.items
