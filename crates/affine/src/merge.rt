@@ -7,12 +7,10 @@ ghost use Rattle.affine.specs.Arithmetic.{term_before, terms_without, with_multi
 ghost use Rattle.affine.specs.Limits.{IsWithin, TermsFit};
 
 use crate::term::Term;
+use ktree::limits::EQUATION_NUMBER;
 use ktree::{Place, Refusal, VarId};
 use smallvec::SmallVec;
 use std::alloc::Global;
-
-/// What a form's numbers are at most, in absolute value.
-const GREATEST: u128 = 1 << 62;
 
 /// How many variables a form has at most.
 const VARIABLES: usize = 64;
@@ -26,7 +24,7 @@ pub(crate) fn within_limit(value: i128, place: Place) -> Result<i64, Refusal>
     ensures refusal { IfErr result
         (λ refusal. (refusal ≡ Refusal.Limit place) × (¬ (IsWithin (2 ^ 62) value))) }
 {
-    if value.unsigned_abs() > GREATEST {
+    if value.unsigned_abs() > EQUATION_NUMBER {
         return Err(Refusal::Limit(place));
     }
     Ok(value as i64)

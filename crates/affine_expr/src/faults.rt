@@ -42,6 +42,16 @@ impl Fault {
     }
 }
 
+impl From<Fault> for Refusal {
+    ghost use Rattle.affine_expr.specs.Faults.{refusal_of};
+
+    ghost from_gives = { λ fault refusal. refusal ≡ refusal_of fault };
+
+    fn from(fault: Fault) -> Refusal {
+        fault.refusal()
+    }
+}
+
 impl From<AllocError> for Fault {
     ghost use Rattle.affine_expr.specs.declared.faults.Fault.TheVariants.{OutOfMemory};
 

@@ -20,6 +20,7 @@ use cparse_cursor::written::{Sort, Written};
 use cparse_expr::expression::whole;
 use cparse_operand::wanted::number_in;
 use ktree::Enumerator;
+use ktree::limits::OPEN_AT_ONCE;
 use std::alloc::Global;
 
 /// The value of a constant expression, if it has one, and how it was written.
@@ -58,7 +59,7 @@ pub fn constant_expression<'s, 't>(
     ensures { Gives (got_of value_in) result
         (constant_read (names_of context.entry.scope.now) (tokens_of tokens.now)) }
 {
-    let Parsed { tree, fault, rest } = whole(context, 64, tokens)?;
+    let Parsed { tree, fault, rest } = whole(context, OPEN_AT_ONCE, tokens)?;
     let constant = Constant {
         value: tree.constant,
         written: tree.written,

@@ -19,6 +19,7 @@ use cparse_cursor::punctuation::{close_brace, open_brace, semicolon};
 use cparse_cursor::scope::{Entity, Scope, add, find};
 use cparse_cursor::stop::{Fault, Flaw, Stop, earlier, unless};
 use cparse_cursor::words::{if_word, new_name};
+use ktree::limits::DIMENSIONS;
 use ktree::{Declaration, Enumerator, Place, VarId};
 
 /// What is declared, and the tokens behind it.
@@ -78,7 +79,7 @@ fn variable<'s, 't>(
         rest,
     } = lengths(context, name.rest)?;
     let rest = semicolon(rest, context.end)?;
-    let many = unless(lengths.len() <= 4, Flaw::Limit, name.place);
+    let many = unless(lengths.len() <= DIMENSIONS, Flaw::Limit, name.place);
     let tree = Named {
         name: name.name,
         lengths,

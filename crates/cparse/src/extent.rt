@@ -7,9 +7,7 @@ ghost use Rattle.ktree.specs.View.{declaration_of};
 
 use cparse_cursor::stop::{Fault, Flaw, earlier, unless};
 use ktree::Declaration;
-
-/// The greatest number of elements of all variables.
-const MOST_ELEMENTS: u64 = 1 << 24;
+use ktree::limits::ELEMENTS;
 
 /// The elements of an array of these lengths, or as many as can be counted.
 #[tactic(auto, using(crate::proofs::ExtentLemmas::min_times))]
@@ -30,7 +28,7 @@ pub fn too_many(variables: &[Declaration]) -> Option<Fault>
     let mut fault = None;
     for variable in variables {
         total = total.saturating_add(size(&variable.lengths));
-        let own = unless(total <= MOST_ELEMENTS, Flaw::Limit, variable.place);
+        let own = unless(total <= ELEMENTS, Flaw::Limit, variable.place);
         fault = earlier(fault, own);
     }
     fault

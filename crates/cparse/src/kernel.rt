@@ -18,10 +18,8 @@ use cparse_cursor::stop::{Fault, Stop, earlier};
 use cparse_phrase::tally::Tally;
 use cparse_phrase::told::Told;
 use cparse_stmt::statement::items;
+use ktree::limits::{OPEN_AT_ONCE, STATEMENTS};
 use ktree::{Declaration, Kernel};
-
-/// How many statements there may be.
-const MOST_STATEMENTS: u32 = 4096;
 
 /// A text's tree, and the first fault in it.
 #[derive(Drop)]
@@ -56,14 +54,14 @@ pub fn kernel<'s, 't>(setting: Setting, tokens: &'s [Lexeme<'t>]) -> Result<Whol
     let next = next_number(&variables)?;
     let tally = Tally {
         next,
-        left: MOST_STATEMENTS,
+        left: STATEMENTS,
     };
     let Told {
         tree: body,
         fault: body_fault,
         tally: _,
         rest,
-    } = items(setting, &mut scope, 63, tally, inner)?;
+    } = items(setting, &mut scope, OPEN_AT_ONCE - 1, tally, inner)?;
     let behind = close_brace(rest, end)?;
     at_end(behind, end)?;
     let fault = earlier(declared_fault, earlier(body_fault, too_many(&variables)));

@@ -11,11 +11,9 @@ use crate::lexing::lexemes;
 use cparse_cursor::context::Setting;
 use cparse_cursor::stop::{Fault, Flaw, Stop};
 use ctoken::{Scanned, Token, scan};
+use ktree::limits::TEXT_BYTES;
 use ktree::{Kernel, Place, Refusal};
 use std::alloc::Global;
-
-/// The greatest length of a text in bytes.
-const MOST_BYTES: usize = 1 << 20;
 
 /// The refusal of a text by what stops its reading.
 fn refusal_by_stop(stop: Stop) -> Refusal
@@ -76,7 +74,7 @@ fn first_stop(alloc: Global, text: &[u8], tokens: &[Token], end: Place) -> Stop 
 /// Where the first byte past the greatest length stands.
 fn limit_of(text: &[u8]) -> Place {
     let mut place = Place { line: 1, column: 1 };
-    for byte in text.iter().take(MOST_BYTES) {
+    for byte in text.iter().take(TEXT_BYTES) {
         if *byte == b'\n' {
             place = Place {
                 line: place.line.saturating_add(1),
@@ -94,7 +92,7 @@ fn too_long(alloc: Global, text: &[u8]) -> Refusal
     ensures { HasNoTree text.now → RefusesTree text.now result }
 {
     let limit = limit_of(text);
-    let front = &text[..text.len().min(MOST_BYTES)];
+    let front = &text[..text.len().min(TEXT_BYTES)];
     let Ok(Scanned { tokens, fault }) = scan(alloc, front) else {
         return Refusal::OutOfMemory;
     };
@@ -118,7 +116,7 @@ pub fn parse(alloc: Global, text: &[u8]) -> Result<Kernel, Refusal>
     ensures ok { IfOk result (λ kernel. ReadsText text.now (kernel_of kernel)) }
     ensures err { IfErr result (RefusesTree text.now) }
 {
-    if text.len() > MOST_BYTES {
+    if text.len() > TEXT_BYTES {
         return Err(too_long(alloc, text));
     }
     let Scanned { tokens, fault } = scan(alloc, text)?;

@@ -1,3 +1,4 @@
 pub mod Lexemes
 pub mod Names
 pub mod Outcome
+pub mod Sorts

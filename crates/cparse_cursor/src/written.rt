@@ -1,5 +1,10 @@
 //! Operands as they were written, by which faults are told.
 
+ghost use Rattle.std.specs.Prelude.{◌≡◌, false};
+ghost use Rattle.cparse_cursor.specs.declared.stop.Flaw.TheVariants.{NumberOutOfRange};
+ghost use Rattle.cparse_cursor.specs.declared.written.Sort.TheVariants.{Typed};
+ghost use Rattle.cparse_cursor.specs.Sorts.{is_typed, is_constant, is_number};
+
 use crate::stop::{Fault, Flaw};
 use ktree::Place;
 
@@ -28,7 +33,9 @@ pub struct Written {
 
 impl Written {
     /// A variable, or a name that is unknown.
-    pub fn variable(place: Place) -> Written {
+    pub fn variable(place: Place) -> Written
+        ensures { result ≡ record { sort = Typed; has_ull = false; place = place } }
+    {
         Written {
             sort: Sort::Typed,
             has_ull: false,
@@ -36,20 +43,31 @@ impl Written {
         }
     }
 
-    pub fn is_typed(self) -> bool {
+    /// Whether it is arithmetic of the type `uint64_t`.
+    pub fn is_typed(self) -> bool
+        ensures { result ≡ is_typed self.sort }
+    {
         matches!(self.sort, Sort::Typed)
     }
 
-    pub fn is_constant(self) -> bool {
+    /// Whether it is a constant expression.
+    pub fn is_constant(self) -> bool
+        ensures { result ≡ is_constant self.sort }
+    {
         matches!(self.sort, Sort::Constant(_))
     }
 
-    pub fn is_number(self) -> bool {
+    /// Whether it is a number, and no condition.
+    pub fn is_number(self) -> bool
+        ensures { result ≡ is_number self.sort }
+    {
         !matches!(self.sort, Sort::Condition)
     }
 
     /// The fault of a value that is missing or out of its range.
-    pub fn out_of_range(self) -> Fault {
+    pub fn out_of_range(self) -> Fault
+        ensures { result ≡ record { place = self.place; flaw = NumberOutOfRange } }
+    {
         Fault {
             place: self.place,
             flaw: Flaw::NumberOutOfRange,

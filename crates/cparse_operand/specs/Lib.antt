@@ -1,3 +1,4 @@
 pub mod Infixes
 pub mod Operands
 pub mod OperandViews
+pub mod Operations

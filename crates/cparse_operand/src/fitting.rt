@@ -1,15 +1,17 @@
 //! Operands that fit an operator (C11 6.5.5 to 6.5.7, 6.6).
 
-ghost use Rattle.std.specs.Prelude.{◌≡◌};
+ghost use Rattle.std.specs.Prelude.{◌≡◌, IfSome};
 ghost use Rattle.semantics.specs.Tree.{Binary};
 ghost use Rattle.semantics.specs.Source.Typing.{typed, fit, may_divide};
 ghost use Rattle.ktree.specs.View.{binary_of};
 ghost use Rattle.cparse_grammar.specs.Operators.{number_in};
+ghost use Rattle.cparse_cursor.specs.declared.stop.Flaw.TheVariants.{NumberOutOfRange};
 ghost use Rattle.cparse_operand.specs.OperandViews.{operand_of};
+ghost use Rattle.cparse_operand.specs.Operations.{may_be_constant, operation_sort, operation, IsMisfit};
 
 use crate::operand::Operand;
 use crate::typing::{constant, may_shift, not_zero};
-use cparse_cursor::stop::{Fault, Flaw, unless};
+use cparse_cursor::stop::{Fault, Flaw};
 use cparse_cursor::written::{Sort, Written};
 use ktree::{BinaryOp, Expr, Place, Source, Suffix};
 
@@ -53,7 +55,9 @@ pub fn is_typed(operator: BinaryOp, left: &Operand, right: &Operand) -> bool
 }
 
 /// Whether an operator may stand in a constant expression (C11 6.6).
-fn may_be_constant(operator: BinaryOp) -> bool {
+fn may_be_constant(operator: BinaryOp) -> bool
+    ensures { result ≡ may_be_constant (binary_of operator) }
+{
     matches!(operator, BinaryOp::Plus | BinaryOp::Minus | BinaryOp::Times)
 }
 
@@ -62,19 +66,22 @@ fn is_shift(operator: BinaryOp) -> bool {
     matches!(operator, BinaryOp::ShiftLeft | BinaryOp::ShiftRight)
 }
 
-/// An operation as it was written. One at fault counts as typed (C11 6.3.1.8).
-pub fn written_operation(
-    operator: BinaryOp,
-    place: Place,
-    left: Written,
-    right: Written,
-) -> Written {
-    let sort = match (left.sort, right.sort) {
+/// What an operation counts as. One at fault counts as typed (C11 6.3.1.8).
+fn operation_sort(operator: BinaryOp, left: Sort, right: Sort) -> Sort
+    ensures { result ≡ operation_sort (binary_of operator) left right }
+{
+    match (left, right) {
         (Sort::Constant(a), Sort::Constant(b)) if may_be_constant(operator) => {
             Sort::Constant(constant(operator, a, b))
         }
         _ => Sort::Typed,
-    };
+    }
+}
+
+/// An operation as it was written.
+pub fn written_operation(operator: BinaryOp, place: Place, left: Written, right: Written) -> Written
+    ensures { result ≡ operation (binary_of operator) place left right }
+{
     let place = if !left.is_constant() {
         left.place
     } else if may_be_constant(operator) && !right.is_constant() {
@@ -82,37 +89,53 @@ pub fn written_operation(
     } else {
         place
     };
-    let has_ull = left.has_ull || right.has_ull;
     Written {
-        sort,
-        has_ull,
+        sort: operation_sort(operator, left.sort, right.sort),
+        has_ull: left.has_ull || right.has_ull,
         place,
     }
 }
 
 /// What is wrong with a divisor or with the count of a shift.
-fn constant_fault(operator: BinaryOp, right: &Operand) -> Option<Fault> {
+fn constant_fault(operator: BinaryOp, right: &Operand) -> Option<Fault>
+    ensures { IfSome result (λ fault. fault
+        ≡ record { place = right.now.written.place; flaw = NumberOutOfRange }) }
+{
     let holds = match right.written.sort {
         Sort::Constant(None) => true,
         Sort::Constant(value) if is_shift(operator) => may_shift(value),
         Sort::Constant(value) => not_zero(value),
         _ => !is_shift(operator) && may_divide(right),
     };
-    let fault = right.written.out_of_range();
-    unless(holds, fault.flaw, fault.place)
+    if holds {
+        None
+    } else {
+        Some(right.written.out_of_range())
+    }
 }
 
 /// What is wrong with an operator at a place between operands as they were written.
-pub fn misfit(operator: BinaryOp, place: Place, left: &Operand, right: &Operand) -> Option<Fault> {
+pub fn misfit(operator: BinaryOp, place: Place, left: &Operand, right: &Operand) -> Option<Fault>
+    ensures { IfSome result (IsMisfit place right.now.written.place) }
+{
     let (a, b) = (left.written, right.written);
     let numbers = a.is_number() && b.is_number();
     let typed = a.is_typed() || (b.is_typed() && !is_shift(operator));
     match (a.sort, b.sort) {
         (Sort::Constant(m), Sort::Constant(n)) if may_be_constant(operator) => {
-            let holds = m.is_none() || n.is_none() || constant(operator, m, n).is_some();
-            unless(holds, Flaw::NumberOutOfRange, place)
+            if m.is_none() || n.is_none() || constant(operator, m, n).is_some() {
+                None
+            } else {
+                Some(Fault {
+                    place,
+                    flaw: Flaw::NumberOutOfRange,
+                })
+            }
         }
-        _ if !numbers || !typed => unless(false, Flaw::Operands, place),
+        _ if !numbers || !typed => Some(Fault {
+            place,
+            flaw: Flaw::Operands,
+        }),
         _ => match operator {
             BinaryOp::Divide | BinaryOp::Remainder | BinaryOp::ShiftLeft | BinaryOp::ShiftRight =>
                 constant_fault(operator, right),

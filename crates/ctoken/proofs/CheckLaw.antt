@@ -15,7 +15,7 @@ use Rattle.ctoken.specs.Meant.{IsKind, StandFor, span_of, spans_of, CutSo, AreTo
 use Rattle.semantics.specs.Source.Spans.{IsAt, AreAt}
 use Rattle.ctoken.proofs.FrontLaw.{one_cut}
 use Rattle.ctoken.proofs.FrontSound.{same_bytes}
-use Rattle.ctoken.proofs.LineLaw.{front-is_word}
+use Rattle.text.proofs.FrontLaw.{front-is_word}
 use Rattle.ctoken.specs.Checks.{header_in, header_step, headers_from, is_word, is_open, is_place, places_from, passes}
 
 pub trigraph-step : (bs : List ℕ) (i : ℕ) (whole : Bool) → i < length bs → whole ≡ has_trigraph (drop i bs)

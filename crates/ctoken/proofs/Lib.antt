@@ -2,7 +2,6 @@ pub mod FrontLaw
 pub mod FrontSound
 pub mod LineLaw
 pub mod StringLaw
-pub mod LiteralLaw
 pub mod CommentLaw
 pub mod SignLaw
 pub mod CutSteps

@@ -1,9 +1,11 @@
 //! Bytes by what they may stand in.
 
 ghost use Rattle.std.specs.Prelude.{◌≡◌, ◌≤◌, length};
-ghost use Rattle.semantics.specs.Source.Cuts.{is_digit, is_letter, is_printable};
+ghost use Rattle.semantics.specs.Source.Cuts.{is_printable};
 ghost use Rattle.ctoken.specs.Front.{run};
 ghost use Rattle.ctoken.specs.Classes.{class_test};
+
+use text::{is_blank, is_digit, is_word_byte};
 
 /// Bytes that go on with one another.
 #[derive(Clone, Copy)]
@@ -14,22 +16,6 @@ pub enum Class {
     Word,
     /// What a comment may hold: no line end, and no backslash.
     Comment,
-    /// All but a line end.
-    Line,
-}
-
-/// Whether a byte is a letter (C11 5.2.1).
-pub fn is_letter(byte: u8) -> bool
-    ensures { result ≡ is_letter byte }
-{
-    matches!(byte, b'a'..=b'z') || matches!(byte, b'A'..=b'Z')
-}
-
-/// Whether a byte is a digit (C11 5.2.1).
-pub fn is_digit(byte: u8) -> bool
-    ensures { result ≡ is_digit byte }
-{
-    matches!(byte, b'0'..=b'9')
 }
 
 /// Whether a byte prints in ASCII, the space among them.
@@ -45,11 +31,10 @@ impl Class {
         ensures { result ≡ class_test self byte }
     {
         match self {
-            Class::Blank => byte == b' ' || byte == b'\t',
+            Class::Blank => is_blank(byte),
             Class::Digit => is_digit(byte),
-            Class::Word => is_letter(byte) || is_digit(byte) || byte == b'_',
+            Class::Word => is_word_byte(byte),
             Class::Comment => byte != b'\n' && byte != b'\\',
-            Class::Line => byte != b'\n',
         }
     }
 

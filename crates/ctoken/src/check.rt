@@ -8,8 +8,8 @@ ghost use Rattle.ctoken.specs.Checks.{AreIncluded, is_place, places_from, header
 ghost use Rattle.ctoken.specs.Meant.{number_of};
 
 use crate::bytes::is_printable;
-use crate::line::behind;
 use crate::token::{Header, Token, TokenKind};
+use text::behind;
 
 /// The first byte that a text may not hold (C11 5.2.1).
 pub fn unfit_byte(text: &[u8]) -> Option<usize>

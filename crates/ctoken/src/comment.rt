@@ -6,9 +6,9 @@ ghost use Rattle.ctoken.specs.Front.{comment_end, slash};
 ghost use Rattle.ctoken.specs.Pieces.{IsFront};
 
 use crate::bytes::Class;
-use crate::line::first_line;
 use crate::piece::Piece;
 use crate::token::{Symbol, TokenKind};
+use text::first_line;
 
 /// Whether `*/` stands here.
 fn closes(bytes: &[u8]) -> bool

@@ -4,9 +4,10 @@ ghost use Rattle.std.specs.Prelude.{◌≡◌, [], ◌++◌, if◌then◌else◌
 ghost use Rattle.semantics.specs.Source.Text.{is_directive_line, erase};
 ghost use Rattle.ktree.specs.declared.refusal.Refusal.TheVariants.{OutOfMemory};
 
-use crate::line::{first_line, is_directive_line};
+use crate::line::is_directive_line;
 use ktree::Refusal;
 use std::alloc::{AllocError, Global};
+use text::first_line;
 
 /// Appends a line, if it is no directive.
 fn keep_line(kept: &mut Vec<u8>, line: &[u8]) -> Result<(), AllocError>

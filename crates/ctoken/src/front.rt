@@ -5,14 +5,15 @@ ghost use Rattle.semantics.specs.Source.Text.{skip_blanks};
 ghost use Rattle.ctoken.specs.Front.{inside, begins_hash, front};
 ghost use Rattle.ctoken.specs.Pieces.{Gives};
 
-use crate::bytes::{Class, is_digit, is_letter};
+use crate::bytes::Class;
 use crate::comment::slash;
-use crate::line::{first_line, hash_line, skip_blanks};
+use crate::line::hash_line;
 use crate::literal::literal;
 use crate::piece::Piece;
 use crate::sign::sign;
 use crate::string::string;
 use crate::token::TokenKind;
+use text::{first_line, is_blank, is_digit, is_letter, skip_blanks};
 
 /// What stands at the front, no line that begins with `#`; or where the first byte is that does not fit.
 fn inside(text: &[u8]) -> Result<Piece, usize>
@@ -25,7 +26,7 @@ fn inside(text: &[u8]) -> Result<Piece, usize>
         Ok(Piece::Token(TokenKind::Word, 0, Class::Word.run(rest) + 1))
     } else if is_digit(*first) {
         literal(text)
-    } else if Class::Blank.has(*first) {
+    } else if is_blank(*first) {
         Ok(Piece::Gap(1))
     } else if *first == b'\n' {
         Ok(Piece::LineEnd)

@@ -1,7 +1,7 @@
 //! Lines, and those that begin with `#` (C11 6.10).
 
-ghost use Rattle.std.specs.Prelude.{◌≡◌, ℕ, not, ◌==◌, ◌&&◌, ◌||◌, ◌<◌, ◌≤◌, true, false, length, drop, MatchOption, IfSome, is_none, option_map};
-ghost use Rattle.semantics.specs.Source.Text.{skip_blanks, first_line, starts_with, behind, is_omp_rest, is_directive_line};
+ghost use Rattle.std.specs.Prelude.{◌≡◌, ℕ, not, ◌==◌, ◌&&◌, ◌||◌, ◌<◌, length, drop, IfSome, is_none, option_map};
+ghost use Rattle.semantics.specs.Source.Text.{skip_blanks, starts_with, behind, is_directive_line};
 ghost use Rattle.std.specs.List.{list_all};
 ghost use Rattle.ctoken.specs.Front.{hash_line};
 ghost use Rattle.ctoken.specs.Meant.{number_of};
@@ -11,54 +11,13 @@ ghost use Rattle.semantics.specs.Source.Cuts.{is_end, header_names, header_numbe
 use crate::bytes::Class;
 use crate::piece::Piece;
 use crate::token::{Header, TokenKind};
-
-/// What stands behind the blanks at the front.
-pub fn skip_blanks(bytes: &[u8]) -> &[u8]
-    ensures { result.now ≡ skip_blanks bytes.now }
-{
-    &bytes[Class::Blank.run(bytes)..]
-}
-
-/// The first line, without its line end.
-pub fn first_line(bytes: &[u8]) -> &[u8]
-    ensures exact { result.now ≡ first_line bytes.now }
-    ensures within { length result.now ≤ length bytes.now }
-{
-    &bytes[..Class::Line.run(bytes)]
-}
-
-/// What stands behind a word at the front.
-pub fn behind<'a>(bytes: &'a [u8], word: &[u8]) -> Option<&'a [u8]>
-    ensures { MatchOption result (starts_with word.now bytes.now ≡ false)
-        (λ rest. (starts_with word.now bytes.now ≡ true) × (rest.now ≡ behind word.now bytes.now)) }
-{
-    bytes.strip_prefix(word)
-}
-
-/// Whether blanks and the word `omp` stand here.
-fn is_omp(bytes: &[u8]) -> bool
-    ensures { result ≡ is_omp_rest bytes.now }
-{
-    if !matches!(bytes, [b' ' | b'\t', ..]) {
-        return false;
-    }
-    match behind(skip_blanks(bytes), b"omp") {
-        None => false,
-        Some(rest) => matches!(rest, [] | [b' ' | b'\t', ..]),
-    }
-}
+use text::{behind, behind_omp, skip_blanks};
 
 /// Whether a line is an OpenMP directive (OpenMP 5.2, 3.1; C11 6.10.6).
 pub fn is_directive_line(line: &[u8]) -> bool
     ensures { result ≡ is_directive_line line.now }
 {
-    match skip_blanks(line) {
-        [b'#', rest @ ..] => match behind(skip_blanks(rest), b"pragma") {
-            None => false,
-            Some(rest) => is_omp(rest),
-        },
-        _ => false,
-    }
+    behind_omp(line).is_some()
 }
 
 /// Whether a word and blanks stand here alone.

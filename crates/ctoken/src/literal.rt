@@ -1,29 +1,16 @@
 //! Literals (C11 6.4.4.1).
 
 ghost use Rattle.std.specs.Prelude.{◌≡◌, ◌==◌, ◌||◌, ◌+◌, ◌<◌, ◌≤◌, ◌^◌, length, None, MatchResult};
-ghost use Rattle.std.specs.Option.{SomeIff};
 ghost use Rattle.semantics.specs.Source.Cuts.{decimal_from, is_word_byte, stops, suffix_text};
 ghost use Rattle.ktree.specs.View.{suffix_of};
 ghost use Rattle.ctoken.specs.Front.{digits_length, literal, number};
 ghost use Rattle.ctoken.specs.Pieces.{Gives, IsFront};
 
 use crate::bytes::Class;
-use crate::line::behind;
 use crate::piece::Piece;
 use crate::token::TokenKind;
 use ktree::Suffix;
-
-/// The value of decimal digits, if it is below 2^64.
-fn value(digits: &[u8]) -> Option<u64>
-    ensures { SomeIff result (decimal_from 0 digits.now < 2 ^ 64) (decimal_from 0 digits.now) }
-{
-    let mut value = 0u64;
-    for digit in digits {
-        let digit = u64::from(digit.saturating_sub(b'0'));
-        value = value.checked_mul(10)?.checked_add(digit)?;
-    }
-    Some(value)
-}
+use text::{behind, is_word_byte, value};
 
 /// How many digits stand at the front: a literal that begins with `0` has no further one.
 fn digits_length(bytes: &[u8]) -> usize
@@ -43,7 +30,7 @@ fn may_end(rest: &[u8]) -> bool
 {
     match rest {
         [] => true,
-        [next, ..] => !(Class::Word.has(*next) || *next == b'.'),
+        [next, ..] => !(is_word_byte(*next) || *next == b'.'),
     }
 }
 

@@ -66,35 +66,37 @@ impl Checked {
     }
 }
 
-/// Tests the parallel loops of a kernel behind the directive lines of a text.
-fn test_kernel(alloc: Global, text: &[u8], kernel: &Kernel) -> Result<(), Refusal>
-    requires { HasPassed text.now (kernel_of kernel.now) }
-    ensures ok { IfOk result (λ _. AreIndependent text.now (kernel_of kernel.now)) }
-    ensures err { IfErr result (RefusesLoops text.now (kernel_of kernel.now)) }
+/// Tests the parallel loops of a kernel behind these directive lines.
+fn test_kernel(alloc: Global, directives: &Directives, kernel: &Kernel) -> Result<(), Refusal>
+    requires { HasPassed directives.now (kernel_of kernel.now) }
+    ensures ok { IfOk result (λ _. AreIndependent directives.now (kernel_of kernel.now)) }
+    ensures err { IfErr result (RefusesLoops directives.now (kernel_of kernel.now)) }
 {
-    let directives = Directives::read(alloc, text)?;
-    let independent = check(alloc, kernel, &directives)?;
+    let independent = check(alloc, kernel, directives)?;
     let _tested = independent.kernel();
     Ok(())
 }
 
-/// Accepts a kernel that has passed all else, with these parallel loops, where they are independent (OpenMP 5.2, 11.5).
+/// Accepts the kernel of a text that has passed all else, with these parallel loops, where they are independent
+/// (OpenMP 5.2, 11.5); the directive lines are the text's.
 ///
 /// # Errors
 ///
 /// As [`check`]'s.
 pub fn accept(
     alloc: Global,
+    directives: &Directives,
     text: Vec<u8>,
     kernel: Kernel,
     loops: Vec<ParallelLoop>,
 ) -> Result<Checked, Refusal>
+    requires lines { directives.now ≡ text.items }
     requires passed { HasPassed text.items (kernel_of kernel) }
     requires listed { AreParallelLoops text.items (kernel_of kernel) loops.items }
     ensures is { IfOk result (λ checked. checked ≡ record { text = text.items; kernel = kernel }) }
     ensures err { IfErr result (RefusesLoops text.items (kernel_of kernel)) }
 {
-    test_kernel(alloc, text.as_slice(), &kernel)?;
+    test_kernel(alloc, directives, &kernel)?;
     Ok(Checked {
         text,
         kernel,

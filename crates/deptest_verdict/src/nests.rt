@@ -39,10 +39,8 @@ pub(crate) fn enter(
     ensures ok { OnOk result (IsInside chain.old head.now.variable.0 (source_of head.now.start)
         (cond_of head.now.test) (increment_of head.now.step) (stmt_of body.now) chain.new) }
 {
-    match enter_loop(alloc, chain, head, body) {
-        Ok(()) => Ok(()),
-        Err(fault) => Err(fault.refusal()),
-    }
+    enter_loop(alloc, chain, head, body)?;
+    Ok(())
 }
 
 /// Refuses a body for a pair of its accesses.

@@ -55,12 +55,9 @@ fn touched_by(
     ensures err { IfErr result (Because (IsStuck chain.old (stmt_of body.now))) }
     ensures back { OnOk result (chain.new ≡ chain.old) }
 {
-    match access_at(alloc, chain, body, number) {
-        Ok(found) => match found {
-            Some(found) => Ok(found),
-            None => unreachable!(),
-        },
-        Err(fault) => Err(fault),
+    match access_at(alloc, chain, body, number)? {
+        Some(found) => Ok(found),
+        None => unreachable!(),
     }
 }
 
@@ -91,10 +88,7 @@ fn find_meeting(
         subscripts: y.subscripts.as_slice(),
         inner: y.inner.as_slice(),
     };
-    match first_meeting(alloc, serial, nest, &x, &y) {
-        Ok(found) => Ok(found),
-        Err(error) => Err(error.into()),
-    }
+    Ok(first_meeting(alloc, serial, nest, &x, &y)?)
 }
 
 /// What is told of the first pair of a body's accesses that is not shown to be independent: two iterations that conflict, or
@@ -119,19 +113,9 @@ pub(crate) fn verdict_on(
 {
     let accesses = name_pair(alloc, variables, pair)?;
     let loops = inner_canonicals(alloc, chain, 0)?;
-    let x = match touched_by(alloc, chain, body, pair.first) {
-        Ok(x) => x,
-        Err(fault) => return Err(fault),
-    };
-    let y = match touched_by(alloc, chain, body, pair.second) {
-        Ok(y) => y,
-        Err(fault) => return Err(fault),
-    };
-    let found = match find_meeting(alloc, loops.as_slice(), outer, &x, &y) {
-        Ok(found) => found,
-        Err(fault) => return Err(fault),
-    };
-    match found {
+    let x = touched_by(alloc, chain, body, pair.first)?;
+    let y = touched_by(alloc, chain, body, pair.second)?;
+    match find_meeting(alloc, loops.as_slice(), outer, &x, &y)? {
         None => Ok(Refusal::NotShown(accesses)),
         Some(meeting) => Ok(Refusal::Conflict(Conflict {
             accesses,

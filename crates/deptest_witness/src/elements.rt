@@ -9,6 +9,7 @@ ghost use Rattle.deptest_witness.specs.Elements.{access_of, region_of, IsKnown, 
 
 use crate::first_turns::{first_turns, hold};
 use affine::Form;
+use ktree::limits::ASSOCIATED_LOOPS;
 use nest_loop::Canonical;
 use nest_space::{Space, Value, value_at};
 use std::alloc::{AllocError, Global};
@@ -75,7 +76,7 @@ fn values_at(alloc: Global, region: &Region<'_>, number: u64) -> Result<Vec<Valu
     ensures value { IfOk result (λ values. IsAtNumber (region_of region.now) number values.items) }
     ensures modest { IfOk result (λ values. AreModest values.items) }
 {
-    let mut places = [0; 4];
+    let mut places = [0; ASSOCIATED_LOOPS];
     let vector = &mut places[..region.loops.len()];
     region.space.vector(number, vector);
     let mut values = Vec::from_slice(alloc, region.outer)?;

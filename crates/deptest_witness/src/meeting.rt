@@ -8,12 +8,10 @@ ghost use Rattle.deptest_witness.specs.Elements.{access_of, region_of, IsKnown, 
 
 use crate::elements::{Region, Touch, elements};
 use crate::first_turns::first_turns;
+use ktree::limits::SEARCHED_ITERATIONS;
 use nest_loop::Canonical;
 use nest_space::Space;
 use std::alloc::{AllocError, Global};
-
-/// Of how many iterations two are looked for.
-const SEARCHED: u64 = 64;
 
 /// Two iterations of a nest, by their numbers from 0 in sequential order, and the indexes of the element that both touch.
 #[derive(Drop)]
@@ -171,7 +169,7 @@ fn meeting_in(
         (TouchesAt (region_of region.now) (access_of y.now)) m.earlier m.later
         m.indexes.items)) }
 {
-    let count = region.space.count().min(SEARCHED);
+    let count = region.space.count().min(SEARCHED_ITERATIONS);
     let firsts = elements(alloc, region, x, count)?;
     let seconds = elements(alloc, region, y, count)?;
     first_met(&firsts, &seconds, count)

@@ -3,6 +3,7 @@
 ghost use Rattle.std.specs.Prelude.{◌≡◌, ◌≤◌, ◌^◌};
 ghost use Rattle.std.specs.Option.{SomeIff};
 
+use crate::limits::{ASSOCIATED_LOOPS, CHUNK_ITERATIONS};
 use crate::place::{Place, VarId};
 use crate::statement::Kernel;
 use std::marker::Model;
@@ -30,7 +31,7 @@ impl ChunkSize {
     pub fn new(iterations: u64) -> Option<ChunkSize>
         ensures { SomeIff result ((1 ≤ iterations) × (iterations ≤ 2 ^ 24)) iterations }
     {
-        if 1 <= iterations && iterations <= 1 << 24 {
+        if 1 <= iterations && iterations <= CHUNK_ITERATIONS {
             Some(ChunkSize { iterations })
         } else {
             None
@@ -44,6 +45,46 @@ impl ChunkSize {
         ensures most { result ≤ 2 ^ 24 }
     {
         self.iterations
+    }
+}
+
+/// How many nested loops a directive associates, 1 to 4 (OpenMP 5.2, 4.4.3 and 4.4.4).
+#[derive(Clone, Copy, Debug, PartialEq, Eq)]
+pub struct AssociatedLoops {
+    loops: u64,
+}
+
+impl Model for AssociatedLoops {
+    ghost use Rattle.std.specs.Prelude.{ℕ, ◌≤◌};
+
+    ghost Value = { ℕ };
+
+    ghost view = { λ s. s.loops };
+
+    ghost invariant = { λ s. (1 ≤ s.loops) × (s.loops ≤ 4) };
+
+    ghost inverse = { λ n. record { loops = n } };
+}
+
+impl AssociatedLoops {
+    /// So many loops, where they are 1 to 4.
+    pub fn new(loops: u64) -> Option<AssociatedLoops>
+        ensures { SomeIff result ((1 ≤ loops) × (loops ≤ 4)) loops }
+    {
+        if 1 <= loops && loops <= ASSOCIATED_LOOPS as u64 {
+            Some(AssociatedLoops { loops })
+        } else {
+            None
+        }
+    }
+
+    /// How many loops.
+    pub fn get(self) -> u64
+        ensures value { result ≡ self }
+        ensures least { 1 ≤ result }
+        ensures most { result ≤ 4 }
+    {
+        self.loops
     }
 }
 
@@ -102,10 +143,10 @@ pub enum Clause<N> {
     /// `reduction(inscan, ..)`.
     Inscan(ReductionOperator, N),
     Schedule(Schedule),
-    Collapse(u32),
+    Collapse(AssociatedLoops),
     Ordered,
     /// `ordered(n)`: a doacross nest of so many loops.
-    OrderedLoops(u32),
+    OrderedLoops(AssociatedLoops),
     Nowait,
 }
 

@@ -3,14 +3,15 @@
 
 mod directive;
 mod expression;
+pub mod limits;
 mod place;
 mod refusal;
 mod statement;
 mod workers;
 
 pub use directive::{
-    Annotated, ChunkSize, Clause, Directive, DirectiveLine, Offset, ReductionOperator, Resolved,
-    Schedule, SinkElement, Written,
+    Annotated, AssociatedLoops, ChunkSize, Clause, Directive, DirectiveLine, Offset,
+    ReductionOperator, Resolved, Schedule, SinkElement, Written,
 };
 pub use expression::{BinaryOp, CompareOp, Cond, Expr, NamePlaces, Suffix, UnaryOp};
 pub use place::{Place, VarId};

@@ -3,6 +3,7 @@
 ghost use Rattle.std.specs.Prelude.{◌≡◌, ◌≤◌};
 ghost use Rattle.std.specs.Option.{SomeIff};
 
+use crate::limits::WORKERS;
 use std::marker::Model;
 
 /// The number of a team's workers, 1 to 64.
@@ -28,7 +29,7 @@ impl Workers {
     pub fn new(count: u64) -> Option<Workers>
         ensures { SomeIff result ((1 ≤ count) × (count ≤ 64)) count }
     {
-        if 1 <= count && count <= 64 {
+        if 1 <= count && count <= WORKERS {
             Some(Workers { count })
         } else {
             None

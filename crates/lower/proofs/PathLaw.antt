@@ -3,14 +3,14 @@ use Rattle.std.specs.Prelude.{ℕ, ◌≡◌}
 use Rattle.std.proofs.Common.{refl, sym, ap, ◌∙◌}
 use Rattle.semantics.specs.Tree
 use Rattle.ktree.specs.declared.place.VarId.{VarId}
-use Rattle.overlay.specs.Loop.{operand_of, operation_of, formula_of, statement_of}
-use Rattle.overlay.specs.declared.lowered.Operand.{Operand}
-use Rattle.overlay.specs.declared.lowered.Operand.TheVariants.{Element, Counter, Literal}
-use Rattle.overlay.specs.declared.lowered.Operation.{Operation}
-use Rattle.overlay.specs.declared.lowered.Operation.TheVariants.{Plus, Minus, Times}
-use Rattle.overlay.specs.declared.lowered.Formula.{Formula}
-use Rattle.overlay.specs.declared.lowered.Formula.TheVariants.{One, Two}
-use Rattle.overlay.specs.declared.lowered.LoweredLoop.{LoweredLoop}
+use Rattle.lower.specs.Loop.{operand_of, operation_of, formula_of, statement_of}
+use Rattle.lower.specs.declared.lowered.Operand.{Operand}
+use Rattle.lower.specs.declared.lowered.Operand.TheVariants.{Element, Counter, Literal}
+use Rattle.lower.specs.declared.lowered.Operation.{Operation}
+use Rattle.lower.specs.declared.lowered.Operation.TheVariants.{Plus, Minus, Times}
+use Rattle.lower.specs.declared.lowered.Formula.{Formula}
+use Rattle.lower.specs.declared.lowered.Formula.TheVariants.{One, Two}
+use Rattle.lower.specs.declared.lowered.LoweredLoop.{LoweredLoop}
 
 variable_of : ℕ → VarId
 variable_of n = record { 0 = n }

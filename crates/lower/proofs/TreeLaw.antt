@@ -10,9 +10,9 @@ use Rattle.ktree.specs.declared.expression.NamePlaces.{NamePlaces}
 use Rattle.ktree.specs.declared.expression.Expr.{Expr, Object, Object', Row_of-Expr, end_of-Expr, more_of-Expr, items-the_row-Expr, items_hidden-the_row-Expr-0}
 use Rattle.ktree.specs.declared.statement.Stmt.{Stmt, Block, Block', Row_of-Item, end_of-Item, more_of-Item, items-the_row-Item, items_hidden-the_row-Item-0}
 use Rattle.ktree.specs.declared.statement.Item.{Item, Directive, Local, Statement'}
-use Rattle.overlay.specs.Loop.{counter_of, at_counter, operand_of}
-use Rattle.overlay.specs.declared.lowered.Operand.{Operand}
-use Rattle.overlay.specs.declared.lowered.Operand.TheVariants.{Element, Counter, Literal}
+use Rattle.lower.specs.Loop.{counter_of, at_counter, operand_of}
+use Rattle.lower.specs.declared.lowered.Operand.{Operand}
+use Rattle.lower.specs.declared.lowered.Operand.TheVariants.{Element, Counter, Literal}
 
 -- the subscripts of an object, as a list
 row_items : (n : _) (row : Row_of-Expr n) → row_of row ≡ exprs_of (items-the_row-Expr n row)

@@ -1,34 +1,10 @@
--- A loop as it stands in the text, and what it is lowered to.
+-- A loop as it stands in the text.
 use Rattle.std.specs.Prelude.{ℕ, ◌≡◌}
 use Rattle.semantics.specs.Tree
 use Rattle.ktree.specs.View.{source_of, cond_of, increment_of}
 use Rattle.ktree.specs.declared.statement.Head.{Head}
-use Rattle.overlay.specs.Loop.{counter_of, at_counter, formula_of}
-use Rattle.overlay.specs.declared.lowered.Operand.{Operand}
-use Rattle.overlay.specs.declared.lowered.Operand.TheVariants as operands
-use Rattle.overlay.specs.declared.lowered.Formula.{Formula}
-use Rattle.overlay.specs.declared.lowered.Formula.TheVariants as formulas
-use Rattle.overlay.specs.declared.lowered.LoweredLoop.{LoweredLoop}
-use Rattle.lower.specs.declared.part.Part.{Part}
-use Rattle.lower.specs.declared.part.Part.TheVariants.{Element, Counter, Literal}
-use Rattle.lower.specs.declared.part.Right.{Right}
-use Rattle.lower.specs.declared.part.Right.TheVariants.{One, Two}
-use Rattle.lower.specs.declared.form.Form.{Form}
-
--- an operand without its place
-abbrev pub operand_in : Part → Operand
-operand_in (Element x) = operands.Element x
-operand_in Counter = operands.Counter
-operand_in (Literal n) = operands.Literal n
-
--- a right side without places
-abbrev pub formula_in : Right → Formula
-formula_in (One a) = formulas.One (operand_in a)
-formula_in (Two op a b) = formulas.Two op (operand_in a) (operand_in b)
-
--- the loop with chunks of a size
-abbrev pub loop_of : Form → ℕ → LoweredLoop
-loop_of f k = record { counter = f.counter; bound = f.bound; target = f.target; formula = formula_in f.right; size = k }
+use Rattle.lower.specs.Loop.{counter_of, at_counter, formula_of}
+use Rattle.lower.specs.declared.lowered.Formula.{Formula}
 
 -- the test `v < n`
 abbrev pub below : Tree.Variable → ℕ → Tree.Cond

@@ -2,10 +2,11 @@
 
 ghost use Rattle.std.specs.Prelude.{◌≤◌, ◌^◌, IsTrue, ◌↔◌, slice_get};
 ghost use Rattle.store.specs.Kept.{Covers};
-ghost use Rattle.overlay.specs.Loop.{OperandCovers, FormulaCovers, Fits};
+ghost use Rattle.lower.specs.Loop.{OperandCovers, FormulaCovers, Fits};
 
+use crate::lowered::{Formula, LoweredLoop, Operand};
 use ktree::VarId;
-use overlay::{Formula, LoweredLoop, Operand};
+use ktree::limits::ITERATIONS;
 use store::{Array, Store};
 
 /// Whether an array is there, has one dimension, and reaches so far.
@@ -54,7 +55,7 @@ pub fn fits(lowered: &LoweredLoop, store: &Store) -> bool
 {
     let arrays = store.arrays();
     let bound = lowered.bound;
-    bound <= 1 << 24
+    bound <= ITERATIONS
         && arrays.len() <= lowered.counter.0 as usize
         && covers(arrays, bound, lowered.target)
         && formula_covers(arrays, bound, lowered.formula)

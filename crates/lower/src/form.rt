@@ -3,44 +3,20 @@
 ghost use Rattle.std.specs.Prelude.{◌≡◌, ℕ, IsTrue, ◌↔◌, MatchOption};
 ghost use Rattle.semantics.specs.Tree;
 ghost use Rattle.ktree.specs.View.{expr_of, cond_of, source_of, increment_of, stmt_of, with_item, items_of};
-ghost use Rattle.overlay.specs.Loop.{statement_of};
-ghost use Rattle.overlay.specs.declared.lowered.LoweredLoop as lowered;
-ghost use Rattle.overlay.specs.declared.lowered.Formula as formulas;
-ghost use Rattle.lower.specs.Form.{formula_in, loop_of, below, block_of, assigned, HasHead};
+ghost use Rattle.lower.specs.Loop.{statement_of};
+ghost use Rattle.lower.specs.declared.lowered.LoweredLoop as lowered;
+ghost use Rattle.lower.specs.declared.lowered.Formula as formulas;
+ghost use Rattle.lower.specs.Form.{below, block_of, assigned, HasHead};
 
-use crate::part::{Right, is_at_counter, is_counter, right_in};
+use crate::lowered::{Formula, LoweredLoop};
+use crate::right_side::{is_at_counter, is_counter, read_source};
 use ktree::{ChunkSize, CompareOp, Cond, Expr, Head, Increment, Item, Source, Stmt, Suffix, VarId};
-use overlay::LoweredLoop;
-
-/// A loop as it stands in the text.
-#[derive(Clone, Copy)]
-pub struct Form {
-    pub counter: VarId,
-    pub bound: u64,
-    pub target: VarId,
-    pub right: Right,
-}
 
 /// What a loop's body assigns.
 #[derive(Clone, Copy)]
 struct Assignment {
     target: VarId,
-    right: Right,
-}
-
-impl Form {
-    /// The loop with chunks of this size.
-    pub fn with_size(self, size: ChunkSize) -> LoweredLoop
-        ensures { result ≡ loop_of self size }
-    {
-        LoweredLoop {
-            counter: self.counter,
-            bound: self.bound,
-            target: self.target,
-            formula: self.right.formula(),
-            size,
-        }
-    }
+    formula: Formula,
 }
 
 /// The value of a literal without `ull`.
@@ -143,42 +119,21 @@ fn inside(body: &Stmt) -> Option<&Stmt>
 fn element_assigned(statement: &Stmt, counter: VarId) -> Option<Assignment>
     ensures { MatchOption result
         ((x : ℕ) (f : formulas.Formula) → stmt_of statement.now ≡ assigned counter.0 x f → ⊥)
-        (λ a. stmt_of statement.now ≡ assigned counter.0 a.target.0 (formula_in a.right)) }
+        (λ a. stmt_of statement.now ≡ assigned counter.0 a.target.0 a.formula) }
 {
     match statement {
         Stmt::Assign(target, source) => {
             if !is_at_counter(target.subscripts.as_slice(), counter) {
                 return None;
             }
-            let right = right_in(source, counter)?;
+            let formula = read_source(source, counter)?;
             Some(Assignment {
                 target: target.variable,
-                right,
+                formula,
             })
         }
         _ => None,
     }
-}
-
-/// The form of a statement, if it is that of the one loop.
-pub fn read_form(statement: &Stmt) -> Option<Form>
-    ensures { MatchOption result
-        ((name : Tree.Name) (l : lowered.LoweredLoop) → stmt_of statement.now ≡ statement_of name l
-        → ⊥) (λ form. (name : Tree.Name)
-        × ((size : ℕ) → stmt_of statement.now ≡ statement_of name (loop_of form size))) }
-{
-    let Stmt::For(head, body) = statement else {
-        return None;
-    };
-    let bound = head_bound(head)?;
-    let inner = inside(body)?;
-    let assignment = element_assigned(inner, head.variable)?;
-    Some(Form {
-        counter: head.variable,
-        bound,
-        target: assignment.target,
-        right: assignment.right,
-    })
 }
 
 /// The loop that a statement is, with chunks of this size, if it is of the form
@@ -189,6 +144,17 @@ pub fn lowered_loop(statement: &Stmt, size: ChunkSize) -> Option<LoweredLoop>
         → ⊥) (λ l. (name : Tree.Name) × (stmt_of statement.now ≡ statement_of name l)
         × (l.size ≡ size)) }
 {
-    let form = read_form(statement)?;
-    Some(form.with_size(size))
+    let Stmt::For(head, body) = statement else {
+        return None;
+    };
+    let bound = head_bound(head)?;
+    let inner = inside(body)?;
+    let assignment = element_assigned(inner, head.variable)?;
+    Some(LoweredLoop {
+        counter: head.variable,
+        bound,
+        target: assignment.target,
+        formula: assignment.formula,
+        size,
+    })
 }

@@ -1,14 +1,13 @@
 -- Nests, loop by loop.
-use Rattle.std.specs.Prelude.{ℕ, suc, ◌-◌, ◌*◌, ◌^◌, ◌≤◌, ◌<◌, ◌≡◌, ◌⊎◌, ◌==◌, Bool, true, false, ℤ, List, [], ◌∷◌, length, Option, Some, None, option_and_then}
+use Rattle.std.specs.Prelude.{ℕ, suc, ◌-◌, ◌*◌, ◌^◌, ◌≤◌, ◌≡◌, ◌⊎◌, ◌==◌, Bool, true, false, ℤ, List, [], ◌∷◌, length, Option, Some, None, option_and_then}
 use Rattle.std.specs.Option.{SomeIff}
 use Rattle.std.specs.List.{list_any, insert}
 use Rattle.std.proofs.Common.{refl, sym, ap, ◌∙◌, subst, inl, inr, arith}
 use Rattle.std.proofs.lemmas.Int.{ints}
-use Rattle.semantics.specs.Tree
 use Rattle.semantics.specs.Tree.{Stmt, Variable}
 use Rattle.semantics.specs.Meaning.Value.{map_option}
 use Rattle.semantics.specs.Loops.Nest.{Loop, as_loop, only_loop, nest_of}
-use Rattle.ktree.specs.View.{stmt_of, items_of, with_item}
+use Rattle.ktree.specs.View.{items_of}
 use Rattle.ktree.specs.declared.statement.Item.{Item, Directive, Local, Statement'}
 use Rattle.affine.specs.declared.interval.Interval.{Interval}
 use Rattle.affine.specs.declared.interval.Side.{Side}

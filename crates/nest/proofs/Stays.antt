@@ -1,11 +1,10 @@
 -- Subscripts that stay inside their dimensions.
-use Rattle.std.specs.Prelude.{ℕ, Bool, true, false, ◌≡◌, ◌↔◌, IsTrue, IsNone, IfSome, MatchOption, ℤ, pos, ◌≤ℤ◌, ◌<ℤ◌, List, [], ◌∷◌, Option, Some, None}
+use Rattle.std.specs.Prelude.{ℕ, Bool, true, false, ◌≡◌, ◌↔◌, IsTrue, IsNone, IfSome, MatchOption, ℤ, pos, ◌≤ℤ◌, ◌<ℤ◌, List, Option, Some, None}
 use Rattle.std.proofs.Common.{sym, subst, arith}
 use Rattle.std.proofs.lemmas.Int.{ints}
-use Rattle.semantics.specs.Tree.{Variable}
 use Rattle.affine.specs.declared.interval.Side.{Side}
-use Rattle.affine.specs.Affine.{Affine, value}
-use Rattle.affine.specs.Box.{IsInside, IsEmpty, IsRange}
+use Rattle.affine.specs.Affine.{Affine}
+use Rattle.affine.specs.Box.{IsEmpty, IsRange}
 use Rattle.nest.specs.Nests.{StaysBelow}
 
 -- the least and the greatest value are of the dimension

@@ -1,15 +1,12 @@
 -- A walk over statements, item by item and loop by loop.
-use Rattle.std.specs.Prelude.{ℕ, suc, ◌+◌, ◌≡◌, ◌<◌, ◌⊎◌, ◌↔◌, List, [], ◌∷◌, length, get_or, drop, string_bytes}
-use Rattle.std.proofs.Common.{Vec, Global, add-one, drop-cons, inl, inr, sym, ap, ◌∙◌, subst}
+use Rattle.std.specs.Prelude.{ℕ, suc, ◌+◌, ◌≡◌, ◌<◌, ◌⊎◌, ◌↔◌, List, ◌∷◌, length, get_or, drop, string_bytes}
+use Rattle.std.proofs.Common.{add-one, drop-cons, inl, inr, sym, ap, ◌∙◌, subst}
 use Rattle.semantics.specs.Tree
-use Rattle.ktree.specs.View.{stmt_of, items_of, with_item, source_of, cond_of, increment_of}
+use Rattle.ktree.specs.View.{items_of, with_item, source_of, cond_of, increment_of}
 use Rattle.ktree.specs.declared.statement.Head.{Head}
-use Rattle.ktree.specs.declared.statement.Stmt.{Stmt}
 use Rattle.ktree.specs.declared.statement.Item.{Item, Directive, Local, Statement'}
-use Rattle.affine.specs.declared.interval.Interval.{Interval}
 use Rattle.affine.specs.declared.interval.Side.{Side}
-use Rattle.nest_loop.specs.declared.head.Canonical.{Canonical}
-use Rattle.nest_loop.specs.Loops.{IsLoop, inside}
+use Rattle.nest_loop.specs.Loops.{inside}
 use Rattle.nest_loop.proofs.Laws.{loop_is_unique}
 use Rattle.affine_expr.specs.declared.faults.Fault.{Fault}
 use Rattle.affine_expr.specs.declared.faults.Fault.TheVariants.{OutOfMemory}

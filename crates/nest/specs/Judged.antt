@@ -1,5 +1,5 @@
 -- What the answer of a walk says of a kernel's parts.
-use Rattle.std.specs.Prelude.{ℕ, ◌≡◌, ◌⊎◌, List, map, MatchResult}
+use Rattle.std.specs.Prelude.{◌≡◌, ◌⊎◌, List, map, MatchResult}
 use Rattle.std.specs.declared.result.Result.{Result}
 use Rattle.semantics.specs.Tree.{Stmt}
 use Rattle.ktree.specs.View.{source_of, cond_of, increment_of, declaration_of}

@@ -97,14 +97,8 @@ fn statement(
             }
         }
         Stmt::For(head, body) => {
-            match enter_loop(alloc, head, body, bounds) {
-                Ok(()) => {}
-                Err(fault) => return Err(fault),
-            }
-            match statement(alloc, directives, bounds, body) {
-                Ok(()) => {}
-                Err(fault) => return Err(fault),
-            }
+            enter_loop(alloc, head, body, bounds)?;
+            statement(alloc, directives, bounds, body)?;
             bounds.unbind();
             Ok(())
         }
@@ -125,14 +119,8 @@ pub fn block(
     ensures back { OnOk result (bounds.new ≡ bounds.old) }
 {
     for (i, item) in items.iter().enumerate() {
-        match item_line_nests(alloc, directives, bounds, item, &items[i + 1..]) {
-            Ok(()) => {}
-            Err(fault) => return Err(fault),
-        }
-        match one_item(alloc, directives, bounds, item) {
-            Ok(()) => {}
-            Err(fault) => return Err(fault),
-        }
+        item_line_nests(alloc, directives, bounds, item, &items[i + 1..])?;
+        one_item(alloc, directives, bounds, item)?;
     }
     Ok(())
 }

@@ -3,11 +3,11 @@
 ghost use Rattle.std.specs.Prelude.{◌≡◌, ◌↔◌, ℕ, suc, None, Some, IsTrue, MatchOption};
 ghost use Rattle.semantics.specs.Tree.{Items, no_items};
 ghost use Rattle.semantics.specs.Loops.Nest.{as_loop, only_loop};
-ghost use Rattle.ktree.specs.View.{stmt_of, items_of, with_item};
-ghost use Rattle.nest.specs.Heads.{head_of};
+ghost use Rattle.ktree.specs.View.{stmt_of, items_of, with_item, cond_of};
+ghost use Rattle.nest.specs.Heads.{head_of, limit_mentions, depends, depends_on_nest};
 ghost use Rattle.nest.specs.Perfect.{NestHas};
 
-use ktree::{Cond, Head, Item, Stmt};
+use ktree::{Cond, Head, Item, Stmt, VarId};
 use nest_loop::{mentions, source_mentions};
 
 /// A loop's head, and what the loop runs.
@@ -75,22 +75,32 @@ pub fn is_perfect(depth: u64, statement: &Stmt) -> bool
     }
 }
 
-/// Whether the start or the bound of a loop mentions the variable of another.
-fn depends(head: &Head, other: &Head) -> bool {
-    let in_bound = match &head.test {
-        Cond::Compare(_, _, limit, _) => mentions(other.variable, limit),
+/// Whether the bound of a loop's comparison mentions a variable.
+fn limit_mentions(variable: VarId, test: &Cond) -> bool
+    ensures { result ≡ limit_mentions variable.0 (cond_of test.now) }
+{
+    match test {
+        Cond::Compare(_, _, limit, _) => mentions(variable, limit),
         _ => false,
-    };
-    in_bound || source_mentions(other.variable, &head.start)
+    }
+}
+
+/// Whether the start or the bound of a loop mentions the variable of another.
+fn depends(head: &Head, other: &Head) -> bool
+    ensures { result ≡ depends (head_of other.now).variable (head_of head.now) }
+{
+    limit_mentions(other.variable, &head.test) || source_mentions(other.variable, &head.start)
 }
 
 /// Whether it mentions the variable of one of so many loops, one directly in the other.
-pub fn depends_on_nest(head: &Head, depth: u64, statement: &Stmt) -> bool {
+pub fn depends_on_nest(head: &Head, depth: u64, statement: &Stmt) -> bool
+    ensures { result ≡ depends_on_nest (head_of head.now) depth (stmt_of statement.now) }
+{
     if depth == 0 {
         return false;
     }
     match as_loop(statement) {
         None => false,
-        Some(level) => { depends(head, level.head) || depends_on_nest(head, depth - 1, level.body) }
+        Some(level) => depends(head, level.head) || depends_on_nest(head, depth - 1, level.body),
     }
 }

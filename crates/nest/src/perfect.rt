@@ -21,6 +21,7 @@ use crate::earlier::both;
 use crate::heads::{as_loop, depends_on_nest, is_perfect};
 use affine::{Interval, VarBox};
 use affine_expr::Fault;
+use ktree::limits::ITERATIONS;
 use ktree::{Head, Place, Stmt};
 use nest_loop::{Canonical, canonical_of, greatest_trip_count, side, wraps};
 use nest_space::{Space, Value};
@@ -88,10 +89,7 @@ fn forms(
             return Err(form_fault(level.head, mentions, fault));
         }
     };
-    let mut forms = match forms(alloc, depth - 1, level.body, bounds, whole, first, place) {
-        Ok(forms) => forms,
-        Err(fault) => return Err(fault),
-    };
+    let mut forms = forms(alloc, depth - 1, level.body, bounds, whole, first, place)?;
     forms.insert(0, canonical)?;
     Ok(forms)
 }
@@ -113,10 +111,7 @@ fn turns_of(alloc: Global, head: &Head, bounds: &VarBox) -> Result<Turning, Faul
         ⊎ ((i : intervals.Interval) (n : ℕ) → TurnsMost bounds.now (head_of head.now) i n
         → ⊥)) }
 {
-    let canonical = match canonical_of(alloc, head, bounds) {
-        Ok(canonical) => canonical,
-        Err(fault) => return Err(fault),
-    };
+    let canonical = canonical_of(alloc, head, bounds)?;
     if wraps(&canonical, bounds, head.place)? {
         return Err(Fault::MayWrap(head.place));
     }
@@ -138,7 +133,7 @@ fn within(count: u64, rest: Option<u64>) -> Option<u64>
         Some(rest) => count.checked_mul(rest),
     };
     match all {
-        Some(all) if all <= 1 << 24 => Some(all),
+        Some(all) if all <= ITERATIONS => Some(all),
         _ => None,
     }
 }
@@ -180,18 +175,9 @@ fn product(
     let Some(level) = as_loop(statement) else {
         return Err(Fault::NotPerfect(place));
     };
-    let turning = match turns_of(alloc, level.head, bounds) {
-        Ok(turning) => turning,
-        Err(fault) => return Err(fault),
-    };
-    match go_into(level.head, turning.numbers, bounds) {
-        Ok(()) => {}
-        Err(fault) => return Err(fault),
-    }
-    let inner = match product(alloc, depth - 1, level.body, bounds, place) {
-        Ok(inner) => inner,
-        Err(fault) => return Err(fault),
-    };
+    let turning = turns_of(alloc, level.head, bounds)?;
+    go_into(level.head, turning.numbers, bounds)?;
+    let inner = product(alloc, depth - 1, level.body, bounds, place)?;
     bounds.unbind();
     Ok(within(turning.most, inner))
 }
@@ -209,10 +195,9 @@ fn is_small(
         (stmt_of statement.now)) }
     ensures back { OnOk result (bounds.new ≡ bounds.old) }
 {
-    match product(alloc, depth, statement, bounds, place) {
-        Ok(Some(_product)) => Ok(()),
-        Ok(None) => Err(Fault::Limit(place)),
-        Err(fault) => Err(fault),
+    match product(alloc, depth, statement, bounds, place)? {
+        Some(_) => Ok(()),
+        None => Err(Fault::Limit(place)),
     }
 }
 
@@ -228,10 +213,8 @@ fn is_rectangular(
         (NestHas (λ loops. (ls : List canonicals.Canonical) × AreRectangular bounds.now loops ls)
         depth (stmt_of statement.now)) }
 {
-    match forms(alloc, depth, statement, bounds, depth, statement, place) {
-        Ok(_forms) => Ok(()),
-        Err(fault) => Err(fault),
-    }
+    forms(alloc, depth, statement, bounds, depth, statement, place)?;
+    Ok(())
 }
 
 /// Where a loop's `for` stands, or else its directive line.
@@ -292,10 +275,7 @@ impl Nest {
             × AreRectangular bounds.now loops ls) depth (stmt_of statement.now) → ⊥)) }
     {
         let place = first_place(statement, directive);
-        let loops = match forms(alloc, depth, statement, bounds, depth, statement, place) {
-            Ok(loops) => loops,
-            Err(fault) => return Err(fault),
-        };
+        let loops = forms(alloc, depth, statement, bounds, depth, statement, place)?;
         Ok(Nest { loops })
     }
 

@@ -23,10 +23,8 @@ pub fn enter_loop(alloc: Global, head: &Head, body: &Stmt, bounds: &mut VarBox) 
         (λ fault. (fault ≡ OutOfMemory)
         ⊎ ((box : List Side) → Entered bounds.old box head.now (stmt_of body.now) → ⊥)) }
 {
-    match enter(alloc, head, body, bounds) {
-        Ok(_canonical) => Ok(()),
-        Err(fault) => Err(fault),
-    }
+    enter(alloc, head, body, bounds)?;
+    Ok(())
 }
 
 /// Whether the loops of a statement are canonical, and what is asked holds of each object that it names. The loops round it
@@ -59,14 +57,8 @@ pub fn statement(
             }
         }
         Stmt::For(head, body) => {
-            match enter_loop(alloc, head, body, bounds) {
-                Ok(()) => {}
-                Err(fault) => return Err(fault),
-            }
-            match statement(alloc, question, bounds, body) {
-                Ok(()) => {}
-                Err(fault) => return Err(fault),
-            }
+            enter_loop(alloc, head, body, bounds)?;
+            statement(alloc, question, bounds, body)?;
             bounds.unbind();
             Ok(())
         }
@@ -87,10 +79,7 @@ pub fn block(
     ensures back { OnOk result (bounds.new ≡ bounds.old) }
 {
     for item in items {
-        match one_item(alloc, question, bounds, item) {
-            Ok(()) => {}
-            Err(fault) => return Err(fault),
-        }
+        one_item(alloc, question, bounds, item)?;
     }
     Ok(())
 }

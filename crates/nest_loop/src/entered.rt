@@ -14,11 +14,9 @@ use crate::walked::side;
 use crate::wrapping::wraps;
 use affine::{Interval, VarBox};
 use affine_expr::Fault;
+use ktree::limits::NESTED_LOOPS;
 use ktree::{Head, Stmt};
 use std::alloc::Global;
-
-/// How many loops stand one in another at most.
-const DEEPEST: usize = 8;
 
 /// A loop with the numbers that its variable may have.
 #[derive(Drop)]
@@ -37,7 +35,7 @@ fn first_fault(head: &Head, body: &Stmt, bounds: &VarBox, fault: Fault) -> Fault
         _ => {
             if assigns(head.variable, body) {
                 Fault::NotCanonical(head.place)
-            } else if bounds.len() >= DEEPEST {
+            } else if bounds.len() >= NESTED_LOOPS {
                 Fault::Limit(head.place)
             } else {
                 fault
@@ -73,7 +71,7 @@ pub fn loop_of(alloc: Global, head: &Head, body: &Stmt, bounds: &VarBox) -> Resu
     if wraps(&canonical, bounds, head.place)? {
         return Err(Fault::MayWrap(head.place));
     }
-    if bounds.len() >= DEEPEST {
+    if bounds.len() >= NESTED_LOOPS {
         return Err(Fault::Limit(head.place));
     }
     let numbers = side(&canonical, bounds);

@@ -8,9 +8,7 @@ ghost use Rattle.nest_loop.specs.Sides.{IsModest};
 ghost use Rattle.nest_loop.specs.Whole.{IsAtLeast, IsAtMost, AreModest};
 
 use affine::{Form, VarBox};
-
-/// The greatest number that a bound may be.
-const GREATEST: i128 = 1 << 32;
+use ktree::limits::BOUND;
 
 /// Whether the form is at least this number, wherever in the box.
 pub(crate) fn is_at_least(form: &Form, least: i128, bounds: &VarBox) -> bool
@@ -36,5 +34,5 @@ fn is_at_most(form: &Form, greatest: i128, bounds: &VarBox) -> bool
 pub(crate) fn is_modest(form: &Form, bounds: &VarBox) -> bool
     ensures { IsTrue result ↔ AreModest form.now bounds.now }
 {
-    is_at_least(form, 0, bounds) && is_at_most(form, GREATEST, bounds)
+    is_at_least(form, 0, bounds) && is_at_most(form, BOUND, bounds)
 }

@@ -9,6 +9,7 @@ ghost use Rattle.nest_space.specs.Nests.{given, AreModest, IsRunOf};
 use crate::turns::LoopTurns;
 use affine::{Form, Term};
 use ktree::VarId;
+use ktree::limits::BOUND;
 use nest_loop::{Bound, Canonical, Direction, Stride};
 
 /// What a variable holds.
@@ -20,9 +21,6 @@ pub struct Value {
 
 /// What the values are at most.
 const GREATEST: u64 = 1 << 33;
-
-/// What the bounds of a loop are at most.
-const GREATEST_BOUND: i128 = 1 << 32;
 
 /// Whether no value is too large.
 pub(crate) fn are_modest(values: &[Value]) -> bool
@@ -96,7 +94,7 @@ fn bound_at(form: &Form, values: &[Value]) -> Option<u64>
         × (value form.now (given values.now) ≡ pos n)) }
 {
     let number = value_at(form, values);
-    if number < 0 || number > GREATEST_BOUND {
+    if number < 0 || number > BOUND {
         return None;
     }
     Some(number as u64)

@@ -6,6 +6,7 @@ ghost use Rattle.nest_space.specs.Space.{Turns, product, vectors, IsSpace};
 ghost use Rattle.nest_space.specs.Numbers.{EachTurns};
 
 use crate::turns::LoopTurns;
+use ktree::limits::{ASSOCIATED_LOOPS, ITERATIONS};
 use smallvec::SmallVec;
 use std::alloc::Global;
 use std::marker::Model;
@@ -51,7 +52,7 @@ fn within(count: u64, rest: Option<u64>) -> Option<u64>
         Some(rest) => count.checked_mul(rest),
     };
     match all {
-        Some(all) if all <= 1 << 24 => Some(all),
+        Some(all) if all <= ITERATIONS => Some(all),
         _ => None,
     }
 }
@@ -106,7 +107,7 @@ impl Space {
     pub fn new(alloc: Global, loops: &[LoopTurns]) -> Option<Space>
         ensures { SomeIff result (IsSpace loops.now) loops.now }
     {
-        if loops.len() > 4 || product(loops).is_none() {
+        if loops.len() > ASSOCIATED_LOOPS || product(loops).is_none() {
             return None;
         }
         match SmallVec::from_slice(alloc, loops) {

@@ -8,6 +8,7 @@ ghost use Rattle.nest_space.specs.Heads.{HasIterations};
 use crate::bounds::{Value, are_modest, run_of};
 use crate::iterations::Space;
 use crate::turns::LoopTurns;
+use ktree::limits::ASSOCIATED_LOOPS;
 use nest_loop::Canonical;
 use std::alloc::Global;
 
@@ -43,13 +44,13 @@ impl Space {
         ensures loops { IfSome result (λ ts. length ts ≡ length loops.now) }
         ensures iterations { IfSome result (λ ts. HasIterations loops.now (given values.now) ts) }
     {
-        if loops.len() > 4 {
+        if loops.len() > ASSOCIATED_LOOPS {
             return None;
         }
         if !are_modest(values) {
             return None;
         }
-        let mut places = [LoopTurns::default(); 4];
+        let mut places = [LoopTurns::default(); ASSOCIATED_LOOPS];
         let turns = &mut places[..loops.len()];
         if !fill(loops, values, turns) {
             return None;

@@ -40,10 +40,8 @@ fn judge_nests(alloc: Global, kernel: &Kernel, directives: &Directives) -> Resul
     ensures ok { IfOk result (λ _. AreRightNests directives.now (kernel_of kernel.now)) }
     ensures refusal { IfErr result (RefusesNests directives.now (kernel_of kernel.now)) }
 {
-    match nests(alloc, kernel, directives) {
-        Ok(()) => Ok(()),
-        Err(fault) => Err(fault.refusal()),
-    }
+    nests(alloc, kernel, directives)?;
+    Ok(())
 }
 
 // Refuses a kernel with a subscript that leaves its array.
@@ -51,10 +49,8 @@ fn judge_ranges(alloc: Global, kernel: &Kernel) -> Result<(), Refusal>
     ensures ok { IfOk result (λ _. IsInRange (kernel_of kernel.now)) }
     ensures refusal { IfErr result (RefusesRanges (kernel_of kernel.now)) }
 {
-    match in_range(alloc, kernel) {
-        Ok(()) => Ok(()),
-        Err(fault) => Err(fault.refusal()),
-    }
+    in_range(alloc, kernel)?;
+    Ok(())
 }
 
 // Whether one place of the text is before another.
@@ -101,19 +97,39 @@ fn judge_data(
 
 // Refuses a tree that does not pass what stands before the dependence test, in the order of the passes: directive lines, loops and
 // nests, data, and ranges.
-fn judge(alloc: Global, kernel: &Kernel, text: &[u8]) -> Result<Vec<ParallelLoop>, Refusal>
-    requires { ReadsText text.now (kernel_of kernel.now) }
-    ensures passed { IfOk result (λ _. HasPassed text.now (kernel_of kernel.now)) }
-    ensures listed { IfOk result (λ loops. AreParallelLoops text.now (kernel_of kernel.now)
+fn judge(
+    alloc: Global,
+    kernel: &Kernel,
+    directives: &Directives,
+) -> Result<Vec<ParallelLoop>, Refusal>
+    requires { ReadsText directives.now (kernel_of kernel.now) }
+    ensures passed { IfOk result (λ _. HasPassed directives.now (kernel_of kernel.now)) }
+    ensures listed { IfOk result (λ loops. AreParallelLoops directives.now (kernel_of kernel.now)
         loops.items) }
-    ensures refusal { IfErr result (RefusesPasses text.now (kernel_of kernel.now)) }
+    ensures refusal { IfErr result (RefusesPasses directives.now (kernel_of kernel.now)) }
 {
-    let directives = Directives::read(alloc, text)?;
-    judge_lines(kernel, &directives)?;
-    judge_nests(alloc, kernel, &directives)?;
-    let loops = judge_data(alloc, kernel, &directives)?;
+    judge_lines(kernel, directives)?;
+    judge_nests(alloc, kernel, directives)?;
+    let loops = judge_data(alloc, kernel, directives)?;
     judge_ranges(alloc, kernel)?;
     Ok(loops)
+}
+
+// Accepts the kernel of a text with these directive lines, or refuses it.
+fn accept_directed(
+    alloc: Global,
+    kernel: Kernel,
+    text: &[u8],
+    directives: &Directives,
+) -> Result<Checked, Refusal>
+    requires reads { ReadsText text.now (kernel_of kernel) }
+    requires lines { directives.now ≡ text.now }
+    ensures is { IfOk result (λ checked. checked ≡ record { text = text.now; kernel = kernel }) }
+    ensures refusal { IfErr result (RefusesKernel text.now (kernel_of kernel)) }
+{
+    let loops = judge(alloc, &kernel, directives)?;
+    let text = Vec::from_slice(alloc, text)?;
+    accept(alloc, directives, text, kernel, loops)
 }
 
 // Accepts the kernel of a text, or refuses it.
@@ -122,9 +138,8 @@ fn accept_kernel(alloc: Global, kernel: Kernel, text: &[u8]) -> Result<Checked, 
     ensures is { IfOk result (λ checked. checked ≡ record { text = text.now; kernel = kernel }) }
     ensures refusal { IfErr result (RefusesKernel text.now (kernel_of kernel)) }
 {
-    let loops = judge(alloc, &kernel, text)?;
-    let text = Vec::from_slice(alloc, text)?;
-    accept(alloc, text, kernel, loops)
+    let directives = Directives::read(alloc, text)?;
+    accept_directed(alloc, kernel, text, &directives)
 }
 
 /// Reads a text, and finds out whether it is one of those that are run: its tree is there, its directive lines are read, each

@@ -1,7 +1,8 @@
 //! What the command line asks for.
 
-ghost use Rattle.std.specs.Prelude.{◌≡◌, true, IfSome};
+ghost use Rattle.std.specs.Prelude.{◌≡◌, true, IfSome, IfErr};
 ghost use Rattle.semantics.specs.Source.Cuts.{is_decimal, decimal_from};
+ghost use Rattle.ompk_command.specs.Usages.{IsTold};
 
 use crate::usage::Usage;
 use clap::error::ErrorKind;
@@ -162,7 +163,9 @@ fn task_of<'a>(matches: &ArgMatches<'a>) -> Result<Task<'a>, Flaw> {
 /// # Errors
 ///
 /// `Told` where they are no task, or ask for help; `OutOfMemory` where memory is refused.
-pub fn read_task<'a>(alloc: Global, words: &'a [String]) -> Result<Task<'a>, Usage> {
+pub fn read_task<'a>(alloc: Global, words: &'a [String]) -> Result<Task<'a>, Usage>
+    ensures told { IfErr result IsTold }
+{
     let mut command = command(alloc)?;
     let matches = command.try_get_matches_from_mut(words)?;
     match task_of(&matches) {

@@ -1,5 +1,9 @@
 //! Why the words of a command line are no task.
 
+ghost use Rattle.std.specs.Prelude.{◌≡◌};
+ghost use Rattle.ompk_command.specs.declared.usage.Usage.TheVariants.{OutOfMemory};
+ghost use Rattle.ompk_command.specs.Usages.{IsTold};
+
 use clap::Error;
 use clap::error::ErrorKind;
 use std::alloc::{AllocError, AllocFailed};
@@ -14,18 +18,24 @@ pub enum Usage {
 }
 
 impl From<AllocError> for Usage {
+    ghost from_gives = { λ _ usage. usage ≡ OutOfMemory };
+
     fn from(_error: AllocError) -> Self {
         Usage::OutOfMemory
     }
 }
 
 impl<T: Drop> From<AllocFailed<T>> for Usage {
+    ghost from_gives = { λ _ usage. usage ≡ OutOfMemory };
+
     fn from(_error: AllocFailed<T>) -> Self {
         Usage::OutOfMemory
     }
 }
 
 impl From<Error> for Usage {
+    ghost from_gives = { λ _ usage. IsTold usage };
+
     fn from(error: Error) -> Self {
         match error.kind() {
             ErrorKind::OutOfMemory => Usage::OutOfMemory,

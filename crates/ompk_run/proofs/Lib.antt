@@ -3,4 +3,4 @@ pub mod Unique
 pub mod Starting
 pub mod Output
 pub mod Written
-pub mod Lookups
+pub mod Going

@@ -1,7 +1,6 @@
 //! Runs of accepted kernels, on a team of workers or by one thread.
 #![tactic(auto)]
 
-mod handing;
 mod running;
 mod teaming;
 

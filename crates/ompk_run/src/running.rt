@@ -9,6 +9,7 @@ ghost use Rattle.ompk_run.specs.Outcome.{NamesTheFault, NamesTheOutput, RunsOfAc
 use crate::teaming::{Teaming, team_block};
 use deptest::Checked;
 use ktree::{Refusal, Workers};
+use outline::outline;
 use seqrun::block;
 use seqrun_io::{Sink, dump, input as read_input};
 use seqrun_value::Frame;
@@ -47,15 +48,15 @@ pub fn run<R: Threads + Wait + Sync, G: Gate, S: Sink>(
 {
     let declarations = checked.declarations();
     let mut store = read_input(alloc, declarations, input)?;
+    let outline = outline(alloc, checked.body(), checked.loops(), &store)?;
     let team = Teaming {
         rt,
         alloc,
-        loops: checked.loops(),
         workers,
         gate,
     };
     let mut frame = Frame::new(Vec::new(alloc));
-    team_block(checked.body(), &team, &mut frame, &mut store, sink)?;
+    team_block(&outline, &team, &mut frame, &mut store, sink)?;
     dump(alloc, declarations, &store, sink)
 }
 

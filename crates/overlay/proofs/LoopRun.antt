@@ -19,12 +19,13 @@ use Rattle.semantics.proofs.EraseTokenLaw.{first_of, second_of}
 use Rattle.semantics.specs.Meaning.Places.{within, place}
 use Rattle.semantics.proofs.NestLaw.{local_same, local_twice}
 use Rattle.store.specs.Kept.{Kept, Locals, Covers, cell_of, state_of, state_with}
-use Rattle.overlay.specs.Loop.{Fits, Shows, OperandShows, FormulaShows, RunsTo, IsWorth, OperandCovers, FormulaCovers, counter_of, at_counter, operand_of, formula_of, operation_of, assignment_of, body_of, statement_of}
-use Rattle.overlay.specs.declared.lowered.LoweredLoop.{LoweredLoop}
-use Rattle.overlay.specs.declared.lowered.Operand.{Operand}
-use Rattle.overlay.specs.declared.lowered.Operand.TheVariants.{Element, Counter, Literal}
-use Rattle.overlay.specs.declared.lowered.Formula.{Formula}
-use Rattle.overlay.specs.declared.lowered.Formula.TheVariants.{One, Two}
+use Rattle.lower.specs.Loop.{Fits, Shows, OperandShows, FormulaShows, OperandCovers, FormulaCovers, counter_of, at_counter, operand_of, formula_of, operation_of, assignment_of, body_of, statement_of}
+use Rattle.overlay.specs.Loop.{RunsTo, IsWorth}
+use Rattle.lower.specs.declared.lowered.LoweredLoop.{LoweredLoop}
+use Rattle.lower.specs.declared.lowered.Operand.{Operand}
+use Rattle.lower.specs.declared.lowered.Operand.TheVariants.{Element, Counter, Literal}
+use Rattle.lower.specs.declared.lowered.Formula.{Formula}
+use Rattle.lower.specs.declared.lowered.Formula.TheVariants.{One, Two}
 
 -- a variable that is there has a number below that of the counter
 there_below : (ks : List Kept) (x : ℕ) (m : ℕ) → Covers m (slice_get ks x) → x < length ks

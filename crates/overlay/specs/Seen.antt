@@ -2,8 +2,8 @@
 use Rattle.std.specs.Prelude.{ℕ, ◌≡◌, ◌+◌, ◌<◌, ◌≤◌, List, length, slice_index}
 use Rattle.store.specs.Kept.{Kept}
 use Rattle.overlay.specs.Loop.{IsWorth}
-use Rattle.overlay.specs.declared.lowered.LoweredLoop.{LoweredLoop}
-use Rattle.overlay.specs.declared.lowered.Work.{Work}
+use Rattle.lower.specs.declared.lowered.LoweredLoop.{LoweredLoop}
+use Rattle.overlay.specs.declared.work.Work.{Work}
 
 -- the loop, the store that it reads, the chunk, and what each of its iterations writes
 pub record Seen : Type 0 where

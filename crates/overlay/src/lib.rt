@@ -1,8 +1,8 @@
 //! What a chunk of a loop writes, kept beside the store that it reads.
 #![tactic(auto)]
 
-mod lowered;
 mod piece;
+mod work;
 
-pub use lowered::{Formula, LoweredLoop, Operand, Operation, Work};
 pub use piece::{Changes, Piece, run_chunk};
+pub use work::Work;

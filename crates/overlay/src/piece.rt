@@ -1,15 +1,17 @@
 //! The pieces of a loop: what a chunk writes.
 
 ghost use Rattle.std.specs.Prelude.{◌≡◌, ◌+◌, ◌<◌, ◌≤◌, length, slice_get, IfOk, IfErr};
-ghost use Rattle.overlay.specs.Loop.{Fits, OperandCovers, FormulaCovers, IsWorth, operand_of, formula_of};
+ghost use Rattle.lower.specs.Loop.{Fits, OperandCovers, FormulaCovers, operand_of, formula_of};
+ghost use Rattle.overlay.specs.Loop.{IsWorth};
 ghost use Rattle.store.specs.Kept.{state_of, Covers, writes_from, rewritten_at};
 ghost use Rattle.overlay.specs.Seen.{IsRight};
 ghost use Rattle.semantics.specs.Meaning.Value.{value};
 ghost use Rattle.semantics.specs.Meaning.State.{overwritten};
 ghost use Rattle.semantics.specs.Loops.Nest.{at_value};
 
-use crate::lowered::{Formula, LoweredLoop, Operand, Operation, Work};
+use crate::work::Work;
 use ktree::{Refusal, VarId};
+use lower::{Formula, LoweredLoop, Operand, Operation};
 use std::alloc::Global;
 use std::marker::Model;
 use store::{Array, Store};
@@ -141,6 +143,8 @@ pub fn run_chunk<'l, 's>(
         × (p.work ≡ work)) }
     ensures refusal { IfErr result (λ refusal. refusal ≡ Refusal.OutOfMemory) }
 {
+    // The end of the chunk is at most the bound, which is a `u64`.
+    let _bound = lowered.bound;
     let mut values = Vec::with_capacity(alloc, work.count as usize)?;
     for iteration in work.first..work.first + work.count {
         values.push(formula_value(store.arrays(), *lowered, iteration))?;

@@ -8,16 +8,14 @@ ghost use Rattle.pairtest.specs.Reached.{Summarizes};
 
 use crate::access::PastLimit;
 use affine::gcd;
-
-/// What an equation's numbers are at most, in absolute value.
-const GREATEST: u128 = 1 << 62;
+use ktree::limits::EQUATION_NUMBER;
 
 /// The number, where it is within the limit.
 pub(crate) fn within_limit(number: i128) -> Result<i128, PastLimit>
     ensures ok { IfOk result (λ fits. (fits ≡ number) × IsWithin (2 ^ 62) number) }
     ensures err { IfErr result (λ _. ¬ (IsWithin (2 ^ 62) number)) }
 {
-    if number.unsigned_abs() > GREATEST {
+    if number.unsigned_abs() > EQUATION_NUMBER {
         return Err(PastLimit);
     }
     Ok(number)
@@ -105,7 +103,7 @@ impl Reach {
             → Summarizes after (us ++ unknown coefficient values ∷ [])) }
         ensures err { IfErr result (λ _. ¬ (IsWithin (2 ^ 62) coefficient)) }
     {
-        if coefficient.unsigned_abs() > GREATEST {
+        if coefficient.unsigned_abs() > EQUATION_NUMBER {
             return Err(PastLimit);
         }
         let far = product_at_last(coefficient, values);

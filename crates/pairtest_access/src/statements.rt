@@ -33,10 +33,7 @@ pub fn enter_loop(
     ensures ok { OnOk result (IsInside chain.old head.now.variable.0 (source_of head.now.start)
         (cond_of head.now.test) (increment_of head.now.step) (stmt_of body.now) chain.new) }
 {
-    match chain.enter(alloc, head, body) {
-        Ok(()) => {}
-        Err(fault) => return Err(fault),
-    }
+    chain.enter(alloc, head, body)?;
     let _levels = chain.levels();
     Ok(())
 }
@@ -73,14 +70,8 @@ pub(crate) fn statement(
             }
         }
         Stmt::For(head, body) => {
-            match enter_loop(alloc, chain, head, body) {
-                Ok(()) => {}
-                Err(fault) => return Err(fault),
-            }
-            match statement(alloc, chain, finder, body) {
-                Ok(()) => {}
-                Err(fault) => return Err(fault),
-            }
+            enter_loop(alloc, chain, head, body)?;
+            statement(alloc, chain, finder, body)?;
             chain.leave();
             Ok(())
         }
@@ -103,10 +94,7 @@ fn block(
     ensures back { OnOk result (chain.new ≡ chain.old) }
 {
     for item in items {
-        match one_item(alloc, chain, finder, item) {
-            Ok(()) => {}
-            Err(fault) => return Err(fault),
-        }
+        one_item(alloc, chain, finder, item)?;
     }
     Ok(())
 }

@@ -9,7 +9,7 @@ use Rattle.ktree.specs.declared.statement.Stmt.{Stmt, For, Block, Block', Row_of
 use Rattle.ktree.specs.declared.statement.Head.{Head}
 use Rattle.ktree.specs.declared.statement.Item.{Item, Directive, Local, Statement'}
 use mathlib.Core.Former.{Count}
-use Rattle.pragma.specs.Parallel.{FirstHas, LineHas, LoopsHave, ItemsHave}
+use Rattle.pragma.specs.Parallel.{LineHas, LoopsHave, ItemsHave}
 use Rattle.pragma.specs.Plain.{has_line, has_line_among, IsPlainLoop, FirstLineHas, FirstLoopsHave, Judges}
 
 -- the items of a block, as a list

@@ -1,7 +1,7 @@
-pub mod Words
 pub mod Faults
 pub mod Clauses
-pub mod Forms
+pub mod Views
 pub mod Lines
 pub mod Parallel
 pub mod Plain
+pub mod Reading

@@ -1,17 +1,12 @@
-//! Directives of the form `parallel for`, with a schedule and collapsed loops or without.
+//! Directives of the form `parallel for`, with a schedule and collapsed loops, or without.
 
-ghost use Rattle.std.specs.Prelude.{◌≡◌, ℕ, ◌^◌, MatchOption, IfOk, IfErr, Option, option_map};
-ghost use Rattle.semantics.specs.Directives.DirectiveGrammar.{ReadsNumber};
-ghost use Rattle.ktree.specs.declared.refusal.Refusal.TheVariants as refusals;
-ghost use Rattle.pragma.specs.Faults.{IsFault};
-ghost use Rattle.pragma.specs.Clauses.{IsCounted, ReadsLoop, HasLoop};
+ghost use Rattle.std.specs.Prelude.{◌≡◌, map, option_map};
+ghost use Rattle.pragma_clause.specs.Views.{written_clause, written_directive};
+ghost use Rattle.pragma.specs.Clauses.{with_clause, said_by, loop_of};
 ghost use Rattle.pragma.specs.Parallel.{associated};
+ghost use Rattle.pragma.specs.Views.{said_of};
 
-use crate::clauses::read_form;
-use crate::collapse::Collapse;
-use crate::line::behind_omp;
-use crate::schedule::{is_decimal, size, value};
-use ktree::{ChunkSize, Place, Refusal};
+use ktree::{AssociatedLoops, ChunkSize, Clause, Directive, Schedule, Written};
 
 /// What the clauses of a `parallel for` directive say (OpenMP 5.2, 17).
 #[derive(Clone, Copy, Debug, PartialEq, Eq)]
@@ -19,7 +14,7 @@ pub struct ParallelFor {
     /// The size of the chunks of `schedule(dynamic, k)`, which is 1 where none stands (OpenMP 5.2, 11.5.3).
     pub schedule: Option<ChunkSize>,
     /// The number of loops of `collapse(c)` (OpenMP 5.2, 4.4.3).
-    pub collapse: Option<Collapse>,
+    pub collapse: Option<AssociatedLoops>,
 }
 
 impl ParallelFor {
@@ -34,69 +29,42 @@ impl ParallelFor {
     }
 }
 
-/// The number of loops that a word is: a decimal from 1 to 4.
-fn depth(word: &[u8]) -> Option<Collapse>
-    ensures { MatchOption result ((c : ℕ) → ReadsNumber 4 word.now c → ⊥) (ReadsNumber 4 word.now) }
+/// What a clause and others behind it say, where it is known and none of its kind is among them.
+fn with_clause(clause: &Clause<Written>, said: ParallelFor) -> Option<ParallelFor>
+    ensures { option_map said_of result ≡ with_clause (written_clause clause.now) (said_of said) }
 {
-    if !is_decimal(word) {
-        return None;
-    }
-    let Some(value) = value(word) else {
-        return None;
-    };
-    Collapse::new(value)
-}
-
-/// The size of the chunks, within its limit.
-fn schedule_within(word: Option<&[u8]>, place: Place) -> Result<Option<ChunkSize>, Refusal>
-    ensures ok { IfOk result (IsCounted (2 ^ 24) (option_map (λ w. w.now) word.entry)) }
-    ensures err { IfErr result
-        (λ r. (r ≡ refusals.Limit place)
-        × ((k : Option ℕ) → IsCounted (2 ^ 24) (option_map (λ w. w.now) word.entry) k → ⊥)) }
-{
-    let Some(word) = word else {
-        return Ok(None);
-    };
-    let Ok(size) = size(word, place) else {
-        return Err(Refusal::Limit(place));
-    };
-    Ok(Some(size))
-}
-
-/// The number of loops, within its limit.
-fn collapse_within(word: Option<&[u8]>, place: Place) -> Result<Option<Collapse>, Refusal>
-    ensures ok { IfOk result (IsCounted 4 (option_map (λ w. w.now) word.entry)) }
-    ensures err { IfErr result
-        (λ r. (r ≡ refusals.Limit place)
-        × ((c : Option ℕ) → IsCounted 4 (option_map (λ w. w.now) word.entry) c → ⊥)) }
-{
-    let Some(word) = word else {
-        return Ok(None);
-    };
-    match depth(word) {
-        Some(depth) => Ok(Some(depth)),
-        None => Err(Refusal::Limit(place)),
+    match clause {
+        Clause::Schedule(Schedule::Dynamic(size)) if said.schedule.is_none() => Some(ParallelFor {
+            schedule: Some(*size),
+            collapse: said.collapse,
+        }),
+        Clause::Collapse(loops) if said.collapse.is_none() => Some(ParallelFor {
+            schedule: said.schedule,
+            collapse: Some(*loops),
+        }),
+        _ => None,
     }
 }
 
-/// What a directive line `#pragma omp parallel for` says that has no clause but `schedule(dynamic)` or
-/// `schedule(dynamic, k)` and `collapse(c)`, each at most once, in any order (OpenMP 5.2, 4.4.3, 11.5.3 and 17).
-///
-/// The line comes without its line end, `place` is that of its `#`. A line of this form with a decimal k above 2^24 or
-/// a decimal c above 4 is refused by `Limit`, and every other line by `Directive`.
-pub fn parallel_for(line: &[u8], place: Place) -> Result<ParallelFor, Refusal>
-    ensures ok { IfOk result (λ d. ReadsLoop line.now d.schedule d.collapse) }
-    ensures err { IfErr result
-        (λ r. IsFault place (HasLoop line.now) r
-        × ((k c : Option ℕ) → ReadsLoop line.now k c → ⊥)) }
+/// What clauses say, where each is known and stands once.
+fn said_by(clauses: &[Clause<Written>]) -> Option<ParallelFor>
+    ensures { option_map said_of result ≡ said_by (map written_clause clauses.now) }
 {
-    let Some(text) = behind_omp(line) else {
-        return Err(Refusal::Directive(place));
-    };
-    let Some(form) = read_form(text) else {
-        return Err(Refusal::Directive(place));
-    };
-    let schedule = schedule_within(form.size, place)?;
-    let collapse = collapse_within(form.depth, place)?;
-    Ok(ParallelFor { schedule, collapse })
+    match clauses {
+        [] => Some(ParallelFor {
+            schedule: None,
+            collapse: None,
+        }),
+        [first, rest @ ..] => with_clause(first, said_by(rest)?),
+    }
+}
+
+/// What a directive says, where it is a `parallel for` of known clauses.
+pub(crate) fn loop_of(directive: &Directive<Written>) -> Option<ParallelFor>
+    ensures { option_map said_of result ≡ loop_of (written_directive directive.now) }
+{
+    match directive {
+        Directive::ParallelFor(clauses) => said_by(clauses.as_slice()),
+        _ => None,
+    }
 }

@@ -1,44 +1,44 @@
 //! The directive lines of a text.
 
-ghost use Rattle.std.specs.Prelude.{◌≡◌, ℕ, Option, IfOk, IfErr, List, drop};
-ghost use Rattle.semantics.specs.Source.Text.{first_line, line_at};
-ghost use Rattle.pragma.specs.Clauses.{ReadsLoop, HasLoop};
-ghost use Rattle.pragma.specs.Faults.{IsFault};
+ghost use Rattle.std.specs.Prelude.{◌≡◌, ℕ, Option, IfOk, IfErr, OnOk, MatchOption, List, drop};
+ghost use Rattle.semantics.specs.Source.Text.{line_at};
+ghost use Rattle.ktree.specs.declared.refusal.Refusal.TheVariants.{OutOfMemory};
+ghost use Rattle.pragma.specs.Clauses.{ReadsLoop};
+ghost use Rattle.pragma_clause.specs.Outcome.{IsFault};
 ghost use Rattle.pragma.specs.Lines.{line_starts};
+ghost use Rattle.pragma.specs.Reading.{IsTooLarge, IsReading, AddsLine};
+ghost use Rattle.pragma.specs.declared.reading.Reading.TheVariants.{Malformed as malformed};
 
-use crate::combined::{ParallelFor, parallel_for};
+use crate::combined::ParallelFor;
+use crate::reading::{Reading, read_line};
 use ktree::{Place, Refusal};
 use std::alloc::{AllocError, Global};
 use std::marker::Model;
+use text::first_line;
 
-/// The directive lines of a text, by the numbers of their lines.
+/// What a line is read as, by its index from 0.
+#[derive(Clone, Copy)]
+struct LineReading {
+    index: usize,
+    reading: Reading,
+}
+
+/// The directive lines of a text, each read once, by the numbers of their lines.
 #[derive(Drop)]
 pub struct Directives<'t> {
     text: &'t [u8],
-    starts: Vec<usize>,
+    lines: Vec<LineReading>,
 }
 
 impl<'t> Model for Directives<'t> {
     ghost use Rattle.std.specs.Prelude.{ℕ, List};
-    ghost use Rattle.pragma.specs.Lines.{AreStarts};
+    ghost use Rattle.pragma.specs.Reading.{AreRead};
 
     ghost Value = { List ℕ };
 
     ghost view = { λ d. d.text.now };
 
-    ghost invariant = { λ d. AreStarts d.text.now d.starts.items };
-}
-
-/// The bytes before the first line end, or all.
-fn first_line(text: &[u8]) -> &[u8]
-    ensures { result.now ≡ first_line text.now }
-{
-    for (i, byte) in text.iter().enumerate() {
-        if *byte == b'\n' {
-            return &text[..i];
-        }
-    }
-    text
+    ghost invariant = { λ d. AreRead d.text.now d.lines.items };
 }
 
 /// The bytes from a position on, none where it is past the end.
@@ -66,26 +66,61 @@ fn line_starts(alloc: Global, text: &[u8]) -> Result<Vec<usize>, AllocError>
     Ok(starts)
 }
 
+/// What the line of an index is read as, where it is well formed.
+fn well_formed(alloc: Global, index: usize, line: &[u8]) -> Result<Option<Reading>, Refusal>
+    ensures ok { IfOk result (λ found. MatchOption found (IsReading line.now malformed)
+        (IsReading line.now)) }
+    ensures err { IfErr result (λ refusal. refusal ≡ OutOfMemory) }
+{
+    match read_line(alloc, index, line)? {
+        Reading::Malformed => Ok(None),
+        reading => Ok(Some(reading)),
+    }
+}
+
+/// Keeps what the line of this index is read as, where it is well formed.
+fn add_line(
+    alloc: Global,
+    lines: &mut Vec<LineReading>,
+    index: usize,
+    line: &[u8],
+) -> Result<(), Refusal>
+    ensures ok { OnOk result (AddsLine index line.now lines.old.items lines.new.items) }
+    ensures err { IfErr result (λ refusal. refusal ≡ OutOfMemory) }
+{
+    let Some(reading) = well_formed(alloc, index, line)? else {
+        return Ok(());
+    };
+    lines.push(LineReading { index, reading })?;
+    Ok(())
+}
+
 impl<'t> Directives<'t> {
-    /// Looks once at a text, whose lines are then quick to find.
+    /// Reads the directive lines of a text.
     ///
     /// # Errors
     ///
-    /// Where memory runs out.
-    pub fn read(alloc: Global, text: &'t [u8]) -> Result<Directives<'t>, AllocError>
-        ensures { IfOk result (λ directives. directives ≡ text.now) }
+    /// `OutOfMemory` alone.
+    pub fn read(alloc: Global, text: &'t [u8]) -> Result<Directives<'t>, Refusal>
+        ensures ok { IfOk result (λ directives. directives ≡ text.now) }
+        ensures err { IfErr result (λ refusal. refusal ≡ OutOfMemory) }
     {
         let starts = line_starts(alloc, text)?;
-        Ok(Directives { text, starts })
+        let mut lines = Vec::new(alloc);
+        for (index, start) in starts.iter().enumerate() {
+            add_line(alloc, &mut lines, index, first_line(behind(text, *start)))?;
+        }
+        Ok(Directives { text, lines })
     }
 
-    /// The line of a number, from 1, without its line end; empty behind the last.
-    fn line(&self, number: u32) -> &[u8]
-        ensures { result.now ≡ line_at self.now number }
+    /// What the line of a number is read as, from 1.
+    fn reading(&self, number: u32) -> Reading
+        ensures { IsReading (line_at self.now number) result }
     {
-        match self.starts.get(number.saturating_sub(1) as usize) {
-            Some(start) => first_line(behind(self.text, *start)),
-            None => &[],
+        let index = number.saturating_sub(1) as usize;
+        match self.lines.binary_search_by_key(&index, |line| line.index) {
+            Ok(found) => self.lines[found].reading,
+            Err(_) => Reading::Malformed,
         }
     }
 
@@ -93,14 +128,15 @@ impl<'t> Directives<'t> {
     ///
     /// # Errors
     ///
-    /// As [`parallel_for`]'s, of the line of that place.
+    /// `Limit` where the line is a directive but for a number above its limit, and `Directive` where it is no `parallel for` of known
+    /// clauses; both name the place.
     pub fn at(&self, place: Place) -> Result<ParallelFor, Refusal>
         ensures ok { IfOk result (λ d. ReadsLoop (line_at self.now place.line) d.schedule
             d.collapse) }
         ensures err { IfErr result
-            (λ r. IsFault place (HasLoop (line_at self.now place.line)) r
+            (λ r. IsFault place (IsTooLarge (line_at self.now place.line)) r
             × ((k c : Option ℕ) → ReadsLoop (line_at self.now place.line) k c → ⊥)) }
     {
-        parallel_for(self.line(place.line), place)
+        self.reading(place.line).at(place)
     }
 }

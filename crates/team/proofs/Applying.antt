@@ -11,10 +11,11 @@ use Rattle.std.proofs.lemmas.List.Elements.{All-nil, All-cons, All-head, All-tai
 use Rattle.semantics.specs.Meaning.State.{State, overwritten}
 use Rattle.semantics.specs.Loops.Chunk.{Chunk}
 use Rattle.store.specs.Kept.{Kept, Locals, Covers, state_of, state_with, rewritten_at, writes_from}
-use Rattle.overlay.specs.Loop.{Fits, Shows, RunsTo, IsWorth, statement_of}
+use Rattle.lower.specs.Loop.{Fits, Shows, statement_of}
+use Rattle.overlay.specs.Loop.{RunsTo, IsWorth}
 use Rattle.overlay.specs.Seen.{Seen, IsRight}
-use Rattle.overlay.specs.declared.lowered.LoweredLoop.{LoweredLoop}
-use Rattle.overlay.specs.declared.lowered.Work.{Work}
+use Rattle.lower.specs.declared.lowered.LoweredLoop.{LoweredLoop}
+use Rattle.overlay.specs.declared.work.Work.{Work}
 use Rattle.overlay.specs.declared.piece.Changes.{Changes}
 use Rattle.store.proofs.Writing.{writes_other, writes_there, covers_kept, same_lengths}
 use Rattle.overlay.proofs.LoopRun.{covered, same_element, IsFilled, runs_as_the_loop, runs_to}

@@ -9,7 +9,7 @@ use Rattle.semantics.specs.Loops.Chunk.{Chunk}
 use Rattle.draw.specs.Tickets.{DrawingName, SeatState, all_tickets}
 use Rattle.store.specs.Kept.{Kept}
 use Rattle.overlay.specs.Seen.{Seen}
-use Rattle.overlay.specs.declared.lowered.LoweredLoop.{LoweredLoop}
+use Rattle.lower.specs.declared.lowered.LoweredLoop.{LoweredLoop}
 use Rattle.ktree.specs.declared.refusal.Refusal.{Refusal}
 use Rattle.team.specs.declared.worker.Finished.{Finished}
 use Rattle.team.specs.declared.worker.Job.{Job}

@@ -7,11 +7,12 @@ use Rattle.draw.specs.Tickets.{DrawingName, SeatState, all_tickets}
 use Rattle.semantics.specs.Meaning.Value.{value}
 use Rattle.semantics.specs.Loops.Nest.{at_value}
 use Rattle.store.specs.Kept.{Kept, Covers, state_of}
-use Rattle.overlay.specs.Loop.{IsWorth, formula_of}
+use Rattle.lower.specs.Loop.{formula_of}
+use Rattle.overlay.specs.Loop.{IsWorth}
 use Rattle.overlay.specs.declared.piece.Changes.{Changes}
 use Rattle.overlay.specs.Seen.{Seen}
-use Rattle.overlay.specs.declared.lowered.LoweredLoop.{LoweredLoop}
-use Rattle.overlay.specs.declared.lowered.Work.{Work}
+use Rattle.lower.specs.declared.lowered.LoweredLoop.{LoweredLoop}
+use Rattle.overlay.specs.declared.work.Work.{Work}
 use Rattle.ktree.specs.declared.refusal.Refusal.{Refusal}
 use Rattle.team.specs.declared.worker.Finished.{Finished}
 

@@ -2,9 +2,10 @@
 
 ghost use Rattle.std.specs.Prelude.{◌≡◌, ℕ, [], ◌≤◌, ◌^◌, length, vec_len, List, map, All, IfOk, IfErr, OnOk};
 ghost use Rattle.draw.specs.Tickets.{fresh};
-ghost use Rattle.overlay.specs.Loop.{Fits, Shows, RunsTo, statement_of};
+ghost use Rattle.lower.specs.Loop.{Fits, Shows, statement_of};
+ghost use Rattle.overlay.specs.Loop.{RunsTo};
 ghost use Rattle.store.specs.Kept.{Kept, Locals, state_with};
-ghost use Rattle.overlay.specs.declared.lowered.LoweredLoop.{LoweredLoop};
+ghost use Rattle.lower.specs.declared.lowered.LoweredLoop.{LoweredLoop};
 ghost use Rattle.semantics.specs.Loops.Chunk.{Chunk};
 ghost use Rattle.team.specs.Ends.{chunks_of_loop, IsCut, IsPieceOf, IsFinished, AreFinished, CameFrom, IsChange, AreBack, AreDrawn, AreAll, IsWritten, KeepsOthers};
 ghost use Rattle.semantics.specs.Loops.Piece.{no_roles};
@@ -14,7 +15,8 @@ use crate::gate::Gate;
 use crate::worker::{Finished, Job, Member, work};
 use draw::{DrawSeat, Drawing};
 use ktree::{Refusal, Workers};
-use overlay::{Changes, LoweredLoop, Piece};
+use lower::LoweredLoop;
+use overlay::{Changes, Piece};
 use schedule::{Chunks, Sched, chunk_list};
 use std::alloc::Global;
 use std::sync::Wait;
@@ -250,7 +252,7 @@ fn all_changes(end: TeamEnd) -> Vec<Changes>
 ///
 /// # Errors
 ///
-/// `OutOfMemory` alone, where memory is refused or a thread does not start.
+/// `OutOfMemory` alone, where memory is refused or a thread does not start; the store is then as before.
 pub fn run_loop<R: Threads + Wait + Sync, G: Gate>(
     rt: &R,
     alloc: Global,
@@ -268,6 +270,7 @@ pub fn run_loop<R: Threads + Wait + Sync, G: Gate>(
         → RunsTo lowered.now name (state_with store.old locals) (state_with store.new locals)) }
     ensures shape { map (λ k. k.lengths) store.new ≡ map (λ k. k.lengths) store.old }
     ensures refusal { IfErr result (λ refusal. refusal ≡ Refusal.OutOfMemory) }
+    ensures kept { IfErr result (λ refusal. store.new ≡ store.old) }
 {
     let end = run_chunks(rt, alloc, lowered, store, workers, gate)?;
     apply_all(store, lowered, all_changes(end));

@@ -2,13 +2,14 @@
 
 ghost use Rattle.std.specs.Prelude.{◌≡◌, ◌<◌, ◌≤◌, length, IfOk};
 ghost use Rattle.draw.specs.Tickets.{fresh};
-ghost use Rattle.overlay.specs.Loop.{Fits};
+ghost use Rattle.lower.specs.Loop.{Fits};
 ghost use Rattle.team.specs.Ends.{IsCut, IsFinished};
 
 use crate::gate::{Gate, Taken};
 use draw::{DrawSeat, Drawing};
 use ktree::{ChunkNo, Refusal};
-use overlay::{LoweredLoop, Piece, Work, run_chunk};
+use lower::LoweredLoop;
+use overlay::{Piece, Work, run_chunk};
 use schedule::Chunks;
 use std::alloc::Global;
 use std::thread::Promise;

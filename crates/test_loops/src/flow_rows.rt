@@ -2,8 +2,10 @@
 
 use crate::texts::{I, J, OUT_OF_MEMORY, S, at, kernel, kernel_with, name, parsed, text};
 use flow::*;
-use ktree::{ChunkSize, Expr, Kernel, Place, Refusal, Source, Stmt, Target, VarId};
-use pragma::{Collapse, Directives, ParallelFor};
+use ktree::{
+    AssociatedLoops, ChunkSize, Expr, Kernel, Place, Refusal, Source, Stmt, Target, VarId,
+};
+use pragma::{Directives, ParallelFor};
 use std::alloc::Global;
 
 /// What is told of a kernel's locals: the place of the first that may be read unassigned, or the number of another refusal.
@@ -155,7 +157,7 @@ struct Loops {
 
 /// Whether a directive has chunks of 4 iterations and 2 collapsed loops.
 fn is_in_fours_and_twos(directive: ParallelFor) -> bool {
-    directive.schedule == ChunkSize::new(4) && directive.collapse == Collapse::new(2)
+    directive.schedule == ChunkSize::new(4) && directive.collapse == AssociatedLoops::new(2)
 }
 
 /// The only one of some parallel loops, where it has four private variables.

@@ -2,8 +2,7 @@
 
 use crate::texts::{last_statement, parsed};
 use ktree::{ChunkSize, VarId};
-use lower::lowered_loop;
-use overlay::{Formula, LoweredLoop, Operand, Operation};
+use lower::{Formula, LoweredLoop, Operand, Operation, lowered_loop};
 use std::alloc::Global;
 
 /// The array.

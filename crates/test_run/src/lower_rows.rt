@@ -2,8 +2,7 @@
 
 use crate::stores::one_array;
 use ktree::{ChunkSize, VarId};
-use lower::fits;
-use overlay::{Formula, LoweredLoop, Operand};
+use lower::{Formula, LoweredLoop, Operand, fits};
 use std::alloc::Global;
 
 /// The array.

@@ -4,7 +4,7 @@ ghost use Rattle.std.specs.Prelude.{◌+◌, ◌≤◌};
 
 use crate::stores::{holds, one_array};
 use ktree::{ChunkNo, ChunkSize, VarId};
-use lower::fits;
+use lower::{Formula, LoweredLoop, Operand, Operation, fits};
 use overlay::*;
 use std::alloc::Global;
 use store::{Array, Store};

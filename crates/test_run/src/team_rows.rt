@@ -4,8 +4,7 @@ ghost use Rattle.std.specs.Prelude.{◌≤◌};
 
 use crate::stores::{holds, one_array};
 use ktree::{ChunkSize, VarId, Workers};
-use lower::fits;
-use overlay::{Formula, LoweredLoop, Operand, Operation};
+use lower::{Formula, LoweredLoop, Operand, Operation, fits};
 use std::alloc::Global;
 use std::process::Abort;
 use std::sync::Wait;

@@ -12,4 +12,6 @@ mod cparse_stmt_rows;
 #[cfg(test)]
 mod ctoken_rows;
 #[cfg(test)]
+mod pragma_clause_rows;
+#[cfg(test)]
 mod pragma_rows;

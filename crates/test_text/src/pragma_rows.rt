@@ -1,32 +1,29 @@
 //! Lines that are read and lines that are refused, and where they stand in kernels.
 
 use cparse::parse;
-use ktree::{ChunkSize, Kernel, Place, Refusal};
-use pragma::*;
+use ktree::{AssociatedLoops, ChunkSize, Kernel, Place, Refusal};
+use pragma::{Directives, Fault, ParallelFor, first_fault};
 use std::alloc::Global;
 
-const HERE: Place = Place { line: 3, column: 5 };
-
-/// Whether a text has these words and no more.
-fn has_words(text: &[u8], words: &[Word]) -> bool {
-    let mut rest = text;
-    for word in words {
-        match next_word(rest) {
-            Some((found, behind)) if found == *word => rest = behind,
-            _ => return false,
-        }
-    }
-    next_word(rest).is_none()
+/// A place at the front of the line of this number.
+fn at(line: u32) -> Place {
+    Place { line, column: 1 }
 }
 
-#[test]
-fn words_are_cut(rt: HostRuntime) {
-    let words = [
-        Word::Run(b"a+b"),
-        Word::Punctuator(Punctuator::OpenParen),
-        Word::Run(b"c"),
-    ];
-    assert!(rt; has_words(b" a+b(c", &words));
+/// What the line of a number says in a text, or the number of its refusal; none for want of memory.
+fn line_outcome(alloc: Global, text: &[u8], line: u32) -> Option<Result<ParallelFor, u8>> {
+    match Directives::read(alloc, text) {
+        Ok(directives) => Some(outcome_at(&directives, line)),
+        Err(_) => None,
+    }
+}
+
+/// What the line of a number says, or the number of its refusal.
+fn outcome_at(directives: &Directives, line: u32) -> Result<ParallelFor, u8> {
+    match directives.at(at(line)) {
+        Ok(read) => Ok(read),
+        Err(refusal) => Err(refusal.number()),
+    }
 }
 
 /// The size and the loops that a line gives, 0 where none stand.
@@ -42,18 +39,26 @@ fn numbers(read: ParallelFor) -> (u64, u64) {
     (size, loops)
 }
 
-/// The size and the loops of a line, 0 where none stand, or the number of its refusal.
-fn loop_outcome(line: &[u8]) -> Result<(u64, u64), u8> {
-    match parallel_for(line, HERE) {
+/// The size and the loops that the first line gives, 0 where none stand, or the number of its refusal.
+fn first_numbers(directives: &Directives) -> Result<(u64, u64), u8> {
+    match directives.at(at(1)) {
         Ok(read) => Ok(numbers(read)),
         Err(refusal) => Err(refusal.number()),
     }
 }
 
+/// Those of a line; none for want of memory.
+fn loop_outcome(alloc: Global, line: &[u8]) -> Option<Result<(u64, u64), u8>> {
+    match Directives::read(alloc, line) {
+        Ok(directives) => Some(first_numbers(&directives)),
+        Err(_) => None,
+    }
+}
+
 /// The first line of a table that has another outcome.
-fn other_outcome<'l>(rows: &[(&'l str, Result<(u64, u64), u8>)]) -> Option<&'l str> {
+fn other_outcome<'l>(alloc: Global, rows: &[(&'l str, Result<(u64, u64), u8>)]) -> Option<&'l str> {
     for (line, outcome) in rows {
-        if loop_outcome(line.as_bytes()) != *outcome {
+        if loop_outcome(alloc, line.as_bytes()) != Some(*outcome) {
             return Some(*line);
         }
     }
@@ -75,7 +80,7 @@ fn clauses_stand_in_any_order(rt: HostRuntime) {
             Ok((16777216, 3)),
         ),
     ];
-    assert_eq!(rt; other_outcome(&rows), None);
+    assert_eq!(rt; other_outcome(rt.alloc(), &rows), None);
 }
 
 #[test]
@@ -95,7 +100,7 @@ fn each_clause_stands_once(rt: HostRuntime) {
         ("#pragma omp parallel for nowait", Err(11)),
         ("#pragma omp for collapse(2)", Err(11)),
     ];
-    assert_eq!(rt; other_outcome(&rows), None);
+    assert_eq!(rt; other_outcome(rt.alloc(), &rows), None);
 }
 
 #[test]
@@ -121,7 +126,7 @@ fn numbers_of_clauses_have_limits(rt: HostRuntime) {
         ),
         ("#pragma omp parallel for collapse(02)", Err(11)),
     ];
-    assert_eq!(rt; other_outcome(&rows), None);
+    assert_eq!(rt; other_outcome(rt.alloc(), &rows), None);
 }
 
 #[test]
@@ -134,28 +139,7 @@ fn sizes_are_literals_of_c(rt: HostRuntime) {
         ("#pragma omp", Err(11)),
         ("x", Err(11)),
     ];
-    assert_eq!(rt; other_outcome(&rows), None);
-}
-
-/// A place at the front of the line of this number.
-fn at(line: u32) -> Place {
-    Place { line, column: 1 }
-}
-
-/// What the line of a number says in a text, or the number of its refusal; none for want of memory.
-fn line_outcome(alloc: Global, text: &[u8], line: u32) -> Option<Result<ParallelFor, u8>> {
-    match Directives::read(alloc, text) {
-        Ok(directives) => Some(outcome_at(&directives, line)),
-        Err(_) => None,
-    }
-}
-
-/// What the line of a number says, or the number of its refusal.
-fn outcome_at(directives: &Directives, line: u32) -> Result<ParallelFor, u8> {
-    match directives.at(at(line)) {
-        Ok(read) => Ok(read),
-        Err(refusal) => Err(refusal.number()),
-    }
+    assert_eq!(rt; other_outcome(rt.alloc(), &rows), None);
 }
 
 /// The first line of a table that says something else in a text.
@@ -175,7 +159,7 @@ fn lines_have_numbers(rt: HostRuntime) {
         b"#pragma omp parallel for collapse(2)\n\n # pragma omp parallel for schedule ( dynamic , 16777216 )\n#pragma omp parallel for schedule(dynamic, 16777217)";
     let joined = ParallelFor {
         schedule: None,
-        collapse: Collapse::new(2),
+        collapse: AssociatedLoops::new(2),
     };
     let sized = ParallelFor {
         schedule: ChunkSize::new(16777216),

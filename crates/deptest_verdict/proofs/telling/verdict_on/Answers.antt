@@ -9,20 +9,20 @@ pub returns-in-None-clause-ok : goal.returns-in-None-clause-ok
 returns-in-None-clause-ok c =
     let now = c.args.chain.now in
     let body = stmt_of c.args.body.now in
-    let x = c.in-Ok.x in
-    let y = c.in-Ok-touched_by.y in
+    let x = c.in_ok-x.x in
+    let y = c.in_ok-y.y in
     let loops : c.as_slice.result.now ≡ map (λ v. v.canonical) (inner_loops 0 now.levels) = c.as_slice.ensures.value ∙ c.in_ok-loops.ensures.ok in
-    let other = as_before now _ body c.args.pair.second y c.in-Ok.ensures.back c.in-Ok-touched_by.ensures.ok in
-    never_told (map declaration_of c.args.variables.now) now c.args.outer body c.args.pair c.in_ok-accesses.accesses x y c.as_slice.result.now c.in-Ok-find_meeting.found c.in_ok-accesses.ensures.ok
-    c.in-Ok.ensures.ok other loops c.in-Ok-find_meeting.ensures.none c.in-None.is
+    let other = as_before now _ body c.args.pair.second y c.in_ok-x.ensures.back c.in_ok-y.ensures.ok in
+    never_told (map declaration_of c.args.variables.now) now c.args.outer body c.args.pair c.in_ok-accesses.accesses x y c.as_slice.result.now _ c.in_ok-accesses.ensures.ok
+    c.in_ok-x.ensures.ok other loops c.in_ok-find_meeting.ensures.none c.in-None.is
 
 pub returns-clause-ok : goal.returns-clause-ok
 returns-clause-ok c =
     let now = c.args.chain.now in
     let body = stmt_of c.args.body.now in
-    let x = c.in-Ok.x in
-    let y = c.in-Ok-touched_by.y in
+    let x = c.in_ok-x.x in
+    let y = c.in_ok-y.y in
     let loops : c.as_slice.result.now ≡ map (λ v. v.canonical) (inner_loops 0 now.levels) = c.as_slice.ensures.value ∙ c.in_ok-loops.ensures.ok in
-    let other = as_before now _ body c.args.pair.second y c.in-Ok.ensures.back c.in-Ok-touched_by.ensures.ok in
-    first_told (map declaration_of c.args.variables.now) now c.args.outer body c.args.pair c.in_ok-accesses.accesses x y c.as_slice.result.now c.in-Ok-find_meeting.found c.in-Some.meeting c.in_ok-accesses.ensures.ok
-    c.in-Ok.ensures.ok other loops c.in-Ok-find_meeting.ensures.some c.in-Some.is
+    let other = as_before now _ body c.args.pair.second y c.in_ok-x.ensures.back c.in_ok-y.ensures.ok in
+    first_told (map declaration_of c.args.variables.now) now c.args.outer body c.args.pair c.in_ok-accesses.accesses x y c.as_slice.result.now _ c.in-Some.meeting c.in_ok-accesses.ensures.ok
+    c.in_ok-x.ensures.ok other loops c.in_ok-find_meeting.ensures.some c.in-Some.is

@@ -1,7 +1,7 @@
 use Rattle.std.specs.Prelude.{◌-◌}
 use Rattle.ktree.specs.View.{stmt_of}
 use Rattle.nest.specs.Heads.{head_of}
-use Rattle.nest.proofs.PerfectLaw.{pred_is, no_loops, nest_down, nest_up, no_level}
+use Rattle.nest.proofs.PerfectLaw.{pred_is, no_loops, nest_down, nest_up}
 use Rattle.nest.proofs.heads.+is_perfect.Goals as goal
 
 pub returns-then-depth-eq0 : goal.returns-then-depth-eq0

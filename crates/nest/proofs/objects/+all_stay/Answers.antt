@@ -1,5 +1,5 @@
-use Rattle.std.specs.Prelude.{◌≡◌, List, length, ℕ, [], ◌∷◌, true, false}
-use Rattle.std.proofs.Common.{refl, inr, subst, ap, ◌∙◌, sym, arith}
+use Rattle.std.specs.Prelude.{◌≡◌, List, length, ℕ, [], ◌∷◌}
+use Rattle.std.proofs.Common.{refl, inr, ◌∙◌, sym, arith}
 use Rattle.std.proofs.lemmas.Bool.{eq-eqb}
 use mathlib.Core.Bool.{true≢false}
 use Rattle.ktree.specs.View.{exprs_of}

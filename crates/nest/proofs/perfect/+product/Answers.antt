@@ -1,5 +1,6 @@
 use Rattle.std.specs.Prelude.{◌-◌, ◌≡◌, ◌⊎◌, List, Some}
 use Rattle.std.proofs.Common.{inr, refl, arith, subst}
+use Rattle.std.proofs.lemmas.Result.{err_from_is_err_and}
 use Rattle.ktree.specs.View.{stmt_of}
 use Rattle.affine.specs.declared.interval.Side.{Side}
 use Rattle.affine_expr.specs.declared.faults.Fault.TheVariants.{OutOfMemory}
@@ -16,27 +17,32 @@ returns-in_default-clause-err t c =
     let n = c.args.depth in
     inr (no_level (AnyProduct c.args.bounds.now) n (n - 1) (stmt_of c.args.statement.now) (pred_is n c.if-depth-eq0.false) c.in_default.ensures)
 
-pub returns-in-Err-clause-err : goal.returns-in-Err-clause-err
-returns-in-Err-clause-err t c =
+pub returns-in_err-turning-clause-err : goal.returns-in_err-turning-clause-err
+returns-in_err-turning-clause-err t c =
     let n = c.args.depth in
     let box = c.args.bounds.now in
     let b = stmt_of c.in-Some.level.body.now in
     let h = head_of c.in-Some.level.head.now in
-    passed_on
+    let p = err_from_is_err_and c.from_residual.result c.from_residual.ensures.1 in
+    rw (p.1, p.2)
+    (passed_on
     (λ k. product_head box h (n - 1) b
     (nest_down (AnyProduct box) n (n - 1) (stmt_of c.args.statement.now) b h (pred_is n c.if-depth-eq0.false) c.in-Some.ensures k))
-    (no_turns box h c.in-Err.ensures.err)
+    (no_turns box h c.in_err-turning.ensures.err))
 
-pub returns-in-Err-product-clause-err : goal.returns-in-Err-product-clause-err
-returns-in-Err-product-clause-err t c =
+pub returns-in_err-inner-clause-err : goal.returns-in_err-inner-clause-err
+returns-in_err-inner-clause-err t c =
     let n = c.args.depth in
     let box = c.args.bounds.now in
     let b = stmt_of c.in-Some.level.body.now in
     let h = head_of c.in-Some.level.head.now in
-    passed_on
-    (λ k. product_rest box h c.in-Ok.turning.numbers c.in-Ok.turning.most (n - 1) b c.in-Ok.ensures.ok
+    let fault = c.in_err-inner.field-0.0 in
+    let p = err_from_is_err_and c.from_residual-in_err-inner.result c.from_residual-in_err-inner.ensures.1 in
+    rw (p.1, p.2)
+    (passed_on
+    (λ k. product_rest box h c.in_ok-turning.turning.numbers c.in_ok-turning.turning.most (n - 1) b c.in_ok-turning.ensures.ok
     (nest_down (AnyProduct box) n (n - 1) (stmt_of c.args.statement.now) b h (pred_is n c.if-depth-eq0.false) c.in-Some.ensures k))
-    (subst (λ (x : List Side). (c.in-Err-product.fault ≡ OutOfMemory) ⊎ (NestHas (AnyProduct x) (n - 1) b → ⊥)) c.in-Ok-go_into.ensures.ok c.in-Err-product.ensures.err)
+    (subst (λ (x : List Side). (fault ≡ OutOfMemory) ⊎ (NestHas (AnyProduct x) (n - 1) b → ⊥)) c.in_ok-go_into.ensures.ok c.in_err-inner.ensures.err))
 
 pub returns-clause-ok : goal.returns-clause-ok
 returns-clause-ok t c =
@@ -44,7 +50,7 @@ returns-clause-ok t c =
     let box = c.args.bounds.now in
     let b = stmt_of c.in-Some.level.body.now in
     let h = head_of c.in-Some.level.head.now in
-    let inner = c.in-Ok-product.inner in
+    let inner = c.in_ok-inner.inner in
     nest_up (DefinitelyAssigned box c.within.result) n (n - 1) (stmt_of c.args.statement.now) b h (pred_is n c.if-depth-eq0.false) c.in-Some.ensures
-    (one_more box h c.in-Ok.turning.numbers c.in-Ok.turning.most (n - 1) b inner c.within.result c.in-Ok.ensures.ok c.within.ensures
-    (subst (λ (x : List Side). NestHas (DefinitelyAssigned x inner) (n - 1) b) c.in-Ok-go_into.ensures.ok c.in-Ok-product.ensures.ok))
+    (one_more box h c.in_ok-turning.turning.numbers c.in_ok-turning.turning.most (n - 1) b inner c.within.result c.in_ok-turning.ensures.ok c.within.ensures
+    (subst (λ (x : List Side). NestHas (DefinitelyAssigned x inner) (n - 1) b) c.in_ok-go_into.ensures.ok c.in_ok-inner.ensures.ok))

@@ -1,4 +1,4 @@
-use Rattle.std.proofs.Common.{inr, ◌∙◌}
+use Rattle.std.proofs.Common.{inr}
 use Rattle.nest.proofs.PerfectLaw.{has_side, has_no_side}
 use Rattle.nest.proofs.perfect.independent.Goals as goal
 

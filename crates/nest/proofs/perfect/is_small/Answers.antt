@@ -5,8 +5,8 @@ use Rattle.nest.specs.Perfect.{NestHas}
 use Rattle.nest.proofs.PerfectLaw.{DefinitelyAssigned, is_large}
 use Rattle.nest.proofs.perfect.is_small.Goals as goal
 
-pub returns-in-Ok-None-clause-decides : goal.returns-in-Ok-None-clause-decides
-returns-in-Ok-None-clause-decides c =
+pub returns-in-None-clause-decides : goal.returns-in-None-clause-decides
+returns-in-None-clause-decides c =
     let n = c.args.depth in
     let walked = stmt_of c.args.statement.now in
-    inr (is_large c.args.bounds.now n walked (subst (λ (o : Option ℕ). NestHas (DefinitelyAssigned c.args.bounds.now o) n walked) c.in-Ok-None.field-0-is c.in-Ok-None.ensures.ok))
+    inr (is_large c.args.bounds.now n walked (subst (λ (o : Option ℕ). NestHas (DefinitelyAssigned c.args.bounds.now o) n walked) c.in-None.is c.in_ok-product.ensures.ok))

@@ -1,7 +1,8 @@
 use Rattle.std.proofs.Common.{◌≡◌, ◌-◌, drop}
 use Rattle.semantics.specs.Meaning.Value.{holds}
 use Rattle.semantics.specs.Meaning.Runs.{run, run_items, turns, greatest_trip_count, incremented}
-use Rattle.ktree.specs.View.{cond_of, increment_of, stmt_of, items_of}
+use Rattle.ktree.specs.View.{cond_of, increment_of}
+use Rattle.outline.specs.View.{outlined, items_outlined}
 use Rattle.seqrun_value.specs.Standing.{standing}
 use Rattle.seqrun.specs.Ran.{lengths_of}
 use Rattle.seqrun.proofs.RunLemmas.{Going}
@@ -11,8 +12,8 @@ use Rattle.ompk_run.proofs.teaming.+teaming.Given as goal
 abbrev pub invariant-team_statement-loop-turn : goal.invariant-team_statement-loop-turn
 invariant-team_statement-loop-turn g l =
     Going
-    (run (stmt_of l.fn.stmt) (standing l.fn.frame l.fn.store))
-    (turns (greatest_trip_count - l._turn) (λ t. holds t (cond_of l.head.test)) (run (stmt_of l.body.value)) (λ t. incremented t (increment_of l.head.step)) (standing l.frame l.store))
+    (run (outlined l.fn.outline) (standing l.fn.frame l.fn.store))
+    (turns (greatest_trip_count - l._turn) (λ t. holds t (cond_of l.head.now.test)) (run (outlined l.body.value)) (λ t. incremented t (increment_of l.head.now.step)) (standing l.frame l.store))
     (standing l.fn.frame l.fn.store)
     (standing l.frame l.store)
     (g.S.Sink.told l.fn.sink)
@@ -24,8 +25,8 @@ invariant-team_statement-loop-turn g l =
 abbrev pub invariant-team_block-loop-item : goal.invariant-team_block-loop-item
 invariant-team_block-loop-item g l =
     Going
-    (run_items (items_of l.items) (standing l.fn.frame l.fn.store))
-    (run_items (items_of (drop l.item-index l.items)) (standing l.frame l.store))
+    (run_items (items_outlined l.items) (standing l.fn.frame l.fn.store))
+    (run_items (items_outlined (drop l.item-index l.items)) (standing l.frame l.store))
     (standing l.fn.frame l.fn.store)
     (standing l.frame l.store)
     (g.S.Sink.told l.fn.sink)

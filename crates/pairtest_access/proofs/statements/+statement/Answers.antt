@@ -1,6 +1,6 @@
 use Rattle.std.specs.Prelude.{◌≡◌, OnOk, IfErr, Option, Some, None}
 use Rattle.std.proofs.Common.{Box, Global, sym, ap, ◌∙◌, subst}
-use Rattle.std.proofs.lemmas.Result.{on_ok_weaker}
+use Rattle.std.proofs.lemmas.Result.{on_ok_weaker, err_from_is_err_and}
 use Rattle.semantics.specs.Tree.{Stmt, If, IfElse, no_items}
 use Rattle.ktree.specs.View.{stmt_of, cond_of, exprs_of, expr_of, binary_of, with_item}
 use Rattle.ktree.specs.declared.expression.Cond.{Cond}
@@ -28,10 +28,10 @@ for_is s head body inner e f = ap (λ b. loop_of head (stmt_of b)) f ∙ sym (ap
 
 pub block-loop-item-preserved : goal.block-loop-item-preserved
 block-loop-item-preserved t c = (
-  c.in-Ok.ensures.back ∙ c.loop-item.invariant.0,
+  c.in_ok-one_item.ensures.back ∙ c.loop-item.invariant.0,
   next_item c.args.chain.now c.args.items.now c.loop-item.item-index c.item-item.result c.args.finder.now c.loop-item.finder c.one_item.new.finder c.loop-item-test.true c.item-item.is
       c.loop-item.invariant.1
-      (subst (λ (n : Nesting). Walked n (with_item c.item-item.result no_items) c.loop-item.finder c.one_item.new.finder) c.loop-item.invariant.0 c.in-Ok.ensures.ok),
+      (subst (λ (n : Nesting). Walked n (with_item c.item-item.result no_items) c.loop-item.finder c.one_item.new.finder) c.loop-item.invariant.0 c.in_ok-one_item.ensures.ok),
 )
 
 pub statement-returns-in_ok-target-in-Update-clause-ok : goal.statement-returns-in_ok-target-in-Update-clause-ok
@@ -70,16 +70,22 @@ statement-returns-in-Block-clause-ok t c =
     subst (λ (s : Stmt). OnOk c.block.result (Goes c.args.chain.now s c.args.finder.now c.block.new.finder))
     (sym (block_is c.args.walked.now c.in-Block.items c.deref-in-Block.result.now c.in-Block.is c.deref-in-Block.ensures.value)) c.block.ensures.ok
 
-pub block-returns-in-Err-clause-err : goal.block-returns-in-Err-clause-err
-block-returns-in-Err-clause-err t c =
-    item_stuck c.args.chain.now c.args.items.now c.loop-item.item-index c.item-item.result c.in-Err.fault c.loop-item-test.true c.item-item.is
-    (subst (λ (n : Nesting). Because (AreStuck n (with_item c.item-item.result no_items)) c.in-Err.fault) c.loop-item.invariant.0 c.in-Err.ensures.err)
+pub block-returns-in_err-one_item-clause-err : goal.block-returns-in_err-one_item-clause-err
+block-returns-in_err-one_item-clause-err t c =
+    let fault = c.in_err-one_item.field-0.0 in
+    let p = err_from_is_err_and c.from_residual.result c.from_residual.ensures.1 in
+    rw (p.1, p.2)
+    (item_stuck c.args.chain.now c.args.items.now c.loop-item.item-index c.item-item.result fault c.loop-item-test.true c.item-item.is
+    (subst (λ (n : Nesting). Because (AreStuck n (with_item c.item-item.result no_items)) fault) c.loop-item.invariant.0 c.in_err-one_item.ensures.err))
 
-pub statement-returns-in-Err-clause-err : goal.statement-returns-in-Err-clause-err
-statement-returns-in-Err-clause-err t c =
-    subst (λ (s : Stmt). Because (IsStuck c.args.chain.now s) c.in-Err.fault)
+pub statement-returns-in_err-enter_loop-in-For-clause-err : goal.statement-returns-in_err-enter_loop-in-For-clause-err
+statement-returns-in_err-enter_loop-in-For-clause-err t c =
+    let fault = c.in_err-enter_loop-in-For.field-0.0 in
+    let p = err_from_is_err_and c.from_residual-in_err-enter_loop-in-For.result c.from_residual-in_err-enter_loop-in-For.ensures.1 in
+    rw (p.1, p.2)
+    (subst (λ (s : Stmt). Because (IsStuck c.args.chain.now s) fault)
     (for_is c.args.walked.now c.in-For.head c.in-For.body c.deref-in-For.result.now c.in-For.is c.deref-in-For.ensures)
-    (head_stuck c.args.chain.now c.in-For.head (stmt_of c.deref-in-For.result.now) c.in-Err.fault c.in-Err.ensures.err)
+    (head_stuck c.args.chain.now c.in-For.head (stmt_of c.deref-in-For.result.now) fault c.in_err-enter_loop-in-For.ensures.err))
 
 pub statement-returns-in-Block-clause-err : goal.statement-returns-in-Block-clause-err
 statement-returns-in-Block-clause-err t c =

@@ -3,7 +3,7 @@ use Rattle.std.proofs.lemmas.Grind.{common_steps}
 use Rattle.std.proofs.lemmas.List.{map-append}
 use Rattle.std.proofs.lemmas.List.Elements.{All-same, All-push}
 use Rattle.overlay.specs.Seen.{Seen}
-use Rattle.overlay.specs.declared.lowered.Work.{Work}
+use Rattle.overlay.specs.declared.work.Work.{Work}
 use Rattle.overlay.specs.declared.piece.Changes.{Changes}
 use Rattle.team.specs.Ends.{IsPieceOf, IsChange}
 use Rattle.team.proofs.Applying.{front, change_of}

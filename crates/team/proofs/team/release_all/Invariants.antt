@@ -1,7 +1,7 @@
 use Rattle.std.proofs.Common.{◌≡◌, ◌++◌, List, map, All}
 use Rattle.semantics.specs.Loops.Chunk.{Chunk}
 use Rattle.store.specs.Kept.{Kept}
-use Rattle.overlay.specs.declared.lowered.LoweredLoop.{LoweredLoop}
+use Rattle.lower.specs.declared.lowered.LoweredLoop.{LoweredLoop}
 use Rattle.team.specs.Ends.{IsPieceOf, IsChange}
 use Rattle.team.proofs.team.release_all.Given as goal
 

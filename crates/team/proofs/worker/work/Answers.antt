@@ -5,7 +5,7 @@ use Rattle.draw.specs.Tickets.{SeatState}
 use Rattle.draw.proofs.Rising.{above, fewer_left}
 use Rattle.overlay.specs.Seen.{Seen}
 use Rattle.team.specs.Ends.{IsWork, IsPieceOf}
-use Rattle.overlay.specs.declared.lowered.Work.{Work}
+use Rattle.overlay.specs.declared.work.Work.{Work}
 use Rattle.team.proofs.Cutting.{chunk_within}
 use Rattle.team.proofs.worker.work.Goals as goal
 

@@ -2,8 +2,8 @@ use Rattle.nest_space.specs.Nests.{given, AreModest}
 use Rattle.nest_space.proofs.Runs.{too_many, space_law, loops_law, iterations_law}
 use Rattle.nest_space.proofs.iterations.Space.at.Goals as goal
 
-pub returns-then-loops-gt4-clause-exact : goal.returns-then-loops-gt4-clause-exact
-returns-then-loops-gt4-clause-exact c = λ ts modest runs is. too_many c.args.loops.now (given c.args.values.now) ts c.if-loops-gt4.true runs is
+pub returns-then-loops-gt-ASSOCIATED_LOOPS-clause-exact : goal.returns-then-loops-gt-ASSOCIATED_LOOPS-clause-exact
+returns-then-loops-gt-ASSOCIATED_LOOPS-clause-exact c = λ ts modest runs is. too_many c.args.loops.now (given c.args.values.now) ts c.if-loops-gt-ASSOCIATED_LOOPS.true runs is
 
 pub returns-clause-exact : goal.returns-clause-exact
 returns-clause-exact c =

@@ -11,7 +11,7 @@ returns-clause-ok c =
     let read : to_z w128 (of_z w128 c.args.coefficient) ≡ c.args.coefficient = search (rules, ints) in
     let size : c.unsigned_abs.result ≡ unsigned_abs c.args.coefficient = search (rules, ints) in
     let size_again : c.unsigned_abs-2.result ≡ unsigned_abs c.args.coefficient = search (rules, ints) in
-    let within : unsigned_abs c.args.coefficient ≤ 2 ^ 62 = omega (arith, size, c.if-unsigned_abs-gt-GREATEST.false) in
+    let within : unsigned_abs c.args.coefficient ≤ 2 ^ 62 = omega (arith, size, c.if-unsigned_abs-gt-EQUATION_NUMBER.false) in
     let product : c.product_at_last-far.result ≡ last_product (unknown c.args.coefficient c.args.values) =
     c.product_at_last-far.ensures.value ∙ ap (λ (z : ℤ). last_product (unknown z c.args.values)) read in
     let far : to_z w128 (of_z w128 c.product_at_last-far.result) ≡ c.product_at_last-far.result = search (rules, ints) in

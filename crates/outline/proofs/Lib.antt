@@ -1,0 +1,4 @@
+pub mod Arrays
+pub mod Blocks
+pub mod Lookups
+pub mod Shown

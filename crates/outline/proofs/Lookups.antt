@@ -1,0 +1,46 @@
+-- The loops behind directive lines, as they are looked up by their places.
+use Rattle.std.specs.Prelude.{ℕ, Bool, true, false, ◌≡◌, ◌+◌, ◌<◌, ◌≤◌, ◌&&◌, ◌==◌, List, [], ◌∷◌, ◌++◌, length, take, Option, Some, None, MatchOption, All}
+use Rattle.std.proofs.Common.{refl, sym, ap, ◌∙◌, get_or, inl, inr}
+use Rattle.std.proofs.lemmas.Bool.{eqb-true, eq-eqb}
+use Rattle.std.proofs.lemmas.List.{take_more, take_all}
+use Rattle.std.proofs.lemmas.List.Elements.{All-same, All-push}
+use Rattle.semantics.proofs.EraseTokenLaw.{first_of, second_of, and_true}
+use Rattle.ktree.specs.declared.place.Place.{Place}
+use Rattle.flow.specs.declared.environment.ParallelLoop.{ParallelLoop}
+use Rattle.outline.specs.Handed.{Schedules, SchedulesNone}
+
+-- two places are the same
+abbrev pub is_place : Place → Place → Bool
+is_place p q = (p.line == q.line) && (p.column == q.column)
+
+same : (p q : Place) → is_place p q ≡ true → p ≡ q
+same p q e =
+    let line = eqb-true p.line q.line (first_of (p.line == q.line) (p.column == q.column) e) in
+    let column = eqb-true p.column q.column (second_of (p.line == q.line) (p.column == q.column) e) in
+    λ i. record { line = line i; column = column i }
+
+other : (p q : Place) → is_place p q ≡ false → p ≡ q → ⊥
+other p q e is =
+    let test : is_place p q ≡ true = and_true (p.line == q.line) (p.column == q.column) (eq-eqb p.line q.line (ap (λ r. r.line) is)) (eq-eqb p.column q.column (ap (λ r. r.column) is)) in
+    absurd (cc (e, test))
+
+-- the loop of this number stands at the place, and what its clause says
+pub stands : (loops : List ParallelLoop) (line : Place) (i : ℕ) (l : ParallelLoop) → i < length loops → l ≡ get_or loops i l → is_place l.line line ≡ true
+    → MatchOption l.directive.schedule (SchedulesNone loops line) (λ size. Schedules loops line (Some size))
+stands loops line i l lt at here = go l.directive.schedule refl
+  where
+    go : (o : Option ℕ) → l.directive.schedule ≡ o → MatchOption o (SchedulesNone loops line) (λ size. Schedules loops line (Some size))
+    go None e = inr (l, (i, lt, sym at), same l.line line here, e)
+    go (Some size) e = (l, (i, lt, sym at), same l.line line here, e)
+
+-- it does not stand there, as none before it
+pub stands_not : (loops : List ParallelLoop) (line : Place) (i : ℕ) (l : ParallelLoop) → i < length loops → l ≡ get_or loops i l → is_place l.line line ≡ false
+    → All (λ p. p.line ≡ line → ⊥) (take i loops) → All (λ p. p.line ≡ line → ⊥) (take (i + 1) loops)
+stands_not loops line i l lt at here earlier =
+    let Other : ParallelLoop → Type 0 = λ p. p.line ≡ line → ⊥ in
+    All-same Other (take (i + 1) loops) (take i loops ++ l ∷ []) (take_more loops i l lt ∙ ap (λ p. take i loops ++ p ∷ []) (sym at))
+    (All-push Other (take i loops) l earlier (other l.line line here))
+
+-- none stands there
+pub none_stands : (loops : List ParallelLoop) (line : Place) (i : ℕ) → length loops ≤ i → All (λ p. p.line ≡ line → ⊥) (take i loops) → SchedulesNone loops line
+none_stands loops line i le all = inl (All-same (λ (p : ParallelLoop). p.line ≡ line → ⊥) loops (take i loops) (sym (take_all i loops le)) all)

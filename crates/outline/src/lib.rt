@@ -1,0 +1,11 @@
+//! A kernel as it is run: its statements, and the loops among them that a team runs.
+#![tactic(auto)]
+
+mod confirming;
+mod handing;
+mod making;
+mod shape;
+
+pub use confirming::confirm_fits;
+pub use making::outline;
+pub use shape::{Outline, OutlineItem, TeamLoop};

@@ -1,0 +1,68 @@
+-- What the lines of a text are read as.
+use Rattle.std.specs.Prelude.{ℕ, ◌≡◌, ◌⊎◌, ◌<◌, List, [], ◌∷◌, ◌++◌, Option, Some, None, slice_get, Result, Ok, Err}
+use Rattle.semantics.specs.Tree.{Name}
+use Rattle.semantics.specs.Source.Text.{line_from}
+use Rattle.semantics.specs.Directives.Directive.{Directive}
+use Rattle.semantics.specs.Directives.DirectiveGrammar.{ReadsLine}
+use Rattle.ktree.specs.declared.place.Place.{Place}
+use Rattle.ktree.specs.declared.refusal.Refusal.{Refusal}
+use Rattle.ktree.specs.declared.refusal.Refusal.TheVariants as refusals
+use Rattle.pragma.specs.declared.combined.ParallelFor.{ParallelFor}
+use Rattle.pragma.specs.declared.reading.Reading.{Reading}
+use Rattle.pragma.specs.declared.reading.Reading.TheVariants.{Loop, TooLarge, Malformed}
+use Rattle.pragma.specs.declared.lines.LineReading.{LineReading}
+use Rattle.pragma_clause.specs.Outcome.{HasForm}
+use Rattle.pragma.specs.Clauses.{Said, ReadsLoop, loop_of}
+
+-- no `parallel for` of the known clauses
+abbrev pub ReadsNone : List ℕ → Type 0
+ReadsNone line = (k c : Option ℕ) → ReadsLoop line k c → ⊥
+
+-- a directive but for a number above its limit
+abbrev pub IsTooLarge : List ℕ → Type 0
+IsTooLarge line = HasForm line × ((d : Directive Name) → ReadsLine line d → ⊥)
+
+-- a line is read as this
+abbrev pub IsReading : List ℕ → Reading → Type 0
+IsReading line (Loop d) = ReadsLoop line d.schedule d.collapse
+IsReading line TooLarge = IsTooLarge line × ReadsNone line
+IsReading line Malformed = (IsTooLarge line → ⊥) × ReadsNone line
+
+-- what a directive is read as
+abbrev pub reading_by : Option Said → Reading
+reading_by None = Malformed
+reading_by (Some said) = Loop (record { schedule = said.0; collapse = said.1 })
+
+abbrev pub reading_of : Directive Name → Reading
+reading_of d = reading_by (loop_of d)
+
+-- what is said of the line at a place
+abbrev pub answer_at : Place → Reading → Result ParallelFor Refusal
+answer_at place (Loop d) = Ok d
+answer_at place TooLarge = Err (refusals.Limit place)
+answer_at place Malformed = Err (refusals.Directive place)
+
+-- each of these is what the line of its index is read as, and the indexes rise
+pub record AreReadings (text : List ℕ) (lines : List LineReading) : Type 0 where
+  pub each : (i : ℕ) (l : LineReading) → slice_get lines i ≡ Some l → IsReading (line_from l.index text) l.reading
+  pub rising : (i j : ℕ) (k l : LineReading) → i < j → slice_get lines i ≡ Some k → slice_get lines j ≡ Some l → k.index < l.index
+
+-- no line of these has the index
+abbrev pub IsAbsent : List LineReading → ℕ → Type 0
+IsAbsent lines n = (i : ℕ) (l : LineReading) → slice_get lines i ≡ Some l → l.index ≡ n → ⊥
+
+-- the first so many lines of a text, by those that are well formed
+pub record AreReadBelow (text : List ℕ) (lines : List LineReading) (k : ℕ) : Type 0 where
+  pub found : AreReadings text lines
+  pub below : (i : ℕ) (l : LineReading) → slice_get lines i ≡ Some l → l.index < k
+  pub others : (n : ℕ) → n < k → IsAbsent lines n → IsReading (line_from n text) Malformed
+
+-- all lines
+pub record AreRead (text : List ℕ) (lines : List LineReading) : Type 0 where
+  pub found : AreReadings text lines
+  pub others : (n : ℕ) → IsAbsent lines n → IsReading (line_from n text) Malformed
+
+-- one more line stands behind these, where it is well formed
+abbrev pub AddsLine : ℕ → List ℕ → List LineReading → List LineReading → Type 0
+AddsLine n line before after =
+    (IsReading line Malformed × (after ≡ before)) ⊎ ((r : Reading) × IsReading line r × (after ≡ before ++ record { index = n; reading = r } ∷ []))

@@ -1,0 +1,10 @@
+pub mod WordLaw
+pub mod Loops
+pub mod Counts
+pub mod Steps
+pub mod ClauseSound
+pub mod DirectiveSound
+pub mod ClauseComplete
+pub mod DirectiveComplete
+pub mod OnesLaw
+pub mod LineLaw

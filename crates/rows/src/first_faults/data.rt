@@ -1,0 +1,179 @@
+//! Which of two faults is told: faults of what loops write and print, and of locals that may be unassigned.
+
+use super::{Row, first_other_body};
+
+#[test]
+fn first_fault_of_data_is_told(rt: HostRuntime) {
+    let rows = [
+        Row {
+            text: "
+uint64_t x;
+uint64_t y;
+x += y;",
+            number: 10,
+            line: 4,
+            column: 1,
+        },
+        Row {
+            text: "
+#pragma omp parallel for
+for (uint64_t i = 0; i < 8; i++) {
+printf(\"a\");
+s = i;
+}",
+            number: 18,
+            line: 4,
+            column: 1,
+        },
+        Row {
+            text: "
+#pragma omp parallel for
+for (uint64_t i = 0; i < 8; i++) {
+s = i;
+printf(\"a\");
+}",
+            number: 14,
+            line: 4,
+            column: 1,
+        },
+        Row {
+            text: "
+#pragma omp parallel for
+for (uint64_t i = 0; i < 8; i++) {
+s = i;
+}
+uint64_t x;
+s = x;",
+            number: 14,
+            line: 4,
+            column: 1,
+        },
+        Row {
+            text: "
+uint64_t x;
+s = x;
+#pragma omp parallel for
+for (uint64_t i = 0; i < 8; i++) {
+s = i;
+}",
+            number: 10,
+            line: 3,
+            column: 5,
+        },
+        Row {
+            text: "
+#pragma omp parallel for
+for (uint64_t i = 0; i < 8; i++) {
+uint64_t x;
+s = x;
+}",
+            number: 14,
+            line: 5,
+            column: 1,
+        },
+        Row {
+            text: "
+uint64_t x;
+#pragma omp parallel for
+for (uint64_t i = 0; i < 8; i++) {
+x += i;
+}",
+            number: 10,
+            line: 5,
+            column: 1,
+        },
+        Row {
+            text: "
+A[8] = 1;
+uint64_t x;
+s = x;",
+            number: 10,
+            line: 4,
+            column: 5,
+        },
+        Row {
+            text: "
+A[8] = 1;
+#pragma omp parallel for
+for (uint64_t i = 0; i < 8; i++) {
+s = i;
+}",
+            number: 14,
+            line: 5,
+            column: 1,
+        },
+        Row {
+            text: "
+uint64_t x;
+uint64_t y;
+s = x;
+s = y;",
+            number: 10,
+            line: 4,
+            column: 5,
+        },
+        Row {
+            text: "
+uint64_t x;
+uint64_t y;
+s = x + y;",
+            number: 10,
+            line: 4,
+            column: 5,
+        },
+        Row {
+            text: "
+#pragma omp parallel for
+for (uint64_t i = 0; i < 8; i++) {
+s = i;
+}
+#pragma omp parallel for
+for (uint64_t i = 0; i < 8; i++) {
+printf(\"a\");
+}",
+            number: 14,
+            line: 4,
+            column: 1,
+        },
+        Row {
+            text: "
+#pragma omp parallel for
+for (uint64_t i = 0; i < 8; i++) {
+if (i < 2)
+s = 1;
+else
+printf(\"a\");
+}",
+            number: 14,
+            line: 5,
+            column: 1,
+        },
+        Row {
+            text: "
+if (s) {
+#pragma omp parallel for
+for (uint64_t i = 0; i < 8; i++) {
+s = i;
+}
+} else {
+#pragma omp parallel for
+for (uint64_t i = 0; i < 8; i++) {
+printf(\"a\");
+}
+}",
+            number: 14,
+            line: 5,
+            column: 1,
+        },
+        Row {
+            text: "
+uint64_t x;
+uint64_t y;
+if (s) s = x; else s = y;",
+            number: 10,
+            line: 4,
+            column: 12,
+        },
+    ];
+    assert_eq!(rt; first_other_body(rt.alloc(), &rows), None);
+}

@@ -1,0 +1,255 @@
+//! Which of two faults is told: faults of loops and nests.
+
+use super::{Row, first_other_body};
+
+#[test]
+fn first_loop_at_fault_is_told(rt: HostRuntime) {
+    let rows = [
+        Row {
+            text: "
+for (uint64_t i = 0; i; i++) {
+for (uint64_t j = 0; j; j++) {
+}
+}",
+            number: 6,
+            line: 2,
+            column: 1,
+        },
+        Row {
+            text: "
+for (uint64_t i = 0; i; i++) {
+}
+for (uint64_t j = 0; j; j++) {
+}",
+            number: 6,
+            line: 2,
+            column: 1,
+        },
+        Row {
+            text: "
+for (uint64_t i = 0; i < 2; i++) {
+for (uint64_t j = 0; j < 2; ++i) {
+}
+}",
+            number: 6,
+            line: 2,
+            column: 1,
+        },
+        Row {
+            text: "
+for (uint64_t i = 9; i >= 0; i--) {
+}
+for (uint64_t j = 0; j; j++) {
+}",
+            number: 7,
+            line: 2,
+            column: 1,
+        },
+        Row {
+            text: "
+for (uint64_t j = 0; j; j++) {
+}
+for (uint64_t i = 9; i >= 0; i--) {
+}",
+            number: 6,
+            line: 2,
+            column: 1,
+        },
+        Row {
+            text: "
+for (uint64_t i = s; i; i++) {
+}",
+            number: 6,
+            line: 2,
+            column: 1,
+        },
+        Row {
+            text: "
+A[4294967297ull + s] = 1;",
+            number: 8,
+            line: 2,
+            column: 3,
+        },
+        Row {
+            text: "
+A[s] = 1;
+B[s] = 1;",
+            number: 8,
+            line: 2,
+            column: 3,
+        },
+        Row {
+            text: "
+A[s] = B[s];",
+            number: 8,
+            line: 2,
+            column: 3,
+        },
+        Row {
+            text: "
+if (s) A[s] = 1; else B[s] = 1;",
+            number: 8,
+            line: 2,
+            column: 10,
+        },
+    ];
+    assert_eq!(rt; first_other_body(rt.alloc(), &rows), None);
+}
+
+#[test]
+fn first_nest_at_fault_is_told(rt: HostRuntime) {
+    let rows = [
+        Row {
+            text: "
+#pragma omp parallel for collapse(2)
+for (uint64_t i = 0; i < 8; i++) {
+}
+for (uint64_t j = 0; j; j++) {
+}",
+            number: 12,
+            line: 3,
+            column: 1,
+        },
+        Row {
+            text: "
+for (uint64_t j = 0; j; j++) {
+}
+#pragma omp parallel for collapse(2)
+for (uint64_t i = 0; i < 8; i++) {
+}",
+            number: 6,
+            line: 2,
+            column: 1,
+        },
+        Row {
+            text: "
+#pragma omp parallel for collapse(2)
+for (uint64_t i = 0; i; i++) {
+}",
+            number: 6,
+            line: 3,
+            column: 1,
+        },
+        // With a schedule, behind which no nest may be a triangle.
+        Row {
+            text: "
+#pragma omp parallel for collapse(2) schedule(dynamic)
+for (uint64_t i = 0; i < 4; i++)
+for (uint64_t j = 0; j < i; j++) {
+A[i * j] = 1;
+}",
+            number: 12,
+            line: 4,
+            column: 1,
+        },
+        Row {
+            text: "
+#pragma omp parallel for collapse(2) schedule(dynamic)
+for (uint64_t i = 0; i < s; i++)
+for (uint64_t j = 0; j < i; j++) {
+}",
+            number: 8,
+            line: 3,
+            column: 26,
+        },
+        Row {
+            text: "
+#pragma omp parallel for collapse(2) schedule(dynamic)
+for (uint64_t i = 0; i < 4; i++)
+for (uint64_t j = 0; j < i - 1; j++) {
+}",
+            number: 7,
+            line: 4,
+            column: 1,
+        },
+        Row {
+            text: "
+#pragma omp parallel for
+for (uint64_t i = 0; i < 16777217; i++) {
+for (uint64_t j = 0; j; j++) {
+}
+}",
+            number: 21,
+            line: 3,
+            column: 1,
+        },
+        Row {
+            text: "
+uint64_t x;
+s = x;
+for (uint64_t i = 0; i; i++) {
+}",
+            number: 6,
+            line: 4,
+            column: 1,
+        },
+        Row {
+            text: "
+#pragma omp parallel for
+for (uint64_t i = 0; i < 8; i++) {
+s = i;
+}
+A[s] = 1;",
+            number: 8,
+            line: 6,
+            column: 3,
+        },
+        Row {
+            text: "
+#pragma omp parallel for collapse(3) schedule(dynamic)
+for (uint64_t i = 0; i < 4; i++)
+for (uint64_t j = 0; j < i; j++)
+for (uint64_t k = 0; k < s; k++) {
+}",
+            number: 12,
+            line: 4,
+            column: 1,
+        },
+        Row {
+            text: "
+#pragma omp parallel for collapse(2) schedule(dynamic)
+for (uint64_t i = 0; i < 16777217; i++)
+for (uint64_t j = 0; j < i; j++) {
+}",
+            number: 21,
+            line: 3,
+            column: 1,
+        },
+        Row {
+            text: "
+#pragma omp parallel for collapse(2)
+for (uint64_t i = 0; i < 8; i++) { A[s] = 1; }",
+            number: 12,
+            line: 3,
+            column: 1,
+        },
+        Row {
+            text: "
+#pragma omp parallel for collapse(2)
+for (uint64_t i = 0; i < 8; i++) {
+}
+#pragma omp parallel for
+for (uint64_t i = 0; i < 16777217; i++) {
+}",
+            number: 12,
+            line: 3,
+            column: 1,
+        },
+        Row {
+            text: "
+if (s) {
+#pragma omp parallel for collapse(2)
+for (uint64_t i = 0; i < 8; i++) {
+}
+} else {
+#pragma omp parallel for
+for (uint64_t i = 0; i < 16777217; i++) {
+}
+}",
+            number: 12,
+            line: 4,
+            column: 1,
+        },
+    ];
+    assert_eq!(rt; first_other_body(rt.alloc(), &rows), None);
+}

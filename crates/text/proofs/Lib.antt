@@ -1,0 +1,2 @@
+pub mod FrontLaw
+pub mod Digits
