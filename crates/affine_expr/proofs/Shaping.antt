@@ -17,7 +17,8 @@ use Rattle.affine_expr.specs.declared.faults.Fault.{Fault}
 use Rattle.affine_expr.specs.declared.faults.Fault.TheVariants.{Limit, OutOfMemory}
 use Rattle.affine_expr.specs.Faults.{Stops}
 use Rattle.affine_expr.proofs.Keeping.{kept-again}
-use Rattle.affine_expr.proofs.Trees.{none_are, is_counter-any}
+use Rattle.ktree.proofs.Trees.{none_are}
+use Rattle.affine_expr.proofs.Trees.{is_counter-any}
 
 product_kept : (a b : Bool) (f g h : Affine) → product a b f g ≡ Some h → kept h ≡ Some h
 product_kept true b f g h e = kept-again (multiple_form g f.constant) h e

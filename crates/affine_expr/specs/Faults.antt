@@ -6,14 +6,13 @@ use Rattle.ktree.specs.declared.refusal.Refusal.{Refusal}
 use Rattle.ktree.specs.declared.refusal.Refusal.TheVariants as refusals
 use Rattle.affine.specs.Affine.{Affine}
 use Rattle.affine_expr.specs.declared.faults.Fault.{Fault}
-use Rattle.affine_expr.specs.declared.faults.Fault.TheVariants.{NotCanonical, MayWrap, NotAffine, OutOfRange, NotPerfect, Limit, OutOfMemory}
+use Rattle.affine_expr.specs.declared.faults.Fault.TheVariants.{NotCanonical, MayWrap, NotAffine, NotPerfect, Limit, OutOfMemory}
 
 -- the refusal that tells a fault
 abbrev pub refusal_of : Fault → Refusal
 refusal_of (NotCanonical place) = refusals.LoopNotCanonical place
 refusal_of (MayWrap place) = refusals.LoopMayWrap place
 refusal_of (NotAffine place) = refusals.NotAffine place
-refusal_of (OutOfRange place) = refusals.SubscriptOutOfRange place
 refusal_of (NotPerfect place) = refusals.NestNotPerfect place
 refusal_of (Limit place) = refusals.Limit place
 refusal_of OutOfMemory = refusals.OutOfMemory

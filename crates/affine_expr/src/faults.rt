@@ -15,8 +15,6 @@ pub enum Fault {
     MayWrap(Place),
     /// A bound or a subscript that is not linear in the variables of the loops round it.
     NotAffine(Place),
-    /// A subscript that may leave its array (C11 6.5.6, 8).
-    OutOfRange(Place),
     /// Loops that do not stand one directly in the other.
     NotPerfect(Place),
     /// More loops, variables or larger numbers than the limits have.
@@ -34,7 +32,6 @@ impl Fault {
             Fault::NotCanonical(place) => Refusal::LoopNotCanonical(place),
             Fault::MayWrap(place) => Refusal::LoopMayWrap(place),
             Fault::NotAffine(place) => Refusal::NotAffine(place),
-            Fault::OutOfRange(place) => Refusal::SubscriptOutOfRange(place),
             Fault::NotPerfect(place) => Refusal::NestNotPerfect(place),
             Fault::Limit(place) => Refusal::Limit(place),
             Fault::OutOfMemory => Refusal::OutOfMemory,

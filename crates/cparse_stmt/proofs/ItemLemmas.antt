@@ -1,11 +1,8 @@
 -- A block's items, one by one.
-use Rattle.std.proofs.Common.{◌≡◌, ℕ, zero, suc, List, [], ◌∷◌, ◌++◌, length, take, Vec, Global, refl, sym, ap, ◌∙◌}
-use mathlib.Core.Former.{Count}
-use Rattle.semantics.specs.Tree
-use Rattle.semantics.specs.Tree.{Name, Source, Items, no_items, mark, local, stmt}
-use Rattle.ktree.specs.View.{stmt_of, with_item, items_row_of, items_of}
+use Rattle.std.proofs.Common.{◌≡◌, ℕ, zero, suc, List, [], ◌∷◌, ◌++◌, length, take, refl, sym, ap, ◌∙◌}
+use Rattle.semantics.specs.Tree.{Items, no_items, mark, local, stmt}
+use Rattle.ktree.specs.View.{with_item, items_of}
 use Rattle.ktree.specs.declared.statement.Item.{Item, Directive, Local, Statement'}
-use Rattle.ktree.specs.declared.statement.Stmt.{Stmt, Block, Block', Row_of-Item, end_of-Item, more_of-Item, items-the_row-Item, items_hidden-the_row-Item-0}
 use Rattle.cparse_grammar.specs.StatementReader.{statement, counted}
 use Rattle.cparse_grammar.specs.StatementParts.{append_items, once, twice}
 
@@ -33,20 +30,6 @@ items_more [] i = refl
 items_more (j ∷ is) i =
     ap (with_item j) (items_more is i) ∙ (with_item_by j (append_items (items_of is) (with_item i no_items))
     ∙ (sym (append_assoc (with_item j no_items) (items_of is) (with_item i no_items)) ∙ ap (λ a. append_items a (with_item i no_items)) (sym (with_item_by j (items_of is)))))
-
--- the items of a block, as a list
-row_items : (n : _) (row : Row_of-Item n) → items_row_of row ≡ items_of (items-the_row-Item n row)
-row_items n end_of-Item = refl
-row_items n (more_of-Item i rest) = ap (with_item i) (row_items _ rest)
-
-abbrev row_at : Stmt → (n : Count) × Row_of-Item n
-row_at (Block' shape row) = (_, row)
-row_at _ = (_, end_of-Item)
-
-pub block_of : (v : Vec Item Global) → stmt_of (Block v) ≡ Tree.Block (items_of v.items)
-block_of v =
-    let row = row_at (Block v) in
-    ap Tree.Block (row_items row.0 row.1 ∙ ap items_of (items_hidden-the_row-Item-0 v))
 
 -- a statement by what may be opened in it
 pub statement_by : (room : ℕ) → statement room ≡ counted room (once room) (twice room)

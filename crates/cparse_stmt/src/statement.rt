@@ -104,7 +104,7 @@ fn statement_behind<'s, 't>(
 
 /// A block behind its `{` at a place (C11 6.8.2).
 #[cycle(statement)]
-#[tactic(auto, using(crate::proofs::ItemLemmas::block_of), unfolding(cparse_grammar::specs::StatementReader::block))]
+#[tactic(auto, using(ktree::proofs::Trees::block_items), unfolding(cparse_grammar::specs::StatementReader::block))]
 fn block<'s, 't>(
     setting: Setting,
     scope: &mut Scope<'t>,

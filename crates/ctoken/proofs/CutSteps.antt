@@ -3,10 +3,10 @@ use Rattle.std.specs.Prelude.{ℕ, suc, Bool, true, false, not, ◌==◌, ◌&&�
 use Rattle.std.proofs.Common.{cond, refl, sym, ap, ◌∙◌, subst, arith, add-one}
 use Rattle.std.proofs.lemmas.List.{drop-drop, append_assoc, append-nil, length-drop, drop_all, take_rest, map_push}
 use Rattle.std.proofs.Math.Seq.{take-add}
-use Rattle.semantics.specs.Source.Text.{is_directive_line}
+use Rattle.semantics.specs.Source.Text.{starts_with, is_directive_line}
 use Rattle.semantics.specs.Source.Token as meant
-use Rattle.semantics.specs.Source.Cuts.{Stands, is_line, header_of, Cuts, end}
-use Rattle.semantics.specs.Source.Spans.{Span, line_ends, IsAt, AreAt}
+use Rattle.semantics.specs.Source.Cuts.{Stands, stops, is_line, header_of, Cuts, end}
+use Rattle.semantics.specs.Source.Spans.{Span, IsWholeLine, line_ends, IsAt, AreAt}
 use Rattle.semantics.proofs.EraseTokenLaw.{first_of, second_of, true-is_not-false}
 use Rattle.ktree.specs.declared.place.Place.{Place}
 use Rattle.ctoken.specs.declared.piece.Piece as code
@@ -17,7 +17,7 @@ use Rattle.ctoken.specs.declared.token.Token.{Token}
 use Rattle.ctoken.specs.Front.{Piece, Gap, Turn, Took, front}
 use Rattle.ctoken.specs.Meant.{IsKind, IsLineOf, StandsFor, StandFor, span_of, spans_of, CutSo}
 use Rattle.ctoken.proofs.FrontLaw.{not_true, Next, next_at, into_next}
-use Rattle.ctoken.proofs.FrontSound.{Placed, Gaps, Turns, Takes, Says, says}
+use Rattle.ctoken.proofs.FrontSound.{IsRestOfLine, Placed, Gaps, Turns, Takes, Says, says}
 
 pub record Reached (text : List ℕ) (tokens : List Token) (position line start : ℕ) (fresh : Bool) : Type 0 where
   pub done : List meant.Token
@@ -179,13 +179,20 @@ token_is_at text position n lead k t e p = go t p
     stands : (t : meant.Token) → Stands (take k (drop lead (drop position text))) (drop k (drop lead (drop position text))) t → Stands (take k (drop (position + lead) text)) (drop (position + lead + k) text) t
     stands t s = subst (λ v. Stands (take k (drop (position + lead) text)) v t) behind_is (subst (λ v. Stands (take k v) (drop k (drop lead (drop position text))) t) front_is s)
 
+    whole : IsRestOfLine lead k (drop position text) → IsWholeLine text (record { first = position + lead; count = k })
+    whole w =
+        record {
+          begins = ap (λ v. starts_with (35 ∷ []) (take k v)) (sym front_is) ∙ w.begins;
+          ends = ap (stops (λ b. not (b == 10))) (sym behind_is) ∙ w.ends;
+        }
+
     go : (t : meant.Token) → Placed n lead k (drop position text) t → IsAt text (record { first = position + lead; count = k }) t
     go (meant.Word w) q = stands (meant.Word w) q
     go (meant.IntegerConstant m s) q = stands (meant.IntegerConstant m s) q
     go (meant.StringLiteral cs o) q = stands (meant.StringLiteral cs o) q
     go (meant.Punctuator s) q = stands (meant.Punctuator s) q
-    go (meant.Header h) q = (ap (λ v. is_line (take k v)) (sym front_is) ∙ q.0, ap (λ v. header_of (take k v)) (sym front_is) ∙ q.1)
-    go (meant.Line m) q = (ap (λ v. is_line (take k v)) (sym front_is) ∙ q.0, ap (λ v. is_directive_line (take k v)) (sym front_is) ∙ q.1, q.2 ∙ e)
+    go (meant.Header h) q = (ap (λ v. is_line (take k v)) (sym front_is) ∙ q.0, ap (λ v. header_of (take k v)) (sym front_is) ∙ q.1, whole q.2)
+    go (meant.Line m) q = (ap (λ v. is_line (take k v)) (sym front_is) ∙ q.0, ap (λ v. is_directive_line (take k v)) (sym front_is) ∙ q.1, q.2 ∙ e, whole q.3)
 
 pub reached_token : {text : List ℕ} {tokens : List Token} {position line start : ℕ} {fresh : Bool} (kind : TokenKind) (place : Place) (lead k : ℕ) (t : meant.Token)
     → Reached text tokens position line start fresh → front fresh line (drop position text) ≡ Some (Took lead k t) → IsKind kind t → place.line ≡ min line 4294967295

@@ -55,10 +55,15 @@ starts_split (c ∷ w) [] h = absurd (true-is_not-false (sym h))
 starts_split (c ∷ w) (b ∷ bs) h =
     ap (λ x. x ∷ bs) (sym (eqb-true c b (first_of (c == b) _ h))) ∙ ap (λ xs. c ∷ xs) (starts_split w bs (second_of (c == b) _ h))
 
+-- so many bytes behind so many blanks are all that their line has, from the `#` on
+pub record IsRestOfLine (lead k : ℕ) (bs : List ℕ) : Type 0 where
+  pub begins : starts_with (35 ∷ []) (take k (drop lead bs)) ≡ true
+  pub ends : stops (λ b. not (b == 10)) (drop k (drop lead bs)) ≡ true
+
 -- where a token stands behind so many blanks
 abbrev pub Placed : ℕ → ℕ → ℕ → List ℕ → Token → Type 0
-Placed n lead k bs (Header h) = (is_line (take k (drop lead bs)) ≡ true) × (header_of (take k (drop lead bs)) ≡ Some h)
-Placed n lead k bs (Line m) = (is_line (take k (drop lead bs)) ≡ true) × (is_directive_line (take k (drop lead bs)) ≡ true) × (m ≡ n)
+Placed n lead k bs (Header h) = (is_line (take k (drop lead bs)) ≡ true) × (header_of (take k (drop lead bs)) ≡ Some h) × IsRestOfLine lead k bs
+Placed n lead k bs (Line m) = (is_line (take k (drop lead bs)) ≡ true) × (is_directive_line (take k (drop lead bs)) ≡ true) × (m ≡ n) × IsRestOfLine lead k bs
 Placed n lead k bs t = Stands (take k (drop lead bs)) (drop k (drop lead bs)) t
 
 pub record Gaps (f : Bool) (n k : ℕ) (bs : List ℕ) : Type 0 where
@@ -479,9 +484,18 @@ hash_some : (bs : List ℕ) → begins_hash bs ≡ true → 0 < length bs
 hash_some [] h = absurd (true-is_not-false (sym h))
 hash_some (b ∷ bs) h = omega arith
 
+begins_so : (bs : List ℕ) → begins_hash bs ≡ true → starts_with (35 ∷ []) bs ≡ true
+begins_so [] h = absurd (true-is_not-false (sym h))
+begins_so (b ∷ bs) h = ap (λ c. starts_with (35 ∷ []) (c ∷ bs)) (eqb-true b 35 h)
+
+line_ends_here : (bs : List ℕ) → (bs ≡ []) ⊎ ((rest : List ℕ) × (bs ≡ 10 ∷ rest)) → stops (λ b. not (b == 10)) bs ≡ true
+line_ends_here bs (inl e) = ap (stops (λ b. not (b == 10))) e
+line_ends_here bs (inr p) = ap (stops (λ b. not (b == 10))) p.1
+
 -- a line that begins with `#`, at the front
 takes_line : (n : ℕ) (bs : List ℕ) (t : Token) → begins_hash (skip_blanks (first_line bs)) ≡ true
     → (take (length (skip_blanks (first_line bs))) (drop (run is_blank (first_line bs)) bs) ≡ skip_blanks (first_line bs)
+    → IsRestOfLine (run is_blank (first_line bs)) (length (skip_blanks (first_line bs))) bs
     → Placed n (run is_blank (first_line bs)) (length (skip_blanks (first_line bs))) bs t)
     → ((rest : List ℕ) (ts : List Token) → Cuts true (suc n) rest ts → Cuts true n (first_line bs ++ 10 ∷ rest) (t ∷ ts))
     → Takes true n (run is_blank (first_line bs)) (length (skip_blanks (first_line bs))) bs t
@@ -490,8 +504,8 @@ takes_line n bs t h p c =
       some = hash_some (skip_blanks line) h;
       within = omega (arith, blanks_and_rest line, ap length whole, length-append line (drop (length line) bs));
       line = ap (λ k. is_line (take k bs)) (blanks_and_rest line) ∙ ap is_line (ap (take (length line)) whole ∙ take_at line (drop (length line) bs) (length line) refl) ∙ first_line_is_line bs;
-      placed = p (ap (λ xs. take (length (skip_blanks line)) (drop (run is_blank line) xs)) whole ∙ ap (take (length (skip_blanks line))) (skip_drops line (drop (length line) bs)) ∙ take_at (skip_blanks line) (drop (length line) bs) _ refl);
-      cuts = λ ts r. made ts (line_goes_on n line bs ts (rest_begins bs) (subst (λ xs. Cuts false n xs ts) (ap (λ xs. drop (length (skip_blanks line)) (drop (run is_blank line) xs)) whole ∙ behind_line line (drop (length line) bs)) r));
+      placed = p front_is (record { begins = ap (starts_with (35 ∷ [])) front_is ∙ begins_so (skip_blanks line) h; ends = ap (stops (λ b. not (b == 10))) behind_is ∙ line_ends_here (drop (length line) bs) (rest_begins bs) });
+      cuts = λ ts r. made ts (line_goes_on n line bs ts (rest_begins bs) (subst (λ xs. Cuts false n xs ts) behind_is r));
     }
   where
     line : List ℕ
@@ -499,6 +513,14 @@ takes_line n bs t h p c =
 
     whole : bs ≡ line ++ drop (length line) bs
     whole = line_and_rest bs
+
+    front_is : take (length (skip_blanks line)) (drop (run is_blank line) bs) ≡ skip_blanks line
+    front_is =
+        ap (λ xs. take (length (skip_blanks line)) (drop (run is_blank line) xs)) whole ∙ ap (take (length (skip_blanks line))) (skip_drops line (drop (length line) bs))
+        ∙ take_at (skip_blanks line) (drop (length line) bs) _ refl
+
+    behind_is : drop (length (skip_blanks line)) (drop (run is_blank line) bs) ≡ drop (length line) bs
+    behind_is = ap (λ xs. drop (length (skip_blanks line)) (drop (run is_blank line) xs)) whole ∙ behind_line line (drop (length line) bs)
 
     made : (ts : List Token) → (rest : List ℕ) × (drop (length line) bs ≡ 10 ∷ rest) × Cuts true (suc n) rest ts → Cuts true n bs (t ∷ ts)
     made ts q = subst (λ xs. Cuts true n xs (t ∷ ts)) (sym (whole ∙ ap (λ xs. line ++ xs) q.1)) (c q.0 ts q.2)
@@ -510,7 +532,7 @@ says_header n bs h = go (header_of (first_line bs)) refl
     go None e = tt
     go (Some m) e =
         takes_line n bs (Header m) h
-        (λ d. (ap is_line d ∙ skip_line (first_line bs) (first_line_is_line bs), ap header_of d ∙ ap after_hash (skip_skip (first_line bs)) ∙ e))
+        (λ d w. (ap is_line d ∙ skip_line (first_line bs) (first_line_is_line bs), ap header_of d ∙ ap after_hash (skip_skip (first_line bs)) ∙ e, w))
         (λ rest ts r. header (first_line bs) (first_line_is_line bs) e r)
 
 says_hash : (n : ℕ) (bs : List ℕ) → begins_hash (skip_blanks (first_line bs)) ≡ true → Says true n bs (hash_line n (first_line bs))
@@ -518,7 +540,7 @@ says_hash n bs h =
     cond_both (is_directive_line (first_line bs)) _ _ (Says true n bs)
     (λ e. cond_both (is_plain_directive (first_line bs)) _ None (Says true n bs)
     (λ k. takes_line n bs (Line n) h
-    (λ d. (ap is_line d ∙ skip_line (first_line bs) (first_line_is_line bs), ap is_directive_line d ∙ ap is_hash_rest (skip_skip (first_line bs)) ∙ e, refl))
+    (λ d w. (ap is_line d ∙ skip_line (first_line bs) (first_line_is_line bs), ap is_directive_line d ∙ ap is_hash_rest (skip_skip (first_line bs)) ∙ e, refl, w))
     (λ rest ts r. directive (first_line bs) (first_line_is_line bs) e k r))
     (λ k. tt))
     (λ e. says_header n bs h)

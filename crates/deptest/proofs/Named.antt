@@ -1,17 +1,11 @@
--- A conflict that is named is one.
+-- What is told of a kernel is so.
 use Rattle.std.specs.Prelude.{ℕ, List}
 use Rattle.semantics.specs.Tree.{Kernel}
 use Rattle.ktree.specs.declared.refusal.Refusal.{Refusal}
-use Rattle.ktree.specs.declared.refusal.Refusal.TheVariants as refusals
 use Rattle.deptest_verdict.specs.Refused.{IsRefused}
-use Rattle.law_independence.proofs.ConflictKernels.{told_conflicts_are_conflicts}
+use Rattle.law_independence.proofs.RefusedKernels.{refusals_are_told}
 use Rattle.deptest.specs.Accepted.{HasPassed}
-use Rattle.deptest.specs.Refused.{NamesAConflict, RefusesLoops}
-
--- whatever is refused
-named : (text : List ℕ) (k : Kernel) (r : Refusal) → HasPassed text k → IsRefused text k r → NamesAConflict text k r
-named text k (refusals.Conflict c) passed refused = told_conflicts_are_conflicts text k c passed.reads passed.nested refused
-named text k _ passed refused = tt
+use Rattle.deptest.specs.Refused.{RefusesLoops}
 
 pub refuses : (text : List ℕ) (k : Kernel) (r : Refusal) → HasPassed text k → IsRefused text k r → RefusesLoops text k r
-refuses text k r passed refused = (refused, named text k r passed refused)
+refuses text k r passed refused = (refused, refusals_are_told text k r passed.reads passed.in_range passed.nested refused)

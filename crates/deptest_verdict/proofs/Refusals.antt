@@ -9,7 +9,8 @@ use Rattle.ktree.specs.declared.statement.Item.{Item, Directive, Local, Statemen
 use Rattle.ktree.specs.declared.refusal.Refusal.{Refusal}
 use Rattle.pairtest_counter.specs.Levels.{Nesting}
 use Rattle.nest.specs.Heads.{head_of}
-use Rattle.nest.proofs.Walks.{next_item, loop_of}
+use Rattle.ktree.proofs.Trees.{next_item}
+use Rattle.nest.proofs.Walks.{loop_of}
 use Rattle.nest.proofs.NestedLaw.{all_behind}
 use Rattle.deptest_verdict.specs.Shown.{FirstLineShown, FirstLoopsShown}
 use Rattle.deptest_verdict.specs.Refused.{EntryRefused, LoopsRefused, ItemsRefused}

@@ -9,7 +9,7 @@ use Rattle.ktree.specs.declared.statement.Item.{Item, Directive, Local, Statemen
 use Rattle.pairtest_counter.specs.Levels.{Nesting}
 use Rattle.pragma.specs.Clauses.{ReadsLoop}
 use Rattle.pragma.specs.Parallel.{associated}
-use Rattle.nest.proofs.Walks.{next_item}
+use Rattle.ktree.proofs.Trees.{next_item}
 use Rattle.nest.proofs.NestedLaw.{all_behind}
 use Rattle.pairtest.specs.declared.access.Access.{Access}
 use Rattle.pairtest.specs.declared.access.Nest.{Nest}

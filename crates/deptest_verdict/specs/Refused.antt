@@ -9,7 +9,9 @@ use Rattle.ktree.specs.declared.refusal.NotShown as not_shown
 use Rattle.ktree.specs.declared.place.Place.{Place}
 use Rattle.affine_expr.specs.Faults.{refusal_of}
 use Rattle.affine_expr.specs.declared.faults.Fault.{Fault}
+use Rattle.affine.specs.declared.interval.Interval.{Interval}
 use Rattle.nest_loop.specs.declared.head.Canonical.{Canonical}
+use Rattle.nest_loop.specs.Loops.{IsLoop}
 use Rattle.pairtest_counter.specs.Levels.{Nesting}
 use Rattle.pragma.specs.Clauses.{ReadsLoop}
 use Rattle.pragma.specs.Parallel.{associated}
@@ -102,10 +104,10 @@ NamesNoPair (refusals.Conflict c) = ⊥
 NamesNoPair (refusals.NotShown a) = ⊥
 NamesNoPair _ = Unit {0}
 
--- a loop is refused that cannot be entered
+-- a loop is refused that is not canonical, may wrap or is one too many
 abbrev pub EntryRefused : Nesting → Loop → Stmt → Refusal → Type 0
 EntryRefused now h body r =
-    (f : Fault) × (r ≡ refusal_of f) × ((inner : Nesting) → IsInside now h.variable h.start h.test h.step body inner → ⊥)
+    (f : Fault) × (r ≡ refusal_of f) × ((l : Canonical) (i : Interval) → IsLoop now.box h.variable h.start h.test h.step body l i → ⊥)
 
 -- the body inside so many loops more is refused, each directly in the other, or they are not there
 abbrev pub NestRefused : List Declaration → Nesting → ℕ → List ℕ → ℕ → Stmt → Refusal → Type 0

@@ -10,7 +10,8 @@ use Rattle.ktree.specs.declared.statement.Head.{Head}
 use Rattle.ktree.specs.declared.statement.Item.{Item, Directive, Local, Statement'}
 use Rattle.pragma.specs.Clauses.{ReadsLoop}
 use Rattle.pragma.specs.Parallel.{associated}
-use Rattle.pragma.proofs.PlainLaw.{next_item, all_behind}
+use Rattle.ktree.proofs.Trees.{next_item}
+use Rattle.pragma.proofs.PlainLaw.{all_behind}
 use Rattle.flow.specs.Private.{nest_body_of, first_stmt_of, TellsOfAny, TellsOfBody, TellsOfNest, TellsOfLine, TellsOfLoops, TellsOfItems, TellsOfFirstLine, TellsOfFirstLoops}
 use Rattle.flow.specs.declared.fault.DataFault.{DataFault}
 use Rattle.flow.proofs.PrivateLemmas.{first_is, nest_with, loop_of}

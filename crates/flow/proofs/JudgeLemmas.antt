@@ -1,16 +1,15 @@
 -- What is known after the parts of a statement, put together.
-use Rattle.std.proofs.Common.{◌≡◌, ℕ, suc, ◌+◌, ◌<◌, Bool, true, false, cond, List, [], ◌∷◌, ◌++◌, length, get_or, drop, map, add-one, drop-cons, Option, Some, None, IsSome, Vec, Global, refl, sym, ap, ◌∙◌, subst, inl, inr}
+use Rattle.std.proofs.Common.{◌≡◌, ℕ, suc, ◌+◌, ◌<◌, Bool, true, false, cond, List, [], ◌∷◌, ◌++◌, length, get_or, drop, map, add-one, drop-cons, Option, Some, None, IsSome, refl, sym, ap, ◌∙◌, subst, inl, inr}
 use Rattle.std.specs.Prelude.{◌&&◌, nat_lt, option_and_then, replicate}
 use Rattle.std.proofs.lemmas.List.{length-map}
-use mathlib.Core.Former.{Count}
 use Rattle.semantics.specs.Tree
 use Rattle.semantics.specs.Meaning.Definite.{DefinitelyAssigned, known_with, may_test, may_take, may_step, privates_in, privates_among, no_privates, after_both, if_stepped, loop_known, declared_known, definite, definite_items, known_at_start, IsDefinite}
 use Rattle.ktree.specs.declared.refusal.Refusal.{Refusal}
 use Rattle.ktree.specs.declared.statement.Declaration.{Declaration}
 use Rattle.ktree.specs.declared.statement.Kernel.{Kernel}
-use Rattle.ktree.specs.declared.statement.Stmt.{Stmt, Block, Block', Row_of-Item, end_of-Item, more_of-Item, items-the_row-Item, items_hidden-the_row-Item-0}
+use Rattle.ktree.specs.declared.statement.Stmt.{Stmt, Block}
 use Rattle.ktree.specs.declared.statement.Item.{Item, Directive, Local, Statement'}
-use Rattle.ktree.specs.View.{stmt_of, items_of, items_row_of, with_item, start_of, declaration_of, kernel_of}
+use Rattle.ktree.specs.View.{stmt_of, items_of, with_item, start_of, declaration_of, kernel_of}
 use Rattle.flow.specs.Judged.{known_of, Refuses, MayBeUnassigned}
 use Rattle.flow.proofs.KnownLemmas.{first}
 
@@ -30,19 +29,6 @@ mutual
   none_among (Tree.mark line rest) = none_among rest
   none_among (Tree.local x name start rest) = none_among rest
   none_among (Tree.stmt s rest) = ap (λ xs. xs ++ privates_among no_privates rest) (none_private s) ∙ none_among rest
-
-row_items : (n : _) (row : Row_of-Item n) → items_row_of row ≡ items_of (items-the_row-Item n row)
-row_items n end_of-Item = refl
-row_items n (more_of-Item i rest) = ap (with_item i) (row_items _ rest)
-
-abbrev row_at : Stmt → (n : Count) × Row_of-Item n
-row_at (Block' shape row) = (_, row)
-row_at _ = (_, end_of-Item)
-
-pub block_of : (items : Vec Item Global) → stmt_of (Block items) ≡ Tree.Block (items_of items.items)
-block_of items =
-    let row = row_at (Block items) in
-    ap Tree.Block (row_items row.0 row.1 ∙ ap items_of (items_hidden-the_row-Item-0 items))
 
 then_nothing : (o : Option DefinitelyAssigned) (next : DefinitelyAssigned → Option DefinitelyAssigned) → option_and_then next o ≡ option_and_then next (option_and_then (λ k. Some k) o)
 then_nothing None next = refl

@@ -17,7 +17,8 @@ use Rattle.ktree.specs.declared.statement.Item.{Item, Directive, Local, Statemen
 use Rattle.pragma.specs.Clauses.{ReadsLoop}
 use Rattle.pragma.specs.Parallel.{associated, LineHas, LoopsHave, ItemsHave}
 use Rattle.pragma.specs.declared.combined.ParallelFor.{ParallelFor}
-use Rattle.pragma.proofs.PlainLaw.{next_item, all_behind}
+use Rattle.ktree.proofs.Trees.{next_item}
+use Rattle.pragma.proofs.PlainLaw.{all_behind}
 use Rattle.flow.specs.Private.{IsPrivate, first_stmt_of, FirstLineIsPrivate, FirstLoopsArePrivate}
 use Rattle.flow.specs.Parallel.{numbers, IsParallelLoop, LoopsAre, ItemsAre, FirstLineIs, FirstLoopsAre, Adds}
 use Rattle.flow.specs.declared.environment.ParallelLoop.{ParallelLoop}

@@ -17,7 +17,8 @@ use Rattle.pragma.specs.Clauses.{ReadsLoop}
 use Rattle.pragma.specs.Parallel.{AskedOfLoop, associated, FirstHas, LineHas, LoopsHave, ItemsHave}
 use Rattle.pragma.specs.Plain.{Judges}
 use Rattle.pragma.proofs.LoopLaw.{read_once}
-use Rattle.pragma.proofs.PlainLaw.{next_item, all_behind, judges_same}
+use Rattle.ktree.proofs.Trees.{next_item}
+use Rattle.pragma.proofs.PlainLaw.{all_behind, judges_same}
 use Rattle.flow.specs.Private.{is_own, keeps, keeps_all, is_private_body, IsPrivate, loop_body_of, nest_body_of, only_body_of, first_stmt_of, FirstLineIsPrivate, FirstLoopsArePrivate, IsNest}
 
 or_false : (b : Bool) → (b || false) ≡ b

@@ -3,7 +3,7 @@ use Rattle.std.specs.Prelude.{ℕ, ◌≡◌, ◌≢◌, ◌<◌, ◌^◌, ℤ, 
 use Rattle.std.proofs.Common.{refl, sym, ap, ◌∙◌, subst, arith}
 use Rattle.std.proofs.lemmas.Int.{ints}
 use Rattle.std.proofs.lemmas.Option.{slice_get_within, get_or_from_slice_get}
-use Rattle.semantics.specs.Tree.{Variable, Exprs, no_exprs, more_exprs, Stmt}
+use Rattle.semantics.specs.Tree.{Variable, Exprs, no_exprs, more_exprs, Stmt, Declaration}
 use Rattle.semantics.specs.Meaning.State.{State}
 use Rattle.semantics.specs.Meaning.Value.{both, values}
 use Rattle.semantics.specs.Loops.Nest.{Loop, Vector, iterations, at_vector}
@@ -29,9 +29,10 @@ use Rattle.deptest_verdict.specs.Refused.{touch_of, serial_loops, nest_loops}
 use Rattle.law_turns.specs.Turns.{AreEntered}
 use Rattle.law_turns.proofs.Laws.{iterations_are_there, iterations_are_turns, iterations_differ}
 use Rattle.law_independence.proofs.Entered.{entered_loops, inner_are, serial_are, nest_are, first_are}
-use Rattle.law_independence.proofs.Values.{IsAt, vector_at, first_there}
+use Rattle.law_independence.specs.ConflictLaws.{TouchesFirst}
+use Rattle.law_independence.proofs.Values.{IsAt, vector_at, IsFirstAt, first_there}
 use Rattle.law_independence.proofs.Rectangular.{heads_of}
-use Rattle.law_independence.proofs.ConflictLinks.{Link}
+use Rattle.law_independence.proofs.Links.{Link}
 use Rattle.law_independence.proofs.Outer.{there_is, pos_same, contains_at, Begins, begins_there}
 
 -- ---- subscripts
@@ -61,15 +62,15 @@ indexes_there box there s at (more_exprs e es) (f ∷ fs) (i ∷ is) each are =
 
 module _ (serial loops : List Loop) (round now : Nesting) (body : Stmt) (outside : AreEntered no_loops serial round) (entered : AreEntered round loops now)
     (ls : List Canonical) (rectangular : AreRectangular round.box loops ls) (region : NestAt)
-    (known : IsEntered (serial_loops (length round.levels) now) (nest_loops (length round.levels) now) region) where
+    (known : IsEntered (serial_loops (length round.levels) now) (nest_loops (length round.levels) now) region) (from : State) where
   serial_known : serial_loops (length round.levels) now ≡ entered_loops serial no_loops round outside
   serial_known = serial_are loops round now entered ∙ first_are serial no_loops round outside refl
 
   nest_known : nest_loops (length round.levels) now ≡ entered_loops loops round now entered
   nest_known = nest_are loops round now entered
 
-  pub begun : Begins serial round region.outer
-  begun = begins_there serial round region.outer outside (subst (λ (cs : List Canonical). FirstTurns cs [] region.outer) serial_known known.first)
+  pub begun : Begins serial round region.outer from
+  begun = begins_there serial round region.outer from outside (subst (λ (cs : List Canonical). FirstTurns cs [] region.outer) serial_known known.first)
 
   runs : AreRunsOf (entered_loops loops round now entered) (given region.outer) region.turns
   runs = subst (λ (cs : List Canonical). AreRunsOf cs (given region.outer) region.turns) nest_known known.runs
@@ -89,7 +90,7 @@ module _ (serial loops : List Loop) (round now : Nesting) (body : Stmt) (outside
       (get_or_from_slice_get us i u u p ∙ e ∙ sym (get_or_from_slice_get us j v u q))
 
   -- an access of the text, by the forms of its subscripts
-  module _ (site : Site) (access : meant.Access) (link : Link now site access) (touched : Touched) (is : IsTouched (length now.levels) site.round site.subscripts touched) where
+  module _ (ds : List Declaration) (site : Site) (access : meant.Access) (link : Link ds now site access) (touched : Touched) (is : IsTouched (length now.levels) site.round site.subscripts touched) where
     inner_known : touched.inner.items ≡ entered_loops access.inner now site.round link.entered
     inner_known = is.inner ∙ inner_are access.inner now site.round link.entered
 
@@ -105,26 +106,45 @@ module _ (serial loops : List Loop) (round now : Nesting) (body : Stmt) (outside
           subst (λ (cs : List Canonical). IsAt now.box (region.outer ++ held cs t.vector) state) (sym (known.loops ∙ nest_known))
           (vector_at loops round now entered (given region.outer) region.turns number region.outer begun.outer t.vector runs t.is begun.at)
 
-      -- it touches the element in the words of the definitions
-      pub touches_there : Contains (accesses [] body) access → (array : Variable) → array ≡ access.array
-          → Touches loops body begun.outer t.vector (record { array = array; indexes = indexes }) access.mode
-      touches_there among array same =
+      -- the first turns of the body's own loops round it
+      pub record IsThere : Type 0 where
+        pub turns : List Vector
+        pub are : iterations access.inner state ≡ Some turns
+        pub first : IsFirstAt access.inner site.round.box state turns t.touches.there
+
+      pub is_there : IsThere
+      is_there =
           let it = iterations_are_turns round now loops begun.steps begun.outer us t.vector entered begun.turn iterations_known (contains_at us number t.vector t.is) in
           let all = there_is (iterations access.inner state) (iterations_are_there now site.round access.inner it.0 state link.entered it.1.at) in
-          let first = first_there access.inner now site.round link.entered held_there t.touches.there state all.0
-          (subst (λ (cs : List Canonical). FirstTurns cs held_there t.touches.there) inner_known t.touches.turns) at_iteration all.1 in
+          record {
+            turns = all.0;
+            are = all.1;
+            first = first_there access.inner now site.round link.entered held_there t.touches.there state all.0
+                (subst (λ (cs : List Canonical). FirstTurns cs held_there t.touches.there) inner_known t.touches.turns) at_iteration all.1;
+          }
+
+      pub element : values (at_vector access.inner is_there.first.turn state) access.subscripts ≡ Some indexes
+      element =
+          subst (λ (es : Exprs). values (at_vector access.inner is_there.first.turn state) es ≡ Some indexes) link.subscripts
+          (indexes_there site.round.box t.touches.there (at_vector access.inner is_there.first.turn state) is_there.first.at site.subscripts touched.subscripts.items indexes is.subscripts t.touches.are)
+
+      -- it touches the element at these turns, and so in the words of the definitions
+      pub touches_first : TouchesFirst loops begun.outer us access number indexes
+      touches_first = record { vector = t.vector; is = t.is; there = at_vector access.inner is_there.first.turn state; begins = is_there.first.begins; are = element }
+
+      abbrev pub touches_there : Contains (accesses [] body) access → (array : Variable) → array ≡ access.array
+          → Touches loops body begun.outer t.vector (record { array = array; indexes = indexes }) access.mode
+      touches_there among array same =
           record {
             access = access;
             there = among;
             reaches = record {
-              turns = all.0;
-              are = all.1;
-              turn = first.turn;
-              among = contains_at all.0 0 first.turn first.first;
+              turns = is_there.turns;
+              are = is_there.are;
+              turn = is_there.first.turn;
+              among = contains_at is_there.turns 0 is_there.first.turn is_there.first.first;
               array = same;
-              indexes =
-                  subst (λ (es : Exprs). values (at_vector access.inner first.turn state) es ≡ Some indexes) link.subscripts
-                  (indexes_there site.round.box t.touches.there (at_vector access.inner first.turn state) first.at site.subscripts touched.subscripts.items indexes is.subscripts t.touches.are);
+              indexes = element;
             };
             mode_is = refl;
           }

@@ -28,7 +28,7 @@ use Rattle.law_turns.proofs.Laws.{iterations_are_turns, entered_are_levels, turn
 use Rattle.law_turns.proofs.Joining.{contains_none, contains_first, contains_later, contains_cases}
 use Rattle.law_independence.specs.Inside.{AreShort, HaveShort}
 use Rattle.law_independence.specs.IndependenceLaws.{IsNestOf, ShownBodiesAreIndependent}
-use Rattle.law_independence.proofs.IndependentLinks.{Link, linked}
+use Rattle.law_independence.proofs.Links.{Link, linked_site, linked}
 use Rattle.law_independence.proofs.Sums.{stretch, stretch-join, stretch-same, stretch-tells}
 use Rattle.law_independence.proofs.Counted.{AreNatural, counts_of, counters_natural, counters_below, AreWorth, HasCounters, each_worth, same_worth}
 
@@ -166,7 +166,7 @@ module _ (ds : List Declaration) (round now : Nesting) (loops : List Loop) (body
             access = f.0;
             among = f.1;
             array = f.2.array ∙ link.array ∙ sym reaches.array;
-            writes = λ e. f.2.mode ∙ link.writes (sym mode_is ∙ e);
+            writes = λ e. f.2.mode ∙ link.found_writing (sym mode_is ∙ e);
             place = place;
             is = record {
               serial = subst (AreBelow place.serial) (sym shown.counts) (counters_below 0 a round.levels s2 (omega arith) few_round);
@@ -183,7 +183,7 @@ module _ (ds : List Declaration) (round now : Nesting) (loops : List Loop) (body
 
     made_by : (element : Element) (mode : meant.Mode) → Touches loops body outer u element mode → IsMade s1 element mode
     made_by element mode touches =
-        let l = linked ds now now [] body shown.sites refl shown.are nested.read nested.stays touches.access touches.there in
+        let l = linked_site ds now shown.sites (accesses [] body) touches.access (linked ds now now [] body shown.sites refl shown.are nested.read nested.stays) touches.there in
         made element mode touches.access touches.reaches touches.mode_is l.0 l.1 l.2
 
     natural : AreNatural (length now.levels) s1 (counts_of s1)

@@ -11,7 +11,7 @@ use Rattle.law_turns.specs.Turns.{AreEntered}
 use Rattle.law_turns.proofs.Laws.{entered_join}
 use Rattle.law_independence.specs.Inside.{LoopsAreRead, ItemsAreRead, HaveShort}
 use Rattle.law_independence.specs.IndependenceLaws.{IsIndependentNest, ShownKernelsAreIndependent}
-use Rattle.law_independence.proofs.IndependentLinks.{one_entered}
+use Rattle.law_independence.proofs.Links.{one_entered}
 use Rattle.law_independence.proofs.IndependentNests.{body_there, shown_loops_are_independent}
 use Rattle.law_independence.proofs.Grammar.{decls_small, decls_short, items_read}
 
@@ -23,12 +23,12 @@ module _ (text : List ℕ) (ds : List Declaration) (short : HaveShort ds) where
   first_independent round serial n (local x name start rest) entered shown read has = shown
   first_independent round serial n (stmt s rest) entered shown read has = shown_loops_are_independent ds serial round n s short entered read.0 has.0 shown
 
-  line_independent : (round : Nesting) (serial : List Loop) (line : ℕ) (items : Items) → AreEntered no_loops serial round → LineShown text round line items → ItemsAreRead round.box items
+  pub line_independent : (round : Nesting) (serial : List Loop) (line : ℕ) (items : Items) → AreEntered no_loops serial round → LineShown text round line items → ItemsAreRead round.box items
       → Have (StaysInside ds) round.box items → LineHas text IsIndependentNest serial line items
   line_independent round serial line items entered (k, c, reads, first) read has = (k, c, reads, first_independent round serial (associated c) items entered first read has)
 
   mutual
-    loops_independent : (s : Stmt) (round : Nesting) (serial : List Loop) → AreEntered no_loops serial round → LoopsShown text round s → LoopsAreRead round.box s → Has (StaysInside ds) round.box s
+    pub loops_independent : (s : Stmt) (round : Nesting) (serial : List Loop) → AreEntered no_loops serial round → LoopsShown text round s → LoopsAreRead round.box s → Has (StaysInside ds) round.box s
         → LoopsHave text IsIndependentNest serial s
     loops_independent (Assign x is e) round serial entered shown read has = tt
     loops_independent (Update x is op e) round serial entered shown read has = tt

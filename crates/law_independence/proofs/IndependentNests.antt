@@ -21,7 +21,7 @@ use Rattle.law_turns.specs.Turns.{AreEntered}
 use Rattle.law_turns.proofs.Laws.{entered_join, entered_are_levels, outside_is_a_turn, iterations_are_turns}
 use Rattle.law_independence.specs.Inside.{IsRead, LoopsAreRead, ItemsAreRead}
 use Rattle.law_independence.specs.IndependenceLaws.{ShownLoopsAreIndependent}
-use Rattle.law_independence.proofs.IndependentLinks.{one_entered}
+use Rattle.law_independence.proofs.Links.{one_entered}
 use Rattle.law_independence.proofs.Independent.{shown_bodies_are_independent}
 
 -- what is known of a loop and its body, inside those of a box
@@ -40,7 +40,7 @@ some_alone false o x e = absurd (none-some x e)
 
 module _ (ds : List Declaration) (box : List Side) (h : Loop) (body : Stmt) where
   mutual
-    loop_there : (s : Stmt) → as_loop s ≡ Some (h, body) → LoopsAreRead box s → Has (StaysInside ds) box s → IsLoopThere ds box h body
+    pub loop_there : (s : Stmt) → as_loop s ≡ Some (h, body) → LoopsAreRead box s → Has (StaysInside ds) box s → IsLoopThere ds box h body
     loop_there (Assign x is e) same read has = absurd (none-some (h, body) same)
     loop_there (Update x is op e) same read has = absurd (none-some (h, body) same)
     loop_there (If c a) same read has = absurd (none-some (h, body) same)

@@ -1,5 +1,5 @@
 pub mod Sums
-pub mod IndependentLinks
+pub mod Links
 pub mod Counted
 pub mod Independent
 pub mod IndependentNests
@@ -16,10 +16,10 @@ pub mod ReorderedKernels
 pub mod Entered
 pub mod Values
 pub mod Rectangular
-pub mod ConflictLinks
 pub mod Outer
 pub mod Pairs
 pub mod ConflictBodies
 pub mod Conflicts
-pub mod ConflictNests
-pub mod ConflictKernels
+pub mod Affinity
+pub mod RefusedNests
+pub mod RefusedKernels

@@ -20,7 +20,7 @@ use Rattle.deptest_verdict.specs.Shown.{IsShownNest}
 use Rattle.law_runs.proofs.Points.{IsBelow}
 use Rattle.law_turns.proofs.Laws.{entered_join}
 use Rattle.law_independence.specs.Inside.{LoopsAreRead, ItemsAreRead}
-use Rattle.law_independence.proofs.IndependentLinks.{one_entered}
+use Rattle.law_independence.proofs.Links.{one_entered}
 use Rattle.law_independence.proofs.IndependentNests.{some_alone, longer, IsLoopThere, IsBodyThere, body_there, IsNestThere}
 use Rattle.law_commute.specs.Commuting.{KeepsToItself}
 use Rattle.law_independence.proofs.Numbering.{declared_from, IsPlace, place_inside}

@@ -21,7 +21,7 @@ use Rattle.law_runs.proofs.Nested.{decls_below, some_there}
 use Rattle.law_turns.specs.Turns.{AreEntered}
 use Rattle.law_turns.proofs.Laws.{entered_join}
 use Rattle.law_independence.specs.Inside.{LoopsAreRead, ItemsAreRead, HaveShort}
-use Rattle.law_independence.proofs.IndependentLinks.{one_entered}
+use Rattle.law_independence.proofs.Links.{one_entered}
 use Rattle.law_independence.proofs.IndependentNests.{body_there}
 use Rattle.law_independence.proofs.Grammar.{decls_small, decls_short, items_read}
 use Rattle.law_independence.specs.OrderLaws.{CommutesAsNest, AcceptedLoopsCommute}

@@ -15,7 +15,8 @@ use Rattle.deptest_verdict.specs.Shown.{IsShownLoop, no_loops}
 use Rattle.law_turns.specs.Turns.{AreEntered}
 use Rattle.law_turns.proofs.Laws.{outside_is_a_turn, iterations_are_there, iterations_are_turns, iterations_differ}
 use Rattle.law_independence.specs.Inside.{LoopsAreRead, HaveShort}
-use Rattle.law_independence.proofs.IndependentLinks.{linked}
+use Rattle.semantics.specs.Loops.Access.{accesses}
+use Rattle.law_independence.proofs.Links.{linked_site, linked}
 use Rattle.law_independence.proofs.IndependentNests.{IsNestThere, shown_loops_are_independent}
 use Rattle.law_commute.specs.Commuting.{KeepsToItself, InnerLoopsTurn}
 use Rattle.law_commute.proofs.Iterations.{independent_commute}
@@ -36,7 +37,7 @@ nest_ready ds round outer serial n s nest steps state us keeps at are =
       differ = iterations_differ round nest.inner nest.loops steps state us nest.entered at are;
       turn = λ u among access there.
           let it = iterations_are_turns round nest.inner nest.loops steps state us u nest.entered at are among in
-          let l = linked ds nest.inner nest.inner [] nest.body nest.shown.sites refl nest.shown.are nest.there.read nest.there.stays access there in
+          let l = linked_site ds nest.inner nest.shown.sites (accesses [] nest.body) access (linked ds nest.inner nest.inner [] nest.body nest.shown.sites refl nest.shown.are nest.there.read nest.there.stays) there in
           iterations_are_there nest.inner l.0.round access.inner it.0 (at_vector nest.loops u state) l.2.entered it.1.at;
     }
 

@@ -1,5 +1,5 @@
 -- The variables of the loops round a place hold given values.
-use Rattle.std.specs.Prelude.{ℕ, zero, suc, Bool, true, false, ◌≡◌, ◌==◌, ◌<◌, ◌^◌, ℤ, pos, ◌≤ℤ◌, List, [], ◌∷◌, ◌++◌, map, Option, Some, None, slice_get}
+use Rattle.std.specs.Prelude.{ℕ, zero, suc, Bool, true, false, ◌≡◌, ◌==◌, ◌<◌, ◌^◌, ℤ, pos, ◌≤ℤ◌, List, [], ◌∷◌, ◌++◌, map, Option, Some, None, option_and_then, slice_get}
 use Rattle.std.proofs.Common.{refl, sym, ap, ◌∙◌, subst, cond, arith}
 use Rattle.std.proofs.lemmas.Bool.{eqb-true, eqb-false, eq-eqb}
 use Rattle.std.proofs.lemmas.Int.{ints}
@@ -30,6 +30,7 @@ use Rattle.law_turns.specs.Turns.{AreEntered}
 use Rattle.law_turns.proofs.OneLoop.{run_value}
 use Rattle.law_turns.proofs.Joining.{behind}
 use Rattle.law_turns.proofs.Iterating.{nested, iterations_by}
+use Rattle.law_independence.specs.ConflictLaws.{first_value, first_turns}
 use Rattle.law_independence.proofs.Entered.{entered_loops}
 
 -- the variables of the loops of a box have these values in a state, and no other variable has one
@@ -148,13 +149,18 @@ first_counted : (inner : ℕ → Option (List Vector)) (s : Stride) (first n : �
 first_counted inner s first zero us some e = absurd (omega arith)
 first_counted inner s first (suc n) us some e = first_behind inner first (counted s (moved s.direction first s.by) n) us e
 
+first_of_counted : (s : Stride) (first n : ℕ) → 0 < n → first_value (counted s first n) ≡ Some first
+first_of_counted s first zero some = absurd (omega arith)
+first_of_counted s first (suc n) some = refl
+
 small : (z : ℤ) (n : ℕ) → z ≡ pos n → z ≤ℤ pos (2 ^ 32) → n < 2 ^ 64
 small z n e le = omega (arith, ints)
 
--- the first iteration of loops that were entered, and the values of their variables there
+-- the first iteration of loops that were entered, at the first turn of each, and the values of their variables there
 pub record IsFirstAt (hs : List Loop) (box : List Side) (st : State) (us : List Vector) (there : List Value) : Type 0 where
   pub turn : Vector
   pub first : slice_get us 0 ≡ Some turn
+  pub begins : first_turns hs st ≡ Some (at_vector hs turn st)
   pub at : IsAt box there (at_vector hs turn st)
 
 pub first_there : (hs : List Loop) (before after : Nesting) (entered : AreEntered before hs after) (values there : List Value) (st : State) (us : List Vector)
@@ -163,6 +169,7 @@ first_there [] before after entered values there st us same at e =
     record {
       turn = [];
       first = ap (λ (ws : List Vector). slice_get ws 0) (sym (same_Some ([] ∷ []) us e));
+      begins = refl;
       at = subst (λ (n : Nesting). IsAt n.box there st) entered (subst (λ (vs : List Value). IsAt before.box vs st) (sym same) at);
     }
 first_there (h ∷ hs) before after (s, v, is, level, rest) values there st us (t, run, some, further) at e =
@@ -172,4 +179,12 @@ first_there (h ∷ hs) before after (s, v, is, level, rest) values there st us (
     let vals = values_are before.box (given values) st at.counters h l is t run in
     let own = first_counted (λ x. iterations hs (at_value st h.variable x)) t.stride t.first t.count us some (sym (iterations_by h hs st (values_of t) vals) ∙ e) in
     let inner = first_there hs (nested before s v) after rest (values ++ (holding l t.first ∷ [])) there (at_value st h.variable t.first) own.vectors further more own.are in
-    record { turn = t.first ∷ inner.turn; first = own.first inner.turn inner.first; at = inner.at }
+    record {
+      turn = t.first ∷ inner.turn;
+      first = own.first inner.turn inner.first;
+      begins =
+          ap (λ (o : Option (List ℕ)). option_and_then (λ x. first_turns hs (at_value st h.variable x)) (option_and_then first_value o)) vals
+          ∙ ap (λ (o : Option ℕ). option_and_then (λ x. first_turns hs (at_value st h.variable x)) o) (first_of_counted t.stride t.first t.count some)
+          ∙ inner.begins;
+      at = inner.at;
+    }

@@ -1,24 +1,24 @@
--- Some parallel loop of a text, as against each of them. (OpenMP 5.2, 11.5 and 17)
+-- The first parallel loop of a text of which something is so, as against each of them. (OpenMP 5.2, 11.5 and 17)
 use Rattle.std.specs.Prelude.{ℕ, ◌⊎◌, List, [], ◌∷◌, ◌++◌}
 use Rattle.semantics.specs.Tree.{Stmt, Assign, Update, If, IfElse, For, Block, Print, Items, no_items, mark, local, stmt}
 use Rattle.semantics.specs.Loops.Nest.{Loop}
-use Rattle.pragma.specs.Parallel.{AskedOfLoop, LineHas}
+use Rattle.pragma.specs.Parallel.{AskedOfLoop, LineHas, LoopsHave}
 
 abbrev mutual
-  -- some parallel loop in a statement inside these loops is so
-  pub SomeLoopHas : List ℕ → AskedOfLoop → List Loop → Stmt → Type 0
-  SomeLoopHas text P serial (Assign x is e) = ⊥
-  SomeLoopHas text P serial (Update x is op e) = ⊥
-  SomeLoopHas text P serial (If c a) = SomeLoopHas text P serial a
-  SomeLoopHas text P serial (IfElse c a b) = SomeLoopHas text P serial a ⊎ SomeLoopHas text P serial b
-  SomeLoopHas text P serial (For x name start test step body) =
-      SomeLoopHas text P (serial ++ record { variable = x; start = start; test = test; step = step } ∷ []) body
-  SomeLoopHas text P serial (Block items) = SomeItemHas text P serial items
-  SomeLoopHas text P serial (Print parts) = ⊥
+  -- in a statement inside these loops a parallel loop is so, and each before it is as Q says
+  pub FirstLoopHas : List ℕ → AskedOfLoop → AskedOfLoop → List Loop → Stmt → Type 0
+  FirstLoopHas text Q P serial (Assign x is e) = ⊥
+  FirstLoopHas text Q P serial (Update x is op e) = ⊥
+  FirstLoopHas text Q P serial (If c a) = FirstLoopHas text Q P serial a
+  FirstLoopHas text Q P serial (IfElse c a b) = FirstLoopHas text Q P serial a ⊎ (LoopsHave text Q serial a × FirstLoopHas text Q P serial b)
+  FirstLoopHas text Q P serial (For x name start test step body) =
+      FirstLoopHas text Q P (serial ++ record { variable = x; start = start; test = test; step = step } ∷ []) body
+  FirstLoopHas text Q P serial (Block items) = FirstItemHas text Q P serial items
+  FirstLoopHas text Q P serial (Print parts) = ⊥
 
   -- in a block's items
-  pub SomeItemHas : List ℕ → AskedOfLoop → List Loop → Items → Type 0
-  SomeItemHas text P serial no_items = ⊥
-  SomeItemHas text P serial (mark line rest) = LineHas text P serial line rest ⊎ SomeItemHas text P serial rest
-  SomeItemHas text P serial (local x name start rest) = SomeItemHas text P serial rest
-  SomeItemHas text P serial (stmt s rest) = SomeLoopHas text P serial s ⊎ SomeItemHas text P serial rest
+  pub FirstItemHas : List ℕ → AskedOfLoop → AskedOfLoop → List Loop → Items → Type 0
+  FirstItemHas text Q P serial no_items = ⊥
+  FirstItemHas text Q P serial (mark line rest) = LineHas text P serial line rest ⊎ (LineHas text Q serial line rest × FirstItemHas text Q P serial rest)
+  FirstItemHas text Q P serial (local x name start rest) = FirstItemHas text Q P serial rest
+  FirstItemHas text Q P serial (stmt s rest) = FirstLoopHas text Q P serial s ⊎ (LoopsHave text Q serial s × FirstItemHas text Q P serial rest)

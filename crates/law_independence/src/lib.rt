@@ -4,7 +4,7 @@
 
 ghost use Rattle.law_independence.specs.IndependenceLaws.{ShownBodiesAreIndependent, ShownLoopsAreIndependent, ShownKernelsAreIndependent};
 ghost use Rattle.law_independence.specs.OrderLaws.{AcceptedLoopsCommute};
-ghost use Rattle.law_independence.specs.ConflictLaws.{ToldConflictsAreConflicts};
+ghost use Rattle.law_independence.specs.ConflictLaws.{RefusalsAreTold};
 
 /// No two iterations of a nest conflict whose body's accesses are shown to be independent, at any turn of the serial loops round it
 /// (C11 5.1.2.4, 4; OpenMP 5.2, 1.4.1).
@@ -30,9 +30,11 @@ pub fn accepted_loops_commute()
     ensures { AcceptedLoopsCommute }
 {}
 
-/// A conflict that the dependence test tells of a kernel is one of some parallel loop of it: at the first turns of the serial
-/// loops round the loop, the iterations of these two numbers touch the element of these indexes, and one of them writes it
-/// (C11 5.1.2.4, 4; OpenMP 5.2, 1.4.1).
-pub fn told_conflicts_are_conflicts()
-    ensures { ToldConflictsAreConflicts }
+/// The dependence test refuses a kernel for its first parallel loop that it does not show to be independent; those before it are
+/// independent. It tells a conflict, or that none was found, of the first pair of the loop's accesses that is not shown to be independent, or that
+/// a number passes the limits, and nothing else but want of memory. A conflict is one: whatever the state round the serial loops, at the turn where
+/// the counter of each is 0 the iterations of these two numbers touch the element of these indexes by the two accesses that are named, each inside
+/// the first turns of the loops round it, and one of them writes it (C11 5.1.2.4, 4; OpenMP 5.2, 1.4.1).
+pub fn refusals_are_told()
+    ensures { RefusalsAreTold }
 {}

@@ -2,45 +2,17 @@
 use Rattle.std.specs.Prelude.{ℕ, false, ◌≡◌, ◌==◌, ◌<◌, ◌≤◌, List, [], ◌∷◌, length, IsTrue, Option, Some, None, MatchOption}
 use Rattle.std.proofs.Common.{Vec, Global, refl, sym, ap, ◌∙◌, arith}
 use Rattle.std.proofs.lemmas.Bool.{eqb-true, eq-eqb}
-use mathlib.Core.Former.{Count}
 use Rattle.semantics.specs.Tree
-use Rattle.ktree.specs.View.{expr_of, row_of, exprs_of, stmt_of, items_row_of, items_of, with_item}
+use Rattle.ktree.specs.View.{expr_of, exprs_of, stmt_of, items_of, with_item}
 use Rattle.ktree.specs.declared.place.VarId.{VarId}
 use Rattle.ktree.specs.declared.expression.NamePlaces.{NamePlaces}
-use Rattle.ktree.specs.declared.expression.Expr.{Expr, Object, Object', Row_of-Expr, end_of-Expr, more_of-Expr, items-the_row-Expr, items_hidden-the_row-Expr-0}
-use Rattle.ktree.specs.declared.statement.Stmt.{Stmt, Block, Block', Row_of-Item, end_of-Item, more_of-Item, items-the_row-Item, items_hidden-the_row-Item-0}
+use Rattle.ktree.specs.declared.expression.Expr.{Expr, Object}
+use Rattle.ktree.specs.declared.statement.Stmt.{Stmt, Block}
 use Rattle.ktree.specs.declared.statement.Item.{Item, Directive, Local, Statement'}
 use Rattle.lower.specs.Loop.{counter_of, at_counter, operand_of}
 use Rattle.lower.specs.declared.lowered.Operand.{Operand}
 use Rattle.lower.specs.declared.lowered.Operand.TheVariants.{Element, Counter, Literal}
-
--- the subscripts of an object, as a list
-row_items : (n : _) (row : Row_of-Expr n) → row_of row ≡ exprs_of (items-the_row-Expr n row)
-row_items n end_of-Expr = refl
-row_items n (more_of-Expr e rest) = ap (Tree.more_exprs (expr_of e)) (row_items _ rest)
-
-abbrev row_at : Expr → (n : Count) × Row_of-Expr n
-row_at (Object' x shape row place) = (_, row)
-row_at _ = (_, end_of-Expr)
-
-pub object_of : (x : VarId) (subs : Vec Expr Global) (mention : NamePlaces) → expr_of (Object x subs mention) ≡ Tree.Object x.0 (exprs_of subs.items)
-object_of x subs mention =
-    let row = row_at (Object x subs mention) in
-    ap (Tree.Object x.0) (row_items row.0 row.1 ∙ ap exprs_of (items_hidden-the_row-Expr-0 subs))
-
--- the items of a block, as a list
-block_row : (n : _) (row : Row_of-Item n) → items_row_of row ≡ items_of (items-the_row-Item n row)
-block_row n end_of-Item = refl
-block_row n (more_of-Item i rest) = ap (with_item i) (block_row _ rest)
-
-abbrev items_at : Stmt → (n : Count) × Row_of-Item n
-items_at (Block' shape row) = (_, row)
-items_at _ = (_, end_of-Item)
-
-pub block_items : (items : Vec Item Global) → stmt_of (Block items) ≡ Tree.Block (items_of items.items)
-block_items items =
-    let row = items_at (Block items) in
-    ap Tree.Block (block_row row.0 row.1 ∙ ap items_of (items_hidden-the_row-Item-0 items))
+use Rattle.ktree.proofs.Trees.{object_of, none_are, block_items}
 
 -- a test that fails
 pub never : {P : Type 0} → (P → IsTrue false) → P → ⊥
@@ -48,10 +20,6 @@ never f p = let e = f p in cc e
 
 pub fails : (P : Type 0) → (P → ⊥) → (IsTrue false → P) × (P → IsTrue false)
 fails P f = (λ e. absurd (cc e), λ p. absurd (f p))
-
-nothing : (es : List Expr) → length es ≡ 0 → exprs_of es ≡ Tree.no_exprs
-nothing [] e = refl
-nothing (x ∷ es) e = absurd (omega arith)
 
 something : (es : List Expr) → 0 < length es → exprs_of es ≡ Tree.no_exprs → ⊥
 something [] h e = omega arith
@@ -64,7 +32,7 @@ same_object e = (cc, cc)
 pub counter_found : (e : Expr) (x : VarId) (subs : Vec Expr Global) (mention : NamePlaces) (xs : List Expr) (v : ℕ) → e ≡ Object x subs mention → xs ≡ subs.items → length xs ≡ 0
     → (IsTrue (x.0 == v) → expr_of e ≡ counter_of v) × (expr_of e ≡ counter_of v → IsTrue (x.0 == v))
 counter_found e x subs mention xs v p q l =
-    let h : expr_of e ≡ Tree.Object x.0 Tree.no_exprs = ap expr_of p ∙ object_of x subs mention ∙ ap (λ es. Tree.Object x.0 (exprs_of es)) (sym q) ∙ ap (Tree.Object x.0) (nothing xs l) in
+    let h : expr_of e ≡ Tree.Object x.0 Tree.no_exprs = ap expr_of p ∙ object_of x subs mention ∙ ap (λ es. Tree.Object x.0 (exprs_of es)) (sym q) ∙ ap (Tree.Object x.0) (none_are xs l) in
     (λ t. h ∙ ap counter_of (eqb-true x.0 v t), λ f. eq-eqb x.0 v (same_object (sym h ∙ f)).0)
 
 pub counter_missed : (e : Expr) (x : VarId) (subs : Vec Expr Global) (mention : NamePlaces) (xs : List Expr) (v : ℕ) → e ≡ Object x subs mention → xs ≡ subs.items → 0 < length xs

@@ -3,4 +3,7 @@ pub mod Walks
 pub mod Exact
 pub mod Constant
 pub mod PerfectLaw
+pub mod Leaving
+pub mod FactsLaw
 pub mod NestedLaw
+pub mod Along

@@ -9,6 +9,7 @@ use Rattle.semantics.specs.Source.Text.{line_at}
 use Rattle.ktree.specs.View.{items_of, with_item, source_of, cond_of, increment_of}
 use Rattle.ktree.specs.declared.statement.Head.{Head}
 use Rattle.ktree.specs.declared.statement.Item.{Item, Directive, Local, Statement'}
+use Rattle.ktree.proofs.Trees.{next_item}
 use Rattle.affine.specs.declared.interval.Side.{Side}
 use Rattle.nest_loop.specs.Loops.{inside}
 use Rattle.nest_loop.proofs.Laws.{loop_is_unique}
@@ -19,7 +20,7 @@ use Rattle.pragma.specs.Parallel.{associated}
 use Rattle.pragma.proofs.LoopLaw.{read_once}
 use Rattle.nest.specs.Judged.{Decides, Entered}
 use Rattle.nest.specs.Perfect.{RightNestFirst, LineNests, Nests, ItemsNest, FirstLineNests, FirstNests}
-use Rattle.nest.proofs.Walks.{loop_of, next_item}
+use Rattle.nest.proofs.Walks.{loop_of}
 
 -- a judgement of what comes to the same
 pub decides_same : {A : Type 0} {P Q : Type 0} (r : Result A Fault) → (P → Q) → (Q → P) → Decides r P → Decides r Q
@@ -44,22 +45,11 @@ line_judged r text box line rest k c n reads e h = decides_same r up down h
 pub whole_nest : (text : List ℕ) (box after : List Side) (head : Head) (body : Tree.Stmt) → Entered box after head body → Nests text after body → Nests text box (loop_of head body)
 whole_nest text box after head body (l, i, is, e) h = (l, i, is, subst (λ b. Nests text b body) e h)
 
--- a loop whose body is not
-pub body_not : (text : List ℕ) (box after : List Side) (head : Head) (body : Tree.Stmt) (fault : Fault) → Entered box after head body
-    → (fault ≡ OutOfMemory) ⊎ (Nests text after body → ⊥) → (fault ≡ OutOfMemory) ⊎ (Nests text box (loop_of head body) → ⊥)
-body_not text box after head body fault entered (inl e) = inl e
-body_not text box after head body fault (l, i, is, e) (inr f) = inr (λ h. f (go h))
-  where
-    go : Nests text box (loop_of head body) → Nests text after body
-    go (m, j, other, inner) =
-        let same = loop_is_unique box head.variable.0 (source_of head.start) (cond_of head.test) (increment_of head.step) body l m i j is other in
-        subst (λ b. Nests text b body) (ap (inside box head.variable.0) (sym same.1) ∙ sym e) inner
-
--- no loop at all
-pub head_not : (text : List ℕ) (box : List Side) (head : Head) (body : Tree.Stmt) (fault : Fault)
-    → (fault ≡ OutOfMemory) ⊎ ((after : List Side) → Entered box after head body → ⊥) → (fault ≡ OutOfMemory) ⊎ (Nests text box (loop_of head body) → ⊥)
-head_not text box head body fault (inl e) = inl e
-head_not text box head body fault (inr f) = inr (λ h. f (inside box head.variable.0 h.1) (h.0, h.1, h.2, λ k. inside box head.variable.0 h.1))
+-- the body of a loop that is so
+pub nest_inner : (text : List ℕ) (box after : List Side) (head : Head) (body : Tree.Stmt) → Entered box after head body → Nests text box (loop_of head body) → Nests text after body
+nest_inner text box after head body (l, i, is, e) (m, j, other, inner) =
+    let same = loop_is_unique box head.variable.0 (source_of head.start) (cond_of head.test) (increment_of head.step) body l m i j is other in
+    subst (λ b. Nests text b body) (ap (inside box head.variable.0) (sym same.1) ∙ sym e) inner
 
 -- what is behind an item, to the end
 pub all_behind : (is : List Item) (i : ℕ) → take (length is - i) (drop i is) ≡ drop i is

@@ -1,6 +1,5 @@
 -- Nests, loop by loop.
 use Rattle.std.specs.Prelude.{ℕ, suc, ◌-◌, ◌*◌, ◌^◌, ◌≤◌, ◌≡◌, ◌⊎◌, ◌==◌, Bool, true, false, ℤ, List, [], ◌∷◌, length, Option, Some, None, option_and_then}
-use Rattle.std.specs.Option.{SomeIff}
 use Rattle.std.specs.List.{list_any, insert}
 use Rattle.std.proofs.Common.{refl, sym, ap, ◌∙◌, subst, inl, inr, arith}
 use Rattle.std.proofs.lemmas.Int.{ints}
@@ -18,7 +17,7 @@ use Rattle.affine_expr.specs.declared.faults.Fault.TheVariants.{OutOfMemory}
 use Rattle.affine_expr.proofs.Trees.{is_counter-any}
 use Rattle.nest_loop.specs.declared.head.Canonical.{Canonical}
 use Rattle.nest_loop.specs.Canonical.{canonical}
-use Rattle.nest_loop.specs.Sides.{CannotWrap, IsSide}
+use Rattle.nest_loop.specs.Sides.{IsSide}
 use Rattle.nest_loop.specs.Loops.{inside}
 use Rattle.nest_loop.specs.Most.{IsMost, somewhere, nowhere}
 use Rattle.nest_loop.proofs.Unique.{side_is_unique}
@@ -144,48 +143,6 @@ product_once box (h ∷ hs) m n (i, a, k, t, p, e) (j, b, l, u, q, f) =
     let rest : k ≡ l = product_once (inside box h.variable i) hs k l p (subst (λ (x : Interval). HasProduct (inside box h.variable x) hs l) (sym same.0) q) in
     e ∙ ap (λ (x : ℕ). x * k) same.1 ∙ ap (λ (x : ℕ). b * x) rest ∙ sym f
 
--- what the product of a nest has for its first loop
-abbrev pub AnyProduct : List Side → List Loop → Type 0
-AnyProduct box hs = (n : ℕ) × HasProduct box hs n
-
-abbrev pub HeadTurns : List Side → Loop → Type 0
-HeadTurns box h = (i : Interval) × (n : ℕ) × TurnsMost box h i n
-
-pub product_head : (box : List Side) (h : Loop) (m : ℕ) (b : Stmt) → NestHas (λ hs. AnyProduct box (h ∷ hs)) m b → HeadTurns box h
-product_head box h m b (hs, t, is, (n, (i, a, k, u, p, e))) = (i, a, u)
-
-pub no_turns : {f : Fault} (box : List Side) (h : Loop) → (f ≡ OutOfMemory) ⊎ ((i : Interval) (n : ℕ) → TurnsMost box h i n → ⊥) → (f ≡ OutOfMemory) ⊎ (HeadTurns box h → ⊥)
-no_turns box h (inl e) = inl e
-no_turns box h (inr g) = inr (λ x. g x.0 x.1 x.2)
-
--- and for the others
-pub product_rest : (box : List Side) (h : Loop) (i : Interval) (c m : ℕ) (b : Stmt) → TurnsMost box h i c → NestHas (λ hs. AnyProduct box (h ∷ hs)) m b
-    → NestHas (AnyProduct (inside box h.variable i)) m b
-product_rest box h i c m b turns (hs, t, is, (n, (j, a, k, u, p, e))) =
-    let same = turns_once box h i j c a turns u in
-    (hs, t, is, (k, subst (λ (x : Interval). HasProduct (inside box h.variable x) hs k) (sym same.0) p))
-
--- the product of a nest, as far as it is known
-abbrev pub DefinitelyAssigned : List Side → Option ℕ → List Loop → Type 0
-DefinitelyAssigned box o hs = (n : ℕ) × HasProduct box hs n × SomeIff o (n ≤ 2 ^ 24) n
-
-pub one_more : (box : List Side) (h : Loop) (i : Interval) (c m : ℕ) (b : Stmt) (o r : Option ℕ) → TurnsMost box h i c
-    → ((n : ℕ) → SomeIff o (n ≤ 2 ^ 24) n → SomeIff r (c * n ≤ 2 ^ 24) (c * n)) → NestHas (DefinitelyAssigned (inside box h.variable i) o) m b → NestHas (λ hs. DefinitelyAssigned box r (h ∷ hs)) m b
-one_more box h i c m b o r turns f (hs, t, is, (n, p, e)) = (hs, t, is, (c * n, (i, c, n, turns, p, refl), f n e))
-
--- a product that is known is small, or it is not
-pub is_small : (box : List Side) (n p : ℕ) (s : Stmt) → NestHas (DefinitelyAssigned box (Some p)) n s → NestHas (λ hs. (k : ℕ) × HasProduct box hs k × (k ≤ 2 ^ 24)) n s
-is_small box n p s (hs, t, is, (k, q, small)) = (hs, t, is, (k, q, small.0))
-
-pub is_large : (box : List Side) (n : ℕ) (s : Stmt) → NestHas (DefinitelyAssigned box None) n s → NestHas (λ hs. (k : ℕ) × HasProduct box hs k × (k ≤ 2 ^ 24)) n s → ⊥
-is_large box n s known few = go (together (DefinitelyAssigned box None) (λ hs. (k : ℕ) × HasProduct box hs k × (k ≤ 2 ^ 24)) n s known few)
-  where
-    go : NestHas (λ hs. DefinitelyAssigned box None hs × ((k : ℕ) × HasProduct box hs k × (k ≤ 2 ^ 24))) n s → ⊥
-    go (hs, t, is, ((k, p, large), (l, q, small))) = large (subst (λ (x : ℕ). x ≤ 2 ^ 24) (product_once box hs l k q p) small)
-
-pub any_product : (box : List Side) (n : ℕ) (s : Stmt) → NestHas (λ hs. (k : ℕ) × HasProduct box hs k × (k ≤ 2 ^ 24)) n s → NestHas (AnyProduct box) n s
-any_product box n s (hs, t, is, (k, q, small)) = (hs, t, is, (k, q))
-
 -- a right nest is both
 pub right_is : (box : List Side) (n : ℕ) (s : Stmt) → NestHas (λ hs. (ls : List Canonical) × AreRectangular box hs ls) n s → NestHas (λ hs. (k : ℕ) × HasProduct box hs k × (k ≤ 2 ^ 24)) n s → IsRightNest box n s
 right_is box n s p q = together (λ hs. (ls : List Canonical) × AreRectangular box hs ls) (λ hs. (k : ℕ) × HasProduct box hs k × (k ≤ 2 ^ 24)) n s p q
@@ -205,12 +162,6 @@ rectangular_any box n s ls (hs, t, is, r) = (hs, t, is, (ls, r))
 pub rectangular_more : (box : List Side) (h : Loop) (l : Canonical) (m : ℕ) (b : Stmt) (ls all : List Canonical) → (canonical box h.variable h.start h.test h.step ≡ Some l) × (is_counter box h.variable ≡ false)
     → all ≡ l ∷ ls → NestHas (λ hs. AreRectangular box hs ls) m b → NestHas (λ hs. AreRectangular box (h ∷ hs) all) m b
 rectangular_more box h l m b ls all head e (hs, t, is, r) = (hs, t, is, subst (AreRectangular box (h ∷ hs)) (sym e) (head.0, head.1, r))
-
--- a loop that may wrap
-pub wraps_not : (box : List Side) (h : Loop) (l : Canonical) (i : Interval) (n : ℕ) → canonical box h.variable h.start h.test h.step ≡ Some l → (CannotWrap box l → ⊥) → TurnsMost box h i n → ⊥
-wraps_not box h l i n e f turns =
-    let same : turns.loop ≡ l = some_same (sym turns.form ∙ e) in
-    f (subst (λ (m : Canonical). CannotWrap box m) same turns.stays)
 
 -- put in front
 pub insert_first : {A : Type 0} (xs : List A) (x : A) → insert xs 0 x ≡ x ∷ xs

@@ -1,10 +1,11 @@
 -- A walk over statements, item by item and loop by loop.
-use Rattle.std.specs.Prelude.{ℕ, suc, ◌+◌, ◌≡◌, ◌<◌, ◌⊎◌, ◌↔◌, List, ◌∷◌, length, get_or, drop, string_bytes}
-use Rattle.std.proofs.Common.{add-one, drop-cons, inl, inr, sym, ap, ◌∙◌, subst}
+use Rattle.std.specs.Prelude.{ℕ, ◌+◌, ◌≡◌, ◌<◌, ◌⊎◌, ◌↔◌, List, length, get_or, drop, string_bytes}
+use Rattle.std.proofs.Common.{inl, inr, sym, ap, ◌∙◌, subst}
 use Rattle.semantics.specs.Tree
 use Rattle.ktree.specs.View.{items_of, with_item, source_of, cond_of, increment_of}
 use Rattle.ktree.specs.declared.statement.Head.{Head}
 use Rattle.ktree.specs.declared.statement.Item.{Item, Directive, Local, Statement'}
+use Rattle.ktree.proofs.Trees.{next_item}
 use Rattle.affine.specs.declared.interval.Side.{Side}
 use Rattle.nest_loop.specs.Loops.{inside}
 use Rattle.nest_loop.proofs.Laws.{loop_is_unique}
@@ -43,12 +44,6 @@ pub item_cut : (P : Asked) (box : List Side) (i : Item) (rest : Tree.Items) → 
 item_cut P box (Directive place) rest = (λ h. (tt, h), λ h. h.1)
 item_cut P box (Local l) rest = (λ h. ((h.0, tt), h.1), λ h. (h.0.0, h.1))
 item_cut P box (Statement' p s) rest = (λ h. ((h.0, tt), h.1), λ h. (h.0.0, h.1))
-
--- the next item, and what is behind it
-pub next_item : (is : List Item) (i : ℕ) (e : Item) → i < length is → e ≡ get_or is i e → items_of (drop i is) ≡ with_item e (items_of (drop (i + 1) is))
-next_item is i e lt p =
-    let here : drop i is ≡ e ∷ drop (i + 1) is = rw add-one (drop-cons is i e lt ∙ ap (λ x. x ∷ drop (suc i) is) (sym p)) in
-    ap items_of here
 
 -- the items that are left decide
 abbrev pub Left : Asked → List Side → List Item → ℕ → Type 0

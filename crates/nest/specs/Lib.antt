@@ -1,3 +1,5 @@
+pub mod Leaves
+pub mod Facts
 pub mod Judged
 pub mod Nests
 pub mod Perfect

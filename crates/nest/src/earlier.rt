@@ -1,18 +1,20 @@
 //! Which of two faults is told.
 
-ghost use Rattle.std.specs.Prelude.{◌≡◌, ◌⊎◌, IsOk, MatchResult, ⊤};
+ghost use Rattle.std.specs.Prelude.{◌≡◌, ◌⊎◌, ◌↔◌, true, IsNone, IsOk, MatchResult, ⊤};
+ghost use Rattle.affine_expr.specs.declared.faults.Fault.TheVariants.{OutOfMemory};
 ghost use Rattle.std.specs.declared.result.Result.TheVariants.{Err};
 
 use affine_expr::Fault;
 use ktree::Place;
 
 /// Where a fault stands; want of memory stands nowhere.
-fn place_of(fault: Fault) -> Option<Place> {
+fn place_of(fault: Fault) -> Option<Place>
+    ensures { IsNone result ↔ (fault ≡ OutOfMemory) }
+{
     match fault {
         Fault::NotCanonical(place)
         | Fault::MayWrap(place)
         | Fault::NotAffine(place)
-        | Fault::OutOfRange(place)
         | Fault::NotPerfect(place)
         | Fault::Limit(place) => Some(place),
         Fault::OutOfMemory => None,
@@ -20,7 +22,9 @@ fn place_of(fault: Fault) -> Option<Place> {
 }
 
 /// Whether the second of two faults is told: it stands earlier in the text, or has the lower number at the same place.
-fn is_second(first: Fault, second: Fault) -> bool {
+fn is_second(first: Fault, second: Fault) -> bool
+    ensures { first ≡ OutOfMemory → result ≡ true → second ≡ OutOfMemory }
+{
     let Some(second_place) = place_of(second) else {
         return true;
     };
@@ -34,6 +38,23 @@ fn is_second(first: Fault, second: Fault) -> bool {
         return second_place.column < first_place.column;
     }
     second.refusal().number() < first.refusal().number()
+}
+
+/// The fault that stands first in the text, or the one with the lower number at the same place; the first, if there is no
+/// other.
+pub fn first_fault(first: Fault, second: Result<(), Fault>) -> Fault
+    ensures { first ≡ OutOfMemory → result ≡ OutOfMemory }
+{
+    match second {
+        Ok(()) => first,
+        Err(second) => {
+            if is_second(first, second) {
+                second
+            } else {
+                first
+            }
+        }
+    }
 }
 
 /// Whether both are well; of two faults the one that stands first in the text is told, and of two at one place the one with

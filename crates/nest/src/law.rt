@@ -13,7 +13,7 @@ pub fn refusals_have_turns()
     ensures { RefusalsHaveTurns }
 {}
 
-/// The box that [`crate::in_range`] has inside loops with constant bounds is the one that these laws are about.
+/// The box that [`crate::nests`] has inside loops with constant bounds is the one that these laws are about.
 pub fn constant_loops_make_boxes()
     ensures { ConstantLoopsMakeBoxes }
 {}

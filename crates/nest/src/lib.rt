@@ -10,10 +10,9 @@ mod kernels;
 mod law;
 mod objects;
 mod perfect;
-mod question;
 mod statements;
 
 pub use heads::{Level, as_loop};
-pub use kernels::{in_range, nests};
+pub use kernels::{LoopTable, nests};
 pub use law::{constant_loops_make_boxes, ranges_are_exact, refusals_have_turns};
 pub use perfect::Nest;

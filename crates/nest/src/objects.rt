@@ -1,12 +1,12 @@
 //! Objects that are named inside loops.
 
-ghost use Rattle.std.specs.Prelude.{◌≡◌, ℤ, pos, ◌≤ℤ◌, ◌<ℤ◌, ◌↔◌, map, length, slice_get, IsTrue, MatchOption};
+ghost use Rattle.std.specs.Prelude.{◌≡◌, ℤ, pos, ◌≤ℤ◌, ◌<ℤ◌, ◌↔◌, true, map, length, slice_get, is_some, IsTrue, IfOk, MatchOption};
 ghost use Rattle.ktree.specs.View.{expr_of, exprs_of, declaration_of};
-ghost use Rattle.affine_expr.specs.Forms.{form_of};
-ghost use Rattle.nest.specs.Nests.{StaysBelow, AllStay, lengths_of, StaysInside};
-ghost use Rattle.nest.specs.Judged.{asked, Decides};
+ghost use Rattle.affine_expr.specs.Forms.{form_of, are_affine};
+ghost use Rattle.nest.specs.Nests.{IsAffine, StaysBelow, AllStay, lengths_of};
+ghost use Rattle.nest.specs.Leaves.{LeavesDimension, SomeLeaves};
+ghost use Rattle.nest.specs.Judged.{inside_of, out_of, Decides, Tells};
 
-use crate::question::Question;
 use affine::VarBox;
 use affine_expr::{Fault, are_affine, form_of, subscript_place};
 use ktree::{Declaration, Expr, NamePlaces, Place, VarId};
@@ -33,69 +33,76 @@ fn are_indexes(range: Option<(i128, i128)>, length: u64) -> bool
     }
 }
 
-/// Whether a subscript is affine and stays below its dimension's length, wherever in the box.
-fn stays_below(
+/// The place of a subscript, where it leaves its dimension somewhere in the box.
+fn leaving(
     alloc: Global,
     length: u64,
     subscript: &Expr,
     bounds: &VarBox,
     place: Place,
-) -> Result<(), Fault>
-    ensures { Decides result
-        (StaysBelow bounds.now length (form_of bounds.now (expr_of subscript.now))) }
+) -> Result<Option<Place>, Fault>
+    ensures affine { Decides result
+        (is_some (form_of bounds.now (expr_of subscript.now)) ≡ true) }
+    ensures leaves { IfOk result
+        (Tells (StaysBelow bounds.now length (form_of bounds.now (expr_of subscript.now)))
+        (LeavesDimension bounds.now length (form_of bounds.now (expr_of subscript.now)))) }
 {
     let form = form_of(alloc, subscript, bounds, place)?;
     if are_indexes(form.range(bounds), length) {
-        Ok(())
+        Ok(None)
     } else {
-        Err(Fault::OutOfRange(place))
+        Ok(Some(place))
     }
 }
 
-/// Whether all subscripts of an array of these lengths do; `at` counts those before them.
-fn all_stay(
+/// The place of the first subscript that does, of as many as lengths; `at` counts those before them.
+fn first_leaving(
     alloc: Global,
     lengths: &[u64],
     subscripts: &[Expr],
     mention: &NamePlaces,
     at: usize,
     bounds: &VarBox,
-) -> Result<(), Fault>
-    ensures { Decides result (AllStay bounds.now lengths.now (exprs_of subscripts.now)) }
+) -> Result<Option<Place>, Fault>
+    requires { length lengths.now ≡ length subscripts.now }
+    ensures affine { Decides result
+        (are_affine bounds.now (exprs_of subscripts.now) ≡ true) }
+    ensures leaves { IfOk result
+        (Tells (AllStay bounds.now lengths.now (exprs_of subscripts.now))
+        (SomeLeaves bounds.now lengths.now (exprs_of subscripts.now))) }
 {
     let Some((length, lengths)) = lengths.split_first() else {
-        return if subscripts.is_empty() {
-            Ok(())
-        } else {
-            Err(Fault::OutOfRange(mention.name))
-        };
+        return Ok(None);
     };
     let Some((subscript, subscripts)) = subscripts.split_first() else {
-        return Err(Fault::OutOfRange(mention.name));
+        return Ok(None);
     };
     let place = subscript_place(mention, at);
-    stays_below(alloc, *length, subscript, bounds, place)?;
+    let first = leaving(alloc, *length, subscript, bounds, place)?;
     let next = at.saturating_add(1);
-    all_stay(alloc, lengths, subscripts, mention, next, bounds)
+    let others = first_leaving(alloc, lengths, subscripts, mention, next, bounds)?;
+    Ok(first.or(others))
 }
 
-/// Whether what is asked holds of an object.
+/// Where the first subscript of an object leaves its array, if each is affine.
 pub fn object(
     alloc: Global,
-    question: Question<'_>,
+    variables: &[Declaration],
     bounds: &VarBox,
     variable: VarId,
     subscripts: &[Expr],
     mention: &NamePlaces,
-) -> Result<(), Fault>
-    ensures { Decides result
-        (asked question.entry bounds.now variable.0 (exprs_of subscripts.now)) }
+) -> Result<Option<Place>, Fault>
+    ensures affine { Decides result
+        (IsAffine bounds.now variable.0 (exprs_of subscripts.now)) }
+    ensures leaves { IfOk result
+        (Tells (inside_of variables.now bounds.now variable.0 (exprs_of subscripts.now))
+        (out_of variables.now bounds.now variable.0 (exprs_of subscripts.now))) }
 {
-    match question {
-        Question::Affine => are_affine(alloc, subscripts, mention, bounds),
-        Question::InRange(variables) => {
-            let lengths = lengths(variables, variable);
-            all_stay(alloc, lengths, subscripts, mention, 0, bounds)
-        }
+    let lengths = lengths(variables, variable);
+    if lengths.len() != subscripts.len() {
+        are_affine(alloc, subscripts, mention, bounds)?;
+        return Ok(Some(mention.name));
     }
+    first_leaving(alloc, lengths, subscripts, mention, 0, bounds)
 }

@@ -1,29 +1,28 @@
 //! The nests of parallel loops (OpenMP 5.2, 4.4.1 to 4.4.3).
 
-ghost use Rattle.std.specs.Prelude.{◌≡◌, ◌⊎◌, ◌*◌, ◌≤◌, ◌^◌, ℕ, false, List, ◌++◌, length, IfOk, IfErr, IfSome, OnOk, MatchOption, Some};
+ghost use Rattle.std.specs.Prelude.{◌≡◌, ◌⊎◌, ◌*◌, ◌≤◌, ◌^◌, ℕ, false, List, ◌++◌, length, IfOk, IfErr, IfSome, OnOk, OnErr, MatchOption, Some};
 ghost use Rattle.std.specs.Option.{SomeIff};
 ghost use Rattle.ktree.specs.View.{stmt_of};
-ghost use Rattle.affine.specs.Box.{EndsFit};
-ghost use Rattle.affine.specs.declared.interval.Interval as intervals;
 ghost use Rattle.affine_expr.specs.Forms.{is_counter};
 ghost use Rattle.affine_expr.specs.declared.faults.Fault.TheVariants.{OutOfMemory};
 ghost use Rattle.nest_loop.specs.Canonical.{canonical};
 ghost use Rattle.nest_loop.specs.declared.head.Canonical as canonicals;
-ghost use Rattle.nest_loop.specs.Loops.{inside};
 ghost use Rattle.nest.specs.Heads.{head_of};
-ghost use Rattle.nest.specs.Judged.{Decides};
+ghost use Rattle.nest.specs.Facts.{FactsOf, product_of};
+ghost use Rattle.nest.specs.Judged.{Decides, DecidesBy};
 ghost use Rattle.nest_space.specs.Space.{Turns, IsSpace};
 ghost use Rattle.nest_space.specs.Nests.{given, AreModest, AreRunsOf};
 ghost use Rattle.nest_space.specs.Heads.{HasIterations};
-ghost use Rattle.nest.specs.Perfect.{NestHas, AreRectangular, TurnsMost, HasProduct, IsRightNest};
+ghost use Rattle.nest.specs.Perfect.{NestHas, AreRectangular, IsRightNest};
 
+use crate::directed::Found;
 use crate::earlier::both;
 use crate::heads::{as_loop, depends_on_nest, is_perfect};
-use affine::{Interval, VarBox};
+use affine::VarBox;
 use affine_expr::Fault;
 use ktree::limits::ITERATIONS;
 use ktree::{Head, Place, Stmt};
-use nest_loop::{Canonical, canonical_of, greatest_trip_count, side, wraps};
+use nest_loop::{Canonical, LoopFacts, canonical_of};
 use nest_space::{Space, Value};
 use std::alloc::Global;
 
@@ -94,32 +93,6 @@ fn forms(
     Ok(forms)
 }
 
-/// The numbers of a loop's variable, and how often the loop turns at most.
-#[derive(Clone, Copy)]
-struct Turning {
-    numbers: Interval,
-    most: u64,
-}
-
-/// How a loop inside those of a box turns.
-fn turns_of(alloc: Global, head: &Head, bounds: &VarBox) -> Result<Turning, Fault>
-    ensures ok { IfOk result (λ turning. TurnsMost bounds.now (head_of head.now) turning.numbers
-        turning.most) }
-    ensures fits { IfOk result (λ turning. EndsFit turning.numbers.least turning.numbers.greatest) }
-    ensures err { IfErr result
-        (λ fault. (fault ≡ OutOfMemory)
-        ⊎ ((i : intervals.Interval) (n : ℕ) → TurnsMost bounds.now (head_of head.now) i n
-        → ⊥)) }
-{
-    let canonical = canonical_of(alloc, head, bounds)?;
-    if wraps(&canonical, bounds, head.place)? {
-        return Err(Fault::MayWrap(head.place));
-    }
-    let most = greatest_trip_count(alloc, &canonical, bounds, head.place)?;
-    let numbers = side(&canonical, bounds);
-    Ok(Turning { numbers, most })
-}
-
 /// So many times a product, if at most 2^24.
 fn within(count: u64, rest: Option<u64>) -> Option<u64>
     ensures { (n : ℕ) → SomeIff rest (n ≤ 2 ^ 24) n
@@ -138,64 +111,29 @@ fn within(count: u64, rest: Option<u64>) -> Option<u64>
     }
 }
 
-/// Goes into a loop whose variable has these numbers.
-fn go_into(head: &Head, numbers: Interval, bounds: &mut VarBox) -> Result<(), Fault>
-    requires { EndsFit numbers.least numbers.greatest }
-    ensures ok { OnOk result (bounds.new ≡ inside bounds.old (head_of head.now).variable numbers) }
-    ensures err { IfErr result (λ fault. fault ≡ OutOfMemory) }
-{
-    let least = i128::from(numbers.least);
-    let greatest = i128::from(numbers.greatest);
-    match bounds.bind(head.variable, least, greatest, head.place) {
-        Ok(()) => Ok(()),
-        Err(_) => Err(Fault::OutOfMemory),
-    }
-}
-
-/// The greatest counts of so many loops, one directly in the other, multiplied, if they are at most 2^24.
-fn product(
-    alloc: Global,
-    depth: u64,
-    statement: &Stmt,
-    bounds: &mut VarBox,
-    place: Place,
-) -> Result<Option<u64>, Fault>
-    ensures ok { IfOk result (λ product. NestHas
-        (λ loops. (n : ℕ) × HasProduct bounds.old loops n × SomeIff product (n ≤ 2 ^ 24) n) depth
-        (stmt_of statement.now)) }
-    ensures back { OnOk result (bounds.new ≡ bounds.old) }
-    ensures err { IfErr result
-        (λ fault. (fault ≡ OutOfMemory)
-        ⊎ (NestHas (λ loops. (n : ℕ) × HasProduct bounds.old loops n) depth
-        (stmt_of statement.now) → ⊥)) }
+/// How often the first of some loops turn at most, multiplied, if that is at most 2^24.
+fn product(depth: u64, loops: &[LoopFacts]) -> Option<u64>
+    ensures { SomeIff result (product_of depth loops.now ≤ 2 ^ 24) (product_of depth loops.now) }
 {
     if depth == 0 {
-        return Ok(Some(1));
+        return Some(1);
     }
-    let Some(level) = as_loop(statement) else {
-        return Err(Fault::NotPerfect(place));
+    let Some((first, inner)) = loops.split_first() else {
+        return Some(1);
     };
-    let turning = turns_of(alloc, level.head, bounds)?;
-    go_into(level.head, turning.numbers, bounds)?;
-    let inner = product(alloc, depth - 1, level.body, bounds, place)?;
-    bounds.unbind();
-    Ok(within(turning.most, inner))
+    within(first.trip_count, product(depth - 1, inner))
 }
 
 /// Whether so many loops have few iterations.
-fn is_small(
-    alloc: Global,
-    depth: u64,
-    statement: &Stmt,
-    bounds: &mut VarBox,
-    place: Place,
-) -> Result<(), Fault>
-    ensures decides { Decides result
-        (NestHas (λ loops. (n : ℕ) × HasProduct bounds.old loops n × (n ≤ 2 ^ 24)) depth
-        (stmt_of statement.now)) }
-    ensures back { OnOk result (bounds.new ≡ bounds.old) }
+fn is_small(depth: u64, found: Found<'_>, place: Place) -> Result<(), Fault>
+    ensures ok { OnOk result (product_of depth found.entry.loops.now ≤ 2 ^ 24) }
+    ensures err { OnErr result (depth ≤ length found.entry.loops.now
+        → product_of depth found.entry.loops.now ≤ 2 ^ 24 → ⊥) }
 {
-    match product(alloc, depth, statement, bounds, place)? {
+    if (found.loops.len() as u64) < depth {
+        return Err(found.missing);
+    }
+    match product(depth, found.loops) {
         Some(_) => Ok(()),
         None => Err(Fault::Limit(place)),
     }
@@ -225,23 +163,24 @@ fn first_place(statement: &Stmt, directive: Place) -> Place {
     }
 }
 
-/// Whether a statement behind a directive line at a place is a right nest of so many loops.
+/// Whether a statement behind a directive line at a place is a right nest of so many loops, by the facts of its loops.
 pub fn right_nest(
     alloc: Global,
     depth: u64,
     statement: &Stmt,
-    bounds: &mut VarBox,
+    found: Found<'_>,
+    bounds: &VarBox,
     directive: Place,
 ) -> Result<(), Fault>
-    ensures decides { Decides result (IsRightNest bounds.old depth (stmt_of statement.now)) }
-    ensures back { OnOk result (bounds.new ≡ bounds.old) }
+    ensures { DecidesBy (FactsOf bounds.now (stmt_of statement.now) found.entry.loops.now) result
+        (IsRightNest bounds.now depth (stmt_of statement.now)) }
 {
     let place = first_place(statement, directive);
     if !is_perfect(depth, statement) {
         return Err(Fault::NotPerfect(place));
     }
     let rectangular = is_rectangular(alloc, depth, statement, bounds, place);
-    let small = is_small(alloc, depth, statement, bounds, place);
+    let small = is_small(depth, found, place);
     both(small, rectangular)
 }
 

@@ -1,6 +1,6 @@
 -- How often a loop turns.
 use Rattle.std.specs.Prelude.{ℕ, Bool, true, false, nat_lt, ◌≡◌, ◌≤◌, ◌<◌, ◌+◌, ◌*◌, ◌/◌, ◌^◌, ◌↔◌, unsigned_abs, ℤ, pos, negsuc, ◌+ℤ◌, ◌-ℤ◌, ◌≤ℤ◌, ◌<ℤ◌, List}
-use Rattle.std.proofs.Common.{refl, sym, ap, ◌∙◌, subst, arith, mul-le-mul_left}
+use Rattle.std.proofs.Common.{refl, sym, ap, ◌∙◌, subst, arith}
 use Rattle.std.proofs.lemmas.Int.{ints}
 use Rattle.std.proofs.lemmas.Bool.Decides.{Decides-ltb, nat_tests}
 use Rattle.semantics.specs.Tree.{Variable}
@@ -14,7 +14,7 @@ use Rattle.nest_loop.specs.declared.stride.Stride.{Stride}
 use Rattle.nest_loop.specs.declared.stride.Bound.{Bound}
 use Rattle.nest_loop.specs.declared.stride.Bound.TheVariants.{Strict, Inclusive, Unequal}
 use Rattle.nest_loop.specs.declared.head.Canonical.{Canonical}
-use Rattle.nest_loop.specs.Sides.{IsCount, IsBefore, after_steps, moved, end_shift, end_of, IsModest, Stays, CannotWrap}
+use Rattle.nest_loop.specs.Sides.{IsCount, IsBefore, after_steps, moved, end_shift, end_of, CannotWrap}
 use Rattle.nest_loop.specs.Most.{way, distance, AreWithin, TurnsAt, IsMost, somewhere}
 use Rattle.nest_loop.proofs.Steps.{counts}
 

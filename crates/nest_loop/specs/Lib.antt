@@ -6,3 +6,4 @@ pub mod Whole
 pub mod Loops
 pub mod Turn
 pub mod Most
+pub mod Facts

@@ -1,19 +1,21 @@
 //! Loops that a walk enters.
 
-ghost use Rattle.std.specs.Prelude.{◌≡◌, ◌⊎◌, IfOk, IfErr, OnErr};
+ghost use Rattle.std.specs.Prelude.{◌≡◌, ◌⊎◌, IfOk, IfErr, OnOk, OnErr};
 ghost use Rattle.ktree.specs.View.{source_of, cond_of, increment_of, stmt_of};
 ghost use Rattle.affine.specs.Box.{EndsFit};
 ghost use Rattle.affine.specs.declared.interval.Interval as intervals;
 ghost use Rattle.affine_expr.specs.declared.faults.Fault.TheVariants.{OutOfMemory};
 ghost use Rattle.nest_loop.specs.declared.head.Canonical as canonicals;
 ghost use Rattle.nest_loop.specs.Loops.{IsLoop, inside};
+ghost use Rattle.nest_loop.specs.Facts.{AreFactsOf};
 
 use crate::assigned::assigns;
 use crate::head::{Canonical, canonical_of};
+use crate::most::greatest_trip_count;
 use crate::walked::side;
 use crate::wrapping::wraps;
 use affine::{Interval, VarBox};
-use affine_expr::Fault;
+use affine_expr::{Fault, fault_of_refusal};
 use ktree::limits::NESTED_LOOPS;
 use ktree::{Head, Stmt};
 use std::alloc::Global;
@@ -78,7 +80,54 @@ pub fn loop_of(alloc: Global, head: &Head, body: &Stmt, bounds: &VarBox) -> Resu
     Ok(Loop { canonical, numbers })
 }
 
-/// The loop of a head inside those of a box, which then has the numbers of its variable too (OpenMP 5.2, 4.4.1 and 4.4.2).
+/// What is found of a loop: its canonical form, the numbers that its variable may have, and how often it turns at most
+/// (OpenMP 5.2, 4.4.1 and 4.4.2).
+#[derive(Drop)]
+pub struct LoopFacts {
+    pub canonical: Canonical,
+    pub numbers: Interval,
+    pub trip_count: u64,
+}
+
+/// The facts of the loop of a head inside those of a box.
+fn facts_of(alloc: Global, head: &Head, body: &Stmt, bounds: &VarBox) -> Result<LoopFacts, Fault>
+    ensures ok { IfOk result (AreFactsOf bounds.now head.now (stmt_of body.now)) }
+    ensures fault { IfErr result
+        (λ fault. (fault ≡ OutOfMemory)
+        ⊎ ((l : canonicals.Canonical) (i : intervals.Interval)
+        → IsLoop bounds.now head.now.variable.0 (source_of head.now.start)
+        (cond_of head.now.test) (increment_of head.now.step) (stmt_of body.now) l i → ⊥)) }
+{
+    let made = loop_of(alloc, head, body, bounds)?;
+    let trip_count = greatest_trip_count(alloc, &made.canonical, bounds, head.place)?;
+    Ok(LoopFacts {
+        canonical: made.canonical,
+        numbers: made.numbers,
+        trip_count,
+    })
+}
+
+/// Goes into a loop whose variable has these numbers: the box has them too.
+///
+/// # Errors
+///
+/// `Limit` at the `for`, where the numbers are not within 2^33; `OutOfMemory`. The box is then as it was.
+pub fn go_into(head: &Head, numbers: Interval, bounds: &mut VarBox) -> Result<(), Fault>
+    ensures ok { OnOk result (bounds.new ≡ inside bounds.old head.now.variable.0 numbers) }
+    ensures same { OnErr result (bounds.new ≡ bounds.old) }
+    ensures err { IfErr result
+        (λ fault. (fault ≡ OutOfMemory) ⊎ (EndsFit numbers.least numbers.greatest → ⊥)) }
+{
+    let least = i128::from(numbers.least);
+    let greatest = i128::from(numbers.greatest);
+    match bounds.bind(head.variable, least, greatest, head.place) {
+        Ok(()) => Ok(()),
+        Err(refusal) => Err(fault_of_refusal(refusal, head.place)),
+    }
+}
+
+/// The facts of the loop of a head inside those of a box, which then has the numbers of its variable too (OpenMP 5.2, 4.4.1
+/// and 4.4.2).
 ///
 /// # Errors
 ///
@@ -88,11 +137,10 @@ pub fn enter(
     head: &Head,
     body: &Stmt,
     bounds: &mut VarBox,
-) -> Result<Canonical, Fault>
-    ensures ok { IfOk result (λ l. (i : intervals.Interval)
-        × IsLoop bounds.old head.now.variable.0 (source_of head.now.start) (cond_of head.now.test)
-        (increment_of head.now.step) (stmt_of body.now) l i
-        × (bounds.new ≡ inside bounds.old head.now.variable.0 i)) }
+) -> Result<LoopFacts, Fault>
+    ensures ok { IfOk result (AreFactsOf bounds.old head.now (stmt_of body.now)) }
+    ensures inside { IfOk result
+        (λ facts. bounds.new ≡ inside bounds.old head.now.variable.0 facts.numbers) }
     ensures err { OnErr result (bounds.new ≡ bounds.old) }
     ensures fault { IfErr result
         (λ fault. (fault ≡ OutOfMemory)
@@ -100,11 +148,7 @@ pub fn enter(
         → IsLoop bounds.old head.now.variable.0 (source_of head.now.start)
         (cond_of head.now.test) (increment_of head.now.step) (stmt_of body.now) l i → ⊥)) }
 {
-    let made = loop_of(alloc, head, body, bounds)?;
-    let least = i128::from(made.numbers.least);
-    let greatest = i128::from(made.numbers.greatest);
-    match bounds.bind(head.variable, least, greatest, head.place) {
-        Ok(()) => Ok(made.canonical),
-        Err(_) => Err(Fault::OutOfMemory),
-    }
+    let facts = facts_of(alloc, head, body, bounds)?;
+    go_into(head, facts.numbers, bounds)?;
+    Ok(facts)
 }

@@ -13,7 +13,7 @@ mod walked;
 mod wrapping;
 
 pub use assigned::assigns;
-pub use entered::{Loop, enter, loop_of};
+pub use entered::{Loop, LoopFacts, enter, go_into, loop_of};
 pub use head::{Canonical, canonical_of};
 pub use mentioned::{mentions, source_mentions};
 pub use most::{distance, greatest_trip_count, trip_count_within};

@@ -4,15 +4,20 @@ use Rattle.semantics.specs.Tree.{Kernel}
 use Rattle.semantics.specs.Source.Grammar.{ReadsText}
 use Rattle.semantics.specs.Meaning.Definite.{IsDefinite, no_privates}
 use Rattle.ktree.specs.Numbers.{number_of}
+use Rattle.ktree.specs.declared.place.Place.{Place}
 use Rattle.ktree.specs.declared.refusal.Refusal.{Refusal}
-use Rattle.ktree.specs.declared.refusal.Refusal.TheVariants.{OutOfMemory}
+use Rattle.ktree.specs.declared.refusal.Refusal.TheVariants.{OutOfMemory, SubscriptOutOfRange}
 use Rattle.cparse.specs.Parsed.{RefusesTree}
+use Rattle.semantics.specs.Directives.Annotated.{Directives}
+use Rattle.semantics.specs.Directives.Naming.{IsAttached}
 use Rattle.pragma.specs.Plain.{IsDirected}
+use Rattle.pragma_attach.specs.Faults.{IsOfDirectives}
 use Rattle.pragma.specs.Faults as lines
 use Rattle.pragma.specs.declared.faults.Fault as line_faults
 use Rattle.affine_expr.specs.Faults as loops
 use Rattle.affine_expr.specs.declared.faults.Fault as loop_faults
-use Rattle.nest.specs.Nests.{IsNested, IsInRange}
+use Rattle.nest.specs.Nests.{IsNested}
+use Rattle.nest.specs.Leaves.{LeavesSomewhere}
 use Rattle.nest.specs.Perfect.{AreRightNests}
 use Rattle.pragma.specs.Parallel.{ItemsHave}
 use Rattle.flow.specs.Private.{IsPrivate, TellsOfItems, data_refusal_of}
@@ -24,13 +29,17 @@ use Rattle.deptest.specs.Refused.{RefusesLoops}
 abbrev pub RefusesNests : List ℕ → Kernel → Refusal → Type 0
 RefusesNests text tree r = (r ≡ OutOfMemory) ⊎ ((f : loop_faults.Fault) × (r ≡ loops.refusal_of f) × (IsNested tree × AreRightNests text tree → ⊥))
 
--- memory was refused, or a subscript leaves its array
+-- a subscript leaves its array
 abbrev pub RefusesRanges : Kernel → Refusal → Type 0
-RefusesRanges tree r = (r ≡ OutOfMemory) ⊎ ((f : loop_faults.Fault) × (r ≡ loops.refusal_of f) × (IsInRange tree → ⊥))
+RefusesRanges tree r = (place : Place) × (r ≡ SubscriptOutOfRange place) × LeavesSomewhere tree
 
--- a directive line is no `parallel for` before a loop, or stands inside a parallel loop
+-- K03, K11, K13 or K21: the text's directives are not attached to the tree, since one is not read, does not stand where it may, or names what is no variable or one twice
+abbrev pub RefusesDirectives : List ℕ → Kernel → Refusal → Type 0
+RefusesDirectives text tree r = IsOfDirectives r × ((ds : Directives) → IsAttached text tree ds → ⊥)
+
+-- memory was refused, or so it is; or a directive line is no `parallel for` of the known clauses before a loop, or stands inside a parallel loop (K11, K21)
 abbrev pub RefusesLines : List ℕ → Kernel → Refusal → Type 0
-RefusesLines text tree r = (f : line_faults.Fault) × (r ≡ lines.refusal_of f) × (IsDirected text tree → ⊥)
+RefusesLines text tree r = (r ≡ OutOfMemory) ⊎ (RefusesDirectives text tree r ⊎ ((f : line_faults.Fault) × (r ≡ lines.refusal_of f) × (IsDirected text tree → ⊥)))
 
 -- a local may be read before it is assigned; or a parallel loop writes a shared scalar, or prints, or a line has no nest, whichever is told
 abbrev pub RefusesData : List ℕ → Kernel → Refusal → Type 0

@@ -12,6 +12,7 @@ ghost use Rattle.semantics.specs.Meaning.Definite.{IsDefinite, no_privates};
 ghost use Rattle.pragma.specs.Plain.{IsDirected};
 ghost use Rattle.nest.specs.Nests.{IsInRange};
 ghost use Rattle.nest.specs.Perfect.{AreRightNests};
+ghost use Rattle.nest.specs.Judged.{IsTableOf};
 ghost use Rattle.deptest.specs.Accepted.{tree_of, HasPassed, IsAccepted};
 ghost use Rattle.ompk.specs.Refused.{RefusesLines, RefusesNests, RefusesRanges, RefusesData, RefusesPasses, RefusesKernel, RefusesText};
 
@@ -19,38 +20,46 @@ use cparse::parse;
 use deptest::{Checked, accept};
 use flow::{DataFault, ParallelLoop, classify, definite};
 use ktree::{Kernel, Place, Refusal};
-use nest::{in_range, nests};
+use nest::{LoopTable, nests};
 use pragma::{Directives, first_fault};
+use pragma_attach::attach;
 use std::alloc::Global;
 
-// Refuses a kernel with a directive line that is no `parallel for` before a loop, or stands inside a parallel loop.
-fn judge_lines(kernel: &Kernel, directives: &Directives) -> Result<(), Refusal>
+// Refuses a kernel with a directive line that is none, does not stand where it may or names what is no variable, and one with
+// a line that is no `parallel for` of the known clauses before a loop.
+fn judge_lines(alloc: Global, kernel: &Kernel, directives: &Directives) -> Result<(), Refusal>
     ensures ok { IfOk result (λ _. IsDirected directives.now (kernel_of kernel.now)) }
     ensures refusal { IfErr result (RefusesLines directives.now (kernel_of kernel.now)) }
 {
+    attach(alloc, kernel, directives)?;
     match first_fault(kernel, directives) {
         None => Ok(()),
         Some(fault) => Err(fault.refusal()),
     }
 }
 
-// Refuses a kernel whose loops are not canonical or may wrap, with a subscript that is not affine, or with a nest behind a
-// directive line that is not perfect or not rectangular, or has too many iterations.
-fn judge_nests(alloc: Global, kernel: &Kernel, directives: &Directives) -> Result<(), Refusal>
+// Finds the facts of a kernel's loops, and refuses one whose loops are not canonical or may wrap, with a subscript that is not affine,
+// or with a nest behind a directive line that is not perfect or not rectangular, or has too many iterations.
+fn judge_nests(
+    alloc: Global,
+    kernel: &Kernel,
+    directives: &Directives,
+) -> Result<LoopTable, Refusal>
     ensures ok { IfOk result (λ _. AreRightNests directives.now (kernel_of kernel.now)) }
+    ensures table { IfOk result (IsTableOf (kernel_of kernel.now)) }
     ensures refusal { IfErr result (RefusesNests directives.now (kernel_of kernel.now)) }
 {
-    nests(alloc, kernel, directives)?;
-    Ok(())
+    let table = nests(alloc, kernel, directives)?;
+    Ok(table)
 }
 
 // Refuses a kernel with a subscript that leaves its array.
-fn judge_ranges(alloc: Global, kernel: &Kernel) -> Result<(), Refusal>
+fn judge_ranges(kernel: &Kernel, table: &LoopTable) -> Result<(), Refusal>
+    requires { IsTableOf (kernel_of kernel.now) table.now }
     ensures ok { IfOk result (λ _. IsInRange (kernel_of kernel.now)) }
     ensures refusal { IfErr result (RefusesRanges (kernel_of kernel.now)) }
 {
-    in_range(alloc, kernel)?;
-    Ok(())
+    ranges::check(kernel, table)
 }
 
 // Whether one place of the text is before another.
@@ -108,10 +117,10 @@ fn judge(
         loops.items) }
     ensures refusal { IfErr result (RefusesPasses directives.now (kernel_of kernel.now)) }
 {
-    judge_lines(kernel, directives)?;
-    judge_nests(alloc, kernel, directives)?;
+    judge_lines(alloc, kernel, directives)?;
+    let table = judge_nests(alloc, kernel, directives)?;
     let loops = judge_data(alloc, kernel, directives)?;
-    judge_ranges(alloc, kernel)?;
+    judge_ranges(kernel, &table)?;
     Ok(loops)
 }
 

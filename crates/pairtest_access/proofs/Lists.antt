@@ -1,16 +1,20 @@
 -- Lists that grow at their end.
-use Rattle.std.specs.Prelude.{ℕ, zero, suc, ◌+◌, ◌≡◌, ◌<◌, ◌⊎◌, None, List, [], ◌∷◌, ◌++◌, length, get_or, take}
+use Rattle.std.specs.Prelude.{ℕ, zero, suc, ◌+◌, ◌≡◌, ◌<◌, ◌⊎◌, Some, None, List, [], ◌∷◌, ◌++◌, length, get_or, take}
 use Rattle.std.proofs.Common.{inl, inr, sym, ap, ◌∙◌, subst, arith}
 use Rattle.std.proofs.lemmas.List.{take_more}
+use Rattle.std.proofs.lemmas.Option.{none-some}
 use Rattle.semantics.specs.Tree
 use Rattle.ktree.specs.View.{expr_of, exprs_of}
 use Rattle.ktree.specs.declared.expression.Expr.{Expr}
+use Rattle.ktree.specs.declared.place.Place.{Place}
+use Rattle.affine.specs.Affine.{Affine}
+use Rattle.affine.specs.declared.interval.Side.{Side}
 use Rattle.affine_expr.specs.Forms.{form_of}
 use Rattle.affine_expr.specs.declared.faults.Fault.{Fault}
-use Rattle.affine_expr.specs.declared.faults.Fault.TheVariants.{OutOfMemory}
+use Rattle.affine_expr.specs.declared.faults.Fault.TheVariants.{OutOfMemory, Limit}
 use Rattle.pairtest_counter.specs.Levels.{Nesting}
 use Rattle.pairtest.specs.declared.access.Subscript.{Subscript}
-use Rattle.pairtest_access.specs.Refused.{Because}
+use Rattle.pairtest_access.specs.Refused.{Because, AreNotAffine, SubscriptFails, SubscriptsFail}
 use Rattle.pairtest_access.specs.Found.{AreEach, IsSubscript}
 
 -- one subscript more
@@ -40,7 +44,27 @@ pub each_refused : {A : Type 0} (P : Tree.Expr → A → Type 0) (es : List Expr
 each_refused P es i e fault lt is (inl m) = inl m
 each_refused P es i e fault lt is (inr none) = inr (λ xs. none_each P es i e xs lt is none)
 
--- without a form there is no subscript
-pub no_subscript : (n : Nesting) (e : Tree.Expr) (fault : Fault) → (fault ≡ OutOfMemory) ⊎ (form_of n.box e ≡ None) → Because ((t : Subscript) → IsSubscript n e t → ⊥) fault
-no_subscript n e fault (inl m) = inl m
-no_subscript n e fault (inr none) = inr (λ t h. let of = h.of in absurd cc)
+-- without a form a subscript is not affine
+pub no_form : (box : List Side) (e : Tree.Expr) (fault : Fault) → (fault ≡ OutOfMemory) ⊎ (form_of box e ≡ None) → Because ((f : Affine) → form_of box e ≡ Some f → ⊥) fault
+no_form box e fault (inl m) = inl m
+no_form box e fault (inr none) = inr (λ f h. none-some f (sym none ∙ h))
+
+-- with one subscript fail all
+pub all_fail : (n : Nesting) (es : List Expr) (i : ℕ) (e : Expr) (fault : Fault) → i < length es → e ≡ get_or es i e → Because (SubscriptFails n (expr_of e) fault) fault
+    → Because (SubscriptsFail n (exprs_of es) fault) fault
+all_fail n es i e fault lt is (inl m) = inl m
+all_fail n es i e fault lt is (inr (inl none)) = inr (inl (λ fs. none_each (λ d f. form_of n.box d ≡ Some f) es i e fs lt is (λ f h. none-some f (sym none ∙ h))))
+all_fail n es i e fault lt is (inr (inr (limit, none))) = inr (inr (limit, λ ts. none_each (IsSubscript n) es i e ts lt is none))
+
+-- subscripts in the counters have forms in the variables
+have_forms : (n : Nesting) (es : Tree.Exprs) (ts : List Subscript) → AreEach (IsSubscript n) es ts → (fs : List Affine) × AreEach (λ e f. form_of n.box e ≡ Some f) es fs
+have_forms n Tree.no_exprs [] h = ([], tt)
+have_forms n Tree.no_exprs (t ∷ ts) h = absurd h
+have_forms n (Tree.more_exprs e es) [] h = absurd h
+have_forms n (Tree.more_exprs e es) (t ∷ ts) h = let rest = have_forms n es ts h.1 in (h.0.form ∷ rest.0, (h.0.of, rest.1))
+
+-- where subscripts fail by a limit, there are none
+pub limit_lacks : (n : Nesting) (es : Tree.Exprs) (fault : Fault) (place : Place) → fault ≡ Limit place → Because (SubscriptsFail n es fault) fault → (ts : List Subscript) → AreEach (IsSubscript n) es ts → ⊥
+limit_lacks n es fault place is (inl m) ts h = let e = sym is ∙ m in cc e
+limit_lacks n es fault place is (inr (inl none)) ts h = let fs = have_forms n es ts h in none fs.0 fs.1
+limit_lacks n es fault place is (inr (inr (limit, none))) ts h = none ts h

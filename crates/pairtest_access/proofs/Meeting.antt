@@ -9,10 +9,9 @@ use Rattle.pairtest_counter.specs.Levels.{Nesting}
 use Rattle.pairtest.specs.declared.access.Access.{Access}
 use Rattle.pairtest.specs.declared.access.Mode.{Mode}
 use Rattle.pairtest_access.specs.Sites.{Site, named}
-use Rattle.pairtest_access.specs.Found.{AreEach, IsSubscript, IsMet, IsTouched, AreMet, IsTold}
+use Rattle.pairtest_access.specs.Found.{IsMet, IsTouched, AreMet, IsTold}
 use Rattle.affine_expr.specs.declared.faults.Fault.{Fault}
-use Rattle.pairtest.specs.declared.access.Subscript.{Subscript}
-use Rattle.pairtest_access.specs.Refused.{Because, Lacks}
+use Rattle.pairtest_access.specs.Refused.{Because, AreNotAffine, Lacks}
 use Rattle.pairtest_access.specs.Walk.{Meets, MeetsWanted, MeetsAll}
 use Rattle.pairtest_access.specs.declared.told.Touched.{Touched}
 use Rattle.pairtest_access.specs.declared.finder.Finder.{Finder}
@@ -53,9 +52,9 @@ none_wanted n mode x es b some is =
     let s : Site = record { round = n; mode = mode; array = x; subscripts = exprs_of es } in
     one_met n mode x es b b some (refl, subst (λ w. MeetsWanted w b s b) (sym is) refl)
 
--- an access without forms
+-- an access that is not affine
 pub site_lacks : (n : Nesting) (mode : Mode) (x : Variable) (es : List Expr) (fault : Fault) → (length es == 0) ≡ false
-    → Because ((ts : List Subscript) → AreEach (IsSubscript n) (exprs_of es) ts → ⊥) fault → Because (Lacks (named n mode x (exprs_of es))) fault
+    → Because (AreNotAffine n.box (exprs_of es)) fault → Because (Lacks (named n mode x (exprs_of es))) fault
 site_lacks n mode x [] fault some h = absurd (cc some)
 site_lacks n mode x (e ∷ es) fault some (inl m) = inl m
 site_lacks n mode x (e ∷ es) fault some (inr h) = inr (inl h)

@@ -8,6 +8,9 @@ use Rattle.ktree.specs.declared.statement.Head.{Head}
 use Rattle.ktree.specs.declared.statement.PrintPart.{PrintPart}
 use Rattle.ktree.specs.declared.statement.Item.{Item, Directive, Local, Statement'}
 use Rattle.affine.specs.declared.interval.Side.{Side}
+use Rattle.affine.specs.declared.interval.Interval.{Interval}
+use Rattle.nest_loop.specs.declared.head.Canonical.{Canonical}
+use Rattle.nest_loop.specs.Loops.{IsLoop}
 use Rattle.pairtest_counter.specs.declared.level.EnclosingLoop.{EnclosingLoop}
 use Rattle.pairtest_counter.specs.Levels.{Nesting}
 use Rattle.pairtest.specs.declared.access.Mode.TheVariants.{Writes}
@@ -26,7 +29,7 @@ pub joined : (b m a : Finder) (xs ys : List Site) → MeetsAll b xs m → MeetsA
 joined b m a [] ys h k = subst (λ f. MeetsAll f ys a) h k
 joined b m a (s ∷ xs) ys h k = (h.0, h.1, joined h.0 m a xs ys h.2 k)
 
--- some access of both has no forms
+-- some access of both is not affine
 pub lacks_before : (xs ys : List Site) → Lacks xs → Lacks (xs ++ ys)
 lacks_before [] ys h = absurd h
 lacks_before (s ∷ xs) ys (inl h) = inl h
@@ -161,6 +164,6 @@ loop_stuck n inner head body fault enters (inl m) = inl m
 loop_stuck n inner head body fault enters (inr h) = inr (inr (inner, enters, h))
 
 pub head_stuck : (n : Nesting) (head : Head) (body : Tree.Stmt) (fault : Fault)
-    → Because ((inner : Nesting) → IsInside n head.variable.0 (source_of head.start) (cond_of head.test) (increment_of head.step) body inner → ⊥) fault → Because (IsStuck n (loop_of head body)) fault
+    → Because ((l : Canonical) (i : Interval) → IsLoop n.box head.variable.0 (source_of head.start) (cond_of head.test) (increment_of head.step) body l i → ⊥) fault → Because (IsStuck n (loop_of head body)) fault
 head_stuck n head body fault (inl m) = inl m
 head_stuck n head body fault (inr h) = inr (inl h)

@@ -1,11 +1,10 @@
 //! What is kept of the accesses of a body.
 
-ghost use Rattle.std.specs.Prelude.{◌≡◌, OnOk, IfOk, IfErr, List};
+ghost use Rattle.std.specs.Prelude.{◌≡◌, OnOk, IfOk, IfErr};
 ghost use Rattle.ktree.specs.View.{exprs_of};
 ghost use Rattle.pairtest_access.specs.Sites.{Site, named};
-ghost use Rattle.pairtest_access.specs.Found.{AreEach, IsSubscript, IsMet, IsTouched};
-ghost use Rattle.pairtest.specs.declared.access.Subscript as subscripts;
-ghost use Rattle.pairtest_access.specs.Refused.{Because, Lacks};
+ghost use Rattle.pairtest_access.specs.Found.{IsMet, IsTouched};
+ghost use Rattle.pairtest_access.specs.Refused.{Because, AreNotAffine, Lacks};
 ghost use Rattle.pairtest_access.specs.Walk.{MeetsAll};
 
 use crate::subscripts::{inner_canonicals, inner_counts, subscripts, variable_forms};
@@ -51,8 +50,7 @@ fn access(
           subscripts = exprs_of expressions.now;
         })) }
     ensures err { IfErr result
-        (Because ((ts : List subscripts.Subscript)
-        → AreEach (IsSubscript chain.now) (exprs_of expressions.now) ts → ⊥)) }
+        (Because (AreNotAffine chain.now.box (exprs_of expressions.now))) }
 {
     let (is_counted, subscripts) = match subscripts(alloc, chain, expressions, mention) {
         Ok(found) => (true, found),
@@ -79,8 +77,7 @@ fn describe_access(
 ) -> Result<Touched, Fault>
     ensures ok { IfOk result (IsTouched outer chain.now (exprs_of expressions.now)) }
     ensures err { IfErr result
-        (Because ((ts : List subscripts.Subscript)
-        → AreEach (IsSubscript chain.now) (exprs_of expressions.now) ts → ⊥)) }
+        (Because (AreNotAffine chain.now.box (exprs_of expressions.now))) }
 {
     Ok(Touched {
         subscripts: variable_forms(alloc, chain, expressions, mention)?,

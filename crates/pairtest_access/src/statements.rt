@@ -3,6 +3,9 @@
 ghost use Rattle.std.specs.Prelude.{◌≡◌, ◌⊎◌, List, OnOk, IfErr, map};
 ghost use Rattle.semantics.specs.Tree.{no_items};
 ghost use Rattle.ktree.specs.View.{stmt_of, items_of, with_item, source_of, cond_of, increment_of};
+ghost use Rattle.affine.specs.declared.interval.Interval as intervals;
+ghost use Rattle.nest_loop.specs.declared.head.Canonical as canonicals;
+ghost use Rattle.nest_loop.specs.Loops.{IsLoop};
 ghost use Rattle.pairtest_access.specs.Sites.{Site, Sites, ItemsSites, IsInside};
 ghost use Rattle.pairtest_access.specs.Refused.{Because, IsStuck, AreStuck};
 ghost use Rattle.pairtest_counter.specs.Levels.{Nesting};
@@ -27,9 +30,9 @@ pub fn enter_loop(
     body: &Stmt,
 ) -> Result<(), Fault>
     ensures err { IfErr result
-        (Because ((inner : Nesting) → IsInside chain.old head.now.variable.0
-        (source_of head.now.start) (cond_of head.now.test) (increment_of head.now.step)
-        (stmt_of body.now) inner → ⊥)) }
+        (Because ((l : canonicals.Canonical) (i : intervals.Interval)
+        → IsLoop chain.old.box head.now.variable.0 (source_of head.now.start)
+        (cond_of head.now.test) (increment_of head.now.step) (stmt_of body.now) l i → ⊥)) }
     ensures ok { OnOk result (IsInside chain.old head.now.variable.0 (source_of head.now.start)
         (cond_of head.now.test) (increment_of head.now.step) (stmt_of body.now) chain.new) }
 {

@@ -5,8 +5,7 @@ ghost use Rattle.ktree.specs.View.{expr_of, exprs_of};
 ghost use Rattle.affine.specs.Affine.{coefficient_at};
 ghost use Rattle.affine_expr.specs.Forms.{form_of};
 ghost use Rattle.affine_expr.specs.declared.faults.Fault.TheVariants.{OutOfMemory};
-ghost use Rattle.pairtest.specs.declared.access.Subscript as subscripts;
-ghost use Rattle.pairtest_access.specs.Refused.{Because};
+ghost use Rattle.pairtest_access.specs.Refused.{Because, AreNotAffine, SubscriptFails, SubscriptsFail};
 ghost use Rattle.pairtest_access.specs.Found.{AreEach, IsSubscript, coefficients, inner_loops};
 
 use affine::{Form, Term};
@@ -52,8 +51,7 @@ fn subscript(
 ) -> Result<Subscript, Fault>
     ensures ok { IfOk result (IsSubscript chain.now (expr_of expression.now)) }
     ensures err { IfErr result
-        (Because ((t : subscripts.Subscript) → IsSubscript chain.now (expr_of expression.now) t
-        → ⊥)) }
+        (λ fault. Because (SubscriptFails chain.now (expr_of expression.now) fault) fault) }
 {
     let form = form_of(alloc, expression, chain.bounds(), place)?;
     let counted = chain.in_counters(alloc, &form, place)?;
@@ -73,8 +71,7 @@ pub(crate) fn subscripts(
     ensures ok { IfOk result (λ found. AreEach (IsSubscript chain.now) (exprs_of expressions.now)
         found.items) }
     ensures err { IfErr result
-        (Because ((ts : List subscripts.Subscript)
-        → AreEach (IsSubscript chain.now) (exprs_of expressions.now) ts → ⊥)) }
+        (λ fault. Because (SubscriptsFail chain.now (exprs_of expressions.now) fault) fault) }
 {
     let mut found = Vec::new(alloc);
     for (i, expression) in expressions.iter().enumerate() {
@@ -94,8 +91,7 @@ pub(crate) fn variable_forms(
     ensures ok { IfOk result (λ found. AreEach (λ e f. form_of chain.now.box e ≡ Some f)
         (exprs_of expressions.now) found.items) }
     ensures err { IfErr result
-        (Because ((ts : List subscripts.Subscript)
-        → AreEach (IsSubscript chain.now) (exprs_of expressions.now) ts → ⊥)) }
+        (Because (AreNotAffine chain.now.box (exprs_of expressions.now))) }
 {
     let mut found = Vec::new(alloc);
     for (i, expression) in expressions.iter().enumerate() {

@@ -7,19 +7,11 @@ use Rattle.semantics.specs.Directives.DirectiveGrammar.{ReadsLine}
 use Rattle.ktree.specs.declared.place.Place.{Place}
 use Rattle.ktree.specs.declared.refusal.Refusal.{Refusal}
 use Rattle.ktree.specs.declared.refusal.Refusal.TheVariants as refusals
-use Rattle.pragma_clause.specs.Outcome.{IsFault, IsTold}
+use Rattle.pragma_clause.specs.Outcome.{HasForm, IsFault, IsTold}
 use Rattle.pragma_clause.proofs.DirectiveComplete.{line_read}
 use Rattle.pragma.specs.Clauses.{Said, said_by, ReadsLoop, loop_of}
-use Rattle.pragma.specs.Reading.{ReadsNone, IsTooLarge, IsReading, reading_by, reading_of, answer_at}
-use Rattle.pragma.specs.declared.reading.Reading.{Reading}
+use Rattle.pragma.specs.Reading.{ReadsNone, IsTooLarge, IsReading}
 use Rattle.pragma.specs.declared.reading.Reading.TheVariants as readings
-
--- what is said of a line at a place is right, where its reading is
-pub answered : (line : List ℕ) (place : Place) (reading : Reading) → IsReading line reading
-    → IfOk (answer_at place reading) (λ d. ReadsLoop line d.schedule d.collapse) × IfErr (answer_at place reading) (λ r. IsFault place (IsTooLarge line) r × ReadsNone line)
-answered line place (readings.Loop d) h = (h, tt)
-answered line place readings.TooLarge h = (tt, (inl (refl, h.0), h.1))
-answered line place readings.Malformed h = (tt, (inr (refl, h.0), h.1))
 
 -- ---- a line is read in one way
 
@@ -44,8 +36,6 @@ read_once line k c m d p q = (ap (λ (s : Said). s.0) same, ap (λ (s : Said). s
     same : left ≡ right
     same = same_said (sym p.says ∙ ap said_by one ∙ q.says)
 
--- ---- readings
-
 says : (line : List ℕ) (d : Directive Name) (s : Said) → ReadsLine line d → loop_of d ≡ Some s → ReadsLoop line (s.0) (s.1)
 says line (ParallelFor cs) s e f = record { clauses = cs; reads = e; says = f }
 says line (Parallel cs) s e f = absurd (cc f)
@@ -63,22 +53,32 @@ the_directive line d k c e r = ap loop_of (same (sym (line_read line d e) ∙ li
     same : {a b : Directive Name} → Some a ≡ Some b → a ≡ b
     same f = cc f
 
-pub directive_read_as : (line : List ℕ) (d : Directive Name) → ReadsLine line d → IsReading line (reading_of d)
-directive_read_as line d e = go (loop_of d) refl
-  where
-    go : (o : Option Said) → loop_of d ≡ o → IsReading line (reading_by o)
-    go (Some s) f = says line d s e f
-    go None f = (λ (t : IsTooLarge line). t.1 d e, λ k c r. absurd (cc (sym f ∙ the_directive line d k c e r)))
+-- what a directive says is what its line says
+pub loop_read : (line : List ℕ) (d : Directive Name) (k c : Option ℕ) → ReadsLine line d → loop_of d ≡ Some (k, c) → ReadsLoop line k c
+loop_read line d k c e f = says line d (k, c) e f
 
-none_of : (line : List ℕ) → ((d : Directive Name) → ReadsLine line d → ⊥) → ReadsNone line
-none_of line n k c r = n (ParallelFor r.clauses) r.reads
+-- and where it says nothing the line does not
+pub no_loop : (line : List ℕ) (d : Directive Name) → ReadsLine line d → loop_of d ≡ None → (k c : Option ℕ) → ReadsLoop line k c → ⊥
+no_loop line d e f k c r = absurd (cc (sym f ∙ the_directive line d k c e r))
+
+-- a directive that says nothing is not refused by its numbers
+pub read_fault : (line : List ℕ) (place : Place) (d : Directive Name) → ReadsLine line d → IsFault place (IsTooLarge line) (refusals.Directive place)
+read_fault line place d e = inr (refl, λ (t : IsTooLarge line). t.1 d e)
+
+-- a line that is no directive is no `parallel for`
+pub none_said : (line : List ℕ) (place : Place) (r : Refusal) → IsFault place (HasForm line) r × ReadsNone line
+    → IsFault place (IsTooLarge line) r × ((k c : Option ℕ) → ReadsLoop line k c → ⊥)
+none_said line place r (inl f, n) = (inl (f.0, (f.1, n)), λ k c l. n (ParallelFor l.clauses) l.reads)
+none_said line place r (inr f, n) = (inr (f.0, λ (t : IsTooLarge line). f.1 t.0), λ k c l. n (ParallelFor l.clauses) l.reads)
+
+-- ---- readings
 
 pub too_large : (line : List ℕ) (place other : Place) (r : Refusal) → r ≡ refusals.Limit other → IsTold place line r → IsReading line readings.TooLarge
 too_large line place other r l (inl m) = absurd (cc (sym l ∙ m))
-too_large line place other r l (inr (inl t, n)) = ((t.1, n), none_of line n)
+too_large line place other r l (inr (inl t, n)) = (t.1, n)
 too_large line place other r l (inr (inr t, n)) = absurd (cc (sym l ∙ t.0))
 
 pub malformed : (line : List ℕ) (place : Place) (r : Refusal) → (r ≡ refusals.OutOfMemory → ⊥) → ((other : Place) → r ≡ refusals.Limit other → ⊥) → IsTold place line r → IsReading line readings.Malformed
 malformed line place r m l (inl x) = absurd (m x)
 malformed line place r m l (inr (inl t, n)) = absurd (l place t.0)
-malformed line place r m l (inr (inr t, n)) = (λ (s : IsTooLarge line). t.1 s.0, none_of line n)
+malformed line place r m l (inr (inr t, n)) = (t.1, n)

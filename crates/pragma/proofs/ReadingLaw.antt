@@ -10,11 +10,12 @@ use Rattle.std.proofs.lemmas.Option.{same_Some, slice_get_within, slice_get-get_
 use Rattle.std.proofs.lemmas.Bool.Decides.{Decides-ltb, nat_tests}
 use Rattle.semantics.specs.Source.Text.{first_line, line_from}
 use Rattle.pragma.specs.Lines.{line_starts}
-use Rattle.pragma.specs.Clauses.{ReadsLoop}
+use Rattle.semantics.specs.Directives.DirectiveGrammar.{ReadsLine}
+use Rattle.pragma_clause.specs.Outcome.{HasForm}
 use Rattle.pragma.specs.declared.reading.Reading.{Reading}
 use Rattle.pragma.specs.declared.reading.Reading.TheVariants.{Malformed}
 use Rattle.pragma.specs.declared.lines.LineReading.{LineReading}
-use Rattle.pragma.specs.Reading.{IsReading, AreReadings, IsTooLarge, IsAbsent, AreReadBelow, AreRead, AddsLine}
+use Rattle.pragma.specs.Reading.{IsReading, AreReadings, IsAbsent, AreReadBelow, AreRead, AddsLine}
 use Rattle.pragma.proofs.StartsLaw.{line_of, line_found}
 
 there_before : (ls : List LineReading) (l : LineReading) (i : ℕ) (k : LineReading) → slice_get ls i ≡ Some k → slice_get (ls ++ l ∷ []) i ≡ Some k
@@ -104,7 +105,7 @@ is_line_from text starts line k start s e l = l ∙ ap (line_of text) (sym e) �
 
 -- the empty line behind the last
 nothing_read : IsReading [] Malformed
-nothing_read = (λ (t : IsTooLarge []). absurd (cc t.0.is_line), λ k c (r : ReadsLoop [] k c). absurd (cc r.reads.is_line))
+nothing_read = (λ (t : HasForm []). absurd (cc t.is_line), λ d (r : ReadsLine [] d). absurd (cc r.is_line))
 
 -- behind the last line there is none
 pub all_read : (text starts : List ℕ) (ls : List LineReading) (k : ℕ) → starts ≡ line_starts text → length starts ≤ k → AreReadBelow text ls k → AreRead text ls

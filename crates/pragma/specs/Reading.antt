@@ -1,46 +1,28 @@
 -- What the lines of a text are read as.
-use Rattle.std.specs.Prelude.{ℕ, ◌≡◌, ◌⊎◌, ◌<◌, List, [], ◌∷◌, ◌++◌, Option, Some, None, slice_get, Result, Ok, Err}
+use Rattle.std.specs.Prelude.{ℕ, ◌≡◌, ◌⊎◌, ◌<◌, List, [], ◌∷◌, ◌++◌, Some, slice_get}
 use Rattle.semantics.specs.Tree.{Name}
 use Rattle.semantics.specs.Source.Text.{line_from}
 use Rattle.semantics.specs.Directives.Directive.{Directive}
 use Rattle.semantics.specs.Directives.DirectiveGrammar.{ReadsLine}
-use Rattle.ktree.specs.declared.place.Place.{Place}
-use Rattle.ktree.specs.declared.refusal.Refusal.{Refusal}
-use Rattle.ktree.specs.declared.refusal.Refusal.TheVariants as refusals
-use Rattle.pragma.specs.declared.combined.ParallelFor.{ParallelFor}
 use Rattle.pragma.specs.declared.reading.Reading.{Reading}
-use Rattle.pragma.specs.declared.reading.Reading.TheVariants.{Loop, TooLarge, Malformed}
+use Rattle.pragma.specs.declared.reading.Reading.TheVariants.{Read, TooLarge, Malformed}
 use Rattle.pragma.specs.declared.lines.LineReading.{LineReading}
+use Rattle.ktree.specs.DirectiveView.{name_of, directive_of}
 use Rattle.pragma_clause.specs.Outcome.{HasForm}
-use Rattle.pragma.specs.Clauses.{Said, ReadsLoop, loop_of}
 
--- no `parallel for` of the known clauses
+-- no directive
 abbrev pub ReadsNone : List ℕ → Type 0
-ReadsNone line = (k c : Option ℕ) → ReadsLoop line k c → ⊥
+ReadsNone line = (d : Directive Name) → ReadsLine line d → ⊥
 
 -- a directive but for a number above its limit
 abbrev pub IsTooLarge : List ℕ → Type 0
-IsTooLarge line = HasForm line × ((d : Directive Name) → ReadsLine line d → ⊥)
+IsTooLarge line = HasForm line × ReadsNone line
 
 -- a line is read as this
 abbrev pub IsReading : List ℕ → Reading → Type 0
-IsReading line (Loop d) = ReadsLoop line d.schedule d.collapse
-IsReading line TooLarge = IsTooLarge line × ReadsNone line
-IsReading line Malformed = (IsTooLarge line → ⊥) × ReadsNone line
-
--- what a directive is read as
-abbrev pub reading_by : Option Said → Reading
-reading_by None = Malformed
-reading_by (Some said) = Loop (record { schedule = said.0; collapse = said.1 })
-
-abbrev pub reading_of : Directive Name → Reading
-reading_of d = reading_by (loop_of d)
-
--- what is said of the line at a place
-abbrev pub answer_at : Place → Reading → Result ParallelFor Refusal
-answer_at place (Loop d) = Ok d
-answer_at place TooLarge = Err (refusals.Limit place)
-answer_at place Malformed = Err (refusals.Directive place)
+IsReading line (Read d) = ReadsLine line (directive_of name_of d)
+IsReading line TooLarge = IsTooLarge line
+IsReading line Malformed = (HasForm line → ⊥) × ReadsNone line
 
 -- each of these is what the line of its index is read as, and the indexes rise
 pub record AreReadings (text : List ℕ) (lines : List LineReading) : Type 0 where

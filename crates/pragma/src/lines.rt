@@ -2,22 +2,24 @@
 
 ghost use Rattle.std.specs.Prelude.{◌≡◌, ℕ, Option, IfOk, IfErr, OnOk, MatchOption, List, drop};
 ghost use Rattle.semantics.specs.Source.Text.{line_at};
+ghost use Rattle.semantics.specs.Directives.DirectiveGrammar.{ReadsLine};
+ghost use Rattle.ktree.specs.DirectiveView.{name_of, directive_of};
 ghost use Rattle.ktree.specs.declared.refusal.Refusal.TheVariants.{OutOfMemory};
 ghost use Rattle.pragma.specs.Clauses.{ReadsLoop};
-ghost use Rattle.pragma_clause.specs.Outcome.{IsFault};
+ghost use Rattle.pragma_clause.specs.Outcome.{HasForm, IsFault};
 ghost use Rattle.pragma.specs.Lines.{line_starts};
-ghost use Rattle.pragma.specs.Reading.{IsTooLarge, IsReading, AddsLine};
+ghost use Rattle.pragma.specs.Reading.{IsTooLarge, ReadsNone, IsReading, AddsLine};
 ghost use Rattle.pragma.specs.declared.reading.Reading.TheVariants.{Malformed as malformed};
 
-use crate::combined::ParallelFor;
+use crate::combined::{ParallelFor, loop_of};
 use crate::reading::{Reading, read_line};
-use ktree::{Place, Refusal};
+use ktree::{Directive, Place, Refusal, Written};
 use std::alloc::{AllocError, Global};
 use std::marker::Model;
 use text::first_line;
 
 /// What a line is read as, by its index from 0.
-#[derive(Clone, Copy)]
+#[derive(Drop)]
 struct LineReading {
     index: usize,
     reading: Reading,
@@ -113,15 +115,33 @@ impl<'t> Directives<'t> {
         Ok(Directives { text, lines })
     }
 
-    /// What the line of a number is read as, from 1.
-    fn reading(&self, number: u32) -> Reading
-        ensures { IsReading (line_at self.now number) result }
+    /// What the line of a number is read as, from 1, where it is well formed.
+    fn reading(&self, number: u32) -> Option<&Reading>
+        ensures { MatchOption result (IsReading (line_at self.now number) malformed)
+            (λ reading. IsReading (line_at self.now number) reading.now) }
     {
         let index = number.saturating_sub(1) as usize;
         match self.lines.binary_search_by_key(&index, |line| line.index) {
-            Ok(found) => self.lines[found].reading,
-            Err(_) => Reading::Malformed,
+            Ok(found) => Some(&self.lines[found].reading),
+            Err(_) => None,
         }
+    }
+
+    /// The directive at a place, with its clauses (OpenMP 5.2, 3.1); `place` is that of its `#`.
+    ///
+    /// # Errors
+    ///
+    /// `Limit` where the line is a directive but for a number above its limit, and `Directive` where it is none; both name the place.
+    pub fn directive(&self, place: Place) -> Result<&Directive<Written>, Refusal>
+        ensures ok { IfOk result
+            (λ d. ReadsLine (line_at self.now place.line) (directive_of name_of d.now)) }
+        ensures err { IfErr result (λ r. IsFault place (HasForm (line_at self.now place.line)) r
+            × ReadsNone (line_at self.now place.line)) }
+    {
+        let Some(reading) = self.reading(place.line) else {
+            return Err(Refusal::Directive(place));
+        };
+        reading.at(place)
     }
 
     /// What the `parallel for` at a place says (OpenMP 5.2, 17); `place` is that of its `#`.
@@ -137,6 +157,12 @@ impl<'t> Directives<'t> {
             (λ r. IsFault place (IsTooLarge (line_at self.now place.line)) r
             × ((k c : Option ℕ) → ReadsLoop (line_at self.now place.line) k c → ⊥)) }
     {
-        self.reading(place.line).at(place)
+        match self.directive(place) {
+            Err(refusal) => Err(refusal),
+            Ok(directive) => match loop_of(directive) {
+                None => Err(Refusal::Directive(place)),
+                Some(said) => Ok(said),
+            },
+        }
     }
 }

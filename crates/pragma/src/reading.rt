@@ -1,23 +1,23 @@
 //! What a line of a text is read as.
 
 ghost use Rattle.std.specs.Prelude.{◌≡◌, ℕ, List, IfOk, IfErr};
+ghost use Rattle.ktree.specs.DirectiveView.{name_of, directive_of};
 ghost use Rattle.ktree.specs.declared.place.Place.{Place as Places};
 ghost use Rattle.ktree.specs.declared.refusal.Refusal.TheVariants.{OutOfMemory};
-ghost use Rattle.pragma_clause.specs.Outcome.{IsTold};
-ghost use Rattle.pragma_clause.specs.Views.{written_directive};
-ghost use Rattle.pragma.specs.Reading.{IsReading, answer_at, reading_of};
+ghost use Rattle.semantics.specs.Directives.DirectiveGrammar.{ReadsLine};
+ghost use Rattle.pragma_clause.specs.Outcome.{HasForm, IsFault, IsTold};
+ghost use Rattle.pragma.specs.Reading.{IsReading, ReadsNone};
 
-use crate::combined::{ParallelFor, loop_of};
 use ktree::{Directive, Place, Refusal, Written};
 use pragma_clause::read;
 use std::alloc::Global;
 use text::skip_blanks;
 
 /// What a line is read as.
-#[derive(Clone, Copy)]
+#[derive(Drop)]
 pub(crate) enum Reading {
-    /// A `parallel for` of the known clauses.
-    Loop(ParallelFor),
+    /// A directive.
+    Read(Directive<Written>),
     /// A directive but for a number above its limit.
     TooLarge,
     /// Any other line.
@@ -25,25 +25,18 @@ pub(crate) enum Reading {
 }
 
 impl Reading {
-    /// What the line at a place says, or why it is refused.
-    pub(crate) fn at(self, place: Place) -> Result<ParallelFor, Refusal>
-        ensures { result ≡ answer_at place self }
+    /// The directive of the line at a place, or why it is refused.
+    pub(crate) fn at(&self, place: Place) -> Result<&Directive<Written>, Refusal>
+        ensures ok { (line : List ℕ) → IsReading line self.now
+            → IfOk result (λ d. ReadsLine line (directive_of name_of d.now)) }
+        ensures err { (line : List ℕ) → IsReading line self.now
+            → IfErr result (λ r. IsFault place (HasForm line) r × ReadsNone line) }
     {
         match self {
-            Reading::Loop(said) => Ok(said),
+            Reading::Read(directive) => Ok(directive),
             Reading::TooLarge => Err(Refusal::Limit(place)),
             Reading::Malformed => Err(Refusal::Directive(place)),
         }
-    }
-}
-
-/// What a directive is read as.
-fn reading_of(directive: &Directive<Written>) -> Reading
-    ensures { result ≡ reading_of (written_directive directive.now) }
-{
-    match loop_of(directive) {
-        Some(said) => Reading::Loop(said),
-        None => Reading::Malformed,
     }
 }
 
@@ -79,7 +72,7 @@ pub(crate) fn read_line(alloc: Global, index: usize, line: &[u8]) -> Result<Read
     ensures err { IfErr result (λ refusal. refusal ≡ OutOfMemory) }
 {
     match read(alloc, line, hash_place(index, line)) {
-        Ok(directive) => Ok(reading_of(&directive)),
+        Ok(directive) => Ok(Reading::Read(directive)),
         Err(refusal) => unread(&refusal),
     }
 }

@@ -7,8 +7,8 @@ mod directives;
 mod grammar;
 mod loops;
 mod names;
-mod ranges;
 mod sizes;
+mod subscripts;
 
 use crate::calls::says;
 use ktree::Refusal;

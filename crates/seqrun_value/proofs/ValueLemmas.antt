@@ -3,8 +3,6 @@ use Rattle.std.proofs.Common.{add-one, add-zero, length-drop, drop-cons, get_or-
 use Rattle.std.specs.Prelude.{◌&&◌, nat_lt, slice_get, option_and_then}
 use Rattle.std.proofs.Math.Nat.{mul-le-mul_left}
 use Rattle.std.proofs.lemmas.Bool.{ltb-true}
-use mathlib.Core.Former.{Count}
-use Rattle.semantics.specs.Tree
 use Rattle.std.proofs.lemmas.List.{drop-drop, drop_all}
 use Rattle.std.proofs.lemmas.Option.{get_or_from_slice_get, slice_get_within}
 use Rattle.semantics.specs.Meaning.State.{State, Outside, look, look_in}
@@ -13,24 +11,11 @@ use Rattle.semantics.specs.Meaning.Places.{within, place_from, place}
 use Rattle.store.specs.Kept.{Kept, cell_of}
 use Rattle.seqrun_value.specs.Standing.{offset_from, way_from, place_in, cell_in, standing}
 use Rattle.seqrun_value.specs.declared.frame.Slot.{Slot}
-use Rattle.ktree.specs.View.{expr_of, row_of, exprs_of}
+use Rattle.ktree.specs.View.{expr_of, exprs_of}
 use Rattle.ktree.specs.declared.place.VarId.{VarId}
 use Rattle.ktree.specs.declared.expression.NamePlaces.{NamePlaces}
-use Rattle.ktree.specs.declared.expression.Expr.{Expr, Object, Object', Row_of-Expr, end_of-Expr, more_of-Expr, items-the_row-Expr, items_hidden-the_row-Expr-0}
-
--- the subscripts of an object, as a list
-row_items : (n : _) (row : Row_of-Expr n) → row_of row ≡ exprs_of (items-the_row-Expr n row)
-row_items n end_of-Expr = refl
-row_items n (more_of-Expr e rest) = ap (Tree.more_exprs (expr_of e)) (row_items _ rest)
-
-abbrev row_at : Expr → (n : Count) × Row_of-Expr n
-row_at (Object' x shape row place) = (_, row)
-row_at _ = (_, end_of-Expr)
-
-pub object_of : (x : VarId) (subs : Vec Expr Global) (mention : NamePlaces) → expr_of (Object x subs mention) ≡ Tree.Object x.0 (exprs_of subs.items)
-object_of x subs mention =
-    let row = row_at (Object x subs mention) in
-    ap (Tree.Object x.0) (row_items row.0 row.1 ∙ ap exprs_of (items_hidden-the_row-Expr-0 subs))
+use Rattle.ktree.specs.declared.expression.Expr.{Expr, Object}
+use Rattle.ktree.proofs.Trees.{object_of}
 
 no_some : {A : Type 0} (o : Option A) → o ≡ None → IsSome o → ⊥
 no_some None e h = cc

@@ -181,7 +181,6 @@ fn faults_have_numbers(rt: HostRuntime) {
         (Fault::NotCanonical(HERE), 6),
         (Fault::MayWrap(HERE), 7),
         (Fault::NotAffine(HERE), 8),
-        (Fault::OutOfRange(HERE), 9),
         (Fault::NotPerfect(HERE), 12),
         (Fault::Limit(HERE), 21),
         (Fault::OutOfMemory, 23),

@@ -12,7 +12,7 @@ fn innermost(alloc: Global, statement: &Stmt, bounds: &mut VarBox) -> Result<Var
     let Stmt::For(head, body) = statement else {
         return Err(Fault::OutOfMemory);
     };
-    let variable = enter(alloc, head, body, bounds)?.variable;
+    let variable = enter(alloc, head, body, bounds)?.canonical.variable;
     match &**body {
         Stmt::For(_, _) => innermost(alloc, body, bounds),
         _ => Ok(variable),

@@ -5,30 +5,30 @@ use crate::texts::{
 };
 use affine::VarBox;
 use affine_expr::Fault;
-use ktree::{Expr, Kernel, NamePlaces, Source, Stmt, Suffix, Target};
+use ktree::{Expr, Kernel, NamePlaces, Place, Source, Stmt, Suffix, Target};
 use nest::*;
 use nest_space::{Space, Value};
 use pragma::Directives;
 use std::alloc::{AllocError, Global};
 
-/// The first faults of a kernel, in the sense of [`nests`] and of [`in_range`].
+/// What [`nests`] tells of a kernel: its first fault, or where its first subscript leaves its array.
 #[derive(Clone, Copy, Debug, PartialEq, Eq)]
 struct Faults {
     nested: Option<Fault>,
-    ranged: Option<Fault>,
+    leaves: Option<Place>,
 }
 
 /// No fault at all.
 const FINE: Faults = Faults {
     nested: None,
-    ranged: None,
+    leaves: None,
 };
 
-/// This fault in both senses.
-fn both(fault: Fault) -> Faults {
+/// This fault.
+fn told(fault: Fault) -> Faults {
     Faults {
         nested: Some(fault),
-        ranged: Some(fault),
+        leaves: None,
     }
 }
 
@@ -36,18 +36,26 @@ fn both(fault: Fault) -> Faults {
 fn leaves(line: u32, column: u32) -> Faults {
     Faults {
         nested: None,
-        ranged: Some(Fault::OutOfRange(at(line, column))),
+        leaves: Some(at(line, column)),
     }
 }
 
-/// The first faults of a kernel with the directive lines of its text.
-fn faults_in(alloc: Global, kernel: &Kernel, text: &str) -> Result<Faults, u8> {
+/// The table of a kernel's loops, with the directive lines of its text.
+fn table_in(alloc: Global, kernel: &Kernel, text: &str) -> Result<LoopTable, Fault> {
     match Directives::read(alloc, text.as_bytes()) {
-        Ok(directives) => Ok(Faults {
-            nested: nests(alloc, kernel, &directives).err(),
-            ranged: in_range(alloc, kernel).err(),
+        Ok(directives) => nests(alloc, kernel, &directives),
+        Err(_error) => Err(Fault::OutOfMemory),
+    }
+}
+
+/// What is told of a kernel with the directive lines of its text.
+fn faults_in(alloc: Global, kernel: &Kernel, text: &str) -> Result<Faults, u8> {
+    match table_in(alloc, kernel, text) {
+        Ok(table) => Ok(Faults {
+            nested: None,
+            leaves: table.leaves,
         }),
-        Err(_error) => Err(OUT_OF_MEMORY),
+        Err(fault) => Ok(told(fault)),
     }
 }
 
@@ -96,6 +104,65 @@ fn subscripts_of_one_loop(rt: HostRuntime) {
 }
 
 #[test]
+fn the_first_subscript_is_told(rt: HostRuntime) {
+    let rows = [
+        (
+            "for (uint64_t i = 0; i < 8; i++)\nA[i + 1] = A[i + 2];",
+            leaves(3, 3),
+        ),
+        (
+            "for (uint64_t i = 0; i < 8; i++)\nA[i + 0] = A[i + 1] + A[i + 2];",
+            leaves(3, 14),
+        ),
+        (
+            "for (uint64_t i = 0; i < 8; i++) { A[i + 1] = 1; }\nA[s] = 1;",
+            told(Fault::NotAffine(at(3, 3))),
+        ),
+    ];
+    assert_eq!(rt; first_other(rt.alloc(), &rows), None);
+}
+
+/// How often the loops of a table turn at most, the first three of them, in the order of the text.
+fn first_trip_counts(table: &LoopTable) -> [Option<u64>; 3] {
+    let count = |i: usize| table.loops.get(i).map(|facts| facts.trip_count);
+    [count(0), count(1), count(2)]
+}
+
+/// Those of a kernel with the directive lines of its text.
+fn trip_counts_in(alloc: Global, kernel: &Kernel, text: &str) -> Option<[Option<u64>; 3]> {
+    match table_in(alloc, kernel, text) {
+        Ok(table) => Some(first_trip_counts(&table)),
+        Err(_fault) => None,
+    }
+}
+
+/// Those of a text.
+fn trip_counts_of(alloc: Global, text: &str) -> Option<[Option<u64>; 3]> {
+    match parsed(alloc, text) {
+        Ok(kernel) => trip_counts_in(alloc, &kernel, text),
+        Err(_number) => None,
+    }
+}
+
+/// Those of the text with these lines.
+fn trip_counts(alloc: Global, lines: &str) -> Option<[Option<u64>; 3]> {
+    match text(alloc, lines) {
+        Ok(text) => trip_counts_of(alloc, text.as_str()),
+        Err(_error) => None,
+    }
+}
+
+#[test]
+fn tables_have_the_loops_in_the_order_of_the_text(rt: HostRuntime) {
+    let lines =
+        "for (uint64_t i = 0; i < 8; i++) for (uint64_t j = 0; j <= i; j += 2) { }\nfor (uint64_t k = 0; k < 3; k++) { }";
+    assert_eq!(rt;
+        trip_counts(rt.alloc(), lines),
+        Some([Some(8), Some(4), Some(3)])
+    );
+}
+
+#[test]
 fn falling_loops(rt: HostRuntime) {
     let rows = [
         (
@@ -113,7 +180,7 @@ fn falling_loops(rt: HostRuntime) {
 
 #[test]
 fn subscripts_by_other_names(rt: HostRuntime) {
-    let other = both(Fault::NotAffine(at(3, 3)));
+    let other = told(Fault::NotAffine(at(3, 3)));
     let rows = [
         ("for (uint64_t i = 0; i < 8; i++)\nA[x] = 1;", other),
         ("for (uint64_t i = 0; i < 8; i++)\nA[s] = 1;", other),
@@ -147,7 +214,7 @@ fn two_dimensions(rt: HostRuntime) {
 
 #[test]
 fn bounds_with_the_outer_variable(rt: HostRuntime) {
-    let wraps = both(Fault::MayWrap(at(3, 1)));
+    let wraps = told(Fault::MayWrap(at(3, 1)));
     let rows = [
         (
             "for (uint64_t i = 0; i < 8; i++)\nfor (uint64_t j = 0; j <= i; j++)\nA[j + 0] = 1;",
@@ -167,7 +234,7 @@ fn bounds_with_the_outer_variable(rt: HostRuntime) {
 
 #[test]
 fn bodies_that_assign(rt: HostRuntime) {
-    let assigns = both(Fault::NotCanonical(at(2, 1)));
+    let assigns = told(Fault::NotCanonical(at(2, 1)));
     let rows = [
         ("for (uint64_t i = 0; i < 8; i++) i = 1;", assigns),
         ("for (uint64_t i = 0; i < 8; i++) s = 1;", FINE),
@@ -185,7 +252,7 @@ fn faults_of_nest(alloc: Global, count: u32) -> Result<Faults, u8> {
 
 #[test]
 fn loops_inside_each_other(rt: HostRuntime) {
-    let ninth = both(Fault::Limit(at(10, 1)));
+    let ninth = told(Fault::Limit(at(10, 1)));
     assert_eq!(rt; faults_of_nest(rt.alloc(), 8), Ok(FINE));
     assert_eq!(rt; faults_of_nest(rt.alloc(), 9), Ok(ninth));
 }
@@ -246,7 +313,7 @@ fn other_statements(rt: HostRuntime) {
     ];
     assert_eq!(rt; first_other(rt.alloc(), &rows), None);
     let lines = "for (uint64_t i = 0; i < 8; i++) { }";
-    let other = both(Fault::NotAffine(at(3, 3)));
+    let other = told(Fault::NotAffine(at(3, 3)));
     assert_eq!(rt; faults_behind(rt.alloc(), lines), Ok(other));
 }
 

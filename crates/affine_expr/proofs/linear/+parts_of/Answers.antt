@@ -3,7 +3,7 @@ use Rattle.ktree.specs.View.{expr_of, binary_of}
 use Rattle.affine_expr.specs.Forms.{form_of, is_number, operated}
 use Rattle.affine_expr.specs.Shapes.{shape_by}
 use Rattle.affine_expr.specs.Faults.{Stops}
-use Rattle.affine_expr.proofs.Trees.{object_is}
+use Rattle.ktree.proofs.Trees.{object_is}
 use Rattle.affine_expr.proofs.Shaping.{stops_joined}
 use Rattle.affine_expr.proofs.linear.+parts_of.Goals as goal
 

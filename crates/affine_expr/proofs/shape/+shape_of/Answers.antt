@@ -1,6 +1,6 @@
 use Rattle.std.proofs.Common.{◌∙◌, sym, ap}
 use Rattle.affine_expr.specs.Shapes.{shape_of}
-use Rattle.affine_expr.proofs.Trees.{object_is}
+use Rattle.ktree.proofs.Trees.{object_is}
 use Rattle.affine_expr.proofs.shape.+shape_of.Goals as goal
 
 pub returns-in-Object : goal.returns-in-Object

@@ -1,6 +1,6 @@
 use Rattle.std.proofs.Common.{ap}
 use Rattle.semantics.specs.Tree.{Number}
-use Rattle.cparse_operand.proofs.TreeLemmas.{object_of}
+use Rattle.ktree.proofs.Trees.{object_of}
 use Rattle.cparse_operand.proofs.leaf.object.Goals as goal
 
 pub returns : goal.returns

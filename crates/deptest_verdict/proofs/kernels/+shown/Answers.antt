@@ -2,7 +2,7 @@ use Rattle.std.specs.Prelude.{◌+◌, ◌-◌, length, map, take, drop, OnOk, I
 use Rattle.std.proofs.Common.{sym, ◌∙◌, subst}
 use Rattle.semantics.specs.Tree.{Stmt, no_items}
 use Rattle.ktree.specs.View.{items_of, with_item, declaration_of}
-use Rattle.nest_loop.proofs.Trees.{block_is}
+use Rattle.ktree.proofs.Trees.{block_is}
 use Rattle.deptest_verdict.specs.Shown.{LoopsShown, FirstLineShown, FirstLoopsShown}
 use Rattle.deptest_verdict.proofs.Walks.{shown_more}
 use Rattle.deptest_verdict.proofs.Refusals.{refused_more, refused_by_line, refused_by_statement, head_refused}

@@ -1,5 +1,5 @@
 use Rattle.std.proofs.Common.{ap, sym, ◌∙◌, arith}
-use Rattle.pragma.proofs.PlainLaw.{block_is}
+use Rattle.ktree.proofs.Trees.{block_is}
 use Rattle.flow.specs.Private.{loop_body_of}
 use Rattle.flow.proofs.PrivateLemmas.{no_only_body}
 use Rattle.flow.proofs.bodies.+looping.Goals as goal

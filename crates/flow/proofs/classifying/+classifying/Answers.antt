@@ -2,7 +2,7 @@ use Rattle.std.specs.Prelude.{[], IfSome}
 use Rattle.std.proofs.Common.{sym, subst}
 use Rattle.pragma.specs.Parallel.{LoopsHave}
 use Rattle.pragma.specs.Plain.{Judges}
-use Rattle.pragma.proofs.PlainLaw.{block_is}
+use Rattle.ktree.proofs.Trees.{block_is}
 use Rattle.flow.specs.Private.{IsPrivate, TellsOfLoops}
 use Rattle.flow.proofs.PrivateLemmas.{loop_judged, line_refused, item_parts, item_more}
 use Rattle.flow.proofs.FaultLemmas.{loop_told, told_line, told_loops}

@@ -1,7 +1,7 @@
 use Rattle.std.specs.Prelude.{◌≡◌, ◌++◌, OnOk}
 use Rattle.std.proofs.Common.{sym, subst}
 use Rattle.semantics.specs.Meaning.Agrees.{declared_in}
-use Rattle.pragma.proofs.PlainLaw.{block_is}
+use Rattle.ktree.proofs.Trees.{block_is}
 use Rattle.flow.specs.Parallel.{numbers}
 use Rattle.flow.proofs.ParallelLemmas.{declared_step}
 use Rattle.flow.proofs.environment.+adding.Goals as goal

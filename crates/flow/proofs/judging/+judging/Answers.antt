@@ -4,7 +4,8 @@ use Rattle.std.proofs.lemmas.Result.{err_from_is_err_and}
 use Rattle.semantics.specs.Meaning.Definite.{definite, definite_items, no_privates}
 use Rattle.ktree.specs.View.{stmt_of, items_of, source_of, cond_of, increment_of}
 use Rattle.flow.specs.Judged.{Refuses, known_of}
-use Rattle.flow.proofs.JudgeLemmas.{block_of, item_judged, item_refused, loop_not_entered, body_refused, loop_stepped, one_branch, two_branches}
+use Rattle.ktree.proofs.Trees.{block_items}
+use Rattle.flow.proofs.JudgeLemmas.{item_judged, item_refused, loop_not_entered, body_refused, loop_stepped, one_branch, two_branches}
 use Rattle.flow.proofs.judging.+judging.Goals as goal
 use Rattle.flow.proofs.judging.+judging.Goals.{statement-in-Some+in_ok-statement-in-If-2, statement-in_default}
 
@@ -20,13 +21,13 @@ block-loop-item-preserved t c =
 pub statement-returns-in-Block-clause-after : goal.statement-returns-in-Block-clause-after
 statement-returns-in-Block-clause-after t c =
     let k = known_of c.args.known.now in
-    let same = ap (λ s. definite no_privates (stmt_of s) k) c.in-Block.is ∙ ap (λ s. definite no_privates s k) (block_of c.in-Block.items) ∙ ap (λ is. definite_items no_privates [] (items_of is) k) (sym c.deref-in-Block.ensures.value) in
+    let same = ap (λ s. definite no_privates (stmt_of s) k) c.in-Block.is ∙ ap (λ s. definite no_privates s k) (block_items c.in-Block.items) ∙ ap (λ is. definite_items no_privates [] (items_of is) k) (sym c.deref-in-Block.ensures.value) in
     subst (λ o. OnOk c.block.result (o ≡ Some (known_of c.block.new.known))) (sym same) c.block.ensures.after
 
 pub statement-returns-in-Block-clause-refused : goal.statement-returns-in-Block-clause-refused
 statement-returns-in-Block-clause-refused t c =
     let k = known_of c.args.known.now in
-    let same = ap (λ s. definite no_privates (stmt_of s) k) c.in-Block.is ∙ ap (λ s. definite no_privates s k) (block_of c.in-Block.items) ∙ ap (λ is. definite_items no_privates [] (items_of is) k) (sym c.deref-in-Block.ensures.value) in
+    let same = ap (λ s. definite no_privates (stmt_of s) k) c.in-Block.is ∙ ap (λ s. definite no_privates s k) (block_items c.in-Block.items) ∙ ap (λ is. definite_items no_privates [] (items_of is) k) (sym c.deref-in-Block.ensures.value) in
     subst (λ o. IfErr c.block.result (Refuses o)) (sym same) c.block.ensures.refused
 
 pub statement-returns-after-other-clause-after : goal.statement-returns-after-other-clause-after

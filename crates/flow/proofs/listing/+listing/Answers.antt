@@ -2,7 +2,7 @@ use Rattle.std.specs.Prelude.{[], OnOk}
 use Rattle.std.proofs.Common.{sym, subst}
 use Rattle.std.proofs.lemmas.Result.{on_ok_weaker}
 use Rattle.pragma.specs.Parallel.{LoopsHave}
-use Rattle.pragma.proofs.PlainLaw.{block_is}
+use Rattle.ktree.proofs.Trees.{block_is}
 use Rattle.flow.specs.Private.{IsPrivate}
 use Rattle.flow.specs.Parallel.{Adds, LoopsAre}
 use Rattle.flow.proofs.ParallelLemmas.{body_listed, all_listed, item_listed}

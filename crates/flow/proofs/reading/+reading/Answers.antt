@@ -3,7 +3,8 @@ use Rattle.std.specs.Prelude.{◌&&◌, OnOk, IfErr}
 use Rattle.semantics.specs.Meaning.Definite.{may_read, may_read_all}
 use Rattle.ktree.specs.View.{expr_of, exprs_of}
 use Rattle.flow.specs.Judged.{known_of, Unread}
-use Rattle.flow.proofs.ReadLemmas.{object_of, and_on}
+use Rattle.ktree.proofs.Trees.{object_of}
+use Rattle.flow.proofs.ReadLemmas.{and_on}
 use Rattle.flow.proofs.reading.+reading.Goals as goal
 
 pub read-returns-in_ok-read-in-Object-clause-known : goal.read-returns-in_ok-read-in-Object-clause-known

@@ -1,6 +1,6 @@
 use Rattle.std.proofs.Common.{ap, sym, ◌∙◌}
 use Rattle.semantics.specs.Meaning.Agrees.{is_among, declared_in}
-use Rattle.pragma.proofs.PlainLaw.{block_is}
+use Rattle.ktree.proofs.Trees.{block_is}
 use Rattle.flow.proofs.PrivateLemmas.{declared_here, declared_later}
 use Rattle.flow.proofs.sharing.+declaring.Goals as goal
 

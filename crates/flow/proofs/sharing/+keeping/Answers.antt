@@ -2,7 +2,7 @@ use Rattle.std.specs.Prelude.{IfSome}
 use Rattle.std.proofs.Common.{ap, sym, subst, ◌∙◌}
 use Rattle.semantics.specs.Meaning.Agrees.{is_among, declared_in}
 use Rattle.ktree.specs.View.{stmt_of}
-use Rattle.pragma.proofs.PlainLaw.{block_is}
+use Rattle.ktree.proofs.Trees.{block_is}
 use Rattle.flow.specs.Private.{keeps, TellsOf}
 use Rattle.flow.proofs.PrivateLemmas.{fault_here, fault_later}
 use Rattle.flow.proofs.FaultLemmas.{told_item}

@@ -3,7 +3,7 @@ use Rattle.std.proofs.Common.{sym, subst}
 use Rattle.semantics.specs.Tree.{Stmt}
 use Rattle.semantics.specs.Loops.Nest.{as_loop}
 use Rattle.ktree.specs.View.{stmt_of}
-use Rattle.nest_loop.proofs.Trees.{block_is}
+use Rattle.ktree.proofs.Trees.{block_is}
 use Rattle.nest.specs.Heads.{head_of}
 use Rattle.nest.proofs.PerfectLaw.{two_items}
 use Rattle.nest.proofs.heads.+level.Goals as goal

@@ -1,6 +1,7 @@
 use Rattle.std.proofs.Common.{◌∙◌, sym, ap}
 use Rattle.nest_loop.specs.Canonical.{assigns}
-use Rattle.nest_loop.proofs.Trees.{block_is, assigned_here, assigned_later}
+use Rattle.ktree.proofs.Trees.{block_is}
+use Rattle.nest_loop.proofs.Trees.{assigned_here, assigned_later}
 use Rattle.nest_loop.proofs.assigned.+statement.Goals as goal
 
 pub assigns-returns-in-Block : goal.assigns-returns-in-Block

@@ -3,7 +3,7 @@ use Rattle.std.specs.Prelude.{◌||◌}
 use Rattle.std.proofs.lemmas.Bool.Decides.{nat_tests}
 use Rattle.ktree.specs.View.{exprs_of}
 use Rattle.nest_loop.specs.Mentions.{mentions, mentions_among}
-use Rattle.affine_expr.proofs.Trees.{object_is}
+use Rattle.ktree.proofs.Trees.{object_is}
 use Rattle.nest_loop.proofs.mentioned.+expression.Goals as goal
 
 pub mentions-returns-else-other-variable : goal.mentions-returns-else-other-variable

@@ -1,4 +1,4 @@
-use Rattle.std.specs.Prelude.{ℤ, pos, ◌+ℤ◌, ◌≡◌}
+use Rattle.std.specs.Prelude.{ℤ, ◌≡◌}
 use Rattle.std.proofs.Common.{◌∙◌, to_z, of_z, subst, rules}
 use mir.Syntax.{w128}
 use Rattle.std.proofs.lemmas.Int.{ints}

@@ -1,6 +1,6 @@
 use Rattle.std.proofs.Common.{◌∙◌, sym, ap}
 use Rattle.nest_loop.specs.Canonical.{is_variable}
-use Rattle.affine_expr.proofs.Trees.{object_is}
+use Rattle.ktree.proofs.Trees.{object_is}
 use Rattle.nest_loop.proofs.Trees.{plain_variable, subscripted_variable}
 use Rattle.nest_loop.proofs.stride.is_variable.Goals as goal
 

@@ -1,7 +1,7 @@
 use Rattle.std.proofs.Common.{◌+◌, take, sym, ap, ◌∙◌, subst}
 use Rattle.semantics.specs.Tree.{Block}
 use Rattle.ktree.specs.View.{stmt_of, items_of}
-use Rattle.lower.proofs.TreeLaw.{block_items}
+use Rattle.ktree.proofs.Trees.{block_items}
 use Rattle.outline.specs.Fitting.{shape_of, Stands, AllStand}
 use Rattle.outline.specs.View.{outlined}
 use Rattle.outline.proofs.Blocks.{AreSame, block_outlined, block_stands, stand_more, same_next, all_same}

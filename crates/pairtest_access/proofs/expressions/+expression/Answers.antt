@@ -1,7 +1,7 @@
 use Rattle.std.specs.Prelude.{OnOk, IfErr}
 use Rattle.std.proofs.Common.{sym, subst}
 use Rattle.semantics.specs.Tree.{Expr}
-use Rattle.affine_expr.proofs.Trees.{object_is}
+use Rattle.ktree.proofs.Trees.{object_is}
 use Rattle.pairtest_access.specs.Sites.{expr_sites}
 use Rattle.pairtest_access.specs.Refused.{Because, Lacks}
 use Rattle.pairtest_access.specs.Walk.{MeetsAll}

@@ -5,7 +5,7 @@ use Rattle.semantics.specs.Tree.{Stmt, If, IfElse, no_items}
 use Rattle.ktree.specs.View.{stmt_of, cond_of, exprs_of, expr_of, binary_of, with_item}
 use Rattle.ktree.specs.declared.expression.Cond.{Cond}
 use Rattle.ktree.specs.declared.statement.Stmt as code
-use Rattle.nest_loop.proofs.Trees.{block_is}
+use Rattle.ktree.proofs.Trees.{block_is}
 use Rattle.pairtest_counter.specs.Levels.{Nesting}
 use Rattle.ktree.specs.declared.statement.Head.{Head}
 use Rattle.pairtest_access.specs.Refused.{Because, IsStuck, AreStuck}

@@ -4,9 +4,8 @@ use Rattle.std.proofs.lemmas.Result.{err_from_is_err_and}
 use Rattle.ktree.specs.View.{expr_of}
 use Rattle.affine.specs.declared.interval.Side.{Side}
 use Rattle.affine_expr.specs.declared.faults.Fault.TheVariants.{OutOfMemory}
-use Rattle.pairtest_access.specs.Found.{IsSubscript}
 use Rattle.affine_expr.specs.Forms.{form_of}
-use Rattle.pairtest_access.proofs.Lists.{next_each, each_refused, no_subscript}
+use Rattle.pairtest_access.proofs.Lists.{next_each, each_refused, no_form}
 use Rattle.pairtest_access.proofs.subscripts.variable_forms.Goals as goal
 
 pub loop-i-preserved : goal.loop-i-preserved
@@ -20,6 +19,6 @@ returns-in_err-form_of-clause-err c =
     let e = c.index-expressions-i.result in
     let fault = c.in_err-form_of.field-0.0 in
     rw (p.1, p.2)
-    (each_refused (IsSubscript c.args.chain.now) c.args.expressions.now c.loop-i.i e fault c.loop-i-test.true c.index-expressions-i.is
-    (no_subscript c.args.chain.now (expr_of e) fault
+    (each_refused (λ d f. form_of c.args.chain.now.box d ≡ Some f) c.args.expressions.now c.loop-i.i e fault c.loop-i-test.true c.index-expressions-i.is
+    (no_form c.args.chain.now.box (expr_of e) fault
     (subst (λ (box : List Side). (fault ≡ OutOfMemory) ⊎ (form_of box (expr_of e) ≡ None)) c.bounds.ensures c.in_err-form_of.ensures.err)))

@@ -10,7 +10,8 @@ use Rattle.ktree.specs.View.{cond_of, increment_of, source_of, stmt_of, items_of
 use Rattle.seqrun_value.specs.Standing.{standing}
 use Rattle.seqrun_io.specs.Told.{AddsBeginning}
 use Rattle.seqrun.specs.Ran.{Ran, text_of}
-use Rattle.seqrun.proofs.BlockLemmas.{block_of, items_on, item_on}
+use Rattle.ktree.proofs.Trees.{block_items}
+use Rattle.seqrun.proofs.BlockLemmas.{items_on, item_on}
 use Rattle.seqrun.proofs.RunLemmas.{going_from, going_same, going_on, going_over, going_stops, going_begun, ran_from_ended, rest_some, first_some, loop_begun, test_some, after_body, body_begun, turns_over, turns_on, turns_last}
 use Rattle.seqrun.proofs.running.+statement.Goals as goal
 
@@ -23,19 +24,19 @@ step_of step u = incremented u (increment_of step)
 pub statement-block-requires : goal.statement-block-requires
 statement-block-requires g t c κs within =
     let h = subst (λ s. IsSome (run (stmt_of s) (standing c.args.frame.now c.args.store.now))) c.in-Block.is c.requires.runs in
-    let h' = subst (λ s. IsSome (run s (standing c.args.frame.now c.args.store.now))) (block_of c.in-Block.items) h in
+    let h' = subst (λ s. IsSome (run s (standing c.args.frame.now c.args.store.now))) (block_items c.in-Block.items) h in
     (search (rules, the_lemmas), (within, (c.requires.room, rw c.deref-in-Block.ensures.value h')))
 
 pub statement-returns-in-Block-clause-ran : goal.statement-returns-in-Block-clause-ran
 statement-returns-in-Block-clause-ran g t c =
     let s = standing c.args.frame.now c.args.store.now in
-    let same = ap (λ x. run (stmt_of x) s) c.in-Block.is ∙ ap (λ x. run x s) (block_of c.in-Block.items) ∙ ap (λ xs. run_items (items_of xs) s) (sym c.deref-in-Block.ensures.value) in
+    let same = ap (λ x. run (stmt_of x) s) c.in-Block.is ∙ ap (λ x. run x s) (block_items c.in-Block.items) ∙ ap (λ xs. run_items (items_of xs) s) (sym c.deref-in-Block.ensures.value) in
     subst (λ o. OnOk c.block.result (Ran o s (standing c.block.new.frame c.block.new.store) (g.S.Sink.told c.args.sink.now) (g.S.Sink.told c.block.new.sink))) (sym same) c.block.ensures.ran
 
 pub statement-returns-in-Block-clause-beginning : goal.statement-returns-in-Block-clause-beginning
 statement-returns-in-Block-clause-beginning g t c =
     let s = standing c.args.frame.now c.args.store.now in
-    let same = ap (λ x. run (stmt_of x) s) c.in-Block.is ∙ ap (λ x. run x s) (block_of c.in-Block.items) ∙ ap (λ xs. run_items (items_of xs) s) (sym c.deref-in-Block.ensures.value) in
+    let same = ap (λ x. run (stmt_of x) s) c.in-Block.is ∙ ap (λ x. run x s) (block_items c.in-Block.items) ∙ ap (λ xs. run_items (items_of xs) s) (sym c.deref-in-Block.ensures.value) in
     subst (λ o. AddsBeginning (g.S.Sink.told c.args.sink.now) (g.S.Sink.told c.block.new.sink) (text_of o)) (sym same) c.block.ensures.beginning
 
 pub statement-loop-turn-init : goal.statement-loop-turn-init

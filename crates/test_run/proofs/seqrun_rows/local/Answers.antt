@@ -1,7 +1,7 @@
 use Rattle.std.proofs.Common.{ap, ◌∙◌}
 use Rattle.semantics.specs.Tree
 use Rattle.ktree.specs.View.{exprs_of}
-use Rattle.seqrun_value.proofs.ValueLemmas.{object_of}
+use Rattle.ktree.proofs.Trees.{object_of}
 use Rattle.test_run.proofs.seqrun_rows.local.Goals as goal
 
 pub returns : goal.returns

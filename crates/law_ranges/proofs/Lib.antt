@@ -1,0 +1,4 @@
+pub mod Round
+pub mod Turning
+pub mod Within
+pub mod Reaching

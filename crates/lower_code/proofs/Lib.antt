@@ -1,0 +1,12 @@
+pub mod Texts
+pub mod Course
+pub mod Spots
+pub mod Sizes
+pub mod Values
+pub mod Doing
+pub mod Whole
+pub mod Printing
+pub mod Marks
+pub mod Keeping
+pub mod Laying
+pub mod Starting

@@ -1,0 +1,6 @@
+use Rattle.lower_code.proofs.Marks.{Marked}
+use Rattle.lower_code.proofs.mark.+mark.Given as goal
+
+-- what is below for the items that are left is so for all
+abbrev pub invariant-mark_among-loop-item : goal.invariant-mark_among-loop-item
+invariant-mark_among-loop-item l = Marked l.items l.item-index l.mark

@@ -1,0 +1,20 @@
+//! Statements as code over registers and one flat list of cells, made once before a run, and the runner of such code.
+#![tactic(auto)]
+
+mod behind;
+mod expression;
+mod layout;
+mod lowering;
+mod making;
+mod mark;
+mod running;
+mod statements;
+mod term;
+
+pub use behind::are_behind;
+pub use layout::layout_of;
+pub use lowering::{lower, run};
+pub use mark::mark_among;
+pub use running::{obey, truth, worth};
+pub use statements::{items, statement};
+pub use term::{Code, Laid, Lowered, Piece, Register, Term, Test, Word};

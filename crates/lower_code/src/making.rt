@@ -1,0 +1,121 @@
+//! Terms, tests and code from their parts.
+
+ghost use Rattle.std.specs.Prelude.{IfOk, ◌≡◌, ◌&&◌, ◌||◌, not, slice_index, if◌then◌else◌};
+ghost use Rattle.ktree.specs.View.{unary_of, binary_of, compare_of};
+ghost use Rattle.semantics.specs.Meaning.Value.{change, compare};
+ghost use Rattle.semantics.specs.Meaning.Runs.{greatest_trip_count};
+ghost use Rattle.lower_code.specs.Machine.{Machine, Running, worth, truth, after, spins, operate_or_zero};
+
+use crate::term::{Code, Term, Test, Word};
+use ktree::{BinaryOp, CompareOp, UnaryOp};
+use std::alloc::{AllocError, Global};
+
+/// A number.
+pub(crate) fn number(n: u64) -> Term
+    ensures { (m : Machine) → worth result m ≡ n }
+{
+    Term::Number(Word { number: n })
+}
+
+/// The cell at a place.
+pub(crate) fn element(alloc: Global, at: Term) -> Result<Term, AllocError>
+    ensures { IfOk result (λ t. (m : Machine) → worth t m ≡ slice_index m.cells (worth at m)) }
+{
+    let at = Box::new(alloc, at)?;
+    Ok(Term::Element(at))
+}
+
+/// An operator on one term.
+pub(crate) fn unary(alloc: Global, op: UnaryOp, a: Term) -> Result<Term, AllocError>
+    ensures { IfOk result
+        (λ t. (m : Machine) → worth t m ≡ change (unary_of op) (worth a m)) }
+{
+    let a = Box::new(alloc, a)?;
+    Ok(Term::Unary(op, a))
+}
+
+/// An operator on two terms.
+pub(crate) fn binary(alloc: Global, op: BinaryOp, a: Term, b: Term) -> Result<Term, AllocError>
+    ensures { IfOk result (λ t. (m : Machine)
+        → worth t m ≡ operate_or_zero (binary_of op) (worth a m) (worth b m)) }
+{
+    let a = Box::new(alloc, a)?;
+    let b = Box::new(alloc, b)?;
+    Ok(Term::Binary(op, a, b))
+}
+
+/// One of two terms.
+pub(crate) fn conditional(alloc: Global, c: Test, a: Term, b: Term) -> Result<Term, AllocError>
+    ensures { IfOk result (λ t. (m : Machine)
+        → worth t m ≡ (if truth c m then worth a m else worth b m)) }
+{
+    let c = Box::new(alloc, c)?;
+    let a = Box::new(alloc, a)?;
+    let b = Box::new(alloc, b)?;
+    Ok(Term::Conditional(c, a, b))
+}
+
+/// A comparison.
+pub(crate) fn comparison(alloc: Global, op: CompareOp, a: Term, b: Term) -> Result<Test, AllocError>
+    ensures { IfOk result (λ t. (m : Machine)
+        → truth t m ≡ compare (compare_of op) (worth a m) (worth b m)) }
+{
+    let a = Box::new(alloc, a)?;
+    let b = Box::new(alloc, b)?;
+    Ok(Test::Compare(op, a, b))
+}
+
+/// What does not hold.
+pub(crate) fn negation(alloc: Global, c: Test) -> Result<Test, AllocError>
+    ensures { IfOk result (λ t. (m : Machine) → truth t m ≡ not (truth c m)) }
+{
+    let c = Box::new(alloc, c)?;
+    Ok(Test::Not(c))
+}
+
+/// Two tests that both hold.
+pub(crate) fn both(alloc: Global, c: Test, d: Test) -> Result<Test, AllocError>
+    ensures { IfOk result (λ t. (m : Machine) → truth t m ≡ (truth c m && truth d m)) }
+{
+    let c = Box::new(alloc, c)?;
+    let d = Box::new(alloc, d)?;
+    Ok(Test::LogicalAnd(c, d))
+}
+
+/// Two tests of which one holds.
+pub(crate) fn either(alloc: Global, c: Test, d: Test) -> Result<Test, AllocError>
+    ensures { IfOk result (λ t. (m : Machine) → truth t m ≡ (truth c m || truth d m)) }
+{
+    let c = Box::new(alloc, c)?;
+    let d = Box::new(alloc, d)?;
+    Ok(Test::LogicalOr(c, d))
+}
+
+/// The one, and then the other.
+pub(crate) fn then(alloc: Global, a: Code, b: Code) -> Result<Code, AllocError>
+    ensures { IfOk result (λ t. (r : Running) → after t r ≡ after b (after a r)) }
+{
+    let a = Box::new(alloc, a)?;
+    let b = Box::new(alloc, b)?;
+    Ok(Code::Then(a, b))
+}
+
+/// One of two, by a test.
+pub(crate) fn branch(alloc: Global, c: Test, a: Code, b: Code) -> Result<Code, AllocError>
+    ensures { IfOk result (λ t. (r : Running)
+        → after t r ≡ (if truth c r.machine then after a r else after b r)) }
+{
+    let a = Box::new(alloc, a)?;
+    let b = Box::new(alloc, b)?;
+    Ok(Code::If(c, a, b))
+}
+
+/// As long as the test holds, the one and then the other.
+pub(crate) fn repeat(alloc: Global, c: Test, a: Code, b: Code) -> Result<Code, AllocError>
+    ensures { IfOk result (λ t. (r : Running)
+        → after t r ≡ spins greatest_trip_count (truth c) (λ k. after b (after a k)) r) }
+{
+    let a = Box::new(alloc, a)?;
+    let b = Box::new(alloc, b)?;
+    Ok(Code::Loop(c, a, b))
+}

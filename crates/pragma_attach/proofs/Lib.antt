@@ -1,0 +1,11 @@
+pub mod LookLaw
+pub mod ItemsLaw
+pub mod LinesLaw
+pub mod PlacingLaw
+pub mod EachLaw
+pub mod NamesLaw
+pub mod VisibleLaw
+pub mod ResolvedLaw
+pub mod AttachLaw
+pub mod OnceLaw
+pub mod NamedOnceLaw

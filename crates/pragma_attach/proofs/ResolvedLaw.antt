@@ -1,0 +1,164 @@
+-- Lines whose names are resolved, by the first place where each line stands.
+use Rattle.std.specs.Prelude.{ℕ, Bool, true, false, nat_eq, if◌then◌else◌, ◌≡◌, List, [], ◌∷◌, flat_map, unwrap_or, All, Option, Some, None, option_map}
+use Rattle.std.specs.HashMap.{HashMap, get}
+use Rattle.std.proofs.Common.{refl, sym, ap, ◌∙◌, subst, arith}
+use Rattle.std.proofs.lemmas.Bool.Decides.{nat_tests}
+use Rattle.std.proofs.lemmas.Bool.{eqb-true}
+use Rattle.std.proofs.lemmas.List.Elements.{recursion_from_All, All-nil, All-cons, All-head, All-tail}
+use Rattle.semantics.specs.Tree.{Name, Variable, Kernel}
+use Rattle.semantics.specs.Source.Scope.{Scope}
+use Rattle.semantics.specs.Directives.Directive.{Clause, Directive}
+use Rattle.semantics.specs.Directives.Annotated.{Directives, clauses_there, resolve_clauses, scope_at, lines_of, clauses_at, IsResolved}
+use Rattle.semantics.specs.Directives.Naming.{variables_in, are_distinct, constructs_among, NamesRightly, IsAttached}
+use Rattle.semantics.specs.Directives.Placed.{is_well_placed}
+use Rattle.pragma_attach.specs.declared.names.Clauses.{Clauses}
+use Rattle.pragma_attach.specs.Standing.{directive_on, is_standing}
+use Rattle.pragma_attach.specs.Attached.{with_directive, directives_on, directives_of}
+use Rattle.pragma_attach.specs.Resolved.{resolved_clauses}
+use Rattle.pragma_attach.specs.Told.{unless_twice, clauses_by, told, kept}
+use Rattle.pragma_attach.proofs.LinesLaw.{AllLines, AllRead, Found, AllFound, all_found, the_same}
+use Rattle.pragma_attach.proofs.NamedOnceLaw.{Once, once_among}
+use Rattle.pragma_attach.proofs.PlacingLaw.{all_placed, read_among}
+
+-- ---- where a line is told, it is by what is visible there
+
+-- the clauses of a line, by these lines
+abbrev pub at : List ℕ → List (ℕ × Scope) → ℕ → Option (List (Clause Variable))
+at text ls n = clauses_by text (scope_at ls n) n
+
+abbrev IsTold : List ℕ → List (ℕ × Scope) → ℕ → Type 0
+IsTold text ls n = told text ls n ≡ Some (at text ls n)
+
+told_still : (text : List ℕ) (l : ℕ × Scope) (ls : List (ℕ × Scope)) (n : ℕ) → IsTold text ls n → IsTold text (l ∷ ls) n
+told_still text l ls n h = go (nat_eq l.0 n)
+  where
+    go : (b : Bool) → (if b then Some (clauses_by text l.1 n) else told text ls n) ≡ Some (clauses_by text (if b then l.1 else scope_at ls n) n)
+    go true = refl
+    go false = h
+
+told_here : (text : List ℕ) (l : ℕ × Scope) (ls : List (ℕ × Scope)) → IsTold text (l ∷ ls) l.0
+told_here text l ls = go (nat_eq l.0 l.0) refl
+  where
+    go : (b : Bool) → nat_eq l.0 l.0 ≡ b → (if b then Some (clauses_by text l.1 l.0) else told text ls l.0) ≡ Some (clauses_by text (if b then l.1 else scope_at ls l.0) l.0)
+    go true e = refl
+    go false e = absurd (grind (arith, nat_tests))
+
+all_still : (text : List ℕ) (l : ℕ × Scope) (ls ms : List (ℕ × Scope)) → AllLines (IsTold text ls) ms → AllLines (IsTold text (l ∷ ls)) ms
+all_still text l ls [] h = tt
+all_still text l ls (m ∷ ms) h = (told_still text l ls m.0 h.0, all_still text l ls ms h.1)
+
+all_told : (text : List ℕ) (ls : List (ℕ × Scope)) → AllLines (IsTold text ls) ls
+all_told text [] = tt
+all_told text (l ∷ ls) = (told_here text l ls, all_still text l ls ls (all_told text ls))
+
+-- a line that is told is one of them
+at_line : (text : List ℕ) (P : ℕ → Type 0) (ls : List (ℕ × Scope)) → AllLines P ls → (n : ℕ) (r : Option (List (Clause Variable))) → told text ls n ≡ Some r → P n
+at_line text P [] h n r e = absurd (cc e)
+at_line text P (l ∷ ls) h n r e = go (nat_eq l.0 n) refl e (λ f. at_line text P ls h.1 n r f)
+  where
+    go : (b : Bool) → nat_eq l.0 n ≡ b → (if b then Some (clauses_by text l.1 n) else told text ls n) ≡ Some r → (told text ls n ≡ Some r → P n) → P n
+    go true t e later = subst P (eqb-true l.0 n t) h.0
+    go false t e later = later e
+
+-- ---- of directives, and of lines
+
+of_directives : (text : List ℕ) (P : ℕ → Type 0) (ls : List (ℕ × Scope)) → AllRead text ls → All (λ (d : ℕ × Directive Name). P d.0) (directives_on text ls) → AllLines P ls
+of_directives text P [] r h = tt
+of_directives text P (l ∷ ls) r h =
+    let d = r.0.0 in
+    let Q : ℕ × Directive Name → Type 0 = λ e. P e.0 in
+    let k : All Q ((l.0, d) ∷ directives_on text ls) = subst (λ o. All Q (with_directive l.0 o (directives_on text ls))) r.0.1 h in
+    (All-head Q (l.0, d) (directives_on text ls) k, of_directives text P ls r.1 (All-tail Q (l.0, d) (directives_on text ls) k))
+
+of_lines : (text : List ℕ) (P : ℕ → Type 0) (ls : List (ℕ × Scope)) → AllRead text ls → AllLines P ls → All (λ (d : ℕ × Directive Name). P d.0) (directives_on text ls)
+of_lines text P [] r h = All-nil (λ (e : ℕ × Directive Name). P e.0)
+of_lines text P (l ∷ ls) r h =
+    let Q : ℕ × Directive Name → Type 0 = λ e. P e.0 in
+    subst (λ o. All Q (with_directive l.0 o (directives_on text ls))) (sym r.0.1) (All-cons Q (l.0, r.0.0) (directives_on text ls) h.0 (of_lines text P ls r.1 h.1))
+
+-- ---- of a tree
+
+module _ (text : List ℕ) (tree : Kernel) where
+  lines : List (ℕ × Scope)
+  lines = lines_of tree
+
+  -- a line that is found has the clauses of its directive
+  pub same_clauses : (ds : Directives) (n : ℕ) → Found text ds n → clauses_at tree ds n ≡ resolve_clauses (scope_at (lines_of tree) n) (clauses_there (directive_on text n))
+  same_clauses ds n f = ap (λ o. resolve_clauses (scope_at (lines_of tree) n) (clauses_there o)) (f.2 ∙ sym f.1)
+
+  -- what a table knows is resolved
+  known : {S : Type 0} (table : HashMap ℕ Clauses S) (n : ℕ) (r : Option (List (Clause Variable))) → kept table n ≡ Some r → (cs : List (Clause Variable)) × (r ≡ Some cs)
+  known table n r e = go (get nat_eq table n) e
+    where
+      inner : {a b : Option (List (Clause Variable))} → Some a ≡ Some b → b ≡ a
+      inner p = cc p
+
+      go : (o : Option Clauses) → option_map (λ (c : Clauses). Some (resolved_clauses c.clauses)) o ≡ Some r → (cs : List (Clause Variable)) × (r ≡ Some cs)
+      go None e = absurd (cc e)
+      go (Some c) e = (resolved_clauses c.clauses, inner e)
+
+  -- clauses that are resolved, with no variable twice
+  abbrev pub HasOnce : Directives → ℕ → Type 0
+  HasOnce ds n = (cs : List (Clause Variable)) × (clauses_at tree ds n ≡ Some cs) × (are_distinct (flat_map variables_in cs) ≡ true)
+
+  once_there : (o : Option (List (Clause Variable))) (cs : List (Clause Variable)) → unless_twice o ≡ Some cs → (o ≡ Some cs) × (are_distinct (flat_map variables_in cs) ≡ true)
+  once_there None cs e = absurd (cc e)
+  once_there (Some ds) cs e = go (are_distinct (flat_map variables_in ds)) refl e
+    where
+      go : (b : Bool) → are_distinct (flat_map variables_in ds) ≡ b → (if b then Some ds else None) ≡ Some cs → (Some ds ≡ Some cs) × (are_distinct (flat_map variables_in cs) ≡ true)
+      go true t e = (e, subst (λ o. are_distinct (flat_map variables_in (unwrap_or o [])) ≡ true) e t)
+      go false t e = absurd (cc e)
+
+  both_told : {S : Type 0} (table : HashMap ℕ Clauses S) (ds : Directives) → ((n : ℕ) → kept table n ≡ told text (lines_of tree) n) → (ls : List (ℕ × Scope)) → AllFound text ds ls → AllLines (IsTold text (lines_of tree)) ls
+      → AllLines (HasOnce ds) ls
+  both_told table ds k [] f t = tt
+  both_told table ds k (l ∷ ls) f t =
+      let c = known table l.0 (at text (lines_of tree) l.0) (k l.0 ∙ t.0) in
+      let once = once_there (resolve_clauses (scope_at (lines_of tree) l.0) (clauses_there (directive_on text l.0))) c.0 c.1 in
+      ((c.0, same_clauses ds l.0 f.0 ∙ once.0, once.1), both_told table ds k ls f.1 t.1)
+
+  pub all_resolved : {S : Type 0} (table : HashMap ℕ Clauses S) → ((n : ℕ) → kept table n ≡ told text (lines_of tree) n) → AllRead text (lines_of tree) → All (λ (d : ℕ × Directive Name). HasOnce (directives_of text tree) d.0) (directives_of text tree)
+  all_resolved table k r =
+      let ds = directives_of text tree in
+      of_lines text (HasOnce ds) (lines_of tree) r (both_told table ds k (lines_of tree) (all_found text (lines_of tree) r) (all_told text (lines_of tree)))
+
+  pub are_resolved : (ds : Directives) → All (λ (d : ℕ × Directive Name). HasOnce ds d.0) ds → IsResolved tree ds
+  are_resolved ds h = record { each = λ i d lt. ((h i d lt).0, (h i d lt).1) }
+
+  -- ---- what stands
+
+  pub standing_read : is_standing text tree ≡ true → AllRead text (lines_of tree)
+  standing_read h = read_among text _ true false None tree.body h
+
+  pub standing_placed : is_standing text tree ≡ true → is_well_placed tree (directives_of text tree) ≡ true
+  standing_placed h = sym (all_placed text (directives_of text tree) _ true false None tree.body (all_found text (lines_of tree) (standing_read h))) ∙ h
+
+  -- ---- and what is attached
+
+  module _ (ds : Directives) (a : IsAttached text tree ds) where
+    pub are_these : (ds ≡ directives_of text tree) × AllRead text (lines_of tree)
+    are_these = the_same text (lines_of tree) ds a.read.lines a.read.each
+
+    pub found_there : AllFound text ds (lines_of tree)
+    found_there = subst (λ es. AllFound text es (lines_of tree)) (sym are_these.0) (all_found text (lines_of tree) are_these.1)
+
+    pub attached_stands : is_standing text tree ≡ true
+    attached_stands = all_placed text ds _ true false None tree.body found_there ∙ a.placed
+
+    attached_resolved : AllLines (λ n. (cs : List (Clause Variable)) × (clauses_at tree ds n ≡ Some cs)) (lines_of tree)
+    attached_resolved =
+        of_directives text (λ n. (cs : List (Clause Variable)) × (clauses_at tree ds n ≡ Some cs)) (lines_of tree) are_these.1
+        (subst (λ es. All (λ (d : ℕ × Directive Name). (cs : List (Clause Variable)) × (clauses_at tree ds d.0 ≡ Some cs)) es) are_these.0 a.resolved.each)
+
+    attached_once : AllLines (Once tree ds) (lines_of tree)
+    attached_once = once_among tree ds _ true false None None tree.body a.placed (recursion_from_All (NamesRightly tree ds) (constructs_among None tree.body) a.named)
+
+    pub not_missed : (n : ℕ) → told text (lines_of tree) n ≡ Some None → ⊥
+    not_missed n e =
+        let c = at_line text (λ m. (cs : List (Clause Variable)) × (clauses_at tree ds m ≡ Some cs)) (lines_of tree) attached_resolved n None e in
+        let f = at_line text (Found text ds) (lines_of tree) found_there n None e in
+        let t : told text (lines_of tree) n ≡ Some (at text (lines_of tree) n) = at_line text (IsTold text (lines_of tree)) (lines_of tree) (all_told text (lines_of tree)) n None e in
+        let once = at_line text (Once tree ds) (lines_of tree) attached_once n None e in
+        let is : at text (lines_of tree) n ≡ Some c.0 = ap unless_twice (sym (same_clauses ds n f) ∙ c.1) ∙ ap (λ (b : Bool). if b then Some c.0 else None) (once c.0 c.1) in
+        let clash : Some None ≡ Some (Some c.0) = sym e ∙ t ∙ ap Some is in
+        absurd (cc clash)

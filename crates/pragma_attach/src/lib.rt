@@ -1,0 +1,15 @@
+//! A kernel with its directives, each at its place (OpenMP 5.2, 3.1, 10.1, 11.5 and 17).
+#![tactic(auto)]
+
+mod attaching;
+mod fault;
+mod names;
+mod once;
+mod placed;
+mod resolved;
+mod stop;
+mod visible;
+
+pub use attaching::{Attached, attach};
+pub use names::Clauses;
+pub use resolved::Named;

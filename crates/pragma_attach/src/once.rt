@@ -1,0 +1,111 @@
+//! Variables that a directive names twice (OpenMP 5.2, 5.4).
+
+ghost use Rattle.std.specs.Prelude.{◌≡◌, ◌++◌, ℕ, not, cond, true, nat_eq, is_none, map, flat_map, IfOk, IfErr, OnOk};
+ghost use Rattle.semantics.specs.Directives.Naming.{variables_in, are_distinct};
+ghost use Rattle.pragma_attach.specs.declared.stop.Stop.TheVariants.{Memory};
+ghost use Rattle.semantics.specs.Directives.Annotated.{resolve_clauses};
+ghost use Rattle.cparse_cursor.specs.Names.{names_of};
+ghost use Rattle.pragma_clause.specs.Views.{written_clause};
+ghost use Rattle.pragma_attach.specs.Resolved.{variable_named, resolved_clause, resolved_clauses, Gives};
+ghost use Rattle.pragma_attach.specs.Told.{unless_twice};
+ghost use Rattle.pragma_attach.specs.Once.{holds};
+
+use crate::resolved::{Named, resolve_clauses};
+use crate::stop::Stop;
+use cparse_cursor::scope::Scope;
+use ktree::{Clause, Place, Written};
+use std::alloc::Global;
+use std::collections::HashSet;
+
+/// Adds the variables that a clause names.
+fn add_named(list: &mut Vec<Named>, clause: &Clause<Named>) -> Result<(), Stop>
+    ensures ok { OnOk result (map variable_named list.new.items
+        ≡ map variable_named list.old.items ++ variables_in (resolved_clause clause.now)) }
+    ensures err { IfErr result (λ stop. stop ≡ Memory) }
+{
+    match clause {
+        Clause::DefaultShared => {}
+        Clause::DefaultNone => {}
+        Clause::Shared(names) => list.extend_from_slice(names)?,
+        Clause::Private(names) => list.extend_from_slice(names)?,
+        Clause::Firstprivate(names) => list.extend_from_slice(names)?,
+        Clause::Lastprivate(names) => list.extend_from_slice(names)?,
+        Clause::LastConditional(names) => list.extend_from_slice(names)?,
+        Clause::Reduction(_, names) => list.extend_from_slice(names)?,
+        Clause::Inscan(_, name) => list.push(*name)?,
+        Clause::Schedule(_) => {}
+        Clause::Collapse(_) => {}
+        Clause::Ordered => {}
+        Clause::OrderedLoops(_) => {}
+        Clause::Nowait => {}
+    }
+    Ok(())
+}
+
+/// The variables that clauses name, in their order.
+fn named(alloc: Global, clauses: &[Clause<Named>]) -> Result<Vec<Named>, Stop>
+    ensures ok { IfOk result (λ list. map variable_named list.items
+        ≡ flat_map variables_in (map resolved_clause clauses.now)) }
+    ensures err { IfErr result (λ stop. stop ≡ Memory) }
+{
+    let mut list = Vec::new(alloc);
+    for clause in clauses {
+        add_named(&mut list, clause)?;
+    }
+    Ok(list)
+}
+
+/// Adds a variable to those that are seen, and says whether it is new.
+fn note(seen: &mut HashSet<u32>, variable: u32) -> Result<bool, Stop>
+    ensures added { IfOk result (λ added. added ≡ not (holds seen.old variable)) }
+    ensures noted { OnOk result ((q : ℕ)
+        → holds seen.new q ≡ cond (nat_eq variable q) true (holds seen.old q)) }
+    ensures err { IfErr result (λ stop. stop ≡ Memory) }
+{
+    let added = seen.insert(variable)?;
+    Ok(added)
+}
+
+/// Where the first variable stands that stood before.
+fn first_twice(alloc: Global, list: &[Named]) -> Result<Option<Place>, Stop>
+    ensures ok { IfOk result
+        (λ found. is_none found ≡ are_distinct (map variable_named list.now)) }
+    ensures err { IfErr result (λ stop. stop ≡ Memory) }
+{
+    let mut seen = HashSet::new(alloc);
+    for named in list {
+        if !note(&mut seen, named.variable.0)? {
+            return Ok(Some(named.place));
+        }
+    }
+    Ok(None)
+}
+
+/// Where clauses name a variable that they named before.
+pub(crate) fn named_twice(alloc: Global, clauses: &[Clause<Named>]) -> Result<Option<Place>, Stop>
+    ensures ok { IfOk result (λ found. is_none found
+        ≡ are_distinct (flat_map variables_in (map resolved_clause clauses.now))) }
+    ensures err { IfErr result (λ stop. stop ≡ Memory) }
+{
+    let list = named(alloc, clauses)?;
+    first_twice(alloc, list.as_slice())
+}
+
+/// The clauses of a line with their names resolved, none of which stands twice.
+pub(crate) fn line_clauses(
+    alloc: Global,
+    scope: &Scope,
+    clauses: &[Clause<Written>],
+) -> Result<Vec<Clause<Named>>, Stop>
+    ensures { Gives resolved_clauses result
+        (unless_twice (resolve_clauses (names_of scope.now) (map written_clause clauses.now))) }
+{
+    match resolve_clauses(alloc, scope, clauses) {
+        Err(stop) => Err(stop),
+        Ok(resolved) => match named_twice(alloc, resolved.as_slice()) {
+            Err(stop) => Err(stop),
+            Ok(Some(place)) => Err(Stop::NamedTwice(place)),
+            Ok(None) => Ok(resolved),
+        },
+    }
+}

@@ -1,0 +1,5 @@
+//! Tests of lowered code: texts of C that are parsed, lowered and run.
+#![tactic(auto)]
+
+#[cfg(test)]
+mod lower_code_rows;

@@ -1,0 +1,234 @@
+//! Directives that are attached to their kernel, and what is told of those that are not.
+
+use cparse::parse;
+use ktree::{Kernel, Place, Refusal};
+use pragma::Directives;
+use pragma_attach::attach;
+use std::alloc::Global;
+
+/// The number of a refusal, and where the text is at fault.
+fn told(refusal: &Refusal) -> Option<(u8, Place)> {
+    match refusal.place() {
+        Some(place) => Some((refusal.number(), place)),
+        None => None,
+    }
+}
+
+/// What is told of a kernel with these directive lines; none where they are attached.
+fn told_of(alloc: Global, kernel: &Kernel, directives: &Directives) -> Option<(u8, Place)> {
+    match attach(alloc, kernel, directives) {
+        Ok(_) => None,
+        Err(refusal) => told(&refusal),
+    }
+}
+
+/// What is told of the directives of a kernel in a text.
+fn told_among(alloc: Global, kernel: &Kernel, text: &[u8]) -> Option<(u8, Place)> {
+    match Directives::read(alloc, text) {
+        Ok(directives) => told_of(alloc, kernel, &directives),
+        Err(refusal) => told(&refusal),
+    }
+}
+
+/// What is told of the directives of a text that is a kernel, and else what the parser tells.
+fn told_in(alloc: Global, text: &[u8]) -> Option<(u8, Place)> {
+    match parse(alloc, text) {
+        Ok(kernel) => told_among(alloc, &kernel, text),
+        Err(refusal) => told(&refusal),
+    }
+}
+
+/// Whether this is told of a text, by number, line and column; a number of 0 where its directives are attached.
+fn is_told(alloc: Global, text: &str, number: u8, line: u32, column: u32) -> bool {
+    match told_in(alloc, text.as_bytes()) {
+        None => number == 0,
+        Some((other, place)) => { other == number && place.line == line && place.column == column }
+    }
+}
+
+/// The first text of a table of which something else is told.
+fn other_told<'t>(alloc: Global, rows: &[(&'t str, u8, u32, u32)]) -> Option<&'t str> {
+    for (text, number, line, column) in rows {
+        if !is_told(alloc, *text, *number, *line, *column) {
+            return Some(*text);
+        }
+    }
+    None
+}
+
+#[test]
+fn constructs_stand_before_their_statements(rt: HostRuntime) {
+    let rows = [
+        (
+            "uint64_t v; void kernel(void) {\n#pragma omp parallel for\nfor (uint64_t i = 0; i < 8; i++) { } }\n",
+            0,
+            0,
+            0,
+        ),
+        (
+            "uint64_t v; void kernel(void) {\n#pragma omp parallel\n{\n#pragma omp for\nfor (uint64_t i = 0; i < 8; i++) { } } }\n",
+            0,
+            0,
+            0,
+        ),
+        (
+            "uint64_t v; void kernel(void) {\n#pragma omp parallel\n{ } }\n",
+            11,
+            2,
+            1,
+        ),
+        (
+            "uint64_t v; void kernel(void) {\n#pragma omp parallel\n{\n  #pragma omp parallel for\nfor (uint64_t i = 0; i < 8; i++) { } } }\n",
+            11,
+            2,
+            1,
+        ),
+        (
+            "uint64_t v; void kernel(void) {\n#pragma omp parallel\n{\n  #pragma omp for x\nfor (uint64_t i = 0; i < 8; i++) { } } }\n",
+            11,
+            4,
+            3,
+        ),
+        (
+            "uint64_t v; void kernel(void) {\n#pragma omp for\nfor (uint64_t i = 0; i < 8; i++) { } }\n",
+            11,
+            2,
+            1,
+        ),
+        (
+            "uint64_t v; void kernel(void) { { v = 1;\n#pragma omp parallel for\n} }\n",
+            11,
+            2,
+            1,
+        ),
+        (
+            "uint64_t v; void kernel(void) {\n#pragma omp parallel for\nfor (uint64_t i = 0; i < 8; i++) {\n#pragma omp parallel for\nfor (uint64_t j = 0; j < 8; j++) { } } }\n",
+            11,
+            4,
+            1,
+        ),
+        (
+            "uint64_t v; void kernel(void) {\n#pragma omp parallel for schedule(static) schedule(static)\nfor (uint64_t i = 0; i < 8; i++) { } }\n",
+            11,
+            2,
+            1,
+        ),
+        (
+            "uint64_t v; void kernel(void) {\n#pragma omp parallel for // all\nfor (uint64_t i = 0; i < 8; i++) { } }\n",
+            11,
+            2,
+            1,
+        ),
+    ];
+    assert_eq!(rt; other_told(rt.alloc(), &rows), None);
+}
+
+#[test]
+fn names_in_clauses_are_visible_variables(rt: HostRuntime) {
+    let rows = [
+        (
+            "uint64_t v; void kernel(void) {\n#pragma omp parallel for shared(v)\nfor (uint64_t i = 0; i < 8; i++) { } }\n",
+            0,
+            0,
+            0,
+        ),
+        (
+            "uint64_t v; void kernel(void) {\n#pragma omp parallel for shared(w)\nfor (uint64_t i = 0; i < 8; i++) { } }\n",
+            3,
+            2,
+            33,
+        ),
+        (
+            "uint64_t v; void kernel(void) {\n#pragma omp parallel for private(v, w)\nfor (uint64_t i = 0; i < 8; i++) { } }\n",
+            3,
+            2,
+            37,
+        ),
+        (
+            "uint64_t v; void kernel(void) {\n#pragma omp parallel for firstprivate(w)\nfor (uint64_t i = 0; i < 8; i++) { } }\n",
+            3,
+            2,
+            39,
+        ),
+        (
+            "uint64_t v; void kernel(void) {\n#pragma omp parallel for lastprivate(conditional: w)\nfor (uint64_t i = 0; i < 8; i++) { } }\n",
+            3,
+            2,
+            51,
+        ),
+        (
+            "uint64_t v; void kernel(void) {\n#pragma omp parallel for reduction(+: v) reduction(inscan, max: w)\nfor (uint64_t i = 0; i < 8; i++) { } }\n",
+            3,
+            2,
+            65,
+        ),
+        (
+            "enum { N = 8 }; uint64_t v; void kernel(void) {\n#pragma omp parallel for shared(N)\nfor (uint64_t i = 0; i < N; i++) { } }\n",
+            3,
+            2,
+            33,
+        ),
+        (
+            "uint64_t v; void kernel(void) {\n#pragma omp parallel for private(i)\nfor (uint64_t i = 0; i < 8; i++) { } }\n",
+            3,
+            2,
+            34,
+        ),
+        (
+            "uint64_t v; void kernel(void) { { uint64_t t = 1; v = t; }\n#pragma omp parallel for firstprivate(t)\nfor (uint64_t i = 0; i < 8; i++) { } }\n",
+            3,
+            2,
+            39,
+        ),
+        (
+            "uint64_t v; void kernel(void) { uint64_t t = 1;\n#pragma omp parallel for firstprivate(t)\nfor (uint64_t i = 0; i < 8; i++) { v = t; } }\n",
+            0,
+            0,
+            0,
+        ),
+        (
+            "uint64_t v; void kernel(void) { for (uint64_t j = 0; j < 8; j++) {\n#pragma omp parallel for firstprivate(j)\nfor (uint64_t i = 0; i < 8; i++) { } } }\n",
+            0,
+            0,
+            0,
+        ),
+    ];
+    assert_eq!(rt; other_told(rt.alloc(), &rows), None);
+}
+
+#[test]
+fn the_first_fault_is_told(rt: HostRuntime) {
+    let rows = [
+        (
+            "uint64_t v; void kernel(void) {\n#pragma omp parallel for shared(v) private(v)\nfor (uint64_t i = 0; i < 8; i++) { } }\n",
+            13,
+            2,
+            44,
+        ),
+        (
+            "uint64_t v; void kernel(void) {\n#pragma omp parallel for shared(w)\nv = 1;\n#pragma omp simd\n}\n",
+            11,
+            2,
+            1,
+        ),
+        (
+            "uint64_t v; void kernel(void) {\n#pragma omp parallel for shared(w)\nfor (uint64_t i = 0; i < 8; i++) { }\n#pragma omp simd\n}\n",
+            3,
+            2,
+            33,
+        ),
+        (
+            "uint64_t v; void kernel(void) {\n#pragma omp parallel for collapse(5) shared(w)\nfor (uint64_t i = 0; i < 8; i++) { } }\n",
+            21,
+            2,
+            1,
+        ),
+        (
+            "uint64_t v; void kernel(void) {\n#pragma omp parallel for collapse(5)\nv = 1; }\n",
+            11,
+            2,
+            1,
+        ),
+    ];
+    assert_eq!(rt; other_told(rt.alloc(), &rows), None);
+}
