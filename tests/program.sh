@@ -102,6 +102,7 @@ body 'K11 6:1 directive' $'\n#pragma omp simd\nfor (uint64_t i = 0; i < 3; i++) 
 body 'K11 8:1 directive' $'\n#pragma omp parallel for\nfor (uint64_t i = 0; i < 3; i++) {\n#pragma omp parallel for\nfor (uint64_t j = 0; j < 3; j++) { d[j] = i; } }'
 body 'K12 7:1 nest not perfect' $'\n#pragma omp parallel for collapse(2)\nfor (uint64_t i = 0; i < 3; i++) { d[i] = i; }'
 body 'K21 7:1 limit' $'\n#pragma omp parallel for\nfor (uint64_t i = 0; i < 16777217; i++) { d[0] = 1; }'
+body 'K11 6:1 directive' $'\n#pragma omp parallel for schedule(auto, 2)\nfor (uint64_t i = 0; i < 3; i++) { d[i] = i; }'
 body 'K11 6:1 directive' $'\n#pragma omp parallel for schedule(dynamic, 2)\ns = 1;'
 body 'K11 6:1 directive' $'\n#pragma omp parallel for schedule(dynamic, 2)\n'
 body 'K09 5:3 subscript out of range' 'd[3] = 1; s = 1;'
@@ -133,6 +134,21 @@ refuse 'K01 1:1 syntax' ''
 printf 'uint64_t A[5];\nvoid kernel(void)\n{\n#pragma omp parallel for schedule(dynamic, 2)\nfor (uint64_t i = 0; i < 5; i++) { A[i] = i - 1ull; }\n}\n' >"$work/minus.c"
 for workers in 1 3 64; do
     expect 0 $'A = 18446744073709551615 0 1 2 3\n' '' run "$work/minus.c" --workers "$workers"
+done
+# every schedule, and each word for `runtime`
+plain='A = 0 1 2 3 4 5 6 7'
+for clause in '' 'schedule(static)' 'schedule(static, 3)' 'schedule(dynamic)' 'schedule(guided)' 'schedule(guided, 2)' 'schedule(auto)' 'schedule(runtime)'; do
+    loop "parallel for $clause" 8 >"$work/cut.c"
+    expect 0 "$plain"$'\n' '' seq "$work/cut.c"
+    for workers in 1 3 64; do
+        expect 0 "$plain"$'\n' '' run "$work/cut.c" --workers "$workers"
+    done
+done
+for word in static static,3 dynamic dynamic,1 guided guided,16777216 auto; do
+    expect 0 "$plain"$'\n' '' run "$work/cut.c" --schedule "$word"
+done
+for word in '' Static static, static,0 static,03 static,16777217 dynamic,x guided,1,2 auto,4 runtime; do
+    misuse run "$work/cut.c" --schedule "$word"
 done
 loop 'parallel for schedule(dynamic, 3)' 0 >"$work/none.c"
 expect 0 $'A = 0 0 0 0 0 0 0 0\n' '' run "$work/none.c"

@@ -2,6 +2,7 @@
 
 ghost use Rattle.std.specs.Prelude.{◌≡◌, map, IfOk, IfErr};
 ghost use Rattle.ktree.specs.View.{declaration_of, kernel_of};
+ghost use Rattle.nest.specs.Judged.{IsTableOf};
 ghost use Rattle.flow.specs.Parallel.{AreParallelLoops};
 ghost use Rattle.deptest.specs.Accepted.{tree_of, HasPassed, AreIndependent, IsAccepted};
 ghost use Rattle.deptest.specs.Refused.{RefusesLoops};
@@ -9,6 +10,7 @@ ghost use Rattle.deptest.specs.Refused.{RefusesLoops};
 use crate::independent::check;
 use flow::ParallelLoop;
 use ktree::{Declaration, Item, Kernel, Refusal};
+use nest::LoopTable;
 use pragma::Directives;
 use std::alloc::Global;
 use std::marker::Model;
@@ -66,19 +68,25 @@ impl Checked {
     }
 }
 
-/// Tests the parallel loops of a kernel behind these directive lines.
-fn test_kernel(alloc: Global, directives: &Directives, kernel: &Kernel) -> Result<(), Refusal>
-    requires { HasPassed directives.now (kernel_of kernel.now) }
+/// Tests the parallel loops of a kernel behind these directive lines, by the table of its loops.
+fn test_kernel(
+    alloc: Global,
+    directives: &Directives,
+    table: &LoopTable,
+    kernel: &Kernel,
+) -> Result<(), Refusal>
+    requires passed { HasPassed directives.now (kernel_of kernel.now) }
+    requires table { IsTableOf (kernel_of kernel.now) table.now }
     ensures ok { IfOk result (λ _. AreIndependent directives.now (kernel_of kernel.now)) }
     ensures err { IfErr result (RefusesLoops directives.now (kernel_of kernel.now)) }
 {
-    let independent = check(alloc, kernel, directives)?;
+    let independent = check(alloc, kernel, directives, table)?;
     let _tested = independent.kernel();
     Ok(())
 }
 
 /// Accepts the kernel of a text that has passed all else, with these parallel loops, where they are independent
-/// (OpenMP 5.2, 11.5); the directive lines are the text's.
+/// (OpenMP 5.2, 11.5); the directive lines are the text's, and the table is that of the kernel's loops.
 ///
 /// # Errors
 ///
@@ -86,17 +94,19 @@ fn test_kernel(alloc: Global, directives: &Directives, kernel: &Kernel) -> Resul
 pub fn accept(
     alloc: Global,
     directives: &Directives,
+    table: &LoopTable,
     text: Vec<u8>,
     kernel: Kernel,
     loops: Vec<ParallelLoop>,
 ) -> Result<Checked, Refusal>
     requires lines { directives.now ≡ text.items }
     requires passed { HasPassed text.items (kernel_of kernel) }
+    requires table { IsTableOf (kernel_of kernel) table.now }
     requires listed { AreParallelLoops text.items (kernel_of kernel) loops.items }
     ensures is { IfOk result (λ checked. checked ≡ record { text = text.items; kernel = kernel }) }
     ensures err { IfErr result (RefusesLoops text.items (kernel_of kernel)) }
 {
-    test_kernel(alloc, directives, &kernel)?;
+    test_kernel(alloc, directives, table, &kernel)?;
     Ok(Checked {
         text,
         kernel,

@@ -2,11 +2,13 @@
 
 ghost use Rattle.std.specs.Prelude.{◌≡◌, IfOk, IfErr};
 ghost use Rattle.ktree.specs.View.{kernel_of};
+ghost use Rattle.nest.specs.Judged.{IsTableOf};
 ghost use Rattle.deptest.specs.Accepted.{HasPassed, AreIndependent};
 ghost use Rattle.deptest.specs.Refused.{RefusesLoops};
 
 use deptest_verdict::judge;
 use ktree::{Kernel, Refusal};
+use nest::LoopTable;
 use pragma::Directives;
 use std::alloc::Global;
 use std::marker::Model;
@@ -45,7 +47,8 @@ impl<'k> Independent<'k> {
 }
 
 /// Tests the parallel loops of a kernel: of every two accesses of one array in the body of each, one of them a write, it has to be
-/// shown that no two different iterations touch one element by them (OpenMP 5.2, 1.4.1 and 11.5).
+/// shown that no two different iterations touch one element by them (OpenMP 5.2, 1.4.1 and 11.5). The table has the facts of the
+/// kernel's loops.
 ///
 /// # Errors
 ///
@@ -56,12 +59,14 @@ pub fn check<'k>(
     alloc: Global,
     kernel: &'k Kernel,
     directives: &'k Directives<'k>,
+    table: &LoopTable,
 ) -> Result<Independent<'k>, Refusal>
-    requires { HasPassed directives.now (kernel_of kernel.now) }
+    requires passed { HasPassed directives.now (kernel_of kernel.now) }
+    requires table { IsTableOf (kernel_of kernel.now) table.now }
     ensures is { IfOk result (λ i. i ≡ record { text = directives.now; kernel = kernel.now }) }
     ensures err { IfErr result (RefusesLoops directives.now (kernel_of kernel.now)) }
 {
-    match judge(alloc, kernel, directives) {
+    match judge(alloc, kernel, directives, table) {
         Ok(()) => Ok(Independent { kernel, directives }),
         Err(refusal) => Err(refusal),
     }

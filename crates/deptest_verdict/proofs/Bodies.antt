@@ -122,4 +122,4 @@ nest_inner ds now inner outer serial (suc n) s h body r l e i k = go (subst (λ 
 
     go : OrMemory (NestRefused ds inner outer serial n body) r → OrMemory (NestRefused ds now outer serial (suc n) s) r
     go (inl m) = inl m
-    go (inr k) = inr (inr (h, body, e, inr (inner, i, k)))
+    go (inr k) = inr (inr (h, body, e, inner, i, k))

@@ -13,7 +13,7 @@ use Rattle.ktree.proofs.Trees.{next_item}
 use Rattle.nest.proofs.Walks.{loop_of}
 use Rattle.nest.proofs.NestedLaw.{all_behind}
 use Rattle.deptest_verdict.specs.Shown.{FirstLineShown, FirstLoopsShown}
-use Rattle.deptest_verdict.specs.Refused.{EntryRefused, LoopsRefused, ItemsRefused}
+use Rattle.deptest_verdict.specs.Refused.{ItemsRefused}
 use Rattle.deptest_verdict.specs.Telling.{FirstLineRefused, FirstLoopsRefused, OrMemory}
 
 -- ---- items
@@ -64,14 +64,3 @@ pub refused_by_statement : (text : List ℕ) (ds : List Tree.Declaration) (n : N
 refused_by_statement text ds n is i e r lt p left (inl m) = inl m
 refused_by_statement text ds n is i e r lt p left (inr h) =
     inr (left r (subst (λ xs. ItemsRefused text ds n xs r) (sym (next_item is i e lt p)) (statement_refused text ds n e (items_of (drop (i + 1) is)) r h)))
-
--- ---- statements
-
--- the loop that a statement is
-for_is : (s : code.Stmt) (head : Head) (body : Box code.Stmt Global) (inner : code.Stmt) → s ≡ code.For head body → inner ≡ body.value → loop_of head (stmt_of inner) ≡ stmt_of s
-for_is s head body inner e f = ap (λ b. loop_of head (stmt_of b)) f ∙ sym (ap stmt_of e)
-
-pub head_refused : (text : List ℕ) (ds : List Tree.Declaration) (n : Nesting) (s : code.Stmt) (head : Head) (body : Box code.Stmt Global) (inner : code.Stmt) (r : Refusal) → s ≡ code.For head body
-    → inner ≡ body.value → OrMemory (EntryRefused n (head_of head) (stmt_of inner)) r → OrMemory (LoopsRefused text ds n (stmt_of s)) r
-head_refused text ds n s head body inner r e f (inl m) = inl m
-head_refused text ds n s head body inner r e f (inr h) = inr (subst (λ t. LoopsRefused text ds n t r) (for_is s head body inner e f) (inl h))

@@ -1,23 +1,36 @@
 -- A walk over parallel loops, item by item.
-use Rattle.std.specs.Prelude.{ℕ, suc, IsTrue, [], ◌∷◌, slice_get, ◌+◌, ◌-◌, ◌≡◌, ◌<◌, List, length, get_or, drop, take, map, Option, Some, None, MatchOption}
-use Rattle.std.proofs.Common.{inl, inr, refl, sym, subst}
+use Rattle.std.specs.Prelude.{ℕ, zero, suc, IsTrue, [], ◌∷◌, slice_get, ◌+◌, ◌-◌, ◌≡◌, ◌<◌, List, length, get_or, drop, take, map, Option, Some, None, MatchOption}
+use Rattle.std.proofs.Common.{inl, inr, refl, sym, subst, arith}
 use Rattle.std.proofs.lemmas.Option.{slice_get_within}
 use Rattle.semantics.specs.Tree
 use Rattle.semantics.specs.Source.Text.{line_at}
-use Rattle.ktree.specs.View.{items_of, with_item}
+use Rattle.semantics.specs.Loops.Nest.{Loop, as_loop}
+use Rattle.ktree.specs.View.{items_of, with_item, source_of, cond_of, increment_of}
+use Rattle.ktree.specs.declared.statement.Head.{Head}
+use Rattle.ktree.specs.declared.refusal.Refusal.{Refusal}
+use Rattle.affine.specs.declared.interval.Side.{Side}
+use Rattle.nest_loop.specs.declared.entered.LoopFacts.{LoopFacts}
+use Rattle.nest_loop.specs.Facts.{LoopFactsOf, StandFirst, StandFirstAmong}
+use Rattle.nest_loop.proofs.Standing.{first_facts}
 use Rattle.ktree.specs.declared.statement.Item.{Item, Directive, Local, Statement'}
 use Rattle.pairtest_counter.specs.Levels.{Nesting}
+use Rattle.semantics.specs.Directives.Directive.{Schedule}
 use Rattle.pragma.specs.Clauses.{ReadsLoop}
 use Rattle.pragma.specs.Parallel.{associated}
 use Rattle.ktree.proofs.Trees.{next_item}
 use Rattle.nest.proofs.NestedLaw.{all_behind}
 use Rattle.pairtest.specs.declared.access.Access.{Access}
 use Rattle.pairtest.specs.declared.access.Nest.{Nest}
-use Rattle.pairtest_access.specs.Sites.{Site, Sites}
+use Rattle.pairtest_access.specs.Sites.{Site, Sites, IsInside}
+use Rattle.pairtest_access.specs.Walk.{EntersFirst}
+use Rattle.pairtest_access.proofs.Walks.{loop_of}
+use Rattle.nest.specs.Heads.{head_of}
 use Rattle.pairtest_access.specs.Found.{AreFound, AreMet, IsFound, IsMet, inner_loops}
 use Rattle.deptest_verdict.specs.declared.pairs.Pair.{Pair}
 use Rattle.deptest_verdict.specs.Pairs.{AreShown, IsFirstPair}
-use Rattle.deptest_verdict.specs.Shown.{IsShownBody, ShownFirst, LineShown, ItemsShown, FirstLineShown, FirstLoopsShown}
+use Rattle.deptest_verdict.specs.Shown.{IsShownBody, IsShownNest, ShownFirst, LineShown, LoopsShown, ItemsShown, FirstLineShown, FirstLoopsShown}
+use Rattle.deptest_verdict.specs.Refused.{LoopsRefused}
+use Rattle.deptest_verdict.specs.Telling.{OrMemory}
 
 -- an item, and the others
 shown_joined : (text : List ℕ) (n : Nesting) (i : Item) (rest : Tree.Items)
@@ -38,7 +51,7 @@ shown_more text n is i e lt p left line loops h =
     left (subst (ItemsShown text n) (sym (next_item is i e lt p)) (shown_joined text n e (items_of (drop (i + 1) is)) here loops h))
 
 -- a line is judged by what stands behind it
-pub line_is : (text : List ℕ) (n : Nesting) (line : ℕ) (rest : Tree.Items) (k c : Option ℕ) (m : ℕ)
+pub line_is : (text : List ℕ) (n : Nesting) (line : ℕ) (rest : Tree.Items) (k : Option Schedule) (c : Option ℕ) (m : ℕ)
     → ReadsLoop (line_at text line) k c → m ≡ associated c → ShownFirst n m rest → LineShown text n line rest
 line_is text n line rest k c m reads e h = (k, c, reads, subst (λ (j : ℕ). ShownFirst n j rest) e h)
 
@@ -61,3 +74,46 @@ body_is now outer serial body ss found xs nest None are finds same p q h e =
     let shown : AreShown nest found = subst (AreShown nest) same h in
     record { sites = ss; are = are; found = found; finds = all_counted (length now.levels) ss found finds (λ k x e. (shown k x (slice_get_within found k x e) e).0); nest = nest; counts = p; loops = q; shown = shown }
 body_is now outer serial body ss found xs nest (Some pair) are finds same p q h e = absurd (cc e)
+
+-- ---- the facts of loops
+
+-- those of the loop that a statement is stand first
+pub loop_first : (box : List Side) (s : Tree.Stmt) (head : Head) (body : Tree.Stmt) (loops : List LoopFacts) → as_loop s ≡ Some (head_of head, body) → StandFirst box s loops
+    → (rest : List LoopFacts) × LoopFactsOf box head body loops rest
+loop_first box s head body loops e (rest, k) = let first = first_facts box s (head_of head) body loops rest e k in (rest, (first.own, first.more, first.is, first.are, first.inner))
+
+-- it was entered, and those of its body stand first
+pub record IsInto (n inner : Nesting) (head : Head) (body : Tree.Stmt) (behind : List LoopFacts) : Type 0 where
+  pub inside : IsInside n head.variable.0 (source_of head.start) (cond_of head.test) (increment_of head.step) body inner
+  pub first : StandFirst inner.box body behind
+
+pub into_loop : (n inner : Nesting) (s : Tree.Stmt) (head : Head) (body : Tree.Stmt) (loops behind : List LoopFacts) → as_loop s ≡ Some (head_of head, body) → StandFirst n.box s loops
+    → EntersFirst n inner head loops behind → IsInto n inner head body behind
+into_loop n inner s head body loops behind e k enters =
+    let first = loop_first n.box s head body loops e k in
+    let both = enters body first.0 first.1 in
+    record { inside = both.0; first = (first.0, both.1) }
+
+-- a nest that is shown inside one loop
+pub shown_inner : (now inner : Nesting) (outer : ℕ) (serial : List ℕ) (n : ℕ) (s : Tree.Stmt) (h : Loop) (body : Tree.Stmt) → 0 < n → as_loop s ≡ Some (h, body)
+    → IsInside now h.variable h.start h.test h.step body inner → IsShownNest inner outer serial (n - 1) body → IsShownNest now outer serial n s
+shown_inner now inner outer serial zero s h body l e i k = absurd (omega (arith, l))
+shown_inner now inner outer serial (suc n) s h body l e i k = (h, body, e, inner, i, subst (λ (m : ℕ). IsShownNest inner outer serial m body) (one_less n) k)
+  where
+    one_less : (m : ℕ) → suc m - 1 ≡ m
+    one_less m = omega arith
+
+-- a loop's parallel loops, and what is refused of them
+pub loop_shown : (text : List ℕ) (n inner : Nesting) (head : Head) (body : Tree.Stmt) → IsInside n head.variable.0 (source_of head.start) (cond_of head.test) (increment_of head.step) body inner
+    → LoopsShown text inner body → LoopsShown text n (loop_of head body)
+loop_shown text n inner head body into h = (inner, into, h)
+
+pub loop_refused : (text : List ℕ) (ds : List Tree.Declaration) (n inner : Nesting) (head : Head) (body : Tree.Stmt) (r : Refusal)
+    → IsInside n head.variable.0 (source_of head.start) (cond_of head.test) (increment_of head.step) body inner
+    → OrMemory (LoopsRefused text ds inner body) r → OrMemory (LoopsRefused text ds n (loop_of head body)) r
+loop_refused text ds n inner head body r into (inl m) = inl m
+loop_refused text ds n inner head body r into (inr h) = inr (inner, into, h)
+
+-- the facts of the first of some items stand first
+pub statement_first : (box : List Side) (s : Tree.Stmt) (rest : Tree.Items) (loops : List LoopFacts) → StandFirstAmong box (Tree.stmt s rest) loops → StandFirst box s loops
+statement_first box s rest loops (behind, (middle, f, k)) = (middle, f)

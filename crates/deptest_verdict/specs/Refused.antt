@@ -9,10 +9,9 @@ use Rattle.ktree.specs.declared.refusal.NotShown as not_shown
 use Rattle.ktree.specs.declared.place.Place.{Place}
 use Rattle.affine_expr.specs.Faults.{refusal_of}
 use Rattle.affine_expr.specs.declared.faults.Fault.{Fault}
-use Rattle.affine.specs.declared.interval.Interval.{Interval}
 use Rattle.nest_loop.specs.declared.head.Canonical.{Canonical}
-use Rattle.nest_loop.specs.Loops.{IsLoop}
 use Rattle.pairtest_counter.specs.Levels.{Nesting}
+use Rattle.semantics.specs.Directives.Directive.{Schedule}
 use Rattle.pragma.specs.Clauses.{ReadsLoop}
 use Rattle.pragma.specs.Parallel.{associated}
 use Rattle.nest_space.specs.Space.{IsSpace}
@@ -104,19 +103,13 @@ NamesNoPair (refusals.Conflict c) = ⊥
 NamesNoPair (refusals.NotShown a) = ⊥
 NamesNoPair _ = Unit {0}
 
--- a loop is refused that is not canonical, may wrap or is one too many
-abbrev pub EntryRefused : Nesting → Loop → Stmt → Refusal → Type 0
-EntryRefused now h body r =
-    (f : Fault) × (r ≡ refusal_of f) × ((l : Canonical) (i : Interval) → IsLoop now.box h.variable h.start h.test h.step body l i → ⊥)
-
 -- the body inside so many loops more is refused, each directly in the other, or they are not there
 abbrev pub NestRefused : List Declaration → Nesting → ℕ → List ℕ → ℕ → Stmt → Refusal → Type 0
 NestRefused ds now outer serial zero s r = BodyRefused ds now outer serial s r
 NestRefused ds now outer serial (suc n) s r =
     (NamesNoPair r × (as_loop s ≡ None))
     ⊎ ((h : Loop) × (body : Stmt) × (as_loop s ≡ Some (h, body))
-    × (EntryRefused now h body r
-    ⊎ ((inner : Nesting) × IsInside now h.variable h.start h.test h.step body inner × NestRefused ds inner outer serial n body r)))
+    × (inner : Nesting) × IsInside now h.variable h.start h.test h.step body inner × NestRefused ds inner outer serial n body r)
 
 -- a parallel loop of so many associated loops inside serial loops is refused
 abbrev pub LoopRefused : List Declaration → Nesting → ℕ → Stmt → Refusal → Type 0
@@ -132,8 +125,8 @@ RefusedFirst ds round n (stmt s rest) r = LoopRefused ds round n s r
 -- the loop behind a line is refused, or the line is no `parallel for`
 abbrev pub LineRefused : List ℕ → List Declaration → Nesting → ℕ → Items → Refusal → Type 0
 LineRefused text ds round line rest r =
-    (NamesNoPair r × ((k c : Option ℕ) → ReadsLoop (line_at text line) k c → ⊥))
-    ⊎ ((k c : Option ℕ) × ReadsLoop (line_at text line) k c × RefusedFirst ds round (associated c) rest r)
+    (NamesNoPair r × ((k : Option Schedule) (c : Option ℕ) → ReadsLoop (line_at text line) k c → ⊥))
+    ⊎ ((k : Option Schedule) × (c : Option ℕ) × ReadsLoop (line_at text line) k c × RefusedFirst ds round (associated c) rest r)
 
 abbrev mutual
   -- the first parallel loop in a statement that is not shown to be independent is refused; those before it are
@@ -143,8 +136,7 @@ abbrev mutual
   LoopsRefused text ds round (If c a) r = LoopsRefused text ds round a r
   LoopsRefused text ds round (IfElse c a b) r = LoopsRefused text ds round a r ⊎ (LoopsShown text round a × LoopsRefused text ds round b r)
   LoopsRefused text ds round (For x name start test step body) r =
-      EntryRefused round (record { variable = x; start = start; test = test; step = step }) body r
-      ⊎ ((inner : Nesting) × IsInside round x start test step body inner × LoopsRefused text ds inner body r)
+      (inner : Nesting) × IsInside round x start test step body inner × LoopsRefused text ds inner body r
   LoopsRefused text ds round (Block items) r = ItemsRefused text ds round items r
   LoopsRefused text ds round (Print parts) r = ⊥
 

@@ -4,6 +4,7 @@ use Rattle.semantics.specs.Tree.{Stmt, Assign, Update, If, IfElse, For, Block, P
 use Rattle.semantics.specs.Source.Text.{line_at}
 use Rattle.semantics.specs.Loops.Nest.{Loop, as_loop}
 use Rattle.pairtest_counter.specs.Levels.{Nesting}
+use Rattle.semantics.specs.Directives.Directive.{Schedule}
 use Rattle.pragma.specs.Clauses.{ReadsLoop}
 use Rattle.pragma.specs.Parallel.{associated}
 use Rattle.pairtest.specs.declared.access.Access.{Access}
@@ -43,7 +44,7 @@ ShownFirst round n (stmt s rest) = IsShownLoop round n s
 
 -- behind a line, such a loop of as many as its `parallel for` associates
 abbrev pub LineShown : List ℕ → Nesting → ℕ → Items → Type 0
-LineShown text round line rest = (k c : Option ℕ) × ReadsLoop (line_at text line) k c × ShownFirst round (associated c) rest
+LineShown text round line rest = (k : Option Schedule) × (c : Option ℕ) × ReadsLoop (line_at text line) k c × ShownFirst round (associated c) rest
 
 abbrev mutual
   -- each parallel loop in a statement inside serial loops is so

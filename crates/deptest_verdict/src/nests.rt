@@ -2,18 +2,20 @@
 
 ghost use Rattle.std.specs.Prelude.{◌≡◌, OnOk, IfOk, IfErr, length, map};
 ghost use Rattle.semantics.specs.Source.Text.{line_at};
-ghost use Rattle.ktree.specs.View.{stmt_of, items_of, source_of, cond_of, increment_of, declaration_of};
-ghost use Rattle.pairtest_access.specs.Sites.{IsInside};
+ghost use Rattle.ktree.specs.View.{stmt_of, items_of, declaration_of};
+ghost use Rattle.ktree.specs.declared.refusal.Refusal.TheVariants as refusals;
+ghost use Rattle.nest_loop.specs.Facts.{StandFirst, StandFirstAmong, LoopStandsFirst};
+ghost use Rattle.pairtest_access.specs.Walk.{EntersFirst};
 ghost use Rattle.pairtest_access.specs.Found.{inner_loops};
-ghost use Rattle.nest.specs.Heads.{head_of};
 ghost use Rattle.deptest_verdict.specs.Shown.{IsShownBody, IsShownNest, IsShownLoop, ShownFirst, LineShown};
-ghost use Rattle.deptest_verdict.specs.Refused.{EntryRefused, BodyRefused, NestRefused, LoopRefused, RefusedFirst, LineRefused};
+ghost use Rattle.deptest_verdict.specs.Refused.{BodyRefused, NestRefused, LoopRefused, RefusedFirst, LineRefused};
 ghost use Rattle.deptest_verdict.specs.Telling.{HasSite, OrMemory, PairRefused};
 
 use crate::pairs::{Pair, first_pair, with_writes};
 use crate::telling::verdict_on;
 use ktree::{Declaration, Head, Item, Place, Refusal, Stmt};
 use nest::as_loop;
+use nest_loop::LoopFacts;
 use pairtest::Nest;
 use pairtest_access::{accesses, enter_loop, inner_counts};
 use pairtest_counter::EnclosingLoops;
@@ -27,20 +29,20 @@ pub(crate) struct Given<'k> {
     pub variables: &'k [Declaration],
 }
 
-/// Goes into a loop.
-pub(crate) fn enter(
+/// Goes into the loop of a head, whose facts stand first of some, and answers those behind its own.
+pub(crate) fn enter<'n>(
     alloc: Global,
     chain: &mut EnclosingLoops,
     head: &Head,
-    body: &Stmt,
-) -> Result<(), Refusal>
-    ensures err { IfErr result
-        (OrMemory (EntryRefused chain.old (head_of head.now) (stmt_of body.now))) }
-    ensures ok { OnOk result (IsInside chain.old head.now.variable.0 (source_of head.now.start)
-        (cond_of head.now.test) (increment_of head.now.step) (stmt_of body.now) chain.new) }
+    loops: &'n [LoopFacts],
+) -> Result<&'n [LoopFacts], Refusal>
+    requires { LoopStandsFirst chain.old.box head.now loops.now }
+    ensures err { IfErr result (λ r. r ≡ refusals.OutOfMemory) }
+    ensures ok { IfOk result
+        (λ inner. EntersFirst chain.old chain.new head.now loops.now inner.now) }
 {
-    enter_loop(alloc, chain, head, body)?;
-    Ok(())
+    let inner = enter_loop(alloc, chain, head, loops)?;
+    Ok(inner)
 }
 
 /// Refuses a body for a pair of its accesses.
@@ -48,16 +50,18 @@ fn pair_refused(
     alloc: Global,
     chain: &mut EnclosingLoops,
     outer: usize,
+    loops: &[LoopFacts],
     body: &Stmt,
     pair: Pair,
     variables: &[Declaration],
 ) -> Refusal
+    requires facts { StandFirst chain.old.box (stmt_of body.now) loops.now }
     requires one { HasSite chain.old (stmt_of body.now) pair.first }
     requires other { HasSite chain.old (stmt_of body.now) pair.second }
     ensures { OrMemory (PairRefused (map declaration_of variables.now) chain.old outer
         (stmt_of body.now) pair) result }
 {
-    match verdict_on(alloc, chain, outer, body, pair, variables) {
+    match verdict_on(alloc, chain, outer, loops, body, pair, variables) {
         Ok(refusal) => refusal,
         Err(fault) => fault.refusal(),
     }
@@ -70,20 +74,22 @@ fn body_shown(
     chain: &mut EnclosingLoops,
     outer: usize,
     serial: Vec<u64>,
+    loops: &[LoopFacts],
     body: &Stmt,
     variables: &[Declaration],
 ) -> Result<(), Refusal>
+    requires { StandFirst chain.old.box (stmt_of body.now) loops.now }
     ensures err { IfErr result
         (OrMemory (BodyRefused (map declaration_of variables.now) chain.old outer serial.items
         (stmt_of body.now))) }
     ensures ok { OnOk result (IsShownBody chain.old outer serial.items (stmt_of body.now)) }
     ensures back { OnOk result (chain.new ≡ chain.old) }
 {
-    let loops = match inner_counts(alloc, chain, outer) {
-        Ok(loops) => loops,
+    let counts = match inner_counts(alloc, chain, outer) {
+        Ok(counts) => counts,
         Err(fault) => return Err(fault.refusal()),
     };
-    let found = match accesses(alloc, chain, body) {
+    let found = match accesses(alloc, chain, loops, body) {
         Ok(found) => found,
         Err(fault) => return Err(fault.refusal()),
     };
@@ -91,11 +97,14 @@ fn body_shown(
         Ok(found) => found,
         Err(_) => return Err(Refusal::OutOfMemory),
     };
-    let nest = Nest { serial, loops };
+    let nest = Nest {
+        serial,
+        loops: counts,
+    };
     match first_pair(&found, &nest) {
         Ok(first) => match first {
             None => Ok(()),
-            Some(pair) => Err(pair_refused(alloc, chain, outer, body, pair, variables)),
+            Some(pair) => Err(pair_refused(alloc, chain, outer, loops, body, pair, variables)),
         },
         Err(large) => Err(Refusal::Limit(large.place)),
     }
@@ -108,10 +117,12 @@ fn nest_shown(
     outer: usize,
     serial: Vec<u64>,
     depth: u64,
+    loops: &[LoopFacts],
     statement: &Stmt,
     given: Given<'_>,
     line: Place,
 ) -> Result<(), Refusal>
+    requires { StandFirst chain.old.box (stmt_of statement.now) loops.now }
     ensures err { IfErr result
         (OrMemory (NestRefused (map declaration_of given.entry.variables.now) chain.old outer
         serial.items depth (stmt_of statement.now))) }
@@ -120,21 +131,23 @@ fn nest_shown(
     ensures back { OnOk result (chain.new ≡ chain.old) }
 {
     if depth == 0 {
-        return body_shown(alloc, chain, outer, serial, statement, given.variables);
+        let variables = given.variables;
+        return body_shown(alloc, chain, outer, serial, loops, statement, variables);
     }
     let Some(level) = as_loop(statement) else {
         return Err(Refusal::NestNotPerfect(line));
     };
-    match enter(alloc, chain, level.head, level.body) {
-        Ok(()) => {}
+    let inner = match enter(alloc, chain, level.head, loops) {
+        Ok(inner) => inner,
         Err(refusal) => return Err(refusal),
-    }
+    };
     match nest_shown(
         alloc,
         chain,
         outer,
         serial,
         depth - 1,
+        inner,
         level.body,
         given,
         line,
@@ -151,10 +164,12 @@ fn loop_shown(
     alloc: Global,
     chain: &mut EnclosingLoops,
     depth: u64,
+    loops: &[LoopFacts],
     statement: &Stmt,
     given: Given<'_>,
     line: Place,
 ) -> Result<(), Refusal>
+    requires { StandFirst chain.old.box (stmt_of statement.now) loops.now }
     ensures err { IfErr result
         (OrMemory (LoopRefused (map declaration_of given.entry.variables.now) chain.old depth
         (stmt_of statement.now))) }
@@ -166,7 +181,9 @@ fn loop_shown(
         Ok(serial) => serial,
         Err(fault) => return Err(fault.refusal()),
     };
-    nest_shown(alloc, chain, outer, serial, depth, statement, given, line)
+    nest_shown(
+        alloc, chain, outer, serial, depth, loops, statement, given, line,
+    )
 }
 
 /// The same of the loop that stands first.
@@ -174,10 +191,12 @@ fn first_shown(
     alloc: Global,
     chain: &mut EnclosingLoops,
     depth: u64,
+    loops: &[LoopFacts],
     items: &[Item],
     given: Given<'_>,
     line: Place,
 ) -> Result<(), Refusal>
+    requires { StandFirstAmong chain.old.box (items_of items.now) loops.now }
     ensures err { IfErr result
         (OrMemory (RefusedFirst (map declaration_of given.entry.variables.now) chain.old depth
         (items_of items.now))) }
@@ -186,7 +205,9 @@ fn first_shown(
 {
     match items {
         [] => Err(Refusal::Directive(line)),
-        [Item::Statement(statement), ..] => loop_shown(alloc, chain, depth, statement, given, line),
+        [Item::Statement(statement), ..] => {
+            loop_shown(alloc, chain, depth, loops, statement, given, line)
+        }
         [Item::Directive(_), ..] => Err(Refusal::Directive(line)),
         [Item::Local(_), ..] => Err(Refusal::Directive(line)),
     }
@@ -197,9 +218,11 @@ pub(crate) fn line_shown(
     alloc: Global,
     chain: &mut EnclosingLoops,
     place: Place,
+    loops: &[LoopFacts],
     rest: &[Item],
     given: Given<'_>,
 ) -> Result<(), Refusal>
+    requires { StandFirstAmong chain.old.box (items_of rest.now) loops.now }
     ensures err { IfErr result
         (OrMemory (LineRefused given.entry.directives.now
         (map declaration_of given.entry.variables.now) chain.old place.line
@@ -212,5 +235,6 @@ pub(crate) fn line_shown(
         Ok(line) => line,
         Err(refusal) => return Err(refusal),
     };
-    first_shown(alloc, chain, line.associated_loops(), rest, given, place)
+    let depth = line.associated_loops();
+    first_shown(alloc, chain, depth, loops, rest, given, place)
 }

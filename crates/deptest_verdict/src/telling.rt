@@ -2,6 +2,7 @@
 
 ghost use Rattle.std.specs.Prelude.{◌≡◌, List, length, map, take, drop, string_bytes, IfOk, IfErr, IfNone, IfSome, OnOk};
 ghost use Rattle.ktree.specs.View.{stmt_of, declaration_of};
+ghost use Rattle.nest_loop.specs.Facts.{StandFirst};
 ghost use Rattle.nest_space.specs.Space.{IsSpace};
 ghost use Rattle.deptest_witness.specs.Touching.{NestAt, IsEntered, TouchesAt};
 ghost use Rattle.deptest_witness.specs.Pairs.{IsFirst, NeverMeet};
@@ -14,7 +15,7 @@ use crate::pairs::Pair;
 use affine_expr::Fault;
 use deptest_witness::{Meeting, Touch, first_meeting};
 use ktree::{Conflict, Declaration, NotShown, Refusal, Stmt, VarId};
-use nest_loop::Canonical;
+use nest_loop::{Canonical, LoopFacts};
 use pairtest_access::{Touched, access_at, inner_canonicals};
 use pairtest_counter::EnclosingLoops;
 use std::alloc::Global;
@@ -47,15 +48,17 @@ fn name_pair(alloc: Global, variables: &[Declaration], pair: Pair) -> Result<Not
 fn touched_by(
     alloc: Global,
     chain: &mut EnclosingLoops,
+    loops: &[LoopFacts],
     body: &Stmt,
     number: usize,
 ) -> Result<Touched, Fault>
-    requires { HasSite chain.old (stmt_of body.now) number }
+    requires facts { StandFirst chain.old.box (stmt_of body.now) loops.now }
+    requires there { HasSite chain.old (stmt_of body.now) number }
     ensures ok { IfOk result (λ found. IsTouchedBy chain.old (stmt_of body.now) number found) }
     ensures err { IfErr result (Because (IsStuck chain.old (stmt_of body.now))) }
     ensures back { OnOk result (chain.new ≡ chain.old) }
 {
-    match access_at(alloc, chain, body, number)? {
+    match access_at(alloc, chain, loops, body, number)? {
         Some(found) => Ok(found),
         None => unreachable!(),
     }
@@ -101,10 +104,12 @@ pub(crate) fn verdict_on(
     alloc: Global,
     chain: &mut EnclosingLoops,
     outer: usize,
+    loops: &[LoopFacts],
     body: &Stmt,
     pair: Pair,
     variables: &[Declaration],
 ) -> Result<Refusal, Fault>
+    requires facts { StandFirst chain.old.box (stmt_of body.now) loops.now }
     requires one { HasSite chain.old (stmt_of body.now) pair.first }
     requires other { HasSite chain.old (stmt_of body.now) pair.second }
     ensures ok { IfOk result (λ refusal. IsPairVerdict (map declaration_of variables.now) chain.old
@@ -112,10 +117,10 @@ pub(crate) fn verdict_on(
     ensures err { IfErr result (Because (IsStuck chain.old (stmt_of body.now))) }
 {
     let accesses = name_pair(alloc, variables, pair)?;
-    let loops = inner_canonicals(alloc, chain, 0)?;
-    let x = touched_by(alloc, chain, body, pair.first)?;
-    let y = touched_by(alloc, chain, body, pair.second)?;
-    match find_meeting(alloc, loops.as_slice(), outer, &x, &y)? {
+    let round = inner_canonicals(alloc, chain, 0)?;
+    let x = touched_by(alloc, chain, loops, body, pair.first)?;
+    let y = touched_by(alloc, chain, loops, body, pair.second)?;
+    match find_meeting(alloc, round.as_slice(), outer, &x, &y)? {
         None => Ok(Refusal::NotShown(accesses)),
         Some(meeting) => Ok(Refusal::Conflict(Conflict {
             accesses,

@@ -8,6 +8,7 @@ use Rattle.ktree.specs.View.{stmt_of, items_of, with_item}
 use Rattle.ktree.specs.declared.statement.Stmt.{Stmt, For}
 use Rattle.ktree.specs.declared.statement.Head.{Head}
 use Rattle.ktree.specs.declared.statement.Item.{Item, Directive, Local, Statement'}
+use Rattle.semantics.specs.Directives.Directive.{Schedule}
 use Rattle.pragma.specs.Clauses.{ReadsLoop}
 use Rattle.pragma.specs.Parallel.{associated}
 use Rattle.ktree.proofs.Trees.{next_item}
@@ -17,7 +18,7 @@ use Rattle.flow.specs.declared.fault.DataFault.{DataFault}
 use Rattle.flow.proofs.PrivateLemmas.{first_is, nest_with, loop_of}
 
 -- a directive with a nest behind it, of whose body a fault tells
-pub nest_told : (text : List ℕ) (line : ℕ) (rest : Tree.Items) (k c : Option ℕ) → ReadsLoop (line_at text line) k c → (s : Tree.Stmt) → Some s ≡ first_stmt_of rest
+pub nest_told : (text : List ℕ) (line : ℕ) (rest : Tree.Items) (k : Option Schedule) (c : Option ℕ) → ReadsLoop (line_at text line) k c → (s : Tree.Stmt) → Some s ≡ first_stmt_of rest
     → (o : Option DataFault) (b : Tree.Stmt) → Some b ≡ nest_body_of (associated c) s → IfSome o (λ f. TellsOfBody f b) → IfSome o (λ f. TellsOfLine f text line rest)
 nest_told text line rest k c reads s first None b nest told = tt
 nest_told text line rest k c reads s first (Some f) b nest told =

@@ -7,7 +7,6 @@ use Rattle.semantics.specs.Meaning.Definite.{DefinitelyAssigned, known_with, may
 use Rattle.ktree.specs.declared.refusal.Refusal.{Refusal}
 use Rattle.ktree.specs.declared.statement.Declaration.{Declaration}
 use Rattle.ktree.specs.declared.statement.Kernel.{Kernel}
-use Rattle.ktree.specs.declared.statement.Stmt.{Stmt, Block}
 use Rattle.ktree.specs.declared.statement.Item.{Item, Directive, Local, Statement'}
 use Rattle.ktree.specs.View.{stmt_of, items_of, with_item, start_of, declaration_of, kernel_of}
 use Rattle.flow.specs.Judged.{known_of, Refuses, MayBeUnassigned}

@@ -16,6 +16,7 @@ use Rattle.ktree.specs.declared.statement.Head.{Head}
 use Rattle.ktree.specs.declared.statement.Item.{Item, Directive, Local, Statement'}
 use Rattle.pragma.specs.Clauses.{ReadsLoop}
 use Rattle.pragma.specs.Parallel.{associated, LineHas, LoopsHave, ItemsHave}
+use Rattle.pragma.specs.Views.{scheduled}
 use Rattle.pragma.specs.declared.combined.ParallelFor.{ParallelFor}
 use Rattle.ktree.proofs.Trees.{next_item}
 use Rattle.pragma.proofs.PlainLaw.{all_behind}
@@ -89,11 +90,11 @@ nest_declares (suc n) s loops body f = go (as_loop s) refl f (nest_declares n)
     go (Some found) is f rec = loop_declares s found.0 found.1 is ∙ inner found.0 found.1 (nest_of n found.1) refl f rec
 
 -- the parallel loop of a line
-pub loop_listed : (text : List ℕ) (place : Place) (rest : Tree.Items) (said : ParallelFor) → ReadsLoop (line_at text place.line) said.schedule said.collapse
+pub loop_listed : (text : List ℕ) (place : Place) (rest : Tree.Items) (said : ParallelFor) → ReadsLoop (line_at text place.line) (scheduled said) said.collapse
     → (s : Tree.Stmt) → Some s ≡ first_stmt_of rest → (private : Vec VarId Global) → numbers private.items ≡ declared_in s → LineHas text IsPrivate [] place.line rest
     → IsParallelLoop text place.line rest (record { line = place; directive = said; private = private })
 loop_listed text place rest said reads s first private declares h =
-    let found = asked text place.line rest said.schedule said.collapse reads s first IsPrivate h in
+    let found = asked text place.line rest (scheduled said) said.collapse reads s first IsPrivate h in
     record {
       at_line = refl;
       reads = reads;

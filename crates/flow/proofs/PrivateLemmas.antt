@@ -13,6 +13,7 @@ use Rattle.ktree.specs.declared.expression.Expr.{Expr}
 use Rattle.ktree.specs.declared.statement.Stmt.{Stmt, For}
 use Rattle.ktree.specs.declared.statement.Head.{Head}
 use Rattle.ktree.specs.declared.statement.Item.{Item, Directive, Local, Statement'}
+use Rattle.semantics.specs.Directives.Directive.{Schedule}
 use Rattle.pragma.specs.Clauses.{ReadsLoop}
 use Rattle.pragma.specs.Parallel.{AskedOfLoop, associated, FirstHas, LineHas, LoopsHave, ItemsHave}
 use Rattle.pragma.specs.Plain.{Judges}
@@ -151,7 +152,7 @@ no_first n (Tree.local x name start rest) e h = h
 no_first n (Tree.stmt t rest) e h = absurd (cc e)
 
 -- a directive that has a statement behind it
-module _ (text : List ℕ) (line : ℕ) (rest : Tree.Items) (k c : Option ℕ) (reads : ReadsLoop (line_at text line) k c) (s : Tree.Stmt) (first : Some s ≡ first_stmt_of rest) where
+module _ (text : List ℕ) (line : ℕ) (rest : Tree.Items) (k : Option Schedule) (c : Option ℕ) (reads : ReadsLoop (line_at text line) k c) (s : Tree.Stmt) (first : Some s ≡ first_stmt_of rest) where
   pub asked : (P : AskedOfLoop) → LineHas text P [] line rest → P [] (associated c) s
   asked P h =
       let once : (h.0 ≡ k) × (h.1 ≡ c) = read_once (line_at text line) h.0 h.1 k c h.2 reads in

@@ -7,6 +7,7 @@ use Rattle.semantics.specs.Loops.Nest.{Loop, nest_of}
 use Rattle.ktree.specs.declared.place.VarId.{VarId}
 use Rattle.pragma.specs.Clauses.{ReadsLoop}
 use Rattle.pragma.specs.Parallel.{associated}
+use Rattle.pragma.specs.Views.{scheduled}
 use Rattle.flow.specs.Private.{first_stmt_of}
 use Rattle.flow.specs.declared.environment.ParallelLoop.{ParallelLoop}
 
@@ -17,7 +18,7 @@ numbers vs = map (λ v. v.0) vs
 -- a `parallel for` on a line, before these items: private are the variables of its loops, and what their body declares (OpenMP 5.2, 5.1.1)
 pub record IsParallelLoop (text : List ℕ) (line : ℕ) (rest : Items) (l : ParallelLoop) : Type 0 where
   pub at_line : l.line.line ≡ line
-  pub reads : ReadsLoop (line_at text line) l.directive.schedule l.directive.collapse
+  pub reads : ReadsLoop (line_at text line) (scheduled l.directive) l.directive.collapse
   pub statement : Stmt
   pub loops : List Loop
   pub body : Stmt

@@ -1,4 +1,4 @@
--- In a body whose subscripts are in range each access is affine and each loop is entered.
+-- In a body whose subscripts are in range each access is affine.
 use Rattle.std.specs.Prelude.{ℕ, ◌≡◌, ◌⊎◌, List, [], ◌∷◌, ◌++◌, Option, Some, None, slice_get}
 use Rattle.std.proofs.Common.{refl, inl, inr, subst}
 use Rattle.semantics.specs.Tree.{Variable, Expr, Literal, Constant, Object, Unary, Binary, Conditional, Exprs, no_exprs, more_exprs, Cond, NotZero, Compare, Not, LogicalAnd, LogicalOr, Source, Number, Truth, PrintPart, Characters, Decimal, Stmt, Assign, Update, If, IfElse, For, Block, Print, Items, no_items, mark, local, stmt, Declaration}
@@ -92,8 +92,7 @@ module _ (ds : List Declaration) where
     none_stuck (IfElse c a b) n read has (inl k) = cond_affine n c has.0 k
     none_stuck (IfElse c a b) n read has (inr (inl k)) = none_stuck a n read.0 has.1 k
     none_stuck (IfElse c a b) n read has (inr (inr k)) = none_stuck b n read.1 has.2 k
-    none_stuck (For x name start test step body) n read has (inl none) = none has.0 has.1 has.2
-    none_stuck (For x name start test step body) n read has (inr (inner, into, k)) =
+    none_stuck (For x name start test step body) n read has (inner, into, k) =
         let h : Loop = record { variable = x; start = start; test = test; step = step } in
         let there = body_there ds n inner h body into (record { read = read.0; each = read.1; loop = has.0; numbers = has.1; is = has.2; stays = has.3 }) in
         none_stuck body inner there.read there.stays k

@@ -51,8 +51,7 @@ module _ (text : List ℕ) (ds : List Declaration) (r : Refusal) (short : HaveSh
     loops_told (IfElse t a b) round serial entered read has right (inl refused) = inl (loops_told a round serial entered read.0 has.1 right.0 refused)
     loops_told (IfElse t a b) round serial entered read has right (inr (shown, refused)) =
         inr (loops_independent text ds short a round serial entered shown read.0 has.1, loops_told b round serial entered read.1 has.2 right.1 refused)
-    loops_told (For x name start test step body) round serial entered read has right (inl (f, e, none)) = absurd (none has.0 has.1 has.2)
-    loops_told (For x name start test step body) round serial entered read has (l, i, loop, right) (inr (inner, into, refused)) =
+    loops_told (For x name start test step body) round serial entered read has (l, i, loop, right) (inner, into, refused) =
         let h : Loop = record { variable = x; start = start; test = test; step = step } in
         let same = (loop_is_unique round.box x start test step body l into.level.canonical i into.numbers loop into.is).1 in
         let there = body_there ds round inner h body into (record { read = read.0; each = read.1; loop = has.0; numbers = has.1; is = has.2; stays = has.3 }) in

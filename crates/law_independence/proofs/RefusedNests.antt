@@ -57,10 +57,7 @@ module _ (ds : List Declaration) (r : Refusal) where
       → IsNestRefused ds r now outer counts n s
   nest_refused zero now outer counts s there some refused = record { loops = []; body = s; inner = now; is = refl; entered = refl; there = there; refused = refused }
   nest_refused (suc n) now outer counts s there some (inl (names, none)) = absurd (outermost n (as_loop s) none some)
-  nest_refused (suc n) now outer counts s there some (inr (h, body, is, inl (f, e, none))) =
-      let loop = loop_there ds now.box h body s is there.read there.stays in
-      absurd (none loop.loop loop.numbers loop.is)
-  nest_refused (suc n) now outer counts s there some (inr (h, body, is, inr (inner, into, refused))) =
+  nest_refused (suc n) now outer counts s there some (inr (h, body, is, inner, into, refused)) =
       let loop = loop_there ds now.box h body s is there.read there.stays in
       let rest = nest_refused n inner outer counts body (body_there ds now inner h body into loop) (inside_it n (as_loop s) h body is some) refused in
       record {

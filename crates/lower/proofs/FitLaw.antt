@@ -2,20 +2,21 @@
 use Rattle.std.specs.Prelude.{ℕ, ◌≡◌, ◌<◌, ◌≤◌, ◌*◌, leb, List, [], ◌∷◌, length, get_or, IsTrue, false, Some, slice_get}
 use Rattle.std.proofs.Common.{sym, ap, ◌∙◌, subst, arith}
 use Rattle.std.proofs.lemmas.Bool.{leb-true, le-leb}
-use Rattle.std.proofs.lemmas.Option.{slice_get-get_or}
+use Rattle.std.proofs.lemmas.Option.{slice_get_past}
 use Rattle.semantics.specs.Meaning.Places.{size}
 use Rattle.store.specs.Kept.{Kept, Covers}
 use Rattle.lower.proofs.TreeLaw.{fails}
 
--- an item that is there
-pub is_there : {A : Type 0} (xs : List A) (i : ℕ) (x : A) → i < length xs → x ≡ get_or xs i x → slice_get xs i ≡ Some x
-is_there xs i x lt e = slice_get-get_or xs i x lt ∙ ap Some (sym e)
+-- an array that is not there
+pub no_array : (ks : List Kept) (x bound : ℕ) → length ks ≤ x → (IsTrue false → Covers bound (slice_get ks x)) × (Covers bound (slice_get ks x) → IsTrue false)
+no_array ks x bound le =
+    subst (λ o. (IsTrue false → Covers bound o) × (Covers bound o → IsTrue false)) (sym (slice_get_past ks x le)) (fails _ (λ h. h))
 
 -- an array of one dimension
-pub one_length : (ks : List Kept) (x : ℕ) (k : Kept) (bound : ℕ) (ns : List ℕ) → x < length ks → k ≡ get_or ks x k → ns ≡ k.lengths → length k.values ≡ size k.lengths → 1 ≤ length ns → length ns < 2
+pub one_length : (ks : List Kept) (x : ℕ) (k : Kept) (bound : ℕ) (ns : List ℕ) → slice_get ks x ≡ Some k → ns ≡ k.lengths → length k.values ≡ size k.lengths → 1 ≤ length ns → length ns < 2
     → (IsTrue (leb bound (get_or ns 0 0)) → Covers bound (slice_get ks x)) × (Covers bound (slice_get ks x) → IsTrue (leb bound (get_or ns 0 0)))
-one_length ks x k bound ns lt is e count one two =
-    subst (λ o. (IsTrue (leb bound (get_or ns 0 0)) → Covers bound o) × (Covers bound o → IsTrue (leb bound (get_or ns 0 0)))) (sym (is_there ks x k lt is)) (go ns e one two)
+one_length ks x k bound ns there e count one two =
+    subst (λ o. (IsTrue (leb bound (get_or ns 0 0)) → Covers bound o) × (Covers bound o → IsTrue (leb bound (get_or ns 0 0)))) (sym there) (go ns e one two)
   where
     go : (ns : List ℕ) → ns ≡ k.lengths → 1 ≤ length ns → length ns < 2
         → (IsTrue (leb bound (get_or ns 0 0)) → Covers bound (Some k)) × (Covers bound (Some k) → IsTrue (leb bound (get_or ns 0 0)))
@@ -26,7 +27,7 @@ one_length ks x k bound ns lt is e count one two =
     go (n ∷ m ∷ ns) e one two = absurd (omega arith)
 
 -- an array of no dimension, or of more
-pub other_lengths : (ks : List Kept) (x : ℕ) (k : Kept) (bound : ℕ) (ns : List ℕ) → x < length ks → k ≡ get_or ks x k → ns ≡ k.lengths → (length ns ≡ 1 → ⊥)
+pub other_lengths : (ks : List Kept) (x : ℕ) (k : Kept) (bound : ℕ) (ns : List ℕ) → slice_get ks x ≡ Some k → ns ≡ k.lengths → (length ns ≡ 1 → ⊥)
     → (IsTrue false → Covers bound (slice_get ks x)) × (Covers bound (slice_get ks x) → IsTrue false)
-other_lengths ks x k bound ns lt is e f =
-    subst (λ o. (IsTrue false → Covers bound o) × (Covers bound o → IsTrue false)) (sym (is_there ks x k lt is)) (fails _ (λ h. f (ap length (e ∙ h.1))))
+other_lengths ks x k bound ns there e f =
+    subst (λ o. (IsTrue false → Covers bound o) × (Covers bound o → IsTrue false)) (sym there) (fails _ (λ h. f (ap length (e ∙ h.1))))

@@ -1,7 +1,8 @@
 -- A statement is that of one loop.
-use Rattle.std.specs.Prelude.{ℕ, ◌≡◌}
+use Rattle.std.specs.Prelude.{ℕ, ◌≡◌, Option}
 use Rattle.std.proofs.Common.{refl, sym, ap, ◌∙◌}
 use Rattle.semantics.specs.Tree
+use Rattle.ktree.specs.declared.directive.Schedule.{Schedule}
 use Rattle.ktree.specs.declared.place.VarId.{VarId}
 use Rattle.lower.specs.Loop.{operand_of, operation_of, formula_of, statement_of}
 use Rattle.lower.specs.declared.lowered.Operand.{Operand}
@@ -71,17 +72,17 @@ record Tells (l m : LoweredLoop) : Type 0 where
 tells : (name name' : Tree.Name) (l m : LoweredLoop) → statement_of name l ≡ statement_of name' m → Tells l m
 tells name name' l m e = record { counter = cc; bound = cc; target = cc; formula = cc }
 
-loop_with : VarId → ℕ → VarId → Formula → ℕ → LoweredLoop
-loop_with x n a f k = record { counter = x; bound = n; target = a; formula = f; size = k }
+loop_with : VarId → ℕ → VarId → Formula → Option Schedule → LoweredLoop
+loop_with x n a f k = record { counter = x; bound = n; target = a; formula = f; schedule = k }
 
--- a statement is that of one loop for each size
-pub same_loop : (name name' : Tree.Name) (l m : LoweredLoop) → statement_of name l ≡ statement_of name' m → l.size ≡ m.size → l ≡ m
+-- a statement is that of one loop for each schedule
+pub same_loop : (name name' : Tree.Name) (l m : LoweredLoop) → statement_of name l ≡ statement_of name' m → l.schedule ≡ m.schedule → l ≡ m
 unfolding loop_with
 same_loop name name' l m e k =
     let t = tells name name' l m e in
     let x : l.counter ≡ m.counter = same_variable t.counter in
     let a : l.target ≡ m.target = same_variable t.target in
     let f : l.formula ≡ m.formula = same_formula m.counter.0 l.formula m.formula (ap (λ v. formula_of v l.formula) (sym t.counter) ∙ t.formula) in
-    ap (λ x. loop_with x l.bound l.target l.formula l.size) x ∙ ap (λ n. loop_with m.counter n l.target l.formula l.size) t.bound
-    ∙ ap (λ a. loop_with m.counter m.bound a l.formula l.size) a ∙ ap (λ f. loop_with m.counter m.bound m.target f l.size) f
+    ap (λ x. loop_with x l.bound l.target l.formula l.schedule) x ∙ ap (λ n. loop_with m.counter n l.target l.formula l.schedule) t.bound
+    ∙ ap (λ a. loop_with m.counter m.bound a l.formula l.schedule) a ∙ ap (λ f. loop_with m.counter m.bound m.target f l.schedule) f
     ∙ ap (λ k. loop_with m.counter m.bound m.target m.formula k) k

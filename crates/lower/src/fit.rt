@@ -7,15 +7,17 @@ ghost use Rattle.lower.specs.Loop.{OperandCovers, FormulaCovers, Fits};
 use crate::lowered::{Formula, LoweredLoop, Operand};
 use ktree::VarId;
 use ktree::limits::ITERATIONS;
-use store::{Array, Store};
+use store::Store;
 
 /// Whether an array is there, has one dimension, and reaches so far.
-fn covers(arrays: &[Array], bound: u64, array: VarId) -> bool
-    ensures { IsTrue result ↔ Covers bound (slice_get arrays.now array.0) }
+fn covers(store: &Store, bound: u64, array: VarId) -> bool
+    ensures { IsTrue result ↔ Covers bound (slice_get store.now array.0) }
 {
-    let Some(array) = arrays.get(array.0 as usize) else {
+    let index = array.0 as usize;
+    if index >= store.len() {
         return false;
-    };
+    }
+    let array = store.array(index);
     // An array has as many values as elements.
     let _values = array.values();
     match array.lengths() {
@@ -26,24 +28,24 @@ fn covers(arrays: &[Array], bound: u64, array: VarId) -> bool
 }
 
 /// The same for an operand, of which elements alone ask for it.
-fn operand_covers(arrays: &[Array], bound: u64, operand: Operand) -> bool
-    ensures { IsTrue result ↔ OperandCovers bound arrays.now operand }
+fn operand_covers(store: &Store, bound: u64, operand: Operand) -> bool
+    ensures { IsTrue result ↔ OperandCovers bound store.now operand }
 {
     match operand {
-        Operand::Element(array) => covers(arrays, bound, array),
+        Operand::Element(array) => covers(store, bound, array),
         Operand::Counter => true,
         Operand::Literal(_) => true,
     }
 }
 
 /// The same for a right side.
-fn formula_covers(arrays: &[Array], bound: u64, formula: Formula) -> bool
-    ensures { IsTrue result ↔ FormulaCovers bound arrays.now formula }
+fn formula_covers(store: &Store, bound: u64, formula: Formula) -> bool
+    ensures { IsTrue result ↔ FormulaCovers bound store.now formula }
 {
     match formula {
-        Formula::One(operand) => operand_covers(arrays, bound, operand),
+        Formula::One(operand) => operand_covers(store, bound, operand),
         Formula::Two(_operation, left, right) => {
-            operand_covers(arrays, bound, left) && operand_covers(arrays, bound, right)
+            operand_covers(store, bound, left) && operand_covers(store, bound, right)
         }
     }
 }
@@ -53,10 +55,9 @@ fn formula_covers(arrays: &[Array], bound: u64, formula: Formula) -> bool
 pub fn fits(lowered: &LoweredLoop, store: &Store) -> bool
     ensures { IsTrue result ↔ (Fits lowered.now store.now × (lowered.now.bound ≤ 2 ^ 24)) }
 {
-    let arrays = store.arrays();
     let bound = lowered.bound;
     bound <= ITERATIONS
-        && arrays.len() <= lowered.counter.0 as usize
-        && covers(arrays, bound, lowered.target)
-        && formula_covers(arrays, bound, lowered.formula)
+        && store.len() <= lowered.counter.0 as usize
+        && covers(store, bound, lowered.target)
+        && formula_covers(store, bound, lowered.formula)
 }

@@ -10,7 +10,7 @@ ghost use Rattle.lower.specs.Form.{below, block_of, assigned, HasHead};
 
 use crate::lowered::{Formula, LoweredLoop};
 use crate::right_side::{is_at_counter, is_counter, read_source};
-use ktree::{ChunkSize, CompareOp, Cond, Expr, Head, Increment, Item, Source, Stmt, Suffix, VarId};
+use ktree::{CompareOp, Cond, Expr, Head, Increment, Item, Schedule, Source, Stmt, Suffix, VarId};
 
 /// What a loop's body assigns.
 #[derive(Clone, Copy)]
@@ -136,13 +136,13 @@ fn element_assigned(statement: &Stmt, counter: VarId) -> Option<Assignment>
     }
 }
 
-/// The loop that a statement is, with chunks of this size, if it is of the form
+/// The loop that a statement is, with this schedule, if it is of the form
 /// `for (uint64_t v = 0; v < bound; v++) { A[v] = formula; }` (C11 6.8.5.3).
-pub fn lowered_loop(statement: &Stmt, size: ChunkSize) -> Option<LoweredLoop>
+pub fn lowered_loop(statement: &Stmt, schedule: Option<Schedule>) -> Option<LoweredLoop>
     ensures { MatchOption result
         ((name : Tree.Name) (l : lowered.LoweredLoop) → stmt_of statement.now ≡ statement_of name l
         → ⊥) (λ l. (name : Tree.Name) × (stmt_of statement.now ≡ statement_of name l)
-        × (l.size ≡ size)) }
+        × (l.schedule ≡ schedule)) }
 {
     let Stmt::For(head, body) = statement else {
         return None;
@@ -155,6 +155,6 @@ pub fn lowered_loop(statement: &Stmt, size: ChunkSize) -> Option<LoweredLoop>
         bound,
         target: assignment.target,
         formula: assignment.formula,
-        size,
+        schedule,
     })
 }

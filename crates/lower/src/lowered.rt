@@ -1,6 +1,6 @@
 //! A loop as a team runs it.
 
-use ktree::{ChunkSize, VarId};
+use ktree::{Schedule, VarId};
 
 /// What an operand of a loop's right side reads.
 #[derive(Clone, Copy, Debug, PartialEq, Eq)]
@@ -37,6 +37,6 @@ pub struct LoweredLoop {
     /// The array `A`.
     pub target: VarId,
     pub formula: Formula,
-    /// How many iterations a worker draws at once (OpenMP 5.2, 11.5.3).
-    pub size: ChunkSize,
+    /// What the `schedule` clause of its directive says, where one stands (OpenMP 5.2, 11.5.3).
+    pub schedule: Option<Schedule>,
 }

@@ -10,7 +10,8 @@ use Rattle.lower_code.specs.declared.term.Laid.{Laid}
 use Rattle.lower_code.specs.declared.term.Lowered.{Lowered}
 use Rattle.lower_code.specs.declared.term.Code.{Code, Nothing, Set, Save, Then', If', Loop', Print}
 use Rattle.lower_code.specs.Machine.{Machine, Fits, Running, Begun, machine, running, after, spins, truth}
-use Rattle.lower_code.specs.Layout.{IsLaid, shapes_of, cell_at, AreFilled, filled, values_of}
+use Rattle.store.specs.Flat.{AreFilled, filled, values_of}
+use Rattle.lower_code.specs.Layout.{IsLaid, shapes_of, cell_at}
 use Rattle.lower_code.specs.Meaning.{Represents, Leads, IsRun, IsEnd}
 use Rattle.lower_code.proofs.Texts.{adds}
 use Rattle.lower_code.proofs.Keeping.{cells_lie, filled_cells}

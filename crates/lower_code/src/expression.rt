@@ -42,8 +42,12 @@ pub(crate) fn value(alloc: Global, expr: &Expr, layout: &[Laid]) -> Result<Term,
 }
 
 /// The test of a condition (C11 6.5.8, 6.5.9, 6.5.13, 6.5.14).
+///
+/// # Errors
+///
+/// Where memory runs out.
 #[cycle(expression)]
-pub(crate) fn test(alloc: Global, cond: &Cond, layout: &[Laid]) -> Result<Test, AllocError>
+pub fn test(alloc: Global, cond: &Cond, layout: &[Laid]) -> Result<Test, AllocError>
     ensures { IfOk result (MeansTest layout.now (cond_of cond.now)) }
 {
     match cond {

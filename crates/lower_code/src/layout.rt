@@ -3,7 +3,8 @@
 ghost use Rattle.std.specs.Prelude.{IfOk, ◌≡◌, ◌<◌, ◌%◌, ◌^◌, length, map};
 ghost use Rattle.semantics.specs.Meaning.Places.{size};
 ghost use Rattle.ktree.specs.View.{declaration_of};
-ghost use Rattle.lower_code.specs.Layout.{IsLaid, shapes_of, shapes_in, AreFilled, filled, values_of};
+ghost use Rattle.store.specs.Flat.{AreFilled, filled, values_of};
+ghost use Rattle.lower_code.specs.Layout.{IsLaid, shapes_of, shapes_in};
 
 use crate::term::Laid;
 use ktree::{Declaration, VarId};
@@ -47,10 +48,7 @@ pub(crate) fn cells(alloc: Global, store: &Store) -> Result<Vec<u64>, AllocError
     ensures values { IfOk result (λ cells. cells.items ≡ values_of store.now) }
     ensures counts { IfOk result (λ _. AreFilled store.now) }
 {
-    let mut cells = Vec::new(alloc);
-    for array in store.arrays() {
-        cells.extend_from_slice(array.values())?;
-    }
+    let cells = Vec::from_slice(alloc, store.cells())?;
     Ok(cells)
 }
 
@@ -60,10 +58,10 @@ pub(crate) fn keep(store: &mut Store, cells: &[u64])
     requires count { length cells.now ≡ length (values_of store.old) }
     ensures { store.new ≡ filled cells.now store.old }
 {
-    let count = store.arrays().len();
+    let count = store.len();
     let mut rest = cells;
     for x in 0..count {
-        let array = &store.arrays()[x];
+        let array = store.array(x);
         let (values, later) = rest.split_at(array.values().len());
         store.write(VarId(x as u32), 0, values);
         rest = later;

@@ -12,9 +12,10 @@ mod statements;
 mod term;
 
 pub use behind::are_behind;
+pub use expression::test;
 pub use layout::layout_of;
 pub use lowering::{lower, run};
 pub use mark::mark_among;
 pub use running::{obey, truth, worth};
-pub use statements::{items, statement};
+pub use statements::{entry, increment, item, items, statement};
 pub use term::{Code, Laid, Lowered, Piece, Register, Term, Test, Word};

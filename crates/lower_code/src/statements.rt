@@ -1,15 +1,15 @@
 //! Code from statements.
 
-ghost use Rattle.std.specs.Prelude.{IfOk, ◌≡◌, map};
+ghost use Rattle.std.specs.Prelude.{IfOk, ◌≡◌, Some, map};
 ghost use Rattle.semantics.specs.Meaning.Runs.{incremented};
 ghost use Rattle.semantics.specs.Tree.{no_items};
-ghost use Rattle.ktree.specs.View.{binary_of, exprs_of, part_of, start_of, increment_of, stmt_of, items_of, with_item};
+ghost use Rattle.ktree.specs.View.{binary_of, exprs_of, part_of, source_of, start_of, increment_of, stmt_of, items_of, with_item};
 ghost use Rattle.lower_code.specs.Meaning.{DoesAlways, Assigns, Updates, MeansPart, MeansText, MeansDeclared, MeansStmt, MeansItems};
 
 use crate::expression::{object, place, source_value, test, value};
 use crate::making::{binary, branch, number, repeat, then};
 use crate::term::{Code, Laid, Piece, Register, Term};
-use ktree::{BinaryOp, Expr, Increment, Item, PrintPart, Source, Stmt, VarId};
+use ktree::{BinaryOp, Expr, Head, Increment, Item, PrintPart, Source, Stmt, VarId};
 use std::alloc::{AllocError, Global};
 
 /// An object takes what a term is worth (C11 6.5.16).
@@ -65,8 +65,26 @@ fn declare(
     }
 }
 
+/// What a loop's variable takes before its first test (C11 6.8.5.3).
+///
+/// # Errors
+///
+/// Where memory runs out.
+pub fn entry(alloc: Global, head: &Head, layout: &[Laid]) -> Result<Code, AllocError>
+    ensures { IfOk result
+        (MeansDeclared layout.now head.now.variable.0 (Some (source_of head.now.start))) }
+{
+    let term = source_value(alloc, &head.start, layout)?;
+    let variable = head.variable.0;
+    Ok(Code::Set(Register { at: variable }, term))
+}
+
 /// What a loop does behind each turn (C11 6.5.2.4, 6.5.3.1, 6.5.16).
-fn increment(alloc: Global, step: &Increment, layout: &[Laid]) -> Result<Code, AllocError>
+///
+/// # Errors
+///
+/// Where memory runs out.
+pub fn increment(alloc: Global, step: &Increment, layout: &[Laid]) -> Result<Code, AllocError>
     ensures { IfOk result
         (DoesAlways layout.now (λ s. incremented s (increment_of step.now))) }
 {
@@ -182,8 +200,12 @@ pub fn items(alloc: Global, list: &[Item], layout: &[Laid]) -> Result<Code, Allo
 }
 
 /// The code of one item: a directive line does nothing.
+///
+/// # Errors
+///
+/// Where memory runs out.
 #[cycle(statement)]
-fn item(alloc: Global, item: &Item, layout: &[Laid]) -> Result<Code, AllocError>
+pub fn item(alloc: Global, item: &Item, layout: &[Laid]) -> Result<Code, AllocError>
     ensures { IfOk result (MeansItems layout.now (with_item item.now no_items)) }
 {
     match item {

@@ -14,8 +14,9 @@ use Rattle.affine_expr.specs.declared.faults.Fault.TheVariants.{OutOfMemory}
 use Rattle.nest_loop.specs.declared.head.Canonical.{Canonical}
 use Rattle.nest_loop.specs.declared.entered.LoopFacts.{LoopFacts}
 use Rattle.nest_loop.specs.Loops.{inside}
-use Rattle.nest_loop.specs.Facts.{AreFactsOf}
-use Rattle.nest.specs.Facts.{FactsOf, FactsAmong, product_of}
+use Rattle.nest_loop.specs.Facts.{FactsOf, FactsAmong}
+use Rattle.nest_loop.proofs.Standing.{own_facts, item_facts}
+use Rattle.nest.specs.Facts.{product_of}
 use Rattle.nest.specs.Judged.{Decides, DecidesBy, Entered}
 use Rattle.nest.specs.Perfect.{NestHas, AreRectangular, IsRightNest, Nests, ItemsNest, FirstLineNests, FirstNests}
 use Rattle.nest.proofs.Walks.{loop_of}
@@ -24,30 +25,6 @@ use Rattle.nest.proofs.FactsLaw.{nest_small, nest_large}
 use Rattle.nest.proofs.NestedLaw.{decides_same, whole_nest, nest_inner, all_behind, LeftNests, nests_more, line_not, item_not}
 
 -- ---- loops
-
--- a loop's facts stand first
-record OwnFacts (box : List Side) (head : Head) (body : Tree.Stmt) (own : LoopFacts) (inner rest : List LoopFacts) : Type 0 where
-  are : AreFactsOf box head body own
-  behind : FactsOf (inside box head.variable.0 own.numbers) body inner rest
-
-abbrev head_or : LoopFacts → List LoopFacts → LoopFacts
-head_or x [] = x
-head_or x (y ∷ ys) = y
-
-abbrev tail_of : List LoopFacts → List LoopFacts
-tail_of [] = []
-tail_of (y ∷ ys) = ys
-
-own_facts : (box : List Side) (head : Head) (body : Tree.Stmt) (facts : List LoopFacts) (own : LoopFacts) (inner rest : List LoopFacts) → facts ≡ own ∷ inner
-    → FactsOf box (loop_of head body) facts rest → OwnFacts box head body own inner rest
-own_facts box head body facts own inner rest e (f, more, is, are, behind) =
-    let both : own ∷ inner ≡ f ∷ more = sym e ∙ is in
-    go (ap (head_or own) both) (ap tail_of both)
-  where
-    go : own ≡ f → inner ≡ more → OwnFacts box head body own inner rest
-    go p q =
-        subst (λ (xs : List LoopFacts). OwnFacts box head body own xs rest) (sym q)
-        (subst (λ (x : LoopFacts). OwnFacts box head body x more rest) (sym p) (record { are = are; behind = behind }))
 
 pub loop_along : {A : Type 0} (r : Result A Fault) (text : List ℕ) (box after : List Side) (head : Head) (body : Tree.Stmt) (facts : List LoopFacts) (own : LoopFacts) (inner : List LoopFacts)
     → facts ≡ own ∷ inner → after ≡ inside box head.variable.0 own.numbers → DecidesBy (FactsOf after body inner) r (Nests text after body)
@@ -64,16 +41,6 @@ pub loop_not : (text : List ℕ) (box after : List Side) (head : Head) (body : T
 loop_not text box after head body facts own inner fault e g judged = loop_along {A = Unit {0}} (Err fault) text box after head body facts own inner e g judged
 
 -- ---- items
-
-record ItemFacts (box : List Side) (i : Item) (items : Tree.Items) (facts rest : List LoopFacts) : Type 0 where
-  middle : List LoopFacts
-  own : FactsAmong box (with_item i Tree.no_items) facts middle
-  others : FactsAmong box items middle rest
-
-item_facts : (box : List Side) (i : Item) (items : Tree.Items) (facts rest : List LoopFacts) → FactsAmong box (with_item i items) facts rest → ItemFacts box i items facts rest
-item_facts box (Directive place) items facts rest h = record { middle = facts; own = refl; others = h }
-item_facts box (Local l) items facts rest h = record { middle = facts; own = refl; others = h }
-item_facts box (Statement' p s) items facts rest (m, f, h) = record { middle = m; own = (m, f, λ k. m); others = h }
 
 -- where the facts are those of the items, what is left of them are those of the items that are left, which decide
 abbrev pub SoFar : List ℕ → List Side → List Item → ℕ → List LoopFacts → List LoopFacts → Type 0

@@ -4,7 +4,7 @@ use Rattle.std.proofs.Common.{refl, sym, ap, ◌∙◌, subst, arith}
 use Rattle.std.proofs.lemmas.List.{append_assoc, append-nil}
 use Rattle.semantics.specs.Tree
 use Rattle.semantics.specs.Meaning.Value.{map_option}
-use Rattle.semantics.specs.Loops.Nest.{Loop, as_loop, only_loop, nest_of}
+use Rattle.semantics.specs.Loops.Nest.{Loop, as_loop, nest_of}
 use Rattle.ktree.specs.View.{items_of, with_item}
 use Rattle.ktree.specs.declared.statement.Head.{Head}
 use Rattle.ktree.specs.declared.statement.Item.{Item, Directive, Local, Statement'}
@@ -12,8 +12,9 @@ use Rattle.ktree.proofs.Trees.{next_item}
 use Rattle.affine.specs.declared.interval.Side.{Side}
 use Rattle.nest_loop.specs.declared.entered.LoopFacts.{LoopFacts}
 use Rattle.nest_loop.specs.Loops.{inside}
-use Rattle.nest_loop.specs.Facts.{AreFacts}
-use Rattle.nest.specs.Facts.{FactsOf, FactsAmong, HasFacts, Pushes, product_of}
+use Rattle.nest_loop.specs.Facts.{FactsOf, FactsAmong}
+use Rattle.nest_loop.proofs.Standing.{FirstFacts, first_or, first_facts}
+use Rattle.nest.specs.Facts.{HasFacts, Pushes, product_of}
 use Rattle.nest.specs.Judged.{Entered, EntersLoop}
 use Rattle.nest.specs.Perfect.{NestHas, HasProduct}
 use Rattle.nest.proofs.Walks.{loop_of}
@@ -74,47 +75,6 @@ put_more box is i e before now after lt p (done, q, f) (m, g, h) = (
 pub put_all : (box : List Side) (is : List Item) (i : ℕ) (before now : List LoopFacts) → drop i is ≡ [] → PutSoFar box is i before now → Pushes (FactsAmong box (items_of is)) before now
 put_all box is i before now e (done, q, f) =
     (done, q, λ rest. f rest rest (subst (λ (xs : List Item). FactsAmong box (items_of xs) rest rest) (sym e) (λ k. rest)))
-
--- the facts of a loop that a statement is
-record FirstFacts (box : List Side) (h : Loop) (body : Tree.Stmt) (facts rest : List LoopFacts) : Type 0 where
-  own : LoopFacts
-  more : List LoopFacts
-  is : facts ≡ own ∷ more
-  are : AreFacts box h.variable h.start h.test h.step body own
-  inner : FactsOf (inside box h.variable own.numbers) body more rest
-
-abbrev first_or : {A B : Type 0} → A → Option (A × B) → A
-first_or x None = x
-first_or x (Some p) = p.0
-
-abbrev second_or : {A B : Type 0} → B → Option (A × B) → B
-second_or x None = x
-second_or x (Some p) = p.1
-
-mutual
-  first_facts : (box : List Side) (s : Tree.Stmt) (h : Loop) (body : Tree.Stmt) (facts rest : List LoopFacts) → as_loop s ≡ Some (h, body) → FactsOf box s facts rest → FirstFacts box h body facts rest
-  first_facts box (Tree.Assign x is e) h body facts rest p k = absurd (cc p)
-  first_facts box (Tree.Update x is op e) h body facts rest p k = absurd (cc p)
-  first_facts box (Tree.If c a) h body facts rest p k = absurd (cc p)
-  first_facts box (Tree.IfElse c a b) h body facts rest p k = absurd (cc p)
-  first_facts box (Tree.For x name start test step b) h body facts rest p (f, more, is, are, inner) =
-      go h body (ap (first_or h) p) (ap (second_or body) p)
-    where
-      go : (h : Loop) (body : Tree.Stmt) → record { variable = x; start = start; test = test; step = step } ≡ h → b ≡ body → FirstFacts box h body facts rest
-      go h body e g = subst (λ (k : Loop). FirstFacts box k body facts rest) e (subst (λ (t : Tree.Stmt). FirstFacts box (record { variable = x; start = start; test = test; step = step }) t facts rest) g (record { own = f; more = more; is = is; are = are; inner = inner }))
-  first_facts box (Tree.Block items) h body facts rest p k = only_facts box items h body facts rest p k
-  first_facts box (Tree.Print parts) h body facts rest p k = absurd (cc p)
-
-  only_facts : (box : List Side) (items : Tree.Items) (h : Loop) (body : Tree.Stmt) (facts rest : List LoopFacts) → only_loop items ≡ Some (h, body) → FactsAmong box items facts rest
-      → FirstFacts box h body facts rest
-  only_facts box Tree.no_items h body facts rest p k = absurd (cc p)
-  only_facts box (Tree.mark line items) h body facts rest p k = absurd (cc p)
-  only_facts box (Tree.local x name start items) h body facts rest p k = absurd (cc p)
-  only_facts box (Tree.stmt s Tree.no_items) h body facts rest p (m, f, e) =
-      first_facts box s h body facts rest p (subst (FactsOf box s facts) e f)
-  only_facts box (Tree.stmt s (Tree.mark line items)) h body facts rest p k = absurd (cc p)
-  only_facts box (Tree.stmt s (Tree.local x name start items)) h body facts rest p k = absurd (cc p)
-  only_facts box (Tree.stmt s (Tree.stmt t items)) h body facts rest p k = absurd (cc p)
 
 -- the first facts of a nest are those of its loops, and their greatest counts make its product
 abbrev pub ProductIs : ℕ → Type 0

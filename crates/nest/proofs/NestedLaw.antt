@@ -15,6 +15,7 @@ use Rattle.nest_loop.specs.Loops.{inside}
 use Rattle.nest_loop.proofs.Laws.{loop_is_unique}
 use Rattle.affine_expr.specs.declared.faults.Fault.{Fault}
 use Rattle.affine_expr.specs.declared.faults.Fault.TheVariants.{OutOfMemory}
+use Rattle.semantics.specs.Directives.Directive.{Schedule}
 use Rattle.pragma.specs.Clauses.{ReadsLoop}
 use Rattle.pragma.specs.Parallel.{associated}
 use Rattle.pragma.proofs.LoopLaw.{read_once}
@@ -29,7 +30,7 @@ decides_same (Err fault) f g (inl e) = inl e
 decides_same (Err fault) f g (inr h) = inr (λ q. h (g q))
 
 -- a line is judged by what stands behind it
-pub line_judged : {A : Type 0} (r : Result A Fault) (text : List ℕ) (box : List Side) (line : ℕ) (rest : Tree.Items) (k c : Option ℕ) (n : ℕ)
+pub line_judged : {A : Type 0} (r : Result A Fault) (text : List ℕ) (box : List Side) (line : ℕ) (rest : Tree.Items) (k : Option Schedule) (c : Option ℕ) (n : ℕ)
     → ReadsLoop (line_at text line) k c → n ≡ associated c → Decides r (RightNestFirst box n rest) → Decides r (LineNests text box line rest)
 line_judged r text box line rest k c n reads e h = decides_same r up down h
   where

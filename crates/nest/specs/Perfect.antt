@@ -11,6 +11,7 @@ use Rattle.nest_loop.specs.Canonical.{canonical}
 use Rattle.nest_loop.specs.Sides.{CannotWrap, IsSide}
 use Rattle.nest_loop.specs.Loops.{IsLoop, inside}
 use Rattle.nest_loop.specs.Most.{IsMost}
+use Rattle.semantics.specs.Directives.Directive.{Schedule}
 use Rattle.pragma.specs.Clauses.{ReadsLoop}
 use Rattle.pragma.specs.Parallel.{associated}
 
@@ -52,7 +53,7 @@ RightNestFirst box n (stmt s rest) = IsRightNest box n s
 
 -- behind a line such a nest of as many loops as its `parallel for` associates
 abbrev pub LineNests : List ℕ → List Side → ℕ → Items → Type 0
-LineNests text box line rest = (k c : Option ℕ) × ReadsLoop (line_at text line) k c × RightNestFirst box (associated c) rest
+LineNests text box line rest = (k : Option Schedule) × (c : Option ℕ) × ReadsLoop (line_at text line) k c × RightNestFirst box (associated c) rest
 
 abbrev mutual
   -- each directive line in a statement inside the loops of a box stands before such a nest, and each loop is canonical

@@ -5,7 +5,7 @@ ghost use Rattle.semantics.specs.Tree.{no_items};
 ghost use Rattle.semantics.specs.Source.Text.{line_at};
 ghost use Rattle.ktree.specs.View.{stmt_of, items_of, with_item};
 ghost use Rattle.nest_loop.specs.declared.entered.LoopFacts as facts;
-ghost use Rattle.nest.specs.Facts.{FactsOf, FactsAmong};
+ghost use Rattle.nest_loop.specs.Facts.{FactsOf, FactsAmong};
 ghost use Rattle.nest.specs.Judged.{DecidesBy};
 ghost use Rattle.nest.specs.Perfect.{RightNestFirst, LineNests, Nests, ItemsNest, FirstLineNests, FirstNests};
 

@@ -4,7 +4,8 @@ ghost use Rattle.std.specs.Prelude.{◌≡◌, [], OnOk, IfOk};
 ghost use Rattle.ktree.specs.View.{kernel_of};
 ghost use Rattle.nest.specs.Nests.{IsNested, IsInRange};
 ghost use Rattle.nest.specs.Leaves.{LeavesSomewhere};
-ghost use Rattle.nest.specs.Facts.{FactsAmong, HasFacts, Pushes};
+ghost use Rattle.nest_loop.specs.Facts.{FactsAmong};
+ghost use Rattle.nest.specs.Facts.{HasFacts, Pushes};
 ghost use Rattle.nest.specs.Perfect.{AreRightNests};
 ghost use Rattle.nest.specs.Judged.{Decides, Tells, IsTableOf};
 

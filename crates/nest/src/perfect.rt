@@ -8,7 +8,8 @@ ghost use Rattle.affine_expr.specs.declared.faults.Fault.TheVariants.{OutOfMemor
 ghost use Rattle.nest_loop.specs.Canonical.{canonical};
 ghost use Rattle.nest_loop.specs.declared.head.Canonical as canonicals;
 ghost use Rattle.nest.specs.Heads.{head_of};
-ghost use Rattle.nest.specs.Facts.{FactsOf, product_of};
+ghost use Rattle.nest_loop.specs.Facts.{FactsOf};
+ghost use Rattle.nest.specs.Facts.{product_of};
 ghost use Rattle.nest.specs.Judged.{Decides, DecidesBy};
 ghost use Rattle.nest_space.specs.Space.{Turns, IsSpace};
 ghost use Rattle.nest_space.specs.Nests.{given, AreModest, AreRunsOf};

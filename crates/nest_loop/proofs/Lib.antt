@@ -12,3 +12,4 @@ pub mod Visible
 pub mod Ways
 pub mod Heads
 pub mod Increments
+pub mod Standing

@@ -104,24 +104,27 @@ fn judge_data(
     }
 }
 
+// What is known of the loops of a kernel before the dependence test: the facts of each, and those behind directive lines.
+struct KnownLoops {
+    table: LoopTable,
+    parallel: Vec<ParallelLoop>,
+}
+
 // Refuses a tree that does not pass what stands before the dependence test, in the order of the passes: directive lines, loops and
 // nests, data, and ranges.
-fn judge(
-    alloc: Global,
-    kernel: &Kernel,
-    directives: &Directives,
-) -> Result<Vec<ParallelLoop>, Refusal>
+fn judge(alloc: Global, kernel: &Kernel, directives: &Directives) -> Result<KnownLoops, Refusal>
     requires { ReadsText directives.now (kernel_of kernel.now) }
     ensures passed { IfOk result (λ _. HasPassed directives.now (kernel_of kernel.now)) }
-    ensures listed { IfOk result (λ loops. AreParallelLoops directives.now (kernel_of kernel.now)
-        loops.items) }
+    ensures table { IfOk result (λ known. IsTableOf (kernel_of kernel.now) known.table) }
+    ensures listed { IfOk result (λ known. AreParallelLoops directives.now (kernel_of kernel.now)
+        known.parallel.items) }
     ensures refusal { IfErr result (RefusesPasses directives.now (kernel_of kernel.now)) }
 {
     judge_lines(alloc, kernel, directives)?;
     let table = judge_nests(alloc, kernel, directives)?;
-    let loops = judge_data(alloc, kernel, directives)?;
+    let parallel = judge_data(alloc, kernel, directives)?;
     judge_ranges(kernel, &table)?;
-    Ok(loops)
+    Ok(KnownLoops { table, parallel })
 }
 
 // Accepts the kernel of a text with these directive lines, or refuses it.
@@ -136,9 +139,9 @@ fn accept_directed(
     ensures is { IfOk result (λ checked. checked ≡ record { text = text.now; kernel = kernel }) }
     ensures refusal { IfErr result (RefusesKernel text.now (kernel_of kernel)) }
 {
-    let loops = judge(alloc, &kernel, directives)?;
     let text = Vec::from_slice(alloc, text)?;
-    accept(alloc, directives, text, kernel, loops)
+    let KnownLoops { table, parallel } = judge(alloc, &kernel, directives)?;
+    accept(alloc, directives, &table, text, kernel, parallel)
 }
 
 // Accepts the kernel of a text, or refuses it.

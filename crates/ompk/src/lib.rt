@@ -7,3 +7,4 @@ pub use accepting::check;
 pub use deptest::Checked;
 pub use ompk_message::{status, tell};
 pub use ompk_run::{run, runs_of_accepted, seq};
+pub use schedule::Sched;

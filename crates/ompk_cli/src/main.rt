@@ -8,7 +8,7 @@ mod fault;
 
 use fault::Fault;
 use ktree::{Refusal, Workers};
-use ompk::{Checked, check, run, seq, status, tell};
+use ompk::{Checked, Sched, check, run, seq, status, tell};
 use ompk_command::{Task, read_task};
 use seqrun_io::{Sink, Writer, put_all};
 use std::io::ErrorKind;
@@ -64,6 +64,7 @@ fn run_file<'a, R, S>(
     file: &'a str,
     input: Option<&'a str>,
     workers: Workers,
+    sched: Sched,
     sink: &mut S,
 ) -> Result<(), Fault<'a>>
 where
@@ -74,7 +75,16 @@ where
     let kernel = accept_file(rt, file)?;
     let bytes = read_input(rt, input)?;
     let given = bytes.as_slice();
-    Ok(run(rt, rt.alloc(), &kernel, given, workers, &OpenGate, sink)?)
+    Ok(run(
+        rt,
+        rt.alloc(),
+        &kernel,
+        given,
+        workers,
+        sched,
+        &OpenGate,
+        sink,
+    )?)
 }
 
 // Runs the kernel of a file by one thread.
@@ -118,7 +128,8 @@ where
             file,
             input,
             workers,
-        } => run_file(rt, file, *input, *workers, sink),
+            sched,
+        } => run_file(rt, file, *input, *workers, *sched, sink),
         Task::Seq { file, input } => seq_file(rt, file, *input, sink),
     }
 }

@@ -1,6 +1,7 @@
-//! What the command line asks for: `check F`, `run F [--input I] [--workers N]` or `seq F [--input I]`.
+//! What the command line asks for: `check F`, `run F [--input I] [--workers N] [--schedule KIND[,K]]` or `seq F [--input I]`.
 #![tactic(auto)]
 
+mod schedule_words;
 mod task;
 mod usage;
 

@@ -4,10 +4,12 @@ ghost use Rattle.std.specs.Prelude.{◌≡◌, true, IfSome, IfErr};
 ghost use Rattle.semantics.specs.Source.Cuts.{is_decimal, decimal_from};
 ghost use Rattle.ompk_command.specs.Usages.{IsTold};
 
+use crate::schedule_words::schedule_of;
 use crate::usage::Usage;
 use clap::error::ErrorKind;
 use clap::{Arg, ArgMatches, Command};
 use ktree::Workers;
+use schedule::Sched;
 use std::alloc::{AllocError, Global};
 
 /// What the program is asked for.
@@ -20,6 +22,8 @@ pub enum Task<'a> {
         file: &'a str,
         input: Option<&'a str>,
         workers: Workers,
+        /// What stands for `schedule(runtime)` (OpenMP 5.2, 11.5.3).
+        sched: Sched,
     },
     Seq {
         file: &'a str,
@@ -58,13 +62,25 @@ fn workers<'a>(alloc: Global) -> Arg<'a> {
         .help("The number of workers, 1 to 64")
 }
 
-// `ompk run F [--input I] [--workers N]`.
+// The schedule for `schedule(runtime)`.
+fn schedule<'a>(alloc: Global) -> Arg<'a> {
+    Arg::new(alloc, "schedule")
+        .long("schedule")
+        .value_name("KIND[,K]")
+        .default_value("static")
+        .help(
+            "What schedule(runtime) stands for: static, dynamic, guided or auto; K is 1 to 16777216",
+        )
+}
+
+// `ompk run F [--input I] [--workers N] [--schedule KIND[,K]]`.
 fn run_command<'a>(alloc: Global) -> Result<Command<'a>, AllocError> {
     Command::new(alloc, "run")
         .about("Runs a kernel on a team of workers and writes its output")
         .arg(file(alloc))?
         .arg(input(alloc))?
-        .arg(workers(alloc))
+        .arg(workers(alloc))?
+        .arg(schedule(alloc))
 }
 
 // `ompk seq F [--input I]`.
@@ -106,13 +122,14 @@ fn workers_of(text: &str) -> Option<Workers>
 #[derive(Clone, Copy, Drop)]
 enum Flaw {
     Workers,
+    Schedule,
     Subcommand,
 }
 
 impl Flaw {
     fn kind(self) -> ErrorKind {
         match self {
-            Flaw::Workers => ErrorKind::InvalidValue,
+            Flaw::Workers | Flaw::Schedule => ErrorKind::InvalidValue,
             Flaw::Subcommand => ErrorKind::MissingSubcommand,
         }
     }
@@ -120,21 +137,43 @@ impl Flaw {
     fn message(self) -> &'static str {
         match self {
             Flaw::Workers => "the number of workers is 1 to 64, without leading zeros",
+            Flaw::Schedule => {
+                "the schedule is static, dynamic or guided, with or without a comma and 1 to 16777216, or auto"
+            }
             Flaw::Subcommand => "a subcommand is missing",
         }
     }
 }
 
-// The task of `run`, by its file and its number of workers.
-fn run_task<'a>(file: &'a str, input: Option<&'a str>, workers: &str) -> Result<Task<'a>, Flaw> {
-    match workers_of(workers) {
-        Some(workers) => Ok(Task::Run {
-            file,
-            input,
-            workers,
-        }),
-        None => Err(Flaw::Workers),
+// The task of `run`, by its file, its number of workers and its schedule.
+fn run_task<'a>(
+    file: &'a str,
+    input: Option<&'a str>,
+    workers: &str,
+    schedule: &str,
+) -> Result<Task<'a>, Flaw> {
+    let Some(workers) = workers_of(workers) else {
+        return Err(Flaw::Workers);
+    };
+    let Some(sched) = schedule_of(schedule) else {
+        return Err(Flaw::Schedule);
+    };
+    Ok(Task::Run {
+        file,
+        input,
+        workers,
+        sched,
+    })
+}
+
+// What `run` asks for.
+fn run_matches<'a>(found: &ArgMatches<'a>) -> Result<Task<'a>, Flaw> {
+    if let (Some(file), Some(workers)) = (found.get_str("file"), found.get_str("workers")) {
+        if let Some(schedule) = found.get_str("schedule") {
+            return run_task(file, found.get_str("input"), workers, schedule);
+        }
     }
+    Err(Flaw::Subcommand)
 }
 
 // What these words ask for.
@@ -145,9 +184,7 @@ fn task_of<'a>(matches: &ArgMatches<'a>) -> Result<Task<'a>, Flaw> {
         }
     }
     if let Some(found) = matches.subcommand_matches("run") {
-        if let (Some(file), Some(workers)) = (found.get_str("file"), found.get_str("workers")) {
-            return run_task(file, found.get_str("input"), workers);
-        }
+        return run_matches(found);
     }
     if let Some(found) = matches.subcommand_matches("seq") {
         if let Some(file) = found.get_str("file") {

@@ -13,7 +13,7 @@ here is i e lt p = rw add-one (drop-cons is i e lt ∙ ap (λ x. x ∷ drop (suc
 
 -- an item, and then the others
 one_on : (e : OutlineItem) (rest : Tree.Items) (s : State) → run_items (with_outlined e rest) s ≡ then_from s (run_items (with_outlined e Tree.no_items) s) (run_items rest)
-one_on (Plain i) rest s = item_on i.now rest s
+one_on (Plain code i) rest s = item_on i.now rest s
 one_on (Statement' p a) rest s = then_nothing s (run (outlined a) s) (run_items rest)
 
 -- what is left begins with its next item

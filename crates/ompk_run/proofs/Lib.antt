@@ -4,3 +4,6 @@ pub mod Starting
 pub mod Output
 pub mod Written
 pub mod Going
+pub mod Readied
+pub mod Steps
+pub mod Turns

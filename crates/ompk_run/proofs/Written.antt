@@ -7,7 +7,6 @@ use Rattle.semantics.specs.Meaning.Output.{dump, output}
 use Rattle.semantics.specs.Theorems.{WritesABeginning, WritesAll}
 use Rattle.ktree.specs.View.{items_of}
 use Rattle.store.specs.Kept.{Kept, state_of}
-use Rattle.seqrun_value.specs.declared.frame.Slot.{Slot}
 use Rattle.seqrun_value.specs.Standing.{standing}
 use Rattle.seqrun.specs.Ran.{Ran, text_of}
 use Rattle.seqrun_io.specs.Told.{AddsBeginning}
@@ -64,9 +63,9 @@ module _ (a : Program) (input : List ℕ) (ks : List Kept) (is : IsAccepted a) (
       go (Some e) q h w = begun e q before after (of_front before after e.text (dump (tree_of a).variables (overwritten outset e.writes)) w)
 
   -- behind the body
-  module _ (slots : List Slot) (ks' : List Kept) (before middle : List ℕ) (ran : Ran (run_items (items_of a.kernel.body.items) outset) outset (standing slots ks') before middle) where
+  module _ (s : State) (ks' : List Kept) (same : (x : ℕ) (is : List ℕ) → (state_of ks').cells x is ≡ s.cells x is) (before middle : List ℕ) (ran : Ran (run_items (items_of a.kernel.body.items) outset) outset s before middle) where
     left : dump (tree_of a).variables (state_of ks') ≡ dump (tree_of a).variables (overwritten outset ran.effect.writes)
-    left = same_dump (state_of ks') (overwritten outset ran.effect.writes) (λ x is. ap (λ (s : State). s.cells x is) ran.left) 0 (tree_of a).variables
+    left = same_dump (state_of ks') (overwritten outset ran.effect.writes) (λ x is. same x is ∙ ap (λ (s : State). s.cells x is) ran.left) 0 (tree_of a).variables
 
     -- a run that ends in the dump
     pub dump_written : (after : List ℕ) → AddsBeginning middle after (dump (tree_of a).variables (state_of ks')) → WritesABeginning (tree_of a) input before after

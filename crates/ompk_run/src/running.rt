@@ -6,10 +6,11 @@ ghost use Rattle.ktree.specs.Numbers.{number_of};
 ghost use Rattle.deptest.specs.Accepted.{tree_of};
 ghost use Rattle.ompk_run.specs.Outcome.{NamesTheFault, NamesTheOutput, RunsOfAccepted};
 
+use crate::preparing::{Prepared, prepare};
 use crate::teaming::{Teaming, team_block};
 use deptest::Checked;
 use ktree::{Refusal, Workers};
-use outline::outline;
+use schedule::Sched;
 use seqrun::block;
 use seqrun_io::{Sink, dump, input as read_input};
 use seqrun_value::Frame;
@@ -20,7 +21,8 @@ use team::Gate;
 
 /// Runs an accepted kernel on an input by a team, and writes what the C program without the directive lines writes
 /// (C11 5.1.2.3, 6): what it prints, and a line for each file-scope variable as it leaves them. Loops behind directive lines
-/// that are handed to the team are run by it, all else by the thread that calls.
+/// that are handed to the team are run by it, all else by the thread that calls. `sched` stands for `schedule(runtime)` (OpenMP 5.2,
+/// 11.5.3).
 ///
 /// # Errors
 ///
@@ -32,6 +34,7 @@ pub fn run<R: Threads + Wait + Sync, G: Gate, S: Sink>(
     checked: &Checked,
     input: &[u8],
     workers: Workers,
+    sched: Sched,
     gate: &G,
     sink: &mut S,
 ) -> Result<(), Refusal>
@@ -48,15 +51,19 @@ pub fn run<R: Threads + Wait + Sync, G: Gate, S: Sink>(
 {
     let declarations = checked.declarations();
     let mut store = read_input(alloc, declarations, input)?;
-    let outline = outline(alloc, checked.body(), checked.loops(), &store)?;
+    let Prepared {
+        outline,
+        mut registers,
+    } = prepare(alloc, checked, &store)?;
     let team = Teaming {
         rt,
         alloc,
         workers,
+        sched,
         gate,
     };
-    let mut frame = Frame::new(Vec::new(alloc));
-    team_block(&outline, &team, &mut frame, &mut store, sink)?;
+    team_block(&outline, &team, &mut registers, &mut store, sink)?;
+    let _cells = store.cells();
     dump(alloc, declarations, &store, sink)
 }
 

@@ -1,21 +1,26 @@
 //! The loops that a team runs.
 
-ghost use Rattle.std.specs.Prelude.{◌≡◌, ◌+◌, ◌<◌, ◌^◌, IsSome, OnOk, IfErr};
+ghost use Rattle.std.specs.Prelude.{◌≡◌, ℕ, ◌+◌, ◌<◌, ◌^◌, List, OnOk, IfErr};
 ghost use Rattle.semantics.specs.Tree.{no_items};
 ghost use Rattle.semantics.specs.Meaning.Runs.{run, run_items};
 ghost use Rattle.ktree.specs.declared.refusal.Refusal.TheVariants.{OutOfMemory};
 ghost use Rattle.outline.specs.Fitting.{Reaches, Stands, ItemStands, AllStand};
+ghost use Rattle.outline.specs.Fit.{Fits, ItemFits, AllFit};
 ghost use Rattle.outline.specs.View.{outlined, with_outlined, items_outlined};
 ghost use Rattle.outline.specs.declared.shape.Outline.TheVariants.{Team};
-ghost use Rattle.seqrun_value.specs.Standing.{standing};
-ghost use Rattle.seqrun_io.specs.Told.{AddsBeginning, Refuses};
-ghost use Rattle.seqrun.specs.Ran.{Ran, Ended, text_of, lengths_of};
+ghost use Rattle.seqrun_io.specs.Told.{Refuses};
+ghost use Rattle.seqrun.specs.Ran.{lengths_of};
+ghost use Rattle.store.specs.Flat.{values_of};
+ghost use Rattle.lower_code.specs.declared.term.Laid.{Laid};
+ghost use Rattle.lower_code.specs.Machine.{machine, truth};
+ghost use Rattle.lower_run.specs.Walk.{Walks, Begins, stage};
 
 use ktree::{Refusal, Workers};
+use lower_code::{Test, truth};
+use lower_run::{perform, set_register};
 use outline::{Outline, OutlineItem, TeamLoop, confirm_fits};
-use seqrun::{increment, run_item, statement};
+use schedule::Sched;
 use seqrun_io::Sink;
-use seqrun_value::{Frame, Slot, holds, source_value};
 use std::alloc::Global;
 use std::sync::Wait;
 use std::thread::Threads;
@@ -28,35 +33,45 @@ pub(crate) struct Teaming<'r, R: Threads + Wait + Sync, G: Gate> {
     pub(crate) rt: &'r R,
     pub(crate) alloc: Global,
     pub(crate) workers: Workers,
+    pub(crate) sched: Sched,
     pub(crate) gate: &'r G,
+}
+
+// Whether a test holds over registers and a store.
+fn holds(test: &Test, registers: &Vec<u64>, store: &Store) -> bool
+    ensures { result ≡ truth test.now (machine registers.now.items (values_of store.now)) }
+{
+    truth(test, registers.as_slice(), store.cells())
 }
 
 // Runs a loop by the team.
 fn run_team_loop<R: Threads + Wait + Sync, G: Gate>(
     construct: &TeamLoop<'_>,
     team: &Teaming<'_, R, G>,
-    frame: &mut Frame,
+    registers: &mut Vec<u64>,
     store: &mut Store,
 ) -> Result<(), Refusal>
     requires stands { Reaches construct.now.lowered (lengths_of store.old) }
-    requires runs { IsSome (run (outlined (Team construct.now)) (standing frame.old store.old)) }
-    ensures ran { OnOk result (Ended
-        (run (outlined (Team construct.now)) (standing frame.old store.old))
-        (standing frame.old store.old) (standing frame.new store.new)) }
+    ensures ran { OnOk result ((layout : List Laid) (mark : ℕ) (text : List ℕ)
+        → Fits layout mark (Team construct.now)
+        → Walks layout mark (run (outlined (Team construct.now)))
+        (stage registers.old.items store.old text) (stage registers.new.items store.new text)) }
     ensures refusal { IfErr result (λ refusal. refusal ≡ OutOfMemory) }
     ensures shape { lengths_of store.new ≡ lengths_of store.old }
 {
     let lowered = construct.lowered;
     confirm_fits(&lowered, store);
+    let _cells = store.cells();
     run_loop(
         team.rt,
         team.alloc,
         &lowered,
         store,
         team.workers,
+        team.sched,
         team.gate,
     )?;
-    frame.set(lowered.counter, Slot::Holds(lowered.bound))?;
+    set_register(registers, store, lowered.counter, lowered.bound);
     Ok(())
 }
 
@@ -65,47 +80,47 @@ fn run_team_loop<R: Threads + Wait + Sync, G: Gate>(
 fn team_statement<R: Threads + Wait + Sync, G: Gate, S: Sink>(
     outline: &Outline<'_>,
     team: &Teaming<'_, R, G>,
-    frame: &mut Frame,
+    registers: &mut Vec<u64>,
     store: &mut Store,
     sink: &mut S,
 ) -> Result<(), Refusal>
     requires room { S.failed sink.old + 1 < 2 ^ 64 }
     requires stands { Stands (lengths_of store.old) outline.now }
-    requires runs { IsSome (run (outlined outline.now) (standing frame.old store.old)) }
-    ensures ran { OnOk result (Ran (run (outlined outline.now) (standing frame.old store.old))
-        (standing frame.old store.old) (standing frame.new store.new) (S.told sink.old)
-        (S.told sink.new)) }
-    ensures beginning { AddsBeginning (S.told sink.old) (S.told sink.new)
-        (text_of (run (outlined outline.now) (standing frame.old store.old))) }
+    ensures ran { OnOk result ((layout : List Laid) (mark : ℕ) → Fits layout mark outline.now
+        → Walks layout mark (run (outlined outline.now))
+        (stage registers.old.items store.old (S.told sink.old))
+        (stage registers.new.items store.new (S.told sink.new))) }
+    ensures beginning { (layout : List Laid) (mark : ℕ) → Fits layout mark outline.now
+        → Begins layout mark (run (outlined outline.now))
+        (stage registers.old.items store.old (S.told sink.old)) (S.told sink.new) }
     ensures sound { OnOk result (S.failed sink.new ≡ S.failed sink.old) }
     ensures refusal { IfErr result (Refuses (S.failed sink.old) (S.failed sink.new)) }
     ensures shape { lengths_of store.new ≡ lengths_of store.old }
 {
     match outline {
-        Outline::Statement(stmt) => statement(stmt, frame, store, sink),
-        Outline::Team(construct) => run_team_loop(construct, team, frame, store),
-        Outline::If(cond, then, other) => {
-            if holds(cond, frame, store) {
-                team_statement(then, team, frame, store, sink)
+        Outline::Serial(code, _stmt) => perform(code, registers, store, sink),
+        Outline::Team(construct) => run_team_loop(construct, team, registers, store),
+        Outline::If(test, _cond, then, other) => {
+            if holds(test, registers, store) {
+                team_statement(then, team, registers, store, sink)
             } else if let Some(other) = other {
-                team_statement(other, team, frame, store, sink)
+                team_statement(other, team, registers, store, sink)
             } else {
                 Ok(())
             }
         }
-        Outline::For(head, body) => {
-            let first = source_value(&head.start, frame, store);
-            frame.set(head.variable, Slot::Holds(first))?;
+        Outline::For(lowered, _head, body) => {
+            perform(&lowered.entry, registers, store, sink)?;
             for _turn in 0..u64::MAX {
-                if !holds(&head.test, frame, store) {
+                if !holds(&lowered.test, registers, store) {
                     return Ok(());
                 }
-                team_statement(body, team, frame, store, sink)?;
-                increment(frame, store, &head.step)?;
+                team_statement(body, team, registers, store, sink)?;
+                perform(&lowered.step, registers, store, sink)?;
             }
             Ok(())
         }
-        Outline::Block(items) => team_block(items, team, frame, store, sink),
+        Outline::Block(items) => team_block(items, team, registers, store, sink),
     }
 }
 
@@ -114,25 +129,25 @@ fn team_statement<R: Threads + Wait + Sync, G: Gate, S: Sink>(
 pub(crate) fn team_block<R: Threads + Wait + Sync, G: Gate, S: Sink>(
     items: &[OutlineItem<'_>],
     team: &Teaming<'_, R, G>,
-    frame: &mut Frame,
+    registers: &mut Vec<u64>,
     store: &mut Store,
     sink: &mut S,
 ) -> Result<(), Refusal>
     requires room { S.failed sink.old + 1 < 2 ^ 64 }
     requires stands { AllStand (lengths_of store.old) items.now }
-    requires runs { IsSome (run_items (items_outlined items.now) (standing frame.old store.old)) }
-    ensures ran { OnOk result (Ran
-        (run_items (items_outlined items.now) (standing frame.old store.old))
-        (standing frame.old store.old) (standing frame.new store.new) (S.told sink.old)
-        (S.told sink.new)) }
-    ensures beginning { AddsBeginning (S.told sink.old) (S.told sink.new)
-        (text_of (run_items (items_outlined items.now) (standing frame.old store.old))) }
+    ensures ran { OnOk result ((layout : List Laid) (mark : ℕ) → AllFit layout mark items.now
+        → Walks layout mark (run_items (items_outlined items.now))
+        (stage registers.old.items store.old (S.told sink.old))
+        (stage registers.new.items store.new (S.told sink.new))) }
+    ensures beginning { (layout : List Laid) (mark : ℕ) → AllFit layout mark items.now
+        → Begins layout mark (run_items (items_outlined items.now))
+        (stage registers.old.items store.old (S.told sink.old)) (S.told sink.new) }
     ensures sound { OnOk result (S.failed sink.new ≡ S.failed sink.old) }
     ensures refusal { IfErr result (Refuses (S.failed sink.old) (S.failed sink.new)) }
     ensures shape { lengths_of store.new ≡ lengths_of store.old }
 {
     for item in items {
-        team_item(item, team, frame, store, sink)?;
+        team_item(item, team, registers, store, sink)?;
     }
     Ok(())
 }
@@ -142,26 +157,25 @@ pub(crate) fn team_block<R: Threads + Wait + Sync, G: Gate, S: Sink>(
 fn team_item<R: Threads + Wait + Sync, G: Gate, S: Sink>(
     item: &OutlineItem<'_>,
     team: &Teaming<'_, R, G>,
-    frame: &mut Frame,
+    registers: &mut Vec<u64>,
     store: &mut Store,
     sink: &mut S,
 ) -> Result<(), Refusal>
     requires room { S.failed sink.old + 1 < 2 ^ 64 }
     requires stands { ItemStands (lengths_of store.old) item.now }
-    requires runs { IsSome (run_items (with_outlined item.now no_items)
-        (standing frame.old store.old)) }
-    ensures ran { OnOk result (Ran
-        (run_items (with_outlined item.now no_items) (standing frame.old store.old))
-        (standing frame.old store.old) (standing frame.new store.new) (S.told sink.old)
-        (S.told sink.new)) }
-    ensures beginning { AddsBeginning (S.told sink.old) (S.told sink.new)
-        (text_of (run_items (with_outlined item.now no_items) (standing frame.old store.old))) }
+    ensures ran { OnOk result ((layout : List Laid) (mark : ℕ) → ItemFits layout mark item.now
+        → Walks layout mark (run_items (with_outlined item.now no_items))
+        (stage registers.old.items store.old (S.told sink.old))
+        (stage registers.new.items store.new (S.told sink.new))) }
+    ensures beginning { (layout : List Laid) (mark : ℕ) → ItemFits layout mark item.now
+        → Begins layout mark (run_items (with_outlined item.now no_items))
+        (stage registers.old.items store.old (S.told sink.old)) (S.told sink.new) }
     ensures sound { OnOk result (S.failed sink.new ≡ S.failed sink.old) }
     ensures refusal { IfErr result (Refuses (S.failed sink.old) (S.failed sink.new)) }
     ensures shape { lengths_of store.new ≡ lengths_of store.old }
 {
     match item {
-        OutlineItem::Plain(item) => run_item(item, frame, store, sink),
-        OutlineItem::Statement(inner) => team_statement(inner, team, frame, store, sink),
+        OutlineItem::Plain(code, _item) => perform(code, registers, store, sink),
+        OutlineItem::Statement(inner) => team_statement(inner, team, registers, store, sink),
     }
 }

@@ -1,9 +1,8 @@
 -- Arrays of a store, by the lengths of their dimensions.
-use Rattle.std.specs.Prelude.{ℕ, zero, suc, ◌≡◌, ◌*◌, ◌<◌, List, [], ◌∷◌, length, get_or, Some, slice_get}
+use Rattle.std.specs.Prelude.{ℕ, zero, suc, ◌≡◌, ◌*◌, ◌<◌, List, [], ◌∷◌, length, Some, slice_get}
 use Rattle.std.proofs.Common.{sym, ap, subst, arith}
 use Rattle.semantics.specs.Meaning.Places.{size}
 use Rattle.store.specs.Kept.{Kept, Covers}
-use Rattle.lower.proofs.FitLaw.{is_there}
 use Rattle.outline.specs.Fitting.{shape_of, ArrayReaches}
 
 -- an array that reaches so far is there
@@ -18,10 +17,9 @@ same_lengths (j ∷ ks) zero k e = let same : j ≡ k = cc e in ap (λ (k : Kept
 same_lengths (j ∷ ks) (suc x) k e = same_lengths ks x k e
 
 -- and has as many values as elements
-pub reaching_covers : (ks : List Kept) (x bound : ℕ) (k : Kept) → ArrayReaches bound (slice_get (shape_of ks) x) → x < length ks → k ≡ get_or ks x k → length k.values ≡ size k.lengths
+pub reaching_covers : (ks : List Kept) (x bound : ℕ) (k : Kept) → ArrayReaches bound (slice_get (shape_of ks) x) → slice_get ks x ≡ Some k → length k.values ≡ size k.lengths
     → Covers bound (slice_get ks x)
-reaching_covers ks x bound k h lt at count =
-    let there = is_there ks x k lt at in
+reaching_covers ks x bound k h there count =
     let far = subst (ArrayReaches bound) (same_lengths ks x k there) h in
     let all : size k.lengths ≡ far.0 * 1 = ap size far.1 in
     subst (Covers bound) (sym there) (far.0, far.1, omega (arith, count, all), far.2)

@@ -1,4 +1,5 @@
 pub mod Arrays
 pub mod Blocks
+pub mod Fitted
 pub mod Lookups
 pub mod Shown

@@ -1,13 +1,13 @@
 -- The loops behind directive lines, as they are looked up by their places.
-use Rattle.std.specs.Prelude.{ℕ, Bool, true, false, ◌≡◌, ◌+◌, ◌<◌, ◌≤◌, ◌&&◌, ◌==◌, List, [], ◌∷◌, ◌++◌, length, take, Option, Some, None, MatchOption, All}
-use Rattle.std.proofs.Common.{refl, sym, ap, ◌∙◌, get_or, inl, inr}
+use Rattle.std.specs.Prelude.{ℕ, Bool, true, false, ◌≡◌, ◌+◌, ◌<◌, ◌≤◌, ◌&&◌, ◌==◌, List, [], ◌∷◌, ◌++◌, length, take, All}
+use Rattle.std.proofs.Common.{sym, ap, ◌∙◌, get_or}
 use Rattle.std.proofs.lemmas.Bool.{eqb-true, eq-eqb}
 use Rattle.std.proofs.lemmas.List.{take_more, take_all}
 use Rattle.std.proofs.lemmas.List.Elements.{All-same, All-push}
 use Rattle.semantics.proofs.EraseTokenLaw.{first_of, second_of, and_true}
 use Rattle.ktree.specs.declared.place.Place.{Place}
 use Rattle.flow.specs.declared.environment.ParallelLoop.{ParallelLoop}
-use Rattle.outline.specs.Handed.{Schedules, SchedulesNone}
+use Rattle.outline.specs.Handed.{StandsAt, NoneStandsAt}
 
 -- two places are the same
 abbrev pub is_place : Place → Place → Bool
@@ -24,14 +24,10 @@ other p q e is =
     let test : is_place p q ≡ true = and_true (p.line == q.line) (p.column == q.column) (eq-eqb p.line q.line (ap (λ r. r.line) is)) (eq-eqb p.column q.column (ap (λ r. r.column) is)) in
     absurd (cc (e, test))
 
--- the loop of this number stands at the place, and what its clause says
+-- the loop of this number stands at the place
 pub stands : (loops : List ParallelLoop) (line : Place) (i : ℕ) (l : ParallelLoop) → i < length loops → l ≡ get_or loops i l → is_place l.line line ≡ true
-    → MatchOption l.directive.schedule (SchedulesNone loops line) (λ size. Schedules loops line (Some size))
-stands loops line i l lt at here = go l.directive.schedule refl
-  where
-    go : (o : Option ℕ) → l.directive.schedule ≡ o → MatchOption o (SchedulesNone loops line) (λ size. Schedules loops line (Some size))
-    go None e = inr (l, (i, lt, sym at), same l.line line here, e)
-    go (Some size) e = (l, (i, lt, sym at), same l.line line here, e)
+    → StandsAt loops line l
+stands loops line i l lt at here = ((i, lt, sym at), same l.line line here)
 
 -- it does not stand there, as none before it
 pub stands_not : (loops : List ParallelLoop) (line : Place) (i : ℕ) (l : ParallelLoop) → i < length loops → l ≡ get_or loops i l → is_place l.line line ≡ false
@@ -42,5 +38,5 @@ stands_not loops line i l lt at here earlier =
     (All-push Other (take i loops) l earlier (other l.line line here))
 
 -- none stands there
-pub none_stands : (loops : List ParallelLoop) (line : Place) (i : ℕ) → length loops ≤ i → All (λ p. p.line ≡ line → ⊥) (take i loops) → SchedulesNone loops line
-none_stands loops line i le all = inl (All-same (λ (p : ParallelLoop). p.line ≡ line → ⊥) loops (take i loops) (sym (take_all i loops le)) all)
+pub none_stands : (loops : List ParallelLoop) (line : Place) (i : ℕ) → length loops ≤ i → All (λ p. p.line ≡ line → ⊥) (take i loops) → NoneStandsAt loops line
+none_stands loops line i le all = All-same (λ (p : ParallelLoop). p.line ≡ line → ⊥) loops (take i loops) (sym (take_all i loops le)) all

@@ -6,7 +6,7 @@ use Rattle.lower.specs.declared.lowered.Operand.TheVariants.{Element, Counter, L
 use Rattle.lower.specs.declared.lowered.Formula.{Formula}
 use Rattle.lower.specs.declared.lowered.Formula.TheVariants.{One, Two}
 use Rattle.lower.specs.declared.lowered.LoweredLoop.{LoweredLoop}
-use Rattle.outline.specs.declared.shape.Outline.{Outline, Statement, Team, If', For', Block', Held-Outline-If-2, None', Some', Row_of-OutlineItem, end_of-OutlineItem, more_of-OutlineItem}
+use Rattle.outline.specs.declared.shape.Outline.{Outline, Serial, Team, If', For', Block', Held-Outline-If-3, None', Some', Row_of-OutlineItem, end_of-OutlineItem, more_of-OutlineItem}
 use Rattle.outline.specs.declared.shape.OutlineItem.{OutlineItem, Plain, Statement'}
 
 -- the lengths of the variables' dimensions
@@ -39,20 +39,20 @@ pub record Reaches (l : LoweredLoop) (shape : List (List ℕ)) : Type 0 where
 abbrev mutual
   -- each loop of an outline that is for a team is one that a team can run
   pub Stands : List (List ℕ) → Outline → Type 0
-  Stands shape (Statement s) = Unit {0}
+  Stands shape (Serial code s) = Unit {0}
   Stands shape (Team l) = Reaches l.lowered shape
-  Stands shape (If' c p a b) = Stands shape a × ElseStands shape b
-  Stands shape (For' head p body) = Stands shape body
+  Stands shape (If' test c p a b) = Stands shape a × ElseStands shape b
+  Stands shape (For' lowered head p body) = Stands shape body
   Stands shape (Block' _ items) = RowStands shape items
 
   -- behind `else`
-  pub ElseStands : List (List ℕ) → Held-Outline-If-2 → Type 0
+  pub ElseStands : List (List ℕ) → Held-Outline-If-3 → Type 0
   ElseStands shape None' = Unit {0}
   ElseStands shape (Some' p b) = Stands shape b
 
   -- in an item
   pub ItemStands : List (List ℕ) → OutlineItem → Type 0
-  ItemStands shape (Plain i) = Unit {0}
+  ItemStands shape (Plain code i) = Unit {0}
   ItemStands shape (Statement' p s) = Stands shape s
 
   -- in a block

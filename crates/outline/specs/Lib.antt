@@ -1,3 +1,4 @@
+pub mod Fit
 pub mod Fitting
 pub mod Handed
 pub mod View

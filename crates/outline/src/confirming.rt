@@ -7,38 +7,39 @@ ghost use Rattle.outline.specs.Fitting.{shape_of, ArrayReaches, OperandReaches, 
 
 use ktree::VarId;
 use lower::{Formula, LoweredLoop, Operand};
-use store::{Array, Store};
+use store::Store;
 
 // An array has as many values as elements.
-fn confirm_array(arrays: &[Array], bound: u64, array: VarId)
-    requires { ArrayReaches bound (slice_get (shape_of arrays.now) array.0) }
-    ensures { Covers bound (slice_get arrays.now array.0) }
+fn confirm_array(store: &Store, bound: u64, array: VarId)
+    requires { ArrayReaches bound (slice_get (shape_of store.now) array.0) }
+    ensures { Covers bound (slice_get store.now array.0) }
 {
-    let _values = arrays[array.0 as usize].values();
+    let array = store.array(array.0 as usize);
+    let _values = array.values();
 }
 
 // So has that of an operand.
-fn confirm_operand(arrays: &[Array], bound: u64, operand: Operand)
-    requires { OperandReaches bound (shape_of arrays.now) operand }
-    ensures { OperandCovers bound arrays.now operand }
+fn confirm_operand(store: &Store, bound: u64, operand: Operand)
+    requires { OperandReaches bound (shape_of store.now) operand }
+    ensures { OperandCovers bound store.now operand }
 {
     match operand {
-        Operand::Element(array) => confirm_array(arrays, bound, array),
+        Operand::Element(array) => confirm_array(store, bound, array),
         Operand::Counter => (),
         Operand::Literal(_) => (),
     }
 }
 
 // So have those of a right side.
-fn confirm_formula(arrays: &[Array], bound: u64, formula: Formula)
-    requires { FormulaReaches bound (shape_of arrays.now) formula }
-    ensures { FormulaCovers bound arrays.now formula }
+fn confirm_formula(store: &Store, bound: u64, formula: Formula)
+    requires { FormulaReaches bound (shape_of store.now) formula }
+    ensures { FormulaCovers bound store.now formula }
 {
     match formula {
-        Formula::One(operand) => confirm_operand(arrays, bound, operand),
+        Formula::One(operand) => confirm_operand(store, bound, operand),
         Formula::Two(_operation, left, right) => {
-            confirm_operand(arrays, bound, left);
-            confirm_operand(arrays, bound, right);
+            confirm_operand(store, bound, left);
+            confirm_operand(store, bound, right);
         }
     }
 }
@@ -49,7 +50,6 @@ pub fn confirm_fits(lowered: &LoweredLoop, store: &Store)
     requires { Reaches lowered.now (shape_of store.now) }
     ensures { Fits lowered.now store.now }
 {
-    let arrays = store.arrays();
-    confirm_array(arrays, lowered.bound, lowered.target);
-    confirm_formula(arrays, lowered.bound, lowered.formula);
+    confirm_array(store, lowered.bound, lowered.target);
+    confirm_formula(store, lowered.bound, lowered.formula);
 }

@@ -1,22 +1,22 @@
 //! Which statements are handed to a team.
 
-ghost use Rattle.std.specs.Prelude.{IsTrue, ◌↔◌, Some, MatchOption};
+ghost use Rattle.std.specs.Prelude.{IsTrue, ◌↔◌, MatchOption};
 ghost use Rattle.ktree.specs.View.{stmt_of};
-ghost use Rattle.outline.specs.Handed.{CanRun, Schedules, SchedulesNone, IsHanded, IsRunByOne};
+ghost use Rattle.outline.specs.Handed.{CanRun, StandsAt, NoneStandsAt, IsHanded, IsRunByOne};
 
 use flow::ParallelLoop;
-use ktree::{ChunkSize, Place, Stmt};
+use ktree::{Place, Stmt};
 use lower::{LoweredLoop, fits, lowered_loop};
 use store::Store;
 
-// The size of the chunks of the loop behind the directive line at this place, where its clause asks for one.
-fn chunk_size(loops: &[ParallelLoop], directive: Place) -> Option<ChunkSize>
-    ensures { MatchOption result (SchedulesNone loops.now directive)
-        (λ size. Schedules loops.now directive (Some size)) }
+// The parallel loop behind the directive line at this place.
+fn loop_at(loops: &[ParallelLoop], directive: Place) -> Option<&ParallelLoop>
+    ensures { MatchOption result (NoneStandsAt loops.now directive)
+        (λ parallel. StandsAt loops.now directive parallel.now) }
 {
     for parallel in loops {
         if parallel.line == directive {
-            return parallel.directive.schedule;
+            return Some(parallel);
         }
     }
     None
@@ -40,8 +40,8 @@ pub(crate) fn loop_for_team(
         (IsRunByOne loops.now directive (stmt_of stmt.now) store.now)
         (IsHanded loops.now directive (stmt_of stmt.now) store.now) }
 {
-    let size = chunk_size(loops, directive)?;
-    let lowered = lowered_loop(stmt, size)?;
+    let parallel = loop_at(loops, directive)?;
+    let lowered = lowered_loop(stmt, parallel.directive.schedule)?;
     if can_run(&lowered, store) {
         Some(lowered)
     } else {

@@ -2,6 +2,8 @@
 
 use ktree::{Cond, Head, Item, Stmt};
 use lower::LoweredLoop;
+use lower_block::Compiled;
+use lower_code::Test;
 
 /// A loop that a team runs, with its head as it stands in the text.
 #[derive(Clone, Copy)]
@@ -10,16 +12,24 @@ pub struct TeamLoop<'k> {
     pub lowered: LoweredLoop,
 }
 
+/// A loop's head as it is run: the first value of its variable, the test before each turn, and the step behind it (C11 6.8.5.3).
+#[derive(Drop)]
+pub struct LoweredHead {
+    pub entry: Compiled,
+    pub test: Test,
+    pub step: Compiled,
+}
+
 /// A statement as it is run (C11 6.8).
 #[cycle(outline)]
 #[derive(Drop)]
 pub enum Outline<'k> {
-    /// By one thread.
-    Statement(&'k Stmt),
+    /// By the thread that runs the kernel.
+    Serial(Compiled, &'k Stmt),
     /// By a team (OpenMP 5.2, 11.5).
     Team(TeamLoop<'k>),
-    If(&'k Cond, Box<Outline<'k>>, Option<Box<Outline<'k>>>),
-    For(&'k Head, Box<Outline<'k>>),
+    If(Test, &'k Cond, Box<Outline<'k>>, Option<Box<Outline<'k>>>),
+    For(LoweredHead, &'k Head, Box<Outline<'k>>),
     Block(Vec<OutlineItem<'k>>),
 }
 
@@ -27,7 +37,7 @@ pub enum Outline<'k> {
 #[cycle(outline)]
 #[derive(Drop)]
 pub enum OutlineItem<'k> {
-    /// A local's declaration, or a directive line.
-    Plain(&'k Item),
+    /// By the thread that runs the kernel: a local's declaration, or a directive line.
+    Plain(Compiled, &'k Item),
     Statement(Box<Outline<'k>>),
 }

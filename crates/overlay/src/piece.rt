@@ -14,38 +14,35 @@ use ktree::{Refusal, VarId};
 use lower::{Formula, LoweredLoop, Operand, Operation};
 use std::alloc::Global;
 use std::marker::Model;
-use store::{Array, Store};
+use store::Store;
 
 // What an operand reads at an iteration.
-fn operand_value(
-    arrays: &[Array],
-    operand: Operand,
-    counter: VarId,
-    bound: u64,
-    iteration: u64,
-) -> u64
-    requires covers { OperandCovers bound arrays.now operand }
-    requires counter { length arrays.now ≤ counter.0 }
+fn operand_value(store: &Store, operand: Operand, counter: VarId, bound: u64, iteration: u64) -> u64
+    requires covers { OperandCovers bound store.now operand }
+    requires counter { length store.now ≤ counter.0 }
     requires iteration { iteration < bound }
-    ensures { value (at_value (state_of arrays.now) counter.0 iteration)
+    ensures { value (at_value (state_of store.now) counter.0 iteration)
         (operand_of counter.0 operand) ≡ Some result }
 {
     match operand {
-        Operand::Element(array) => arrays[array.0 as usize].values()[iteration as usize],
+        Operand::Element(array) => {
+            let array = store.array(array.0 as usize);
+            array.values()[iteration as usize]
+        }
         Operand::Counter => iteration,
         Operand::Literal(value) => value,
     }
 }
 
 // What the right side is worth at an iteration.
-fn formula_value(arrays: &[Array], lowered: LoweredLoop, iteration: u64) -> u64
-    requires covers { FormulaCovers lowered.bound arrays.now lowered.formula }
-    requires counter { length arrays.now ≤ lowered.counter.0 }
+fn formula_value(store: &Store, lowered: LoweredLoop, iteration: u64) -> u64
+    requires covers { FormulaCovers lowered.bound store.now lowered.formula }
+    requires counter { length store.now ≤ lowered.counter.0 }
     requires iteration { iteration < lowered.bound }
-    ensures { IsWorth lowered arrays.now iteration result }
+    ensures { IsWorth lowered store.now iteration result }
 {
     let read = |operand: Operand| operand_value(
-        arrays,
+        store,
         operand,
         lowered.counter,
         lowered.bound,
@@ -147,7 +144,7 @@ pub fn run_chunk<'l, 's>(
     let _bound = lowered.bound;
     let mut values = Vec::with_capacity(alloc, work.count as usize)?;
     for iteration in work.first..work.first + work.count {
-        values.push(formula_value(store.arrays(), *lowered, iteration))?;
+        values.push(formula_value(store, *lowered, iteration))?;
     }
     Ok(Piece {
         lowered,

@@ -1,23 +1,26 @@
 -- A walk over the accesses of a body, item by item and loop by loop.
 use Rattle.std.specs.Prelude.{ℕ, zero, suc, ◌+◌, ◌≡◌, ◌<◌, ◌⊎◌, List, [], ◌∷◌, ◌++◌, length, get_or, take, drop, map, string_bytes}
-use Rattle.std.proofs.Common.{inl, inr, refl, sym, ap, ◌∙◌, subst, arith}
+use Rattle.std.proofs.Common.{Box, Global, inl, inr, refl, sym, ap, ◌∙◌, subst, arith}
 use Rattle.std.proofs.lemmas.List.{take_more, append_assoc, append-nil}
 use Rattle.semantics.specs.Tree
 use Rattle.ktree.specs.View.{start_of, stmt_of, items_of, with_item, part_of, source_of, cond_of, increment_of}
 use Rattle.ktree.specs.declared.statement.Head.{Head}
 use Rattle.ktree.specs.declared.statement.PrintPart.{PrintPart}
+use Rattle.ktree.specs.declared.statement.Stmt as code
 use Rattle.ktree.specs.declared.statement.Item.{Item, Directive, Local, Statement'}
 use Rattle.affine.specs.declared.interval.Side.{Side}
-use Rattle.affine.specs.declared.interval.Interval.{Interval}
-use Rattle.nest_loop.specs.declared.head.Canonical.{Canonical}
-use Rattle.nest_loop.specs.Loops.{IsLoop}
+use Rattle.nest_loop.specs.declared.entered.LoopFacts.{LoopFacts}
+use Rattle.nest_loop.specs.Loops.{inside}
+use Rattle.nest_loop.specs.Facts.{FactsOf, StandFirst, IsLeft}
+use Rattle.nest_loop.proofs.Laws.{loop_is_unique}
+use Rattle.nest_loop.proofs.Standing.{own_facts}
 use Rattle.pairtest_counter.specs.declared.level.EnclosingLoop.{EnclosingLoop}
-use Rattle.pairtest_counter.specs.Levels.{Nesting}
+use Rattle.pairtest_counter.specs.Levels.{Nesting, AreLevels, EntersWith}
 use Rattle.pairtest.specs.declared.access.Mode.TheVariants.{Writes}
 use Rattle.affine_expr.specs.declared.faults.Fault.{Fault}
 use Rattle.pairtest_access.specs.Sites.{Site, Sites, ItemsSites, IsInside, named, expr_sites, cond_sites, source_sites, start_sites, printed_sites, part_sites}
 use Rattle.pairtest_access.specs.Refused.{Lacks, IsStuck, AreStuck, Because}
-use Rattle.pairtest_access.specs.Walk.{MeetsAll}
+use Rattle.pairtest_access.specs.Walk.{MeetsAll, EntersFirst}
 use Rattle.pairtest_access.specs.declared.finder.Finder.{Finder}
 
 -- no access
@@ -161,9 +164,59 @@ part_lacks n ps i p fault lt eq (inr h) = inr (lacks_among n ps i p lt eq h)
 pub loop_stuck : (n inner : Nesting) (head : Head) (body : Tree.Stmt) (fault : Fault) → IsInside n head.variable.0 (source_of head.start) (cond_of head.test) (increment_of head.step) body inner
     → Because (IsStuck inner body) fault → Because (IsStuck n (loop_of head body)) fault
 loop_stuck n inner head body fault enters (inl m) = inl m
-loop_stuck n inner head body fault enters (inr h) = inr (inr (inner, enters, h))
+loop_stuck n inner head body fault enters (inr h) = inr (inner, enters, h)
 
-pub head_stuck : (n : Nesting) (head : Head) (body : Tree.Stmt) (fault : Fault)
-    → Because ((l : Canonical) (i : Interval) → IsLoop n.box head.variable.0 (source_of head.start) (cond_of head.test) (increment_of head.step) body l i → ⊥) fault → Because (IsStuck n (loop_of head body)) fault
-head_stuck n head body fault (inl m) = inl m
-head_stuck n head body fault (inr h) = inr (inl h)
+-- ---- the facts of loops
+
+-- whatever loop has its facts first was entered, and those of its body stand first behind its own
+pub enters_first : (before after : Nesting) (head : Head) (loops : List LoopFacts) (own : LoopFacts) (inner : List LoopFacts) → loops ≡ own ∷ inner → EntersWith before after head own
+    → AreLevels after.box after.levels → EntersFirst before after head loops inner
+enters_first before after head loops own inner e enters sound body rest h =
+    let here = own_facts before.box head body loops own inner rest e h in
+    let into = enters body here.are in
+    let numbers : into.1 ≡ own.numbers =
+    (loop_is_unique before.box head.variable.0 (source_of head.start) (cond_of head.test) (increment_of head.step) body into.0.canonical own.canonical into.1 own.numbers into.2 here.are.loop).1 in
+    let box : after.box ≡ inside before.box head.variable.0 own.numbers = ap (λ (n : Nesting). n.box) into.3 ∙ ap (inside before.box head.variable.0) numbers in (
+      record { level = into.0; numbers = into.1; is = into.2; now = into.3; sound = sound },
+      subst (λ (b : List Side). FactsOf b body inner rest) (sym box) here.behind,
+    )
+
+-- a loop that was entered so
+pub loop_inside : (before after : Nesting) (head : Head) (body : Tree.Stmt) (loops inner : List LoopFacts) → EntersFirst before after head loops inner → StandFirst before.box (loop_of head body) loops
+    → IsInside before head.variable.0 (source_of head.start) (cond_of head.test) (increment_of head.step) body after
+loop_inside before after head body loops inner enters (rest, k) = (enters body rest k).0
+
+pub body_first : (before after : Nesting) (head : Head) (body : Tree.Stmt) (loops inner : List LoopFacts) → EntersFirst before after head loops inner → StandFirst before.box (loop_of head body) loops
+    → StandFirst after.box body inner
+body_first before after head body loops inner enters (rest, k) = (rest, (enters body rest k).1)
+
+pub loop_passed : (before after : Nesting) (head : Head) (body : Tree.Stmt) (loops inner passed : List LoopFacts) → EntersFirst before after head loops inner → IsLeft (FactsOf after.box body inner) passed
+    → IsLeft (FactsOf before.box (loop_of head body) loops) passed
+loop_passed before after head body loops inner passed enters behind rest k = behind rest (enters body rest k).1
+
+-- both branches of a selection
+pub other_first : (box : List Side) (c : Tree.Cond) (s t : Tree.Stmt) (loops passed : List LoopFacts) → StandFirst box (Tree.IfElse c s t) loops → IsLeft (FactsOf box s loops) passed → StandFirst box t passed
+other_first box c s t loops passed (rest, (middle, f, g)) behind = (rest, subst (λ (x : List LoopFacts). FactsOf box t x rest) (sym (behind middle f)) g)
+
+pub both_passed : (box : List Side) (c : Tree.Cond) (s t : Tree.Stmt) (loops middle passed : List LoopFacts) → IsLeft (FactsOf box s loops) middle → IsLeft (FactsOf box t middle) passed
+    → IsLeft (FactsOf box (Tree.IfElse c s t) loops) passed
+both_passed box c s t loops middle passed one other rest (m, f, g) = other rest (subst (λ (x : List LoopFacts). FactsOf box t x rest) (sym (one m f)) g)
+
+-- the loop that a statement is
+pub for_is : (s : code.Stmt) (head : Head) (body : Box code.Stmt Global) (inner : code.Stmt) → s ≡ code.For head body → inner ≡ body.value → loop_of head (stmt_of inner) ≡ stmt_of s
+for_is s head body inner e f = ap (λ b. loop_of head (stmt_of b)) f ∙ sym (ap stmt_of e)
+
+pub loop_entered : (n inner : Nesting) (s : code.Stmt) (head : Head) (body : Box code.Stmt Global) (b : code.Stmt) (loops behind : List LoopFacts) → s ≡ code.For head body → b ≡ body.value
+    → EntersFirst n inner head loops behind → StandFirst n.box (stmt_of s) loops → IsInside n head.variable.0 (source_of head.start) (cond_of head.test) (increment_of head.step) (stmt_of b) inner
+loop_entered n inner s head body b loops behind e f enters first =
+    loop_inside n inner head (stmt_of b) loops behind enters (subst (λ (t : Tree.Stmt). StandFirst n.box t loops) (sym (for_is s head body b e f)) first)
+
+-- there is a loop to leave
+pub some_loop : (n inner after : Nesting) (x : Tree.Variable) (start : Tree.Source) (test : Tree.Cond) (step : Tree.Increment) (body : Tree.Stmt) → IsInside n x start test step body inner → after ≡ inner
+    → 0 < length after.levels
+some_loop n inner after x start test step body into same =
+    let e : length after.levels ≡ length (into.level ∷ n.levels) = ap (λ (m : Nesting). length m.levels) (same ∙ into.now) in
+    subst (λ (k : ℕ). 0 < k) (sym e) (more n.levels)
+  where
+    more : (vs : List EnclosingLoop) → 0 < suc (length vs)
+    more vs = omega arith

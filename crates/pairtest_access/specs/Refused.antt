@@ -3,11 +3,8 @@ use Rattle.std.specs.Prelude.{◌≡◌, ◌⊎◌, List, [], ◌∷◌, ◌++�
 use Rattle.semantics.specs.Tree.{Expr, Exprs, Stmt, Assign, Update, If, IfElse, For, Block, Print, Items, no_items, mark, local, stmt}
 use Rattle.ktree.specs.declared.place.Place.{Place}
 use Rattle.affine.specs.Affine.{Affine}
-use Rattle.affine.specs.declared.interval.Interval.{Interval}
 use Rattle.affine.specs.declared.interval.Side.{Side}
 use Rattle.affine_expr.specs.Forms.{form_of}
-use Rattle.nest_loop.specs.declared.head.Canonical.{Canonical}
-use Rattle.nest_loop.specs.Loops.{IsLoop}
 use Rattle.pairtest_counter.specs.Levels.{Nesting}
 use Rattle.affine_expr.specs.declared.faults.Fault.{Fault}
 use Rattle.affine_expr.specs.declared.faults.Fault.TheVariants.{OutOfMemory, Limit}
@@ -26,14 +23,13 @@ Lacks [] = ⊥
 Lacks (s ∷ ss) = AreNotAffine s.round.box s.subscripts ⊎ Lacks ss
 
 abbrev mutual
-  -- somewhere in a statement stands a loop that is not canonical, may wrap or is one too many, or an access with a subscript that is not affine
+  -- somewhere in a statement stands an access with a subscript that is not affine
   pub IsStuck : Nesting → Stmt → Type 0
   IsStuck n (Assign x es e) = Lacks (named n Writes x es ++ source_sites n e)
   IsStuck n (Update x es op e) = Lacks (named n Writes x es ++ expr_sites n e)
   IsStuck n (If c a) = Lacks (cond_sites n c) ⊎ IsStuck n a
   IsStuck n (IfElse c a b) = Lacks (cond_sites n c) ⊎ (IsStuck n a ⊎ IsStuck n b)
-  IsStuck n (For x name start test step body) =
-      ((l : Canonical) (i : Interval) → IsLoop n.box x start test step body l i → ⊥) ⊎ ((inner : Nesting) × IsInside n x start test step body inner × IsStuck inner body)
+  IsStuck n (For x name start test step body) = (inner : Nesting) × IsInside n x start test step body inner × IsStuck inner body
   IsStuck n (Block items) = AreStuck n items
   IsStuck n (Print parts) = Lacks (part_sites n parts)
 

@@ -1,7 +1,13 @@
--- What a walk over element accesses keeps of them.
+-- What a walk over element accesses keeps of them, and how it goes along the facts of loops.
 use Rattle.std.specs.Prelude.{zero, suc, ◌≡◌, List, [], ◌∷◌, ◌++◌, Some}
+use Rattle.semantics.specs.Tree.{Stmt}
+use Rattle.ktree.specs.View.{source_of, cond_of, increment_of}
+use Rattle.ktree.specs.declared.statement.Head.{Head}
+use Rattle.nest_loop.specs.declared.entered.LoopFacts.{LoopFacts}
+use Rattle.nest_loop.specs.Facts.{FactsOf, LoopFactsOf}
+use Rattle.pairtest_counter.specs.Levels.{Nesting}
 use Rattle.pairtest.specs.declared.access.Access.{Access}
-use Rattle.pairtest_access.specs.Sites.{Site}
+use Rattle.pairtest_access.specs.Sites.{Site, IsInside}
 use Rattle.pairtest_access.specs.Found.{IsMet, IsTouched}
 use Rattle.pairtest_access.specs.declared.told.Touched.{Touched}
 use Rattle.pairtest_access.specs.declared.finder.Finder.{Finder}
@@ -24,3 +30,9 @@ Meets before s after = (after.outer ≡ before.outer) × MeetsWanted before.want
 abbrev pub MeetsAll : Finder → List Site → Finder → Type 0
 MeetsAll before [] after = after ≡ before
 MeetsAll before (s ∷ ss) after = (between : Finder) × Meets before s between × MeetsAll between ss after
+
+-- whatever loop of this head has its facts in front of a rest, it was entered, and now the facts of the loops in its body stand in front of that rest
+abbrev pub EntersFirst : Nesting → Nesting → Head → List LoopFacts → List LoopFacts → Type 0
+EntersFirst before after head facts inner =
+    (body : Stmt) (rest : List LoopFacts) → LoopFactsOf before.box head body facts rest
+    → IsInside before head.variable.0 (source_of head.start) (cond_of head.test) (increment_of head.step) body after × FactsOf after.box body inner rest

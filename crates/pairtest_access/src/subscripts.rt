@@ -13,7 +13,7 @@ use affine_expr::{Fault, form_of, subscript_place};
 use ktree::{Expr, NamePlaces, Place};
 use nest_loop::Canonical;
 use pairtest::Subscript;
-use pairtest_counter::{EnclosingLoop, EnclosingLoops};
+use pairtest_counter::{EnclosingLoop, EnclosingLoops, copy_of};
 use std::alloc::Global;
 
 /// The coefficient of the counter of the loop with so many loops round it.
@@ -131,7 +131,7 @@ fn canonicals(alloc: Global, levels: &[EnclosingLoop]) -> Result<Vec<Canonical>,
         return Ok(Vec::new(alloc));
     };
     let mut found = canonicals(alloc, outer)?;
-    found.push(level.canonical.clone()?)?;
+    found.push(copy_of(&level.canonical)?)?;
     Ok(found)
 }
 

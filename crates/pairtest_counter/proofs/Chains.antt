@@ -15,13 +15,14 @@ use Rattle.nest_loop.specs.declared.stride.Stride.{Stride}
 use Rattle.nest_loop.specs.declared.stride.Bound.{Bound}
 use Rattle.nest_loop.specs.Canonical.{is_variable, stride_of, bound_after, canonical_by, start_form, canonical}
 use Rattle.nest_loop.specs.Loops.{IsLoop, inside}
+use Rattle.nest_loop.specs.declared.entered.LoopFacts.{LoopFacts}
 use Rattle.nest_loop.proofs.Laws.{canonical_well}
 use Rattle.pairtest_counter.specs.Counters.{Given, AreForms}
 use Rattle.pairtest_counter.specs.declared.level.EnclosingLoop.{EnclosingLoop}
 use Rattle.ktree.specs.View.{source_of, cond_of, increment_of}
 use Rattle.ktree.specs.declared.statement.Head.{Head}
 use Rattle.pairtest_counter.specs.declared.level.Inner.{Inner}
-use Rattle.pairtest_counter.specs.Levels.{Nesting, IsLevel, AreLevels, IsInner, with_inner, Enters}
+use Rattle.pairtest_counter.specs.Levels.{Nesting, IsLevel, AreLevels, IsInner, IsInnerWith, with_inner, Enters, EntersWith}
 
 -- as many loops as sides
 pub as_many : (box : List Side) (vs : List EnclosingLoop) → AreLevels box vs → length box ≡ length vs
@@ -86,17 +87,15 @@ inner_level n head body v h =
       forms = h.forms;
     }
 
--- a loop inside others, whose parts were found one after another
-pub inner_made : (n inside : Nesting) (head : Head) (body : Stmt) (l : Canonical) (i : Interval) (v : EnclosingLoop) → inside ≡ n
-    → IsLoop inside.box head.variable.0 (source_of head.start) (cond_of head.test) (increment_of head.step) body l i → v.canonical ≡ l → IsMost inside.box l v.most
-    → Given (AreForms inside.levels l) v.forms → IsInner n head body (record { level = v; numbers = i })
-inner_made n inside head body l i v same is e most forms =
-    subst (λ (m : Nesting). IsInner m head body (record { level = v; numbers = i })) same
-    (record {
-      is = subst (λ (m : Canonical). IsLoop inside.box head.variable.0 (source_of head.start) (cond_of head.test) (increment_of head.step) body m i) (sym e) is;
-      most = subst (λ (m : Canonical). IsMost inside.box m v.most) (sym e) most;
-      forms = subst (λ (m : Canonical). Given (AreForms inside.levels m) v.forms) (sym e) forms;
-    })
+-- a loop inside others that has these facts
+pub inner_with : (n now : Nesting) (head : Head) (facts : LoopFacts) (v : EnclosingLoop) → now ≡ n → v.canonical ≡ facts.canonical → v.most ≡ facts.trip_count
+    → Given (AreForms now.levels facts.canonical) v.forms → IsInnerWith n head facts (record { level = v; numbers = facts.numbers })
+inner_with n now head facts v same e most forms body are =
+    record {
+      is = subst (λ (m : Canonical). IsLoop n.box head.variable.0 (source_of head.start) (cond_of head.test) (increment_of head.step) body m facts.numbers) (sym e) are.loop;
+      most = subst (λ (k : ℕ). IsMost n.box v.canonical k) (sym most) (subst (λ (m : Canonical). IsMost n.box m facts.trip_count) (sym e) are.most);
+      forms = subst (λ (m : Nesting). Given (AreForms m.levels v.canonical) v.forms) same (subst (λ (m : Canonical). Given (AreForms now.levels m) v.forms) (sym e) forms);
+    }
 
 -- to put it there is to enter it
 pub entering : {E : Type 0} (r : Result (Unit {0}) E) (before after : Nesting) (head : Head) (body : Stmt) (v : Inner) → IsInner before head body v → OnOk r (after ≡ with_inner before v)
@@ -109,6 +108,11 @@ entering (Ok u) before after head body v h e =
       h.is,
       e ∙ ap (λ (x : ℕ). record { box = inside before.box x v.numbers; levels = v.level ∷ before.levels }) (sym name),
     )
+
+pub entering_with : {E : Type 0} (r : Result (Unit {0}) E) (before after : Nesting) (head : Head) (facts : LoopFacts) (v : Inner) → IsInnerWith before head facts v → OnOk r (after ≡ with_inner before v)
+    → OnOk r (EntersWith before after head facts)
+entering_with (Err x) before after head facts v h e = tt
+entering_with {E} (Ok u) before after head facts v h e = λ body are. entering {E = E} (Ok u) before after head body v (h body are) e
 
 -- what holds on Ok, where there is no error
 pub on_ok : {A E : Type 0} {P : Type 0} (r : Result A E) → OnOk r P → is_err r ≡ false → P

@@ -10,6 +10,8 @@ use Rattle.affine.specs.Box.{side}
 use Rattle.nest_loop.specs.Sides.{CannotWrap, IsSide}
 use Rattle.nest_loop.specs.Loops.{IsLoop, inside}
 use Rattle.nest_loop.specs.Most.{distance, IsMost}
+use Rattle.nest_loop.specs.declared.entered.LoopFacts.{LoopFacts}
+use Rattle.nest_loop.specs.Facts.{AreFactsOf}
 use Rattle.pairtest_counter.specs.declared.level.EnclosingLoop.{EnclosingLoop}
 use Rattle.pairtest_counter.specs.declared.level.Inner.{Inner}
 use Rattle.pairtest_counter.specs.Counters.{step_by, Given, AreForms}
@@ -36,11 +38,19 @@ AreLevels [] (v ∷ vs) = ⊥
 AreLevels (s ∷ ss) [] = ⊥
 AreLevels (s ∷ ss) (v ∷ vs) = IsLevel ss vs s v × AreLevels ss vs
 
+-- a loop with this head has these facts, whatever it runs
+abbrev pub IsLoopWith : List Side → Head → LoopFacts → Type 0
+IsLoopWith box head facts = (body : Stmt) × AreFactsOf box head body facts
+
 -- the loop of a head inside others: how often it turns at most, and its forms in the counters
 pub record IsInner (n : Nesting) (head : Head) (body : Stmt) (v : Inner) : Type 0 where
   pub is : IsLoop n.box head.variable.0 (source_of head.start) (cond_of head.test) (increment_of head.step) body v.level.canonical v.numbers
   pub most : IsMost n.box v.level.canonical v.level.most
   pub forms : Given (AreForms n.levels v.level.canonical) v.level.forms
+
+-- so it is of the loop that has these facts
+abbrev pub IsInnerWith : Nesting → Head → LoopFacts → Inner → Type 0
+IsInnerWith n head facts v = (body : Stmt) → AreFactsOf n.box head body facts → IsInner n head body v
 
 -- loops inside each other and one more inside these
 abbrev pub with_inner : Nesting → Inner → Nesting
@@ -52,6 +62,10 @@ Enters before after head body =
     (v : EnclosingLoop) × (i : Interval)
     × IsLoop before.box head.variable.0 (source_of head.start) (cond_of head.test) (increment_of head.step) body v.canonical i
     × (after ≡ record { box = inside before.box head.variable.0 i; levels = v ∷ before.levels })
+
+-- the loop that has these facts was
+abbrev pub EntersWith : Nesting → Nesting → Head → LoopFacts → Type 0
+EntersWith before after head facts = (body : Stmt) → AreFactsOf before.box head body facts → Enters before after head body
 
 -- the values of the variables of loops inside each other after so many steps of each, the loops counted from 0 and the outermost first; every other variable is 0
 abbrev pub values_at : List EnclosingLoop → (ℕ → ℤ) → Variable → ℤ

@@ -1,26 +1,21 @@
 //! Loops inside each other.
 
 ghost use Rattle.std.specs.Prelude.{◌≡◌, ◌⊎◌, ◌<◌, ◌≤◌, [], ◌∷◌, drop, length, true, false, IfOk, IfErr, OnOk, OnErr};
-ghost use Rattle.ktree.specs.View.{source_of, cond_of, increment_of, stmt_of};
 ghost use Rattle.ktree.specs.declared.refusal.Refusal.TheVariants as refusals;
 ghost use Rattle.affine.specs.Affine.{Affine};
 ghost use Rattle.affine.specs.Box.{side};
-ghost use Rattle.affine.specs.declared.interval.Interval as intervals;
 ghost use Rattle.affine_expr.specs.declared.faults.Fault.TheVariants.{OutOfMemory, Limit};
-ghost use Rattle.nest_loop.specs.declared.head.Canonical as canonicals;
-ghost use Rattle.nest_loop.specs.Loops.{IsLoop, inside};
-ghost use Rattle.nest_loop.specs.Sides.{CannotWrap};
-ghost use Rattle.nest_loop.specs.Whole.{IsWell};
-ghost use Rattle.nest_loop.specs.Most.{IsMost};
+ghost use Rattle.nest_loop.specs.Loops.{inside};
 ghost use Rattle.pairtest_counter.specs.Counters.{InCounters, AreForms, Given};
-ghost use Rattle.pairtest_counter.specs.Levels.{IsLevel, IsInner, with_inner, Enters, AreLevels};
+ghost use Rattle.pairtest_counter.specs.Levels.{IsLevel, IsLoopWith, IsInnerWith, with_inner, EntersWith, AreLevels};
 
 use crate::convert::{forms_of, in_counters};
+use crate::copied::copy_of;
 use crate::level::{EnclosingLoop, Forms, Inner};
 use affine::{Form, Interval, VarBox};
 use affine_expr::Fault;
-use ktree::{Head, Place, Refusal, Stmt, VarId};
-use nest_loop::{Canonical, greatest_trip_count, loop_of};
+use ktree::{Head, Place, Refusal, VarId};
+use nest_loop::{Canonical, LoopFacts};
 use std::alloc::Global;
 use std::marker::Model;
 
@@ -72,27 +67,24 @@ fn forms_within(
     }
 }
 
-/// A loop inside others.
+/// A loop with these facts inside others.
 fn level_of(
     alloc: Global,
-    canonical: Canonical,
-    bounds: &VarBox,
+    facts: &LoopFacts,
     outer: &[EnclosingLoop],
     place: Place,
 ) -> Result<EnclosingLoop, Fault>
-    requires few { length outer.now ≤ 8 }
-    requires well { IsWell canonical }
-    requires stays { CannotWrap bounds.now canonical }
-    ensures canonical { IfOk result (λ level. level.canonical ≡ canonical) }
-    ensures most { IfOk result (λ level. IsMost bounds.now canonical level.most) }
-    ensures forms { IfOk result (λ level. Given (AreForms outer.now canonical) level.forms) }
+    requires { length outer.now ≤ 8 }
+    ensures canonical { IfOk result (λ level. level.canonical ≡ facts.now.canonical) }
+    ensures most { IfOk result (λ level. level.most ≡ facts.now.trip_count) }
+    ensures forms { IfOk result (λ level. Given (AreForms outer.now facts.now.canonical)
+        level.forms) }
     ensures err { IfErr result (λ fault. fault ≡ OutOfMemory) }
 {
-    let most = greatest_trip_count(alloc, &canonical, bounds, place)?;
-    let forms = forms_within(alloc, &canonical, outer, place)?;
+    let forms = forms_within(alloc, &facts.canonical, outer, place)?;
     Ok(EnclosingLoop {
-        canonical,
-        most,
+        canonical: copy_of(&facts.canonical)?,
+        most: facts.trip_count,
         forms,
     })
 }
@@ -159,21 +151,18 @@ impl EnclosingLoops {
         self.levels.as_slice()
     }
 
-    /// The loop of a head inside those of the chain.
-    fn inner(&self, alloc: Global, head: &Head, body: &Stmt) -> Result<Inner, Fault>
-        ensures ok { IfOk result (IsInner self.now head.now (stmt_of body.now)) }
-        ensures fault { IfErr result
-            (λ fault. (fault ≡ OutOfMemory)
-            ⊎ ((l : canonicals.Canonical) (i : intervals.Interval)
-            → IsLoop self.now.box head.now.variable.0 (source_of head.now.start)
-            (cond_of head.now.test) (increment_of head.now.step) (stmt_of body.now) l i
-            → ⊥)) }
+    /// The loop with these facts inside those of the chain.
+    fn inner(&self, alloc: Global, head: &Head, facts: &LoopFacts) -> Result<Inner, Fault>
+        requires { IsLoopWith self.now.box head.now facts.now }
+        ensures ok { IfOk result (IsInnerWith self.now head.now facts.now) }
+        ensures fault { IfErr result (λ fault. fault ≡ OutOfMemory) }
     {
-        let made = loop_of(alloc, head, body, &self.bounds)?;
-        let numbers = made.numbers;
         let outer = self.levels.as_slice();
-        let level = level_of(alloc, made.canonical, &self.bounds, outer, head.place)?;
-        Ok(Inner { level, numbers })
+        let level = level_of(alloc, facts, outer, head.place)?;
+        Ok(Inner {
+            level,
+            numbers: facts.numbers,
+        })
     }
 
     /// Puts a loop inside those of the chain, which stay as they are where memory runs out.
@@ -188,23 +177,18 @@ impl EnclosingLoops {
         put_inside(&mut self.bounds, &mut self.levels, inner, place)
     }
 
-    /// Goes into a loop (OpenMP 5.2, 4.4.1 and 4.4.2).
+    /// Goes into the loop of a head, which has these facts inside those of the chain (OpenMP 5.2, 4.4.1 and 4.4.2).
     ///
     /// # Errors
     ///
-    /// Those of a loop that is not canonical, may wrap or is one too many, as [`nest_loop::loop_of`]; `OutOfMemory`. The loops are
-    /// then those from before.
-    pub fn enter(&mut self, alloc: Global, head: &Head, body: &Stmt) -> Result<(), Fault>
-        ensures ok { OnOk result (Enters self.old self.new head.now (stmt_of body.now)) }
+    /// `OutOfMemory`. The loops are then those from before.
+    pub fn enter(&mut self, alloc: Global, head: &Head, facts: &LoopFacts) -> Result<(), Fault>
+        requires { IsLoopWith self.old.box head.now facts.now }
+        ensures ok { OnOk result (EntersWith self.old self.new head.now facts.now) }
         ensures err { OnErr result (self.new ≡ self.old) }
-        ensures fault { IfErr result
-            (λ fault. (fault ≡ OutOfMemory)
-            ⊎ ((l : canonicals.Canonical) (i : intervals.Interval)
-            → IsLoop self.old.box head.now.variable.0 (source_of head.now.start)
-            (cond_of head.now.test) (increment_of head.now.step) (stmt_of body.now) l i
-            → ⊥)) }
+        ensures fault { IfErr result (λ fault. fault ≡ OutOfMemory) }
     {
-        let inner = self.inner(alloc, head, body)?;
+        let inner = self.inner(alloc, head, facts)?;
         self.put(inner, head.place)
     }
 

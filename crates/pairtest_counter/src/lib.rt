@@ -3,7 +3,9 @@
 
 mod chain;
 mod convert;
+mod copied;
 mod level;
 
 pub use chain::EnclosingLoops;
+pub use copied::copy_of;
 pub use level::{EnclosingLoop, Forms};

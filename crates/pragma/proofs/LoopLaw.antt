@@ -1,8 +1,8 @@
 -- What a `parallel for` says, and what a line is read as.
-use Rattle.std.specs.Prelude.{ℕ, ◌≡◌, List, Option, Some, None, IfOk, IfErr}
+use Rattle.std.specs.Prelude.{ℕ, ◌≡◌, List, Option, Some, None}
 use Rattle.std.proofs.Common.{refl, sym, ap, ◌∙◌, inl, inr}
 use Rattle.semantics.specs.Tree.{Name}
-use Rattle.semantics.specs.Directives.Directive.{Clause, Directive, ParallelFor, Parallel, Worksharing, ScanInclusive, ScanExclusive, OrderedRegion, DoacrossSource, DoacrossSink}
+use Rattle.semantics.specs.Directives.Directive.{Schedule, Clause, Directive, ParallelFor, Parallel, Worksharing, ScanInclusive, ScanExclusive, OrderedRegion, DoacrossSource, DoacrossSink}
 use Rattle.semantics.specs.Directives.DirectiveGrammar.{ReadsLine}
 use Rattle.ktree.specs.declared.place.Place.{Place}
 use Rattle.ktree.specs.declared.refusal.Refusal.{Refusal}
@@ -18,7 +18,7 @@ use Rattle.pragma.specs.declared.reading.Reading.TheVariants as readings
 same_said : {s t : Said} → Some s ≡ Some t → s ≡ t
 same_said e = cc e
 
-pub read_once : (line : List ℕ) (k c m d : Option ℕ) → ReadsLoop line k c → ReadsLoop line m d → (k ≡ m) × (c ≡ d)
+pub read_once : (line : List ℕ) (k : Option Schedule) (c : Option ℕ) (m : Option Schedule) (d : Option ℕ) → ReadsLoop line k c → ReadsLoop line m d → (k ≡ m) × (c ≡ d)
 read_once line k c m d p q = (ap (λ (s : Said). s.0) same, ap (λ (s : Said). s.1) same)
   where
     clauses : {bs cs : List (Clause Name)} → Some (ParallelFor bs) ≡ Some (ParallelFor cs) → bs ≡ cs
@@ -47,18 +47,18 @@ says line DoacrossSource s e f = absurd (cc f)
 says line (DoacrossSink es) s e f = absurd (cc f)
 
 -- a `parallel for` is the directive of its line
-the_directive : (line : List ℕ) (d : Directive Name) (k c : Option ℕ) → ReadsLine line d → ReadsLoop line k c → loop_of d ≡ Some (k, c)
+the_directive : (line : List ℕ) (d : Directive Name) (k : Option Schedule) (c : Option ℕ) → ReadsLine line d → ReadsLoop line k c → loop_of d ≡ Some (k, c)
 the_directive line d k c e r = ap loop_of (same (sym (line_read line d e) ∙ line_read line (ParallelFor r.clauses) r.reads)) ∙ r.says
   where
     same : {a b : Directive Name} → Some a ≡ Some b → a ≡ b
     same f = cc f
 
 -- what a directive says is what its line says
-pub loop_read : (line : List ℕ) (d : Directive Name) (k c : Option ℕ) → ReadsLine line d → loop_of d ≡ Some (k, c) → ReadsLoop line k c
+pub loop_read : (line : List ℕ) (d : Directive Name) (k : Option Schedule) (c : Option ℕ) → ReadsLine line d → loop_of d ≡ Some (k, c) → ReadsLoop line k c
 loop_read line d k c e f = says line d (k, c) e f
 
 -- and where it says nothing the line does not
-pub no_loop : (line : List ℕ) (d : Directive Name) → ReadsLine line d → loop_of d ≡ None → (k c : Option ℕ) → ReadsLoop line k c → ⊥
+pub no_loop : (line : List ℕ) (d : Directive Name) → ReadsLine line d → loop_of d ≡ None → (k : Option Schedule) (c : Option ℕ) → ReadsLoop line k c → ⊥
 no_loop line d e f k c r = absurd (cc (sym f ∙ the_directive line d k c e r))
 
 -- a directive that says nothing is not refused by its numbers
@@ -67,7 +67,7 @@ read_fault line place d e = inr (refl, λ (t : IsTooLarge line). t.1 d e)
 
 -- a line that is no directive is no `parallel for`
 pub none_said : (line : List ℕ) (place : Place) (r : Refusal) → IsFault place (HasForm line) r × ReadsNone line
-    → IsFault place (IsTooLarge line) r × ((k c : Option ℕ) → ReadsLoop line k c → ⊥)
+    → IsFault place (IsTooLarge line) r × ((k : Option Schedule) (c : Option ℕ) → ReadsLoop line k c → ⊥)
 none_said line place r (inl f, n) = (inl (f.0, (f.1, n)), λ k c l. n (ParallelFor l.clauses) l.reads)
 none_said line place r (inr f, n) = (inr (f.0, λ (t : IsTooLarge line). f.1 t.0), λ k c l. n (ParallelFor l.clauses) l.reads)
 

@@ -1,17 +1,17 @@
--- What a `parallel for` says, of the clauses that are known so far.
+-- What a `parallel for` says, of the clauses that are known so far. (OpenMP 5.2, 4.4.3 and 11.5.3)
 use Rattle.std.specs.Prelude.{ℕ, ◌≡◌, List, [], ◌∷◌, Option, Some, None}
 use Rattle.semantics.specs.Tree.{Name}
-use Rattle.semantics.specs.Directives.Directive.{Clause, ScheduledBy, DynamicSize, Collapse, Directive, ParallelFor}
+use Rattle.semantics.specs.Directives.Directive.{Schedule, Clause, ScheduledBy, Collapse, Directive, ParallelFor}
 use Rattle.semantics.specs.Directives.DirectiveGrammar.{ReadsLine}
 use Rattle.cparse_grammar.specs.Reading.{◌>>=◌}
 
--- the size of the chunks of `schedule(dynamic, k)` and the number of loops of `collapse(c)`, where they stand
+-- what `schedule(..)` says and the number of loops of `collapse(c)`, where they stand
 abbrev pub Said : Type 0
-Said = Option ℕ × Option ℕ
+Said = Option Schedule × Option ℕ
 
 -- one more clause, where it is known and none of its kind is there
 abbrev pub with_clause : Clause Name → Said → Option Said
-with_clause (ScheduledBy (DynamicSize k)) (None, c) = Some (Some k, c)
+with_clause (ScheduledBy k) (None, c) = Some (Some k, c)
 with_clause (Collapse c) (k, None) = Some (k, Some c)
 with_clause _ said = None
 
@@ -21,7 +21,7 @@ said_by [] = Some (None, None)
 said_by (c ∷ cs) = said_by cs >>= λ said. with_clause c said
 
 -- the line is a `parallel for` with exactly these clauses
-pub record ReadsLoop (line : List ℕ) (k c : Option ℕ) : Type 0 where
+pub record ReadsLoop (line : List ℕ) (k : Option Schedule) (c : Option ℕ) : Type 0 where
   pub clauses : List (Clause Name)
   pub reads : ReadsLine line (ParallelFor clauses)
   pub says : said_by clauses ≡ Some (k, c)

@@ -3,6 +3,7 @@ use Rattle.std.specs.Prelude.{ℕ, List, [], ◌∷◌, ◌++◌, Option, Some, 
 use Rattle.semantics.specs.Tree.{Stmt, Assign, Update, If, IfElse, For, Block, Print, Items, no_items, mark, local, stmt}
 use Rattle.semantics.specs.Source.Text.{line_at}
 use Rattle.semantics.specs.Loops.Nest.{Loop}
+use Rattle.semantics.specs.Directives.Directive.{Schedule}
 use Rattle.pragma.specs.Clauses.{ReadsLoop}
 
 -- how many loops a directive associates, without and with `collapse(c)` (OpenMP 5.2, 4.4.3)
@@ -23,7 +24,7 @@ FirstHas P serial n (stmt s rest) = P serial n s
 
 -- a line is a `parallel for`, and it is so of the statement directly behind it
 abbrev pub LineHas : List ℕ → AskedOfLoop → List Loop → ℕ → Items → Type 0
-LineHas text P serial line rest = (k c : Option ℕ) × ReadsLoop (line_at text line) k c × FirstHas P serial (associated c) rest
+LineHas text P serial line rest = (k : Option Schedule) × (c : Option ℕ) × ReadsLoop (line_at text line) k c × FirstHas P serial (associated c) rest
 
 abbrev mutual
   -- each parallel loop in a statement inside these loops is so

@@ -6,13 +6,13 @@ ghost use Rattle.pragma.specs.Clauses.{with_clause, said_by, loop_of};
 ghost use Rattle.pragma.specs.Parallel.{associated};
 ghost use Rattle.pragma.specs.Views.{said_of};
 
-use ktree::{AssociatedLoops, ChunkSize, Clause, Directive, Schedule, Written};
+use ktree::{AssociatedLoops, Clause, Directive, Schedule, Written};
 
 /// What the clauses of a `parallel for` directive say (OpenMP 5.2, 17).
 #[derive(Clone, Copy, Debug, PartialEq, Eq)]
 pub struct ParallelFor {
-    /// The size of the chunks of `schedule(dynamic, k)`, which is 1 where none stands (OpenMP 5.2, 11.5.3).
-    pub schedule: Option<ChunkSize>,
+    /// What `schedule` says (OpenMP 5.2, 11.5.3).
+    pub schedule: Option<Schedule>,
     /// The number of loops of `collapse(c)` (OpenMP 5.2, 4.4.3).
     pub collapse: Option<AssociatedLoops>,
 }
@@ -34,8 +34,8 @@ fn with_clause(clause: &Clause<Written>, said: ParallelFor) -> Option<ParallelFo
     ensures { option_map said_of result ≡ with_clause (written_clause clause.now) (said_of said) }
 {
     match clause {
-        Clause::Schedule(Schedule::Dynamic(size)) if said.schedule.is_none() => Some(ParallelFor {
-            schedule: Some(*size),
+        Clause::Schedule(schedule) if said.schedule.is_none() => Some(ParallelFor {
+            schedule: Some(*schedule),
             collapse: said.collapse,
         }),
         Clause::Collapse(loops) if said.collapse.is_none() => Some(ParallelFor {

@@ -6,6 +6,8 @@ ghost use Rattle.semantics.specs.Directives.DirectiveGrammar.{ReadsLine};
 ghost use Rattle.ktree.specs.DirectiveView.{name_of, directive_of};
 ghost use Rattle.ktree.specs.declared.refusal.Refusal.TheVariants.{OutOfMemory};
 ghost use Rattle.pragma.specs.Clauses.{ReadsLoop};
+ghost use Rattle.pragma.specs.Views.{scheduled};
+ghost use Rattle.semantics.specs.Directives.Directive.{Schedule};
 ghost use Rattle.pragma_clause.specs.Outcome.{HasForm, IsFault};
 ghost use Rattle.pragma.specs.Lines.{line_starts};
 ghost use Rattle.pragma.specs.Reading.{IsTooLarge, ReadsNone, IsReading, AddsLine};
@@ -151,11 +153,12 @@ impl<'t> Directives<'t> {
     /// `Limit` where the line is a directive but for a number above its limit, and `Directive` where it is no `parallel for` of known
     /// clauses; both name the place.
     pub fn at(&self, place: Place) -> Result<ParallelFor, Refusal>
-        ensures ok { IfOk result (λ d. ReadsLoop (line_at self.now place.line) d.schedule
+        ensures ok { IfOk result (λ d. ReadsLoop (line_at self.now place.line) (scheduled d)
             d.collapse) }
         ensures err { IfErr result
             (λ r. IsFault place (IsTooLarge (line_at self.now place.line)) r
-            × ((k c : Option ℕ) → ReadsLoop (line_at self.now place.line) k c → ⊥)) }
+            × ((k : Option Schedule) (c : Option ℕ) → ReadsLoop (line_at self.now place.line) k c
+            → ⊥)) }
     {
         match self.directive(place) {
             Err(refusal) => Err(refusal),

@@ -3,7 +3,7 @@
 ghost use Rattle.std.specs.Prelude.{◌≡◌, ◌+◌, ◌<◌, ◌≤◌, ◌^◌};
 
 use ktree::{Cause, Conflict, InputFault, NotShown, Place, Refusal, Workers};
-use ompk::{check, run, seq, status, tell};
+use ompk::{Sched, check, run, seq, status, tell};
 use seqrun_io::{Memory, Sink, SinkFault};
 use std::alloc::{AllocError, Global};
 use std::sync::Wait;
@@ -287,7 +287,10 @@ fn ended<R: Threads + Wait + Sync, G: Gate, S: Sink>(
         return End::Other;
     };
     match check(alloc, task.text) {
-        Ok(checked) => end_of(run(rt, alloc, &checked, task.input, workers, gate, sink)),
+        Ok(checked) => {
+            let sched = Sched::PlainStatic;
+            end_of(run(rt, alloc, &checked, task.input, workers, sched, gate, sink))
+        }
         Err(_refusal) => End::Other,
     }
 }

@@ -4,7 +4,7 @@ ghost use Rattle.std.specs.Prelude.{◌≡◌, ◌<◌, length};
 
 use crate::first_faults::told_of;
 use ktree::Workers;
-use ompk::{Checked, check, run, seq};
+use ompk::{Checked, Sched, check, run, seq};
 use seqrun_io::Memory;
 use std::alloc::{AllocError, Global};
 use std::sync::Wait;
@@ -36,7 +36,12 @@ fn is_written_by<R: Threads + Wait + Sync>(
         return false;
     };
     let mut sink = Memory::new(alloc);
-    run(rt, alloc, checked, b"", workers, &OpenGate, &mut sink).is_ok() && sink.bytes() == output
+    let sched = Sched::PlainStatic;
+    run(
+        rt, alloc, checked, b"", workers, sched, &OpenGate, &mut sink,
+    )
+    .is_ok()
+        && sink.bytes() == output
 }
 
 /// What comes of a kernel that was checked, where these bytes are wanted, or any.

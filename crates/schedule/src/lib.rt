@@ -11,7 +11,7 @@ mod sched;
 pub use chunk::Chunk;
 pub use chunks::{Chunks, chunk_list};
 pub use part::{StaticPart, static_init};
-pub use sched::Sched;
+pub use sched::{Sched, sched_of};
 
 /// Of a kind that fixes who runs a chunk, the workers' own chunks are all chunks, each once.
 pub fn workers_share_chunks()

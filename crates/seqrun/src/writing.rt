@@ -24,8 +24,8 @@ fn read(variable: VarId, subscripts: &[Expr], frame: &Frame, store: &Store) -> u
         Slot::Holds(v) => v,
         Slot::Empty => unreachable!(),
         Slot::Outside => {
-            let array = &store.arrays()[variable.0 as usize];
-            element(subscripts, array, frame, store)
+            let array = store.array(variable.0 as usize);
+            element(subscripts, &array, frame, store)
         }
     }
 }
@@ -48,8 +48,8 @@ pub(crate) fn assign(
 {
     match frame.slot(variable) {
         Slot::Outside => {
-            let array = &store.arrays()[variable.0 as usize];
-            let at = place(subscripts, array, frame, store);
+            let array = store.array(variable.0 as usize);
+            let at = place(subscripts, &array, frame, store);
             store.write(variable, at, &[n]);
             Ok(())
         }

@@ -18,6 +18,8 @@ use Rattle.ktree.specs.declared.refusal.Cause.{Cause}
 use Rattle.ktree.specs.declared.refusal.Cause.TheVariants as cause
 use Rattle.store.specs.Kept.{Kept, rewritten_at, HasRoom}
 use Rattle.seqrun_io.specs.Lines.{HasLengths}
+use Rattle.store.specs.Flat.{zeros_of}
+use Rattle.store.specs.declared.shape.Shape.{Shape}
 use Rattle.seqrun_io.specs.Reading.{AreVariables, has_none, IsBefore, Marks, IsRight, cause_of, kept_from, IsStart, IsFirstFault, IsFault, RefusesInput, refused}
 use Rattle.seqrun_io.specs.declared.reading.Fault.{Fault}
 use Rattle.seqrun_io.specs.declared.reading.Fault.TheVariants.{Line, Memory}
@@ -148,20 +150,14 @@ module _ (ds : List Declaration) (bytes : List ℕ) (ks : List Kept) (seen : Lis
                 Rattle.seqrun_io.proofs.InputStore.among_more y r.given (x, values) (r.fresh y (sym (ap (λ t. t || list_any (nat_eq y) r.marked) f) ∙ g)) (Rattle.std.proofs.lemmas.Bool.eqb-false y x f)
 
 -- zeros for one declaration more
-pub one_zero : (ds : List code.Declaration) (i : ℕ) (d : code.Declaration) (ks : List Kept) (k : Kept) → i < length ds → d ≡ get_or ds i d → ks ≡ kept_from 0 (map declaration_of (take i ds)) [] → k ≡ record { lengths = d.lengths.items; values = replicate (size d.lengths.items) 0 } → ks ++ k ∷ [] ≡ kept_from 0 (map declaration_of (take (i + 1) ds)) []
-one_zero ds i d ks k lt e f g =
-    ap (λ l. l ++ k ∷ []) f
-    ∙ ap (λ k. kept_from 0 (map declaration_of (take i ds)) [] ++ k ∷ []) g
+pub one_zero : (ds : List code.Declaration) (i : ℕ) (d : code.Declaration) (shapes : List Shape) (s : Shape) → i < length ds → d ≡ get_or ds i d → map (λ (s : Shape). zeros_of s.lengths.items) shapes ≡ kept_from 0 (map declaration_of (take i ds)) [] → s.lengths.items ≡ d.lengths.items → map (λ (s : Shape). zeros_of s.lengths.items) (shapes ++ s ∷ []) ≡ kept_from 0 (map declaration_of (take (i + 1) ds)) []
+one_zero ds i d shapes s lt e f g =
+    map-append (λ (s : Shape). zeros_of s.lengths.items) shapes (s ∷ [])
+    ∙ ap (λ l. l ++ zeros_of s.lengths.items ∷ []) f
+    ∙ ap (λ ls. kept_from 0 (map declaration_of (take i ds)) [] ++ zeros_of ls ∷ []) g
     ∙ sym (zeros_more 0 (map declaration_of (take i ds)) (declaration_of d))
     ∙ ap (λ l. kept_from 0 l []) (sym (map-append declaration_of (take i ds) (d ∷ [])))
     ∙ ap (λ l. kept_from 0 (map declaration_of l) []) (ap (λ d. take i ds ++ d ∷ []) e ∙ sym (take-suc ds i d lt) ∙ ap (λ n. take n ds) (let e : suc i ≡ i + 1 = omega arith in e))
-
--- such a variable, as it is kept
-pub zero_kept : (k : Kept) (ls vs ns : List ℕ) (n : ℕ) → k ≡ record { lengths = ls; values = vs } → ls ≡ ns → vs ≡ replicate n 0 → n ≡ size ns → k ≡ record { lengths = ns; values = replicate (size ns) 0 }
-zero_kept k ls vs ns n e f g h =
-    e
-    ∙ ap (λ l. let k : Kept = record { lengths = l; values = vs } in k) f
-    ∙ ap (λ l. let k : Kept = record { lengths = ns; values = l } in k) (g ∙ ap (λ n. replicate n 0) h)
 
 module _ (ds : List Declaration) (bytes : List ℕ) (ks : List Kept) (seen : List Bool) (rest : List ℕ) (line : ℕ) (r : Running ds bytes ks seen rest line) (front : List ℕ) (x : ℕ) (values : List ℕ) (i : IsRight ds seen front x values) where
   -- the values have room

@@ -57,7 +57,7 @@ fn add_line<S: Sink>(
     sink: &mut S,
     held: &mut Vec<u8>,
     declaration: &Declaration,
-    array: &Array,
+    array: &Array<'_>,
 ) -> Result<(), Refusal>
     requires room { S.failed sink.old + 1 < 2 ^ 64 }
     requires lengths { array.now.lengths ≡ declaration.now.lengths.items }
@@ -95,9 +95,9 @@ pub fn dump<S: Sink>(
     ensures refusal { IfErr result (Refuses (S.failed sink.old) (S.failed sink.new)) }
 {
     let mut held = Vec::new(alloc);
-    let arrays = store.arrays();
     for (variable, declaration) in declarations.iter().enumerate() {
-        add_line(sink, &mut held, declaration, &arrays[variable])?;
+        let array = store.array(variable);
+        add_line(sink, &mut held, declaration, &array)?;
     }
     put_all(sink, held.as_slice())
 }

@@ -11,7 +11,7 @@ ghost use Rattle.semantics.specs.Source.Grammar.{elements};
 use ktree::{Cause, Declaration, InputFault, Refusal, VarId};
 use std::alloc::{AllocError, Global};
 use std::collections::BTreeMap;
-use store::{Array, Store};
+use store::{Shape, Store};
 
 /// Why a line is not read.
 #[derive(Clone, Copy, Debug, PartialEq, Eq)]
@@ -188,14 +188,13 @@ fn zeros(alloc: Global, declarations: &[Declaration]) -> Result<Store, AllocErro
     requires few { elements (map declaration_of declarations.now) ≤ 2 ^ 24 }
     ensures { IfOk result (λ store. store ≡ kept_from 0 (map declaration_of declarations.now) []) }
 {
-    let mut arrays = Vec::new(alloc);
+    let mut shapes = Vec::with_capacity(alloc, declarations.len())?;
     for declaration in declarations {
         let lengths = Vec::from_slice(alloc, declaration.lengths.as_slice())?;
         let count = size_of(declaration.lengths.as_slice());
-        let values = Vec::from_elem(alloc, 0u64, count as usize)?;
-        arrays.push(Array::new(lengths, values))?;
+        shapes.push(Shape { lengths, count })?;
     }
-    Ok(Store::new(arrays))
+    Store::zeros(alloc, shapes)
 }
 
 /// Reads an input: a line `NAME V1 V2 ..` for each variable that it names, its values row by row; the others are 0.

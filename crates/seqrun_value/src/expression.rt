@@ -23,8 +23,8 @@ pub fn value(expr: &Expr, frame: &Frame, store: &Store) -> u64
             Slot::Holds(v) => v,
             Slot::Empty => unreachable!(),
             Slot::Outside => {
-                let array = &store.arrays()[x.0 as usize];
-                element(subscripts, array, frame, store)
+                let array = store.array(x.0 as usize);
+                element(subscripts, &array, frame, store)
             }
         },
         Expr::Unary(op, a) => unary_value(*op, value(a, frame, store)),
@@ -88,7 +88,7 @@ pub fn source_value(source: &Source, frame: &Frame, store: &Store) -> u64
 
 /// Where an element lies among its array's values, row by row, if it is there (C11 6.5.2.1, 3).
 #[cycle(value)]
-pub fn place(subscripts: &[Expr], array: &Array, frame: &Frame, store: &Store) -> u64
+pub fn place(subscripts: &[Expr], array: &Array<'_>, frame: &Frame, store: &Store) -> u64
     requires { IsSome (cell_in array.now
         (values (standing frame.now store.now) (exprs_of subscripts.now))) }
     ensures { place_in array.now (values (standing frame.now store.now) (exprs_of subscripts.now))
@@ -106,7 +106,7 @@ pub fn place(subscripts: &[Expr], array: &Array, frame: &Frame, store: &Store) -
 
 /// What an element holds that is there.
 #[cycle(value)]
-pub fn element(subscripts: &[Expr], array: &Array, frame: &Frame, store: &Store) -> u64
+pub fn element(subscripts: &[Expr], array: &Array<'_>, frame: &Frame, store: &Store) -> u64
     requires { IsSome (cell_in array.now
         (values (standing frame.now store.now) (exprs_of subscripts.now))) }
     ensures { cell_in array.now (values (standing frame.now store.now) (exprs_of subscripts.now))

@@ -12,10 +12,10 @@ use Rattle.semantics.specs.Meaning.State.{State, Outside, assign_at, cells_after
 use Rattle.store.specs.Kept.{Kept, cell_of, state_of, overlaid, rewritten, rewritten_at, HasRoom, Covers, writes_from}
 
 -- one more value written over others
-overlaid_none : (old : List ℕ) (first : ℕ) → overlaid old first [] ≡ old
+pub overlaid_none : (old : List ℕ) (first : ℕ) → overlaid old first [] ≡ old
 overlaid_none old first = ap (λ n. take first old ++ drop n old) (let e : first + 0 ≡ first = omega arith in e) ∙ take-append-drop first old
 
-overlaid_more : (old : List ℕ) (first v : ℕ) (vs : List ℕ) → first < length old → overlaid old first (v ∷ vs) ≡ overlaid (slice_set old first v) (suc first) vs
+pub overlaid_more : (old : List ℕ) (first v : ℕ) (vs : List ℕ) → first < length old → overlaid old first (v ∷ vs) ≡ overlaid (slice_set old first v) (suc first) vs
 overlaid_more old first v vs lt =
     sym
     (ap (λ l. l ++ (vs ++ drop (suc first + length vs) (slice_set old first v))) (take-suc-set old first v lt)
@@ -23,7 +23,7 @@ overlaid_more old first v vs lt =
     ∙ ap (λ l. take first old ++ (v ∷ (vs ++ l))) (drop-set-lt (suc first + length vs) old first v (omega arith))
     ∙ ap (λ n. take first old ++ (v ∷ (vs ++ drop n old))) (let e : suc first + length vs ≡ first + suc (length vs) = omega arith in e))
 
-overlaid_one : (old : List ℕ) (first v : ℕ) → first < length old → overlaid old first (v ∷ []) ≡ slice_set old first v
+pub overlaid_one : (old : List ℕ) (first v : ℕ) → first < length old → overlaid old first (v ∷ []) ≡ slice_set old first v
 overlaid_one old first v lt = overlaid_more old first v [] lt ∙ overlaid_none (slice_set old first v) (suc first)
 
 get_set_same : (xs : List ℕ) (i v : ℕ) → i < length xs → slice_get (slice_set xs i v) i ≡ Some v
@@ -60,12 +60,12 @@ at_other (j ∷ ks) zero (suc y) first new ne = refl
 at_other (j ∷ ks) (suc x) zero first new ne = refl
 at_other (j ∷ ks) (suc x) (suc y) first new ne = at_other ks x y first new (λ e. ne (ap suc e))
 
-rewritten_none : (ks : List Kept) (x first : ℕ) → rewritten_at ks x first [] ≡ ks
+pub rewritten_none : (ks : List Kept) (x first : ℕ) → rewritten_at ks x first [] ≡ ks
 rewritten_none [] x first = refl
 rewritten_none (k ∷ ks) zero first = λ i. record { lengths = k.lengths; values = overlaid_none k.values first i } ∷ ks
 rewritten_none (k ∷ ks) (suc x) first = ap (λ l. k ∷ l) (rewritten_none ks x first)
 
-rewritten_more : (ks : List Kept) (x first v : ℕ) (vs : List ℕ) → HasRoom (slice_get ks x) (suc first) → rewritten_at ks x first (v ∷ vs) ≡ rewritten_at (rewritten_at ks x first (v ∷ [])) x (suc first) vs
+pub rewritten_more : (ks : List Kept) (x first v : ℕ) (vs : List ℕ) → HasRoom (slice_get ks x) (suc first) → rewritten_at ks x first (v ∷ vs) ≡ rewritten_at (rewritten_at ks x first (v ∷ [])) x (suc first) vs
 rewritten_more [] x first v vs h = refl
 rewritten_more (k ∷ ks) zero first v vs h =
     λ i. record { lengths = k.lengths; values = (overlaid_more k.values first v vs (omega arith) ∙ ap (λ l. overlaid l (suc first) vs) (sym (overlaid_one k.values first v (omega arith)))) i } ∷ ks

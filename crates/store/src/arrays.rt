@@ -1,93 +1,190 @@
 //! Where the file-scope variables of a running program are kept.
 
-ghost use Rattle.std.specs.Prelude.{◌≡◌, ◌+◌, ◌≤◌, length, slice_get, vec_len};
+ghost use Rattle.std.specs.Prelude.{◌≡◌, ◌+◌, ◌<◌, ◌≤◌, ◌↔◌, [], length, map, take, drop, slice_get, slice_set, slice_index, IfOk, IsTrue, Some};
 ghost use Rattle.semantics.specs.Meaning.Places.{size};
-ghost use Rattle.store.specs.Kept.{rewritten, rewritten_at, HasRoom};
+ghost use Rattle.store.specs.Kept.{overlaid, rewritten_at, HasRoom};
+ghost use Rattle.store.specs.Flat.{values_of, filled, AreFilled, zeros_of};
+ghost use Rattle.store.specs.Placing.{Lie};
 
+use crate::shape::Shape;
 use ktree::VarId;
+use std::alloc::{AllocError, Global};
 use std::marker::Model;
 
-/// A file-scope variable: the lengths of its dimensions, none for a scalar, and its values row by row (C11 6.5.2.1).
+/// A file-scope variable as it stands in a store: the lengths of its dimensions, and its values row by row (C11 6.5.2.1).
 #[derive(Drop)]
-pub struct Array {
-    lengths: Vec<u64>,
-    values: Vec<u64>,
+pub struct Array<'s> {
+    lengths: &'s [u64],
+    values: &'s [u64],
 }
 
-impl Model for Array {
-    ghost use Rattle.std.specs.Prelude.{◌≡◌, length};
+impl<'s> Model for Array<'s> {
     ghost use Rattle.store.specs.Kept.{Kept, IsFilled};
 
     ghost Value = { Kept };
 
-    ghost view = { λ a. record { lengths = a.lengths.items; values = a.values.items } };
+    ghost view = { λ a. record { lengths = a.lengths.now; values = a.values.now } };
 
-    ghost invariant = { λ a. IsFilled (record { lengths = a.lengths.items; values = a.values.items }) };
+    ghost invariant = { λ a. IsFilled (record { lengths = a.lengths.now; values = a.values.now }) };
 }
 
-impl Array {
-    /// An array of these lengths and these values, which are as many as its elements.
-    pub fn new(lengths: Vec<u64>, values: Vec<u64>) -> Array
-        requires { vec_len values ≡ size lengths.items }
-        ensures { result ≡ record { lengths = lengths.items; values = values.items } }
-    {
-        Array { lengths, values }
-    }
-
+impl<'s> Array<'s> {
     /// The lengths of its dimensions.
-    pub fn lengths(&self) -> &[u64]
+    pub fn lengths(&self) -> &'s [u64]
         ensures { result.now ≡ self.now.lengths }
     {
-        self.lengths.as_slice()
+        self.lengths
     }
 
     /// Its values, row by row.
-    pub fn values(&self) -> &[u64]
+    pub fn values(&self) -> &'s [u64]
         ensures value { result.now ≡ self.now.values }
         ensures count { length result.now ≡ size self.now.lengths }
     {
-        self.values.as_slice()
-    }
-
-    // Writes these values over its own, from a position on.
-    fn overwrite(&mut self, first: u64, values: &[u64])
-        requires { first + length values.now ≤ length self.old.values }
-        ensures { self.new ≡ rewritten self.old first values.now }
-    {
-        let all = &mut self.values;
-        let part = &mut all[first as usize..first as usize + values.len()];
-        part.copy_from_slice(values);
+        self.values
     }
 }
 
-/// The file-scope variables, by their numbers.
+// Where a variable lies among the cells: behind all variables before it.
+#[derive(Drop)]
+struct Placed {
+    shape: Shape,
+    first: u64,
+}
+
+/// The file-scope variables, by their numbers: their values stand one variable behind another in one list of cells.
 #[derive(Drop)]
 pub struct Store {
-    arrays: Vec<Array>,
+    places: Vec<Placed>,
+    cells: Vec<u64>,
 }
 
 impl Model for Store {
-    ghost use Rattle.std.specs.Prelude.{List};
+    ghost use Rattle.std.specs.Prelude.{List, length};
     ghost use Rattle.store.specs.Kept.{Kept};
+    ghost use Rattle.store.specs.Placing.{kept_in, Lie};
 
     ghost Value = { List Kept };
 
-    ghost view = { λ s. s.arrays.items };
+    ghost view = { λ s. kept_in s.cells.items s.places.items };
+
+    ghost invariant = { λ s. Lie 0 s.places.items (length s.cells.items) };
+}
+
+// So many cells from a first one on.
+fn part(cells: &[u64], first: u64, count: u64) -> &[u64]
+    requires { first + count ≤ length cells.now }
+    ensures { result.now ≡ take count (drop first cells.now) }
+{
+    let (_, behind) = cells.split_at(first as usize);
+    let (values, _) = behind.split_at(count as usize);
+    values
+}
+
+// Writes these values over cells from one on.
+fn overwrite(cells: &mut Vec<u64>, first: u64, values: &[u64])
+    requires { first + length values.now ≤ length cells.old.items }
+    ensures { cells.new.items ≡ overlaid cells.old.items first values.now }
+{
+    let part = &mut cells[first as usize..first as usize + values.len()];
+    part.copy_from_slice(values);
+}
+
+// What stands at a place, and 0 outside.
+fn entry(cells: &[u64], place: u64) -> u64
+    ensures { result ≡ slice_index cells.now place }
+{
+    match cells.get(place as usize) {
+        Some(value) => *value,
+        None => 0,
+    }
+}
+
+// Writes at a place, and nothing outside.
+fn set_entry(cells: &mut Vec<u64>, place: u64, value: u64)
+    ensures { cells.new.items ≡ slice_set cells.old.items place value }
+{
+    if (place as usize) < cells.len() {
+        cells[place as usize] = value;
+    }
+}
+
+// Where variables of these shapes lie, one behind another, and how many cells they take.
+fn lay_out(alloc: Global, shapes: Vec<Shape>) -> Result<(Vec<Placed>, u64), AllocError>
+    ensures lie { IfOk result (λ r. Lie 0 r.0.items r.1) }
+    ensures shapes { IfOk result (λ r. map (λ p. p.shape) r.0.items ≡ shapes.items) }
+{
+    let mut places = Vec::with_capacity(alloc, shapes.len())?;
+    let mut first = 0u64;
+    for shape in shapes {
+        let Some(end) = first.checked_add(shape.count) else {
+            return Err(AllocError);
+        };
+        places.push(Placed { shape, first })?;
+        first = end;
+    }
+    Ok((places, first))
 }
 
 impl Store {
-    /// A store of these variables, the first with the number 0.
-    pub fn new(arrays: Vec<Array>) -> Store
-        ensures { result ≡ arrays.items }
+    /// Variables of these shapes, the first with the number 0, each element 0.
+    ///
+    /// # Errors
+    ///
+    /// Where memory runs out.
+    pub fn zeros(alloc: Global, shapes: Vec<Shape>) -> Result<Store, AllocError>
+        ensures { IfOk result (λ store. store ≡ map (λ s. zeros_of s.lengths.items) shapes.items) }
     {
-        Store { arrays }
+        let (places, count) = lay_out(alloc, shapes)?;
+        let cells = Vec::from_elem(alloc, 0u64, count as usize)?;
+        Ok(Store { places, cells })
     }
 
-    /// The variables in order of declaration.
-    pub fn arrays(&self) -> &[Array]
-        ensures { result.now ≡ self.now }
+    /// How many variables there are.
+    pub fn len(&self) -> usize
+        ensures { result ≡ length self.now }
     {
-        self.arrays.as_slice()
+        self.places.len()
+    }
+
+    /// Whether there is none.
+    pub fn is_empty(&self) -> bool
+        ensures { IsTrue result ↔ (self.now ≡ []) }
+    {
+        self.places.is_empty()
+    }
+
+    /// The variable of this number, in order of declaration.
+    pub fn array(&self, variable: usize) -> Array<'_>
+        requires { variable < length self.now }
+        ensures { slice_get self.now variable ≡ Some result }
+    {
+        let placed = &self.places[variable];
+        let lengths = placed.shape.lengths.as_slice();
+        let values = part(self.cells.as_slice(), placed.first, placed.shape.count);
+        Array { lengths, values }
+    }
+
+    /// All values, one variable behind another.
+    pub fn cells(&self) -> &[u64]
+        ensures value { result.now ≡ values_of self.now }
+        ensures filled { AreFilled self.now }
+    {
+        self.cells.as_slice()
+    }
+
+    /// The value at a place among all cells, and 0 outside.
+    pub fn cell(&self, place: u64) -> u64
+        ensures { result ≡ slice_index (values_of self.now) place }
+    {
+        entry(self.cells.as_slice(), place)
+    }
+
+    /// Writes a value at a place among all cells, and nothing outside.
+    pub fn put(&mut self, place: u64, value: u64)
+        ensures { self.new ≡ filled (slice_set (values_of self.old) place value) self.old }
+    {
+        set_entry(&mut self.cells, place, value);
     }
 
     /// Writes these values over those of a variable, from a position on, and changes nothing else.
@@ -95,8 +192,8 @@ impl Store {
         requires { HasRoom (slice_get self.old variable.0) (first + length values.now) }
         ensures { self.new ≡ rewritten_at self.old variable.0 first values.now }
     {
-        let arrays = &mut self.arrays;
-        let array = &mut arrays[variable.0 as usize];
-        array.overwrite(first, values);
+        let placed = &self.places[variable.0 as usize];
+        let at = placed.first + first;
+        overwrite(&mut self.cells, at, values);
     }
 }

@@ -2,5 +2,7 @@
 #![tactic(auto)]
 
 mod arrays;
+mod shape;
 
 pub use arrays::{Array, Store};
+pub use shape::Shape;

@@ -108,7 +108,7 @@ chunk_of n i cs cut lt =
     let one : once_below i n ≡ 1 = grind (arith, nat_tests) in
     found i cs (omega arith)
 
-length_below : (n : ℕ) → length (below n) ≡ n
+pub length_below : (n : ℕ) → length (below n) ≡ n
 length_below zero = refl
 length_below (suc n) = let r = length_below n in omega (arith, length-append (below n) (n ∷ []))
 

@@ -1,7 +1,7 @@
 -- What the workers' ends are, and what comes of them together.
 use Rattle.std.specs.Prelude.{ℕ, ◌≡◌, ◌<◌, ◌≤◌, ◌+◌, unwrap_or, slice_index, true, List, [], ◌∷◌, length, map, flat_map, slice_get, All, IfOk, Result, Ok, Some}
 use Rattle.semantics.specs.Meaning.Places.{below}
-use Rattle.semantics.specs.Loops.Chunk.{Chunk, Dynamic, cut, chunk_iterations}
+use Rattle.semantics.specs.Loops.Chunk.{Chunk, cut, chunk_iterations}
 use Rattle.semantics.specs.Loops.Arrangement.{times}
 use Rattle.draw.specs.Tickets.{DrawingName, SeatState, all_tickets}
 use Rattle.semantics.specs.Meaning.Value.{value}
@@ -9,6 +9,8 @@ use Rattle.semantics.specs.Loops.Nest.{at_value}
 use Rattle.store.specs.Kept.{Kept, Covers, state_of}
 use Rattle.lower.specs.Loop.{formula_of}
 use Rattle.overlay.specs.Loop.{IsWorth}
+use Rattle.schedule.specs.Sched.{kind_said}
+use Rattle.schedule.specs.declared.sched.Sched.{Sched}
 use Rattle.overlay.specs.declared.piece.Changes.{Changes}
 use Rattle.overlay.specs.Seen.{Seen}
 use Rattle.lower.specs.declared.lowered.LoweredLoop.{LoweredLoop}
@@ -21,9 +23,9 @@ pub record IsCut (n : ℕ) (chunks : List Chunk) : Type 0 where
   pub joined : flat_map chunk_iterations chunks ≡ below n
   pub filled : All (λ c. 0 < c.count) chunks
 
--- the chunks of a loop, as its own clause cuts it for so many workers (OpenMP 5.2, 11.5.3)
-abbrev pub chunks_of_loop : LoweredLoop → ℕ → List Chunk
-chunks_of_loop l workers = cut (Dynamic l.size) l.bound workers
+-- the chunks of a loop, as its own clause cuts it for so many workers; given: the schedule that stands for `runtime` (OpenMP 5.2, 11.5.3)
+abbrev pub chunks_of_loop : LoweredLoop → Sched → ℕ → List Chunk
+chunks_of_loop l given workers = cut (kind_said l.schedule given) l.bound workers
 
 -- the iterations that a worker was given are those of its ticket's chunk
 abbrev pub IsWork : List Chunk → Work → Type 0

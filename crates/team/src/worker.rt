@@ -1,9 +1,9 @@
 //! One worker of a team.
 
-ghost use Rattle.std.specs.Prelude.{◌≡◌, ◌<◌, ◌≤◌, length, IfOk};
+ghost use Rattle.std.specs.Prelude.{◌≡◌, ◌<◌, ◌≤◌, length, IfOk, IfErr};
 ghost use Rattle.draw.specs.Tickets.{fresh};
 ghost use Rattle.lower.specs.Loop.{Fits};
-ghost use Rattle.team.specs.Ends.{IsCut, IsFinished};
+ghost use Rattle.team.specs.Ends.{IsCut, IsPieceOf, IsFinished};
 
 use crate::gate::{Gate, Taken};
 use draw::{DrawSeat, Drawing};
@@ -46,6 +46,34 @@ impl<'l, 's, 'c, 'd> Promise<Result<Finished<'l, 's>, Refusal>> for Job<'l, 's, 
     ghost kept_by = { λ p r. IfOk r (λ f. IsFinished p.lowered.now p.store.now p.chunks.now p.drawing.now f) };
 }
 
+/// Runs a chunk that a worker has taken, after the gate is told of it.
+pub(crate) fn run_taken<'l, 's, G: Gate>(
+    alloc: Global,
+    lowered: &'l LoweredLoop,
+    store: &'s Store,
+    chunks: &Chunks,
+    taken: Taken,
+    gate: &G,
+) -> Result<Piece<'l, 's>, Refusal>
+    requires fits { Fits lowered.now store.now }
+    requires cut { IsCut lowered.now.bound chunks.now }
+    requires worker { taken.worker < taken.workers }
+    requires chunk { taken.chunk < taken.chunks }
+    requires count { taken.chunks ≡ length chunks.now }
+    ensures piece { IfOk result (IsPieceOf lowered.now store.now chunks.now) }
+    ensures number { IfOk result (λ p. p.work.chunk.0 ≡ taken.chunk) }
+    ensures refusal { IfErr result (λ refusal. refusal ≡ Refusal.OutOfMemory) }
+{
+    gate.entered(taken);
+    let chunk = chunks.at(taken.chunk);
+    let work = Work {
+        chunk: ChunkNo(taken.chunk),
+        first: chunk.first,
+        count: chunk.count,
+    };
+    run_chunk(alloc, lowered, store, work)
+}
+
 /// Draws until the end, and runs each chunk drawn.
 pub fn work<'l, 's, G: Gate>(
     alloc: Global,
@@ -68,19 +96,13 @@ pub fn work<'l, 's, G: Gate>(
     } = member;
     let mut pieces = Vec::new(alloc);
     while let Some(ticket) = drawing.next(&mut seat) {
-        gate.entered(Taken {
+        let taken = Taken {
             worker,
             workers: drawing.seats(),
             chunk: ticket,
             chunks: drawing.count(),
-        });
-        let chunk = chunks.at(ticket);
-        let work = Work {
-            chunk: ChunkNo(ticket),
-            first: chunk.first,
-            count: chunk.count,
         };
-        pieces.push(run_chunk(alloc, lowered, store, work)?)?;
+        pieces.push(run_taken(alloc, lowered, store, chunks, taken, gate)?)?;
     }
     Ok(Finished { seat, pieces })
 }

@@ -2,9 +2,7 @@
 
 use crate::texts::{I, J, OUT_OF_MEMORY, S, at, kernel, kernel_with, name, parsed, text};
 use flow::*;
-use ktree::{
-    AssociatedLoops, ChunkSize, Expr, Kernel, Place, Refusal, Source, Stmt, Target, VarId,
-};
+use ktree::{AssociatedLoops, Expr, Kernel, Place, Refusal, Schedule, Source, Stmt, Target, VarId};
 use pragma::{Directives, ParallelFor};
 use std::alloc::Global;
 
@@ -157,7 +155,12 @@ struct Loops {
 
 /// Whether a directive has chunks of 4 iterations and 2 collapsed loops.
 fn is_in_fours_and_twos(directive: ParallelFor) -> bool {
-    directive.schedule == ChunkSize::new(4) && directive.collapse == AssociatedLoops::new(2)
+    match &directive.schedule {
+        Some(Schedule::Dynamic(size)) => {
+            size.get() == 4 && directive.collapse == AssociatedLoops::new(2)
+        }
+        _ => false,
+    }
 }
 
 /// The only one of some parallel loops, where it has four private variables.

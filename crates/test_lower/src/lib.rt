@@ -2,4 +2,6 @@
 #![tactic(auto)]
 
 #[cfg(test)]
+mod lower_block_rows;
+#[cfg(test)]
 mod lower_code_rows;

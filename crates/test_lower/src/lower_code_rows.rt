@@ -8,29 +8,25 @@ use ktree::Kernel;
 use lower_code::*;
 use seqrun_io::Memory;
 use std::alloc::{AllocError, Global};
-use store::{Array, Store};
+use store::{Shape, Store};
 
-/// An array of so many zeros.
-fn zeros(alloc: Global, lengths: &[u64], count: usize) -> Result<Array, AllocError>
+/// The dimensions of a variable of so many elements.
+fn shape(alloc: Global, lengths: &[u64], count: u64) -> Result<Shape, AllocError>
     requires { count ≡ size lengths.now }
 {
-    let values = Vec::from_elem(alloc, 0u64, count)?;
     let lengths = Vec::from_slice(alloc, lengths)?;
-    Ok(Array::new(lengths, values))
+    Ok(Shape { lengths, count })
 }
 
 /// The store of these variables, each element 0.
 fn empty(alloc: Global) -> Result<Store, AllocError>
     ensures { IfOk result (λ s. length s ≡ 3) }
 {
-    let one = zeros(alloc, &[8], 8)?;
-    let two = zeros(alloc, &[2, 3], 6)?;
-    let three = zeros(alloc, &[], 1)?;
-    let mut arrays = Vec::new(alloc);
-    arrays.push(one)?;
-    arrays.push(two)?;
-    arrays.push(three)?;
-    Ok(Store::new(arrays))
+    let mut shapes = Vec::new(alloc);
+    shapes.push(shape(alloc, &[8], 8)?)?;
+    shapes.push(shape(alloc, &[2, 3], 6)?)?;
+    shapes.push(shape(alloc, &[], 1)?)?;
+    Store::zeros(alloc, shapes)
 }
 
 /// Whether a kernel prints this.

@@ -1,10 +1,18 @@
 //! The accesses of bodies, and what is told of one.
 
+ghost use Rattle.std.specs.Prelude.{[], IfSome};
+ghost use Rattle.ktree.specs.View.{stmt_of, kernel_of};
+ghost use Rattle.nest_loop.specs.Facts.{StandFirst};
+ghost use Rattle.nest.specs.Judged.{IsTableOf};
+
 use cparse::parse;
-use ktree::{Head, Item, Kernel, Stmt, VarId};
+use ktree::{Item, Kernel, Stmt, VarId};
+use nest::{LoopTable, nests};
+use nest_loop::LoopFacts;
 use pairtest::{Access, Mode};
 use pairtest_access::*;
 use pairtest_counter::EnclosingLoops;
+use pragma::Directives;
 use std::alloc::Global;
 
 /// A loop with `i` from 3 on, by two: `i` is 3 more than twice the steps.
@@ -27,29 +35,41 @@ const B: VarId = VarId(1);
 /// The variable of the loop round the body.
 const I: VarId = VarId(2);
 
-/// The first statement of a kernel where it is a loop.
-fn first_loop(kernel: &Kernel) -> Option<(&Head, &Stmt)> {
-    match kernel.body.first() {
-        Some(Item::Statement(statement)) => match &**statement {
-            Stmt::For(head, body) => Some((head, body)),
-            _ => None,
-        },
-        _ => None,
-    }
+/// The accesses of the body of a loop whose facts stand first.
+fn listed_in(alloc: Global, loops: &[LoopFacts], statement: &Stmt) -> Option<Vec<Access>>
+    requires { StandFirst [] (stmt_of statement.now) loops.now }
+{
+    let Stmt::For(head, body) = statement else {
+        return None;
+    };
+    let mut chain = EnclosingLoops::new(alloc);
+    let inner = enter_loop(alloc, &mut chain, head, loops).ok()?;
+    accesses(alloc, &mut chain, inner, body).ok()
 }
 
-/// The accesses of a loop's body.
-fn listed_in(alloc: Global, head: &Head, body: &Stmt) -> Option<Vec<Access>> {
-    let mut chain = EnclosingLoops::new(alloc);
-    chain.enter(alloc, head, body).ok()?;
-    accesses(alloc, &mut chain, body).ok()
+/// Those of the loop that a kernel begins with.
+fn listed_by(alloc: Global, kernel: &Kernel, table: &LoopTable) -> Option<Vec<Access>>
+    requires { IsTableOf (kernel_of kernel.now) table.now }
+{
+    let [Item::Statement(statement), ..] = kernel.body.as_slice() else {
+        return None;
+    };
+    listed_in(alloc, table.loops.as_slice(), statement)
+}
+
+/// The table of a kernel's loops.
+fn table_of(alloc: Global, kernel: &Kernel) -> Option<LoopTable>
+    ensures { IfSome result (IsTableOf (kernel_of kernel.now)) }
+{
+    let directives = Directives::read(alloc, TEXT).ok()?;
+    nests(alloc, kernel, &directives).ok()
 }
 
 /// The accesses of the body of that kernel's loop.
 fn listed(alloc: Global) -> Option<Vec<Access>> {
     let kernel = parse(alloc, TEXT).ok()?;
-    let (head, body) = first_loop(&kernel)?;
-    listed_in(alloc, head, body)
+    let table = table_of(alloc, &kernel)?;
+    listed_by(alloc, &kernel, &table)
 }
 
 /// An access: its array, what it does, its first subscript's constant and coefficients, and the greatest counts of the body's own
@@ -107,22 +127,43 @@ fn told_of(told: &Touched) -> Option<Told> {
     Some((form.constant_term(), form.coefficient(I), told.inner.len()))
 }
 
-/// What is told of the access of a loop's body with so many before it, where it has one; None where that is refused.
-fn told_in(alloc: Global, head: &Head, body: &Stmt, number: usize) -> Option<Option<Told>> {
+/// What is told of the access with so many before it of the body of a loop whose facts stand first, where it has one; None
+/// where that is refused.
+fn told_in(
+    alloc: Global,
+    loops: &[LoopFacts],
+    statement: &Stmt,
+    number: usize,
+) -> Option<Option<Told>>
+    requires { StandFirst [] (stmt_of statement.now) loops.now }
+{
+    let Stmt::For(head, body) = statement else {
+        return None;
+    };
     let mut chain = EnclosingLoops::new(alloc);
-    chain.enter(alloc, head, body).ok()?;
-    match access_at(alloc, &mut chain, body, number) {
+    let inner = enter_loop(alloc, &mut chain, head, loops).ok()?;
+    match access_at(alloc, &mut chain, inner, body, number) {
         Ok(Some(told)) => Some(told_of(&told)),
         Ok(None) => Some(None),
         Err(_) => None,
     }
 }
 
+/// The same of the loop that a kernel begins with.
+fn told_by(alloc: Global, kernel: &Kernel, table: &LoopTable, number: usize) -> Option<Option<Told>>
+    requires { IsTableOf (kernel_of kernel.now) table.now }
+{
+    let [Item::Statement(statement), ..] = kernel.body.as_slice() else {
+        return None;
+    };
+    told_in(alloc, table.loops.as_slice(), statement, number)
+}
+
 /// The same of that kernel's loop.
 fn told(alloc: Global, number: usize) -> Option<Option<Told>> {
     let kernel = parse(alloc, TEXT).ok()?;
-    let (head, body) = first_loop(&kernel)?;
-    told_in(alloc, head, body, number)
+    let table = table_of(alloc, &kernel)?;
+    told_by(alloc, &kernel, &table, number)
 }
 
 /// Whether this is told of the access of that loop with so many before it, where it has one.

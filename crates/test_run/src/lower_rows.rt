@@ -1,7 +1,7 @@
 //! Loops and the stores that they fit.
 
 use crate::stores::one_array;
-use ktree::{ChunkSize, VarId};
+use ktree::VarId;
 use lower::{Formula, LoweredLoop, Operand, fits};
 use std::alloc::Global;
 
@@ -12,13 +12,13 @@ const A: VarId = VarId(0);
 const I: VarId = VarId(1);
 
 /// A loop over the array, of so many iterations.
-fn over(counter: VarId, bound: u64, size: ChunkSize) -> LoweredLoop {
+fn over(counter: VarId, bound: u64) -> LoweredLoop {
     LoweredLoop {
         counter,
         bound,
         target: A,
         formula: Formula::One(Operand::Element(A)),
-        size,
+        schedule: None,
     }
 }
 
@@ -32,9 +32,8 @@ fn fits_four(alloc: Global, lowered: &LoweredLoop) -> Option<bool> {
 
 #[test]
 fn loops_fit_their_stores(rt: HostRuntime) {
-    let size = ChunkSize::new(3).expect(&rt, "a size of a chunk");
     let heap = rt.alloc();
-    assert!(rt; fits_four(heap, &over(I, 4, size)) == Some(true));
-    assert!(rt; fits_four(heap, &over(I, 5, size)) == Some(false));
-    assert!(rt; fits_four(heap, &over(A, 4, size)) == Some(false));
+    assert!(rt; fits_four(heap, &over(I, 4)) == Some(true));
+    assert!(rt; fits_four(heap, &over(I, 5)) == Some(false));
+    assert!(rt; fits_four(heap, &over(A, 4)) == Some(false));
 }

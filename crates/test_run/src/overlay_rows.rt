@@ -3,11 +3,11 @@
 ghost use Rattle.std.specs.Prelude.{◌+◌, ◌≤◌};
 
 use crate::stores::{holds, one_array};
-use ktree::{ChunkNo, ChunkSize, VarId};
+use ktree::{ChunkNo, VarId};
 use lower::{Formula, LoweredLoop, Operand, Operation, fits};
 use overlay::*;
 use std::alloc::Global;
-use store::{Array, Store};
+use store::Store;
 
 /// Whether a chunk of a loop computes these values from eight ones, and leaves those behind it.
 fn writes(alloc: Global, lowered: &LoweredLoop, work: Work, computed: &[u64], left: &[u64]) -> bool
@@ -39,7 +39,7 @@ fn a_chunk_writes_its_own_elements(rt: HostRuntime) {
             Operand::Element(VarId(0)),
             Operand::Counter,
         ),
-        size: ChunkSize::new(3).expect(&rt, "a size of a chunk"),
+        schedule: None,
     };
     let work = Work {
         chunk: ChunkNo(1),

@@ -3,8 +3,9 @@
 ghost use Rattle.std.specs.Prelude.{◌≤◌};
 
 use crate::stores::{holds, one_array};
-use ktree::{ChunkSize, VarId, Workers};
+use ktree::{ChunkSize, Schedule, VarId, Workers};
 use lower::{Formula, LoweredLoop, Operand, Operation, fits};
+use schedule::Sched;
 use std::alloc::Global;
 use std::process::Abort;
 use std::sync::Wait;
@@ -81,15 +82,29 @@ impl Gate for Held {
     }
 }
 
+/// The size of a chunk.
+fn size(rt: &impl Abort, iterations: u64) -> ChunkSize {
+    ChunkSize::new(iterations).expect(rt, "a size of a chunk")
+}
+
 /// The loop over the first `bound` elements of the array.
-fn loop_of(rt: &impl Abort, bound: u64, formula: Formula, size: u64) -> LoweredLoop {
+fn loop_of(bound: u64, formula: Formula, schedule: Option<Schedule>) -> LoweredLoop {
     LoweredLoop {
         counter: VarId(1),
         bound,
         target: A,
         formula,
-        size: ChunkSize::new(size).expect(rt, "a size of a chunk"),
+        schedule,
     }
+}
+
+/// The same in chunks of this size, which workers draw.
+fn drawn_loop(rt: &impl Abort, bound: u64, formula: Formula, iterations: u64) -> LoweredLoop {
+    loop_of(
+        bound,
+        formula,
+        Some(Schedule::Dynamic(size(rt, iterations))),
+    )
 }
 
 /// Runs a loop over a store by so many workers; whether it fits the store, and was run.
@@ -99,12 +114,13 @@ fn is_run<R: Threads + Wait + Sync, G: Gate>(
     lowered: &LoweredLoop,
     store: &mut Store,
     count: u64,
+    runtime: Sched,
     gate: &G,
 ) -> bool {
     let Some(workers) = Workers::new(count) else {
         return false;
     };
-    fits(lowered, store) && run_loop(rt, alloc, lowered, store, workers, gate).is_ok()
+    fits(lowered, store) && run_loop(rt, alloc, lowered, store, workers, runtime, gate).is_ok()
 }
 
 /// Whether a loop by so many workers leaves these values of those.
@@ -118,7 +134,8 @@ fn leaves<R: Threads + Wait + Sync>(
 ) -> bool {
     match one_array(alloc, old) {
         Ok(mut store) => {
-            is_run(rt, alloc, lowered, &mut store, count, &OpenGate) && holds(&store, new)
+            let runtime = Sched::PlainStatic;
+            is_run(rt, alloc, lowered, &mut store, count, runtime, &OpenGate) && holds(&store, new)
         }
         Err(_error) => false,
     }
@@ -127,7 +144,7 @@ fn leaves<R: Threads + Wait + Sync>(
 #[test]
 fn each_element_gets_its_number_more(rt: HostRuntime) {
     let sum = Formula::Two(Operation::Plus, Operand::Element(A), Operand::Counter);
-    let lowered = loop_of(&rt, 8, sum, 3);
+    let lowered = drawn_loop(&rt, 8, sum, 3);
     let old = [1, 1, 1, 1, 1, 1, 1, 1];
     let new = [1, 2, 3, 4, 5, 6, 7, 8];
     assert!(rt; leaves(&rt, rt.alloc(), &lowered, 3, &old, &new));
@@ -137,7 +154,7 @@ fn each_element_gets_its_number_more(rt: HostRuntime) {
 fn differences_wrap(rt: HostRuntime) {
     let (heap, old) = (rt.alloc(), [0, 0, 0, 0, 0]);
     let difference = Formula::Two(Operation::Minus, Operand::Counter, Operand::Literal(1));
-    let lowered = loop_of(&rt, 5, difference, 2);
+    let lowered = drawn_loop(&rt, 5, difference, 2);
     let new = [18446744073709551615, 0, 1, 2, 3];
     assert!(rt; leaves(&rt, heap, &lowered, 1, &old, &new));
     assert!(rt; leaves(&rt, heap, &lowered, 3, &old, &new));
@@ -146,16 +163,13 @@ fn differences_wrap(rt: HostRuntime) {
 
 #[test]
 fn a_loop_without_iterations_writes_nothing(rt: HostRuntime) {
-    let lowered = loop_of(&rt, 0, Formula::One(Operand::Counter), 1);
+    let lowered = drawn_loop(&rt, 0, Formula::One(Operand::Counter), 1);
     assert!(rt; leaves(&rt, rt.alloc(), &lowered, 2, &[7, 7], &[7, 7]));
 }
 
 /// Whether the element 1 of the store's one array is 1.
 fn has_second(store: &Store) -> bool {
-    match store.arrays() {
-        [array] => array.values().get(1) == Some(&1),
-        _ => false,
-    }
+    store.cell(1) == 1
 }
 
 /// What is told to so many workers, each with one chunk of a loop that gives elements their numbers, where it is run.
@@ -167,7 +181,8 @@ fn told_to<R: Threads + Wait + Sync>(
 ) -> Option<Told> {
     let gate = Held::until(count);
     let mut store = one_array(alloc, &[0; 64]).ok()?;
-    if is_run(rt, alloc, lowered, &mut store, count, &gate) && has_second(&store) {
+    let runtime = Sched::PlainStatic;
+    if is_run(rt, alloc, lowered, &mut store, count, runtime, &gate) && has_second(&store) {
         Some(told_by(&gate))
     } else {
         None
@@ -179,7 +194,7 @@ fn is_held<R: Threads + Wait + Sync + Abort>(rt: &R, alloc: Global, count: u64) 
     requires some { 1 ≤ count }
     requires most { count ≤ 64 }
 {
-    let lowered = loop_of(rt, count, Formula::One(Operand::Counter), 1);
+    let lowered = drawn_loop(rt, count, Formula::One(Operand::Counter), 1);
     let each = u64::MAX >> (64 - count);
     let wanted = Told {
         entered: count,
@@ -196,4 +211,158 @@ fn workers_are_at_once_in_the_loop(rt: HostRuntime) {
     assert!(rt; is_held(&rt, rt.alloc(), 2));
     assert!(rt; is_held(&rt, rt.alloc(), 3));
     assert!(rt; is_held(&rt, rt.alloc(), 64));
+}
+
+/// Whether a loop of ten iterations with this schedule leaves each element its number, by one worker, three and 64; and this schedule
+/// stands for `runtime`.
+fn is_same_by_all<R: Threads + Wait + Sync>(
+    rt: &R,
+    alloc: Global,
+    schedule: Option<Schedule>,
+    runtime: &Sched,
+) -> bool {
+    let lowered = loop_of(10, Formula::One(Operand::Counter), schedule);
+    let mut same = true;
+    for count in [1, 3, 64] {
+        same &= is_numbered_by(rt, alloc, &lowered, count, runtime);
+    }
+    same
+}
+
+/// Whether a loop by so many workers leaves each of ten elements its number.
+fn is_numbered_by<R: Threads + Wait + Sync>(
+    rt: &R,
+    alloc: Global,
+    lowered: &LoweredLoop,
+    count: u64,
+    runtime: &Sched,
+) -> bool {
+    match one_array(alloc, &[7; 10]) {
+        Ok(mut store) => {
+            is_run(rt, alloc, lowered, &mut store, count, *runtime, &OpenGate)
+                && holds(&store, &[0, 1, 2, 3, 4, 5, 6, 7, 8, 9])
+        }
+        Err(_) => false,
+    }
+}
+
+#[test]
+fn each_schedule_leaves_the_same(rt: HostRuntime) {
+    let heap = rt.alloc();
+    let plain = Sched::PlainStatic;
+    assert!(rt; is_same_by_all(&rt, heap, None, &plain));
+    assert!(rt; is_same_by_all(&rt, heap, Some(Schedule::Static), &plain));
+    assert!(rt;
+        is_same_by_all(
+            &rt,
+            heap,
+            Some(Schedule::StaticChunks(size(&rt, 3))),
+            &plain
+        )
+    );
+    assert!(rt; is_same_by_all(&rt, heap, Some(Schedule::Dynamic(size(&rt, 3))), &plain));
+    assert!(rt; is_same_by_all(&rt, heap, Some(Schedule::Guided(size(&rt, 3))), &plain));
+    assert!(rt;
+        is_same_by_all(
+            &rt,
+            heap,
+            Some(Schedule::Auto),
+            &Sched::Dynamic(size(&rt, 3))
+        )
+    );
+}
+
+#[test]
+fn runtime_stands_for_each_schedule(rt: HostRuntime) {
+    let heap = rt.alloc();
+    assert!(rt; is_same_by_all(&rt, heap, Some(Schedule::Runtime), &Sched::PlainStatic));
+    assert!(rt;
+        is_same_by_all(
+            &rt,
+            heap,
+            Some(Schedule::Runtime),
+            &Sched::Static(size(&rt, 3))
+        )
+    );
+    assert!(rt;
+        is_same_by_all(
+            &rt,
+            heap,
+            Some(Schedule::Runtime),
+            &Sched::Dynamic(size(&rt, 3))
+        )
+    );
+    assert!(rt;
+        is_same_by_all(
+            &rt,
+            heap,
+            Some(Schedule::Runtime),
+            &Sched::Guided(size(&rt, 3))
+        )
+    );
+}
+
+/// Keeps which chunks were entered, as the sum of two to the power of each number, and how many by another worker than the one that is
+/// dealt every so manieth of them.
+#[derive(Drop)]
+struct Dealt {
+    chunks: AtomicU64,
+    others: AtomicU64,
+}
+
+impl Gate for Dealt {
+    fn entered(&self, taken: Taken) {
+        if taken.chunk < 64 && taken.chunk % taken.workers == taken.worker {
+            self.chunks.fetch_add(1 << taken.chunk, Ordering::SeqCst);
+        } else {
+            self.others.fetch_add(1, Ordering::SeqCst);
+        }
+    }
+}
+
+/// Which chunks the workers of a loop enter, where each enters its own alone.
+fn own_chunks<R: Threads + Wait + Sync>(
+    rt: &R,
+    alloc: Global,
+    lowered: &LoweredLoop,
+    count: u64,
+) -> Option<u64> {
+    let gate = Dealt {
+        chunks: AtomicU64::new(0),
+        others: AtomicU64::new(0),
+    };
+    let mut store = one_array(alloc, &[0; 10]).ok()?;
+    if !is_run(
+        rt,
+        alloc,
+        lowered,
+        &mut store,
+        count,
+        Sched::PlainStatic,
+        &gate,
+    ) {
+        return None;
+    }
+    if gate.others.load(Ordering::SeqCst) > 0 {
+        return None;
+    }
+    Some(gate.chunks.load(Ordering::SeqCst))
+}
+
+#[test]
+fn workers_enter_their_own_chunks(rt: HostRuntime) {
+    let (heap, number) = (rt.alloc(), Formula::One(Operand::Counter));
+    let threes = Some(Schedule::StaticChunks(size(&rt, 3)));
+    assert_eq!(rt;
+        own_chunks(&rt, heap, &loop_of(10, number, threes), 2),
+        Some(15)
+    );
+    assert_eq!(rt;
+        own_chunks(&rt, heap, &loop_of(8, number, None), 64),
+        Some(255)
+    );
+    assert_eq!(rt;
+        own_chunks(&rt, heap, &loop_of(10, number, Some(Schedule::Static)), 3),
+        Some(7)
+    );
 }

@@ -1,9 +1,10 @@
 //! Lines that are read and lines that are refused, and where they stand in kernels.
 
 use cparse::parse;
-use ktree::{AssociatedLoops, ChunkSize, Kernel, Place, Refusal};
+use ktree::{AssociatedLoops, ChunkSize, Kernel, Place, Refusal, Schedule};
 use pragma::{Directives, Fault, ParallelFor, first_fault};
 use std::alloc::Global;
+use std::process::Abort;
 
 /// A place at the front of the line of this number.
 fn at(line: u32) -> Place {
@@ -28,9 +29,11 @@ fn outcome_at(directives: &Directives, line: u32) -> Result<ParallelFor, u8> {
 
 /// The size and the loops that a line gives, 0 where none stand.
 fn numbers(read: ParallelFor) -> (u64, u64) {
-    let size = match read.schedule {
-        Some(size) => size.get(),
-        None => 0,
+    let size = match &read.schedule {
+        Some(Schedule::StaticChunks(size)) => size.get(),
+        Some(Schedule::Dynamic(size)) => size.get(),
+        Some(Schedule::Guided(size)) => size.get(),
+        _ => 0,
     };
     let loops = match read.collapse {
         Some(collapse) => collapse.get(),
@@ -152,6 +155,38 @@ fn other_line(alloc: Global, text: &[u8], rows: &[(u32, Result<ParallelFor, u8>)
     None
 }
 
+/// The size of a chunk.
+fn size(rt: &impl Abort, iterations: u64) -> ChunkSize {
+    ChunkSize::new(iterations).expect(rt, "a size of a chunk")
+}
+
+/// What a line with this schedule says.
+fn scheduled(schedule: Schedule) -> Result<ParallelFor, u8> {
+    Ok(ParallelFor {
+        schedule: Some(schedule),
+        collapse: None,
+    })
+}
+
+#[test]
+fn each_kind_of_schedule_is_read(rt: HostRuntime) {
+    let text = b"#pragma omp parallel for schedule(static)
+#pragma omp parallel for schedule(static, 3)
+#pragma omp parallel for schedule(guided)
+#pragma omp parallel for schedule(auto)
+#pragma omp parallel for schedule(runtime)
+#pragma omp parallel for schedule(auto) schedule(runtime)";
+    let rows = [
+        (1, scheduled(Schedule::Static)),
+        (2, scheduled(Schedule::StaticChunks(size(&rt, 3)))),
+        (3, scheduled(Schedule::Guided(size(&rt, 1)))),
+        (4, scheduled(Schedule::Auto)),
+        (5, scheduled(Schedule::Runtime)),
+        (6, Err(11)),
+    ];
+    assert_eq!(rt; other_line(rt.alloc(), text, &rows), None);
+}
+
 #[test]
 fn lines_have_numbers(rt: HostRuntime) {
     let alloc = rt.alloc();
@@ -162,7 +197,7 @@ fn lines_have_numbers(rt: HostRuntime) {
         collapse: AssociatedLoops::new(2),
     };
     let sized = ParallelFor {
-        schedule: ChunkSize::new(16777216),
+        schedule: Some(Schedule::Dynamic(size(&rt, 16777216))),
         collapse: None,
     };
     let rows = [

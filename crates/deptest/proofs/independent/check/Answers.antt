@@ -5,11 +5,11 @@ use Rattle.deptest.proofs.independent.check.Goals as goal
 
 pub invariant_of-result : goal.invariant_of-result
 invariant_of-result c =
-    let p = c.requires in
+    let p = c.requires.passed in
     record {
       apart = shown_kernels_are_independent _ _ p.reads p.in_range c.in-Ok.ensures.ok;
       commute = accepted_loops_commute _ _ p.reads p.in_range p.definite p.private c.in-Ok.ensures.ok;
     }
 
 pub returns-in-Err-clause-err : goal.returns-in-Err-clause-err
-returns-in-Err-clause-err c = refuses _ _ _ c.requires c.in-Err.ensures.err
+returns-in-Err-clause-err c = refuses _ _ _ c.requires.passed c.in-Err.ensures.err

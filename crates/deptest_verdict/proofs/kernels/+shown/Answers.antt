@@ -1,11 +1,17 @@
-use Rattle.std.specs.Prelude.{◌+◌, ◌-◌, length, map, take, drop, OnOk, IfErr}
-use Rattle.std.proofs.Common.{sym, ◌∙◌, subst}
+use Rattle.std.specs.Prelude.{◌≡◌, ◌+◌, ◌-◌, length, map, take, drop, OnOk, IfOk, IfErr}
+use Rattle.std.proofs.Common.{sym, ap, ◌∙◌, subst, rules}
 use Rattle.semantics.specs.Tree.{Stmt, no_items}
-use Rattle.ktree.specs.View.{items_of, with_item, declaration_of}
+use Rattle.ktree.specs.View.{stmt_of, items_of, with_item, declaration_of}
+use Rattle.ktree.specs.declared.statement.Item.{the_lemmas}
 use Rattle.ktree.proofs.Trees.{block_is}
+use Rattle.nest_loop.specs.Facts.{FactsOf, FactsAmong, StandFirst, StandFirstAmong, IsLeft}
+use Rattle.nest_loop.proofs.Standing.{next_first, next_and_behind, left_more}
+use Rattle.pairtest_counter.specs.Levels.{Nesting}
+use Rattle.nest.proofs.NestedLaw.{all_behind}
 use Rattle.deptest_verdict.specs.Shown.{LoopsShown, FirstLineShown, FirstLoopsShown}
-use Rattle.deptest_verdict.proofs.Walks.{shown_more}
-use Rattle.deptest_verdict.proofs.Refusals.{refused_more, refused_by_line, refused_by_statement, head_refused}
+use Rattle.pairtest_access.proofs.Walks.{for_is, loop_entered, loop_passed, some_loop, left}
+use Rattle.deptest_verdict.proofs.Walks.{shown_more, loop_shown, loop_refused}
+use Rattle.deptest_verdict.proofs.Refusals.{refused_more, refused_by_line, refused_by_statement}
 use Rattle.deptest_verdict.specs.Refused.{LoopsRefused}
 use Rattle.deptest_verdict.specs.Telling.{FirstLineRefused, FirstLoopsRefused, OrMemory}
 use Rattle.deptest_verdict.proofs.kernels.+shown.Goals as goal
@@ -21,6 +27,9 @@ block-loop-i-preserved t c =
       c.in-Ok-one_item.ensures.back ∙ c.in-Ok.ensures.back ∙ c.loop-i.invariant.0,
       shown_more text c.args.chain.now is c.loop-i.i c.index-items-i.result c.loop-i-test.true c.index-items-i.is c.loop-i.invariant.1 line loops,
       refused_more text (map declaration_of c.args.given.variables.now) c.args.chain.now is c.loop-i.i c.index-items-i.result c.loop-i-test.true c.index-items-i.is c.loop-i.invariant.2 line loops,
+      left_more c.args.chain.now.box is c.loop-i.i c.index-items-i.result c.args.loops.now c.loop-i.left.now c.in-Ok-one_item.behind.now c.loop-i-test.true c.index-items-i.is c.loop-i.invariant.3
+          (subst (λ (n : Nesting). IsLeft (FactsAmong n.box (with_item c.index-items-i.result no_items) c.loop-i.left.now) c.in-Ok-one_item.behind.now) (c.in-Ok.ensures.back ∙ c.loop-i.invariant.0)
+          c.in-Ok-one_item.ensures.left),
     )
 
 pub statement-returns-in-Block-clause-ok : goal.statement-returns-in-Block-clause-ok
@@ -47,12 +56,84 @@ block-returns-in-Err-one_item-clause-err t c =
     (subst (λ n. OrMemory (FirstLoopsRefused text ds n (with_item c.index-items-i.result no_items)) c.in-Err-one_item.refusal) (c.in-Ok.ensures.back ∙ c.loop-i.invariant.0)
     c.in-Err-one_item.ensures.err)
 
-pub statement-returns-in-Err-enter-clause-err : goal.statement-returns-in-Err-enter-clause-err
-statement-returns-in-Err-enter-clause-err t c =
-    head_refused c.args.given.directives.now (map declaration_of c.args.given.variables.now) c.args.chain.now c.args.walked.now c.in-For.head c.in-For.body c.deref-in-For.result.now
-    c.in-Err-enter.refusal c.in-For.is c.deref-in-For.ensures c.in-Err-enter.ensures.err
-
 pub statement-returns-in-Block-clause-err : goal.statement-returns-in-Block-clause-err
 statement-returns-in-Block-clause-err t c =
     subst (λ (s : Stmt). IfErr c.block.result (OrMemory (LoopsRefused c.args.given.directives.now (map declaration_of c.args.given.variables.now) c.args.chain.now s)))
     (sym (block_is c.args.walked.now c.in-Block.items c.deref-in-Block.result.now c.in-Block.is c.deref-in-Block.ensures.value)) c.block.ensures.err
+
+pub statement-returns-in-Block-clause-left : goal.statement-returns-in-Block-clause-left
+statement-returns-in-Block-clause-left t c =
+    subst (λ (s : Stmt). IfOk c.block.result (λ passed. IsLeft (FactsOf c.args.chain.now.box s c.args.loops.now) passed.now))
+    (sym (block_is c.args.walked.now c.in-Block.items c.deref-in-Block.result.now c.in-Block.is c.deref-in-Block.ensures.value)) c.block.ensures.left
+
+pub statement-block-requires : goal.statement-block-requires
+statement-block-requires t c = (
+  search (rules, the_lemmas),
+  subst (λ (s : Stmt). StandFirst c.args.chain.now.box s c.args.loops.now)
+      (block_is c.args.walked.now c.in-Block.items c.deref-in-Block.result.now c.in-Block.is c.deref-in-Block.ensures.value) c.requires,
+)
+
+pub block-item_line_shown-requires : goal.block-item_line_shown-requires
+block-item_line_shown-requires t c =
+    let is = c.args.items.now in
+    let e = c.index-items-i.result in
+    subst (λ (n : Nesting). StandFirstAmong n.box (with_item e (items_of (take (length is - (c.loop-i.i + 1)) (drop (c.loop-i.i + 1) is)))) c.loop-i.left.now) (sym c.loop-i.invariant.0)
+    (subst (λ xs. StandFirstAmong c.args.chain.now.box (with_item e (items_of xs)) c.loop-i.left.now) (sym (all_behind is (c.loop-i.i + 1)))
+    (next_and_behind c.args.chain.now.box is c.loop-i.i e c.args.loops.now c.loop-i.left.now c.loop-i-test.true c.index-items-i.is c.loop-i.invariant.3 c.requires))
+
+pub block-one_item-requires : goal.block-one_item-requires
+block-one_item-requires t c =
+    let e = c.index-items-i.result in (
+      search (rules, the_lemmas),
+      subst (λ (n : Nesting). StandFirstAmong n.box (with_item e no_items) c.loop-i.left.now) (sym (c.in-Ok.ensures.back ∙ c.loop-i.invariant.0))
+          (next_first c.args.chain.now.box c.args.items.now c.loop-i.i e c.args.loops.now c.loop-i.left.now c.loop-i-test.true c.index-items-i.is c.loop-i.invariant.3 c.requires),
+    )
+
+pub statement-returns-in-Err-statement-clause-err : goal.statement-returns-in-Err-statement-clause-err
+statement-returns-in-Err-statement-clause-err t c =
+    let n = c.args.chain.now in
+    let head = c.in-For.head in
+    let b = c.deref-in-For.result.now in
+    let into = loop_entered n c.enter.new.chain c.args.walked.now head c.in-For.body b c.args.loops.now c.in-Ok-enter.inner.now c.in-For.is c.deref-in-For.ensures c.in-Ok-enter.ensures.ok c.requires in
+    let text = c.args.given.directives.now in
+    let ds = map declaration_of c.args.given.variables.now in
+    let r = c.in-Err-statement.refusal in
+    subst (λ (s : Stmt). OrMemory (LoopsRefused text ds n s) r) (for_is c.args.walked.now head c.in-For.body b c.in-For.is c.deref-in-For.ensures)
+    (loop_refused text ds n c.enter.new.chain head (stmt_of b) r into c.in-Err-statement.ensures.err)
+
+pub statement-leave-requires : goal.statement-leave-requires
+statement-leave-requires t c =
+    let n = c.args.chain.now in
+    let head = c.in-For.head in
+    let b = c.deref-in-For.result.now in
+    let into = loop_entered n c.enter.new.chain c.args.walked.now head c.in-For.body b c.args.loops.now c.in-Ok-enter.inner.now c.in-For.is c.deref-in-For.ensures c.in-Ok-enter.ensures.ok c.requires in
+    some_loop n c.enter.new.chain c.statement-in-For.new.chain _ _ _ _ _ into c.in-Ok-statement.ensures.back
+
+pub statement-returns-in-Ok-statement-clause-ok : goal.statement-returns-in-Ok-statement-clause-ok
+statement-returns-in-Ok-statement-clause-ok t c =
+    let n = c.args.chain.now in
+    let head = c.in-For.head in
+    let b = c.deref-in-For.result.now in
+    let into = loop_entered n c.enter.new.chain c.args.walked.now head c.in-For.body b c.args.loops.now c.in-Ok-enter.inner.now c.in-For.is c.deref-in-For.ensures c.in-Ok-enter.ensures.ok c.requires in
+    let text = c.args.given.directives.now in
+    subst (λ (s : Stmt). LoopsShown text n s) (for_is c.args.walked.now head c.in-For.body b c.in-For.is c.deref-in-For.ensures)
+    (loop_shown text n c.enter.new.chain head (stmt_of b) into c.in-Ok-statement.ensures.ok)
+
+pub statement-returns-in-Ok-statement-clause-left : goal.statement-returns-in-Ok-statement-clause-left
+statement-returns-in-Ok-statement-clause-left t c =
+    let n = c.args.chain.now in
+    let head = c.in-For.head in
+    let b = c.deref-in-For.result.now in
+    let passed = c.in-Ok-statement.left.now in
+    subst (λ (s : Stmt). IsLeft (FactsOf n.box s c.args.loops.now) passed) (for_is c.args.walked.now head c.in-For.body b c.in-For.is c.deref-in-For.ensures)
+    (loop_passed n c.enter.new.chain head (stmt_of b) c.args.loops.now c.in-Ok-enter.inner.now passed c.in-Ok-enter.ensures.ok c.in-Ok-statement.ensures.left)
+
+pub statement-returns-in-Ok-statement-clause-back : goal.statement-returns-in-Ok-statement-clause-back
+statement-returns-in-Ok-statement-clause-back t c =
+    let n = c.args.chain.now in
+    let head = c.in-For.head in
+    let b = c.deref-in-For.result.now in
+    let into = loop_entered n c.enter.new.chain c.args.walked.now head c.in-For.body b c.args.loops.now c.in-Ok-enter.inner.now c.in-For.is c.deref-in-For.ensures c.in-Ok-enter.ensures.ok c.requires in
+    let same = c.in-Ok-statement.ensures.back in
+    left n c.enter.new.chain c.leave.new.self _ _ _ _ _ into (subst (λ (m : Nesting). c.leave.new.self.box ≡ drop 1 m.box) same c.leave.ensures.numbers)
+    (subst (λ (m : Nesting). c.leave.new.self.levels ≡ drop 1 m.levels) same c.leave.ensures.levels)

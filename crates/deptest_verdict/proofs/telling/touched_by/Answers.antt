@@ -5,4 +5,4 @@ use Rattle.deptest_verdict.proofs.telling.touched_by.Goals as goal
 pub unreachable-requires : goal.unreachable-requires
 unreachable-requires c =
     let told = c.in_ok-found.ensures.ok in
-    is_there c.args.chain.now (stmt_of c.args.body.now) c.args.number told.0 _ c.requires told.1 told.2 c.in-None.is
+    is_there c.args.chain.now (stmt_of c.args.body.now) c.args.number told.0 _ c.requires.there told.1 told.2 c.in-None.is

@@ -11,7 +11,7 @@ returns-in-None-clause-ok c =
     let body = stmt_of c.args.body.now in
     let x = c.in_ok-x.x in
     let y = c.in_ok-y.y in
-    let loops : c.as_slice.result.now ≡ map (λ v. v.canonical) (inner_loops 0 now.levels) = c.as_slice.ensures.value ∙ c.in_ok-loops.ensures.ok in
+    let loops : c.as_slice.result.now ≡ map (λ v. v.canonical) (inner_loops 0 now.levels) = c.as_slice.ensures.value ∙ c.in_ok-round.ensures.ok in
     let other = as_before now _ body c.args.pair.second y c.in_ok-x.ensures.back c.in_ok-y.ensures.ok in
     never_told (map declaration_of c.args.variables.now) now c.args.outer body c.args.pair c.in_ok-accesses.accesses x y c.as_slice.result.now _ c.in_ok-accesses.ensures.ok
     c.in_ok-x.ensures.ok other loops c.in_ok-find_meeting.ensures.none c.in-None.is
@@ -22,7 +22,7 @@ returns-clause-ok c =
     let body = stmt_of c.args.body.now in
     let x = c.in_ok-x.x in
     let y = c.in_ok-y.y in
-    let loops : c.as_slice.result.now ≡ map (λ v. v.canonical) (inner_loops 0 now.levels) = c.as_slice.ensures.value ∙ c.in_ok-loops.ensures.ok in
+    let loops : c.as_slice.result.now ≡ map (λ v. v.canonical) (inner_loops 0 now.levels) = c.as_slice.ensures.value ∙ c.in_ok-round.ensures.ok in
     let other = as_before now _ body c.args.pair.second y c.in_ok-x.ensures.back c.in_ok-y.ensures.ok in
     first_told (map declaration_of c.args.variables.now) now c.args.outer body c.args.pair c.in_ok-accesses.accesses x y c.as_slice.result.now _ c.in-Some.meeting c.in_ok-accesses.ensures.ok
     c.in_ok-x.ensures.ok other loops c.in_ok-find_meeting.ensures.some c.in-Some.is

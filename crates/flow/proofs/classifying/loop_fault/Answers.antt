@@ -1,5 +1,6 @@
 use Rattle.std.proofs.Common.{ap, ◌∙◌, inr}
 use Rattle.ktree.specs.View.{stmt_of, items_of}
+use Rattle.pragma.specs.Views.{scheduled}
 use Rattle.flow.specs.Private.{nest_body_of}
 use Rattle.flow.proofs.PrivateLemmas.{not_private, not_nested, nest_judged}
 use Rattle.flow.proofs.FaultLemmas.{nest_told}
@@ -15,26 +16,26 @@ pub returns-in_default-nest_body-clause-judged : goal.returns-in_default-nest_bo
 returns-in_default-nest_body-clause-judged c =
     let line = c.in-Ok.said in
     let statement = stmt_of c.in-Some.statement.now in
-    not_private c.args.directives.now c.args.place.line (items_of c.args.rest.now) line.schedule line.collapse c.in-Ok.ensures.ok statement c.in-Some.ensures
+    not_private c.args.directives.now c.args.place.line (items_of c.args.rest.now) (scheduled line) line.collapse c.in-Ok.ensures.ok statement c.in-Some.ensures
     (c.in_default-nest_body.ensures ∙ ap (λ n. nest_body_of n statement) c.associated_loops.ensures)
 
 pub returns-in_default-nest_body-clause-cause : goal.returns-in_default-nest_body-clause-cause
 returns-in_default-nest_body-clause-cause c =
     let line = c.in-Ok.said in
     let statement = stmt_of c.in-Some.statement.now in
-    inr (not_nested c.args.directives.now c.args.place.line (items_of c.args.rest.now) line.schedule line.collapse c.in-Ok.ensures.ok statement c.in-Some.ensures
+    inr (not_nested c.args.directives.now c.args.place.line (items_of c.args.rest.now) (scheduled line) line.collapse c.in-Ok.ensures.ok statement c.in-Some.ensures
     (c.in_default-nest_body.ensures ∙ ap (λ n. nest_body_of n statement) c.associated_loops.ensures))
 
 pub returns-clause-judged : goal.returns-clause-judged
 returns-clause-judged c =
     let line = c.in-Ok.said in
     let statement = stmt_of c.in-Some.statement.now in
-    nest_judged c.args.directives.now c.args.place.line (items_of c.args.rest.now) line.schedule line.collapse c.in-Ok.ensures.ok statement c.in-Some.ensures
+    nest_judged c.args.directives.now c.args.place.line (items_of c.args.rest.now) (scheduled line) line.collapse c.in-Ok.ensures.ok statement c.in-Some.ensures
     c.body_fault.result (stmt_of c.in-Some-nest_body.body.now) (c.in-Some-nest_body.ensures ∙ ap (λ n. nest_body_of n statement) c.associated_loops.ensures) c.body_fault.ensures.judged
 
 pub returns-clause-cause : goal.returns-clause-cause
 returns-clause-cause c =
     let line = c.in-Ok.said in
     let statement = stmt_of c.in-Some.statement.now in
-    nest_told c.args.directives.now c.args.place.line (items_of c.args.rest.now) line.schedule line.collapse c.in-Ok.ensures.ok statement c.in-Some.ensures
+    nest_told c.args.directives.now c.args.place.line (items_of c.args.rest.now) (scheduled line) line.collapse c.in-Ok.ensures.ok statement c.in-Some.ensures
     c.body_fault.result (stmt_of c.in-Some-nest_body.body.now) (c.in-Some-nest_body.ensures ∙ ap (λ n. nest_body_of n statement) c.associated_loops.ensures) c.body_fault.ensures.cause

@@ -1,7 +1,7 @@
 use Rattle.std.proofs.Common.{rules, ◌≡◌, ◌≤◌, ◌∙◌, ap, length, List, ℕ, arith, map}
 use Rattle.store.specs.Kept.{Kept}
 use Rattle.lower_code.specs.Machine.{Fits, machine, running}
-use Rattle.lower_code.specs.Layout.{filled, values_of}
+use Rattle.store.specs.Flat.{filled, values_of}
 use Rattle.lower_code.proofs.Keeping.{filled_lengths}
 use Rattle.lower_code.proofs.Starting.{run_ends, run_begins, cells_stay, put_back}
 use Rattle.lower_code.proofs.lowering.run.Goals as goal

@@ -8,7 +8,7 @@ use Rattle.ktree.specs.declared.statement.Stmt as code
 use Rattle.ktree.proofs.Trees.{block_is}
 use Rattle.affine_expr.specs.declared.faults.Fault.TheVariants.{OutOfMemory}
 use Rattle.nest_loop.specs.declared.entered.LoopFacts.{LoopFacts}
-use Rattle.nest.specs.Facts.{FactsOf, FactsAmong}
+use Rattle.nest_loop.specs.Facts.{FactsOf, FactsAmong}
 use Rattle.nest.specs.Judged.{DecidesBy}
 use Rattle.nest.specs.Perfect.{Nests, FirstLineNests, FirstNests}
 use Rattle.nest.proofs.Walks.{loop_of}

@@ -9,7 +9,8 @@ use Rattle.ktree.proofs.Trees.{block_is}
 use Rattle.affine_expr.specs.declared.faults.Fault.TheVariants.{OutOfMemory}
 use Rattle.nest.specs.Nests.{IsAffine, Has, Have}
 use Rattle.nest.specs.Leaves.{Meets, Meet}
-use Rattle.nest.specs.Facts.{FactsOf, FactsAmong, Pushes}
+use Rattle.nest_loop.specs.Facts.{FactsOf, FactsAmong}
+use Rattle.nest.specs.Facts.{Pushes}
 use Rattle.nest.specs.Judged.{inside_of, out_of, Decides, Tells, EntersLoop}
 use Rattle.nest.proofs.Walks.{loop_of, head_refused, body_refused, item_more, item_refused}
 use Rattle.nest.proofs.Leaving.{ToldSoFar, told_more}

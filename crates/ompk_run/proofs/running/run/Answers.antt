@@ -1,17 +1,16 @@
-use Rattle.std.proofs.Common.{◌≡◌, ◌++◌, List, [], IsSome, sym, ap, ◌∙◌, subst}
+use Rattle.std.proofs.Common.{◌≡◌, ◌++◌, IsSome, sym, ap, ◌∙◌, subst}
 use Rattle.std.proofs.lemmas.Result.{on_ok_weaker}
-use Rattle.semantics.specs.Tree.{Items}
 use Rattle.semantics.specs.Meaning.Output.{dump}
 use Rattle.semantics.specs.Meaning.Runs.{run_items}
 use Rattle.ktree.specs.View.{items_of}
+use Rattle.outline.specs.Fit.{AllFit}
 use Rattle.outline.specs.View.{items_outlined}
 use Rattle.store.specs.Kept.{state_of}
-use Rattle.seqrun_value.specs.declared.frame.Slot.{Slot}
-use Rattle.seqrun_value.specs.Standing.{standing}
 use Rattle.seqrun.specs.Ran.{Ran, text_of}
 use Rattle.seqrun_io.specs.Told.{AddsBeginning}
 use Rattle.seqrun_io.specs.Reading.{AreVariables, IsStart}
 use Rattle.ompk_run.proofs.Output.{named}
+use Rattle.ompk_run.proofs.Readied.{cells_of_end}
 use Rattle.ompk_run.proofs.Written.{nothing_written, runs, body_written, dump_written, all_written}
 use Rattle.ompk_run.proofs.running.run.Goals as goal
 
@@ -21,44 +20,57 @@ input-requires-clause-named g c = subst AreVariables (sym c.declarations-declara
 pub returns-in_err-store-clause-beginning : goal.returns-in_err-store-clause-beginning
 returns-in_err-store-clause-beginning g c = nothing_written c.args.checked.now c.args.input.now _ c.declarations-declarations.ensures.sound
 
+pub prepare-requires : goal.prepare-requires
+prepare-requires g c =
+    let first = subst (λ ds. IsStart ds c.args.input.now c.in_ok-store.store) c.declarations-declarations.ensures.variables c.in_ok-store.ensures.start in
+    first.lengths
+
 pub returns-in_err-outline-clause-beginning : goal.returns-in_err-outline-clause-beginning
 returns-in_err-outline-clause-beginning g c = nothing_written c.args.checked.now c.args.input.now _ c.declarations-declarations.ensures.sound
 
-pub team_block-requires-clause-runs : goal.team_block-requires-clause-runs
-team_block-requires-clause-runs g c κs within =
-    let first = subst (λ ds. IsStart ds c.args.input.now c.in_ok-store.store) c.declarations-declarations.ensures.variables c.in_ok-store.ensures.start in
-    let slots : c.new-frame.result ≡ [] = c.new-frame.ensures ∙ c.new.ensures.items in
-    let body : items_outlined c.deref.result.now ≡ items_of c.args.checked.now.kernel.body.items = ap items_outlined c.deref.ensures.value ∙ c.in_ok-outline.ensures.is ∙ ap items_of c.body.ensures in
-    subst (λ (z : Items × List Slot). IsSome (run_items z.0 (standing z.1 c.in_ok-store.store))) (λ i. (sym body i, sym slots i))
-    (runs c.args.checked.now c.args.input.now c.in_ok-store.store c.declarations-declarations.ensures.sound first)
-
 pub returns-in_err-team_block-clause-beginning : goal.returns-in_err-team_block-clause-beginning
 returns-in_err-team_block-clause-beginning g c =
-    let first = subst (λ ds. IsStart ds c.args.input.now c.in_ok-store.store) c.declarations-declarations.ensures.variables c.in_ok-store.ensures.start in
-    let slots : c.new-frame.result ≡ [] = c.new-frame.ensures ∙ c.new.ensures.items in
-    let body : items_outlined c.deref.result.now ≡ items_of c.args.checked.now.kernel.body.items = ap items_outlined c.deref.ensures.value ∙ c.in_ok-outline.ensures.is ∙ ap items_of c.body.ensures in
-    body_written c.args.checked.now c.args.input.now c.in_ok-store.store c.declarations-declarations.ensures.sound first (g.S.Sink.told c.args.sink.now) (g.S.Sink.told c.team_block.new.sink)
-    (subst (λ (z : Items × List Slot). AddsBeginning (g.S.Sink.told c.args.sink.now) (g.S.Sink.told c.team_block.new.sink) (text_of (run_items z.0 (standing z.1 c.in_ok-store.store))))
-    (λ i. (body i, slots i)) c.team_block.ensures.beginning)
+    let a = c.args.checked.now in
+    let ks = c.in_ok-store.store in
+    let sound = c.declarations-declarations.ensures.sound in
+    let first = subst (λ ds. IsStart ds c.args.input.now ks) c.declarations-declarations.ensures.variables c.in_ok-store.ensures.start in
+    let ready = c.in_ok-outline.ensures.ready in
+    let body : items_outlined c.deref.result.now ≡ items_of a.kernel.body.items = ap items_outlined c.deref.ensures.value ∙ c.in_ok-outline.ensures.is in
+    let fit = subst (AllFit ready.layout ready.mark) (sym c.deref.ensures.value) ready.fit in
+    let some = subst (λ is. IsSome (run_items is (state_of ks))) (sym body) (runs a c.args.input.now ks sound first) in
+    body_written a c.args.input.now ks sound first (g.S.Sink.told c.args.sink.now) (g.S.Sink.told c.team_block.new.sink)
+    (subst (λ is. AddsBeginning (g.S.Sink.told c.args.sink.now) (g.S.Sink.told c.team_block.new.sink) (text_of (run_items is (state_of ks)))) body (c.in_err-team_block.ensures.beginning ready.layout ready.mark fit (state_of ks) ready.stand some))
 
 pub returns-clause-all : goal.returns-clause-all
 returns-clause-all g c =
-    let first = subst (λ ds. IsStart ds c.args.input.now c.in_ok-store.store) c.declarations-declarations.ensures.variables c.in_ok-store.ensures.start in
-    let slots : c.new-frame.result ≡ [] = c.new-frame.ensures ∙ c.new.ensures.items in
-    let body : items_outlined c.deref.result.now ≡ items_of c.args.checked.now.kernel.body.items = ap items_outlined c.deref.ensures.value ∙ c.in_ok-outline.ensures.is ∙ ap items_of c.body.ensures in
-    let ran = subst (λ (z : Items × List Slot). Ran (run_items z.0 (standing z.1 c.in_ok-store.store)) (standing z.1 c.in_ok-store.store) (standing c.team_block.new.frame c.team_block.new.store) (g.S.Sink.told c.args.sink.now) (g.S.Sink.told c.team_block.new.sink))
-    (λ i. (body i, slots i)) c.in_ok-team_block.ensures.ran in
+    let a = c.args.checked.now in
+    let ks = c.in_ok-store.store in
+    let sound = c.declarations-declarations.ensures.sound in
+    let first = subst (λ ds. IsStart ds c.args.input.now ks) c.declarations-declarations.ensures.variables c.in_ok-store.ensures.start in
+    let ready = c.in_ok-outline.ensures.ready in
+    let body : items_outlined c.deref.result.now ≡ items_of a.kernel.body.items = ap items_outlined c.deref.ensures.value ∙ c.in_ok-outline.ensures.is in
+    let fit = subst (AllFit ready.layout ready.mark) (sym c.deref.ensures.value) ready.fit in
+    let some = subst (λ is. IsSome (run_items is (state_of ks))) (sym body) (runs a c.args.input.now ks sound first) in
+    let walked = c.in_ok-team_block.ensures.ran ready.layout ready.mark fit (state_of ks) ready.stand some in
+    let ran = subst (λ is. Ran (run_items is (state_of ks)) (state_of ks) walked.state (g.S.Sink.told c.args.sink.now) (g.S.Sink.told c.team_block.new.sink)) body walked.ran in
+    let cells = cells_of_end ready.layout ready.mark (run_items (items_outlined c.deref.result.now) (state_of ks)) (state_of ks) c.team_block.new.registers.items c.team_block.new.store (g.S.Sink.told c.args.sink.now) (g.S.Sink.told c.team_block.new.sink) c.cells-cells.ensures.filled walked in
     on_ok_weaker c.dump.result
-    (λ e. all_written c.args.checked.now c.args.input.now c.in_ok-store.store c.declarations-declarations.ensures.sound first c.team_block.new.frame c.team_block.new.store (g.S.Sink.told c.args.sink.now) (g.S.Sink.told c.team_block.new.sink) ran (g.S.Sink.told c.dump.new.sink)
+    (λ e. all_written a c.args.input.now ks sound first walked.state c.team_block.new.store cells (g.S.Sink.told c.args.sink.now) (g.S.Sink.told c.team_block.new.sink) ran (g.S.Sink.told c.dump.new.sink)
     (subst (λ ds. g.S.Sink.told c.dump.new.sink ≡ g.S.Sink.told c.team_block.new.sink ++ dump ds (state_of c.team_block.new.store)) c.declarations-declarations.ensures.variables e))
     c.dump.ensures.all
 
 pub returns-clause-beginning : goal.returns-clause-beginning
 returns-clause-beginning g c =
-    let first = subst (λ ds. IsStart ds c.args.input.now c.in_ok-store.store) c.declarations-declarations.ensures.variables c.in_ok-store.ensures.start in
-    let slots : c.new-frame.result ≡ [] = c.new-frame.ensures ∙ c.new.ensures.items in
-    let body : items_outlined c.deref.result.now ≡ items_of c.args.checked.now.kernel.body.items = ap items_outlined c.deref.ensures.value ∙ c.in_ok-outline.ensures.is ∙ ap items_of c.body.ensures in
-    let ran = subst (λ (z : Items × List Slot). Ran (run_items z.0 (standing z.1 c.in_ok-store.store)) (standing z.1 c.in_ok-store.store) (standing c.team_block.new.frame c.team_block.new.store) (g.S.Sink.told c.args.sink.now) (g.S.Sink.told c.team_block.new.sink))
-    (λ i. (body i, slots i)) c.in_ok-team_block.ensures.ran in
-    dump_written c.args.checked.now c.args.input.now c.in_ok-store.store c.declarations-declarations.ensures.sound first c.team_block.new.frame c.team_block.new.store (g.S.Sink.told c.args.sink.now) (g.S.Sink.told c.team_block.new.sink) ran (g.S.Sink.told c.dump.new.sink)
+    let a = c.args.checked.now in
+    let ks = c.in_ok-store.store in
+    let sound = c.declarations-declarations.ensures.sound in
+    let first = subst (λ ds. IsStart ds c.args.input.now ks) c.declarations-declarations.ensures.variables c.in_ok-store.ensures.start in
+    let ready = c.in_ok-outline.ensures.ready in
+    let body : items_outlined c.deref.result.now ≡ items_of a.kernel.body.items = ap items_outlined c.deref.ensures.value ∙ c.in_ok-outline.ensures.is in
+    let fit = subst (AllFit ready.layout ready.mark) (sym c.deref.ensures.value) ready.fit in
+    let some = subst (λ is. IsSome (run_items is (state_of ks))) (sym body) (runs a c.args.input.now ks sound first) in
+    let walked = c.in_ok-team_block.ensures.ran ready.layout ready.mark fit (state_of ks) ready.stand some in
+    let ran = subst (λ is. Ran (run_items is (state_of ks)) (state_of ks) walked.state (g.S.Sink.told c.args.sink.now) (g.S.Sink.told c.team_block.new.sink)) body walked.ran in
+    let cells = cells_of_end ready.layout ready.mark (run_items (items_outlined c.deref.result.now) (state_of ks)) (state_of ks) c.team_block.new.registers.items c.team_block.new.store (g.S.Sink.told c.args.sink.now) (g.S.Sink.told c.team_block.new.sink) c.cells-cells.ensures.filled walked in
+    dump_written a c.args.input.now ks sound first walked.state c.team_block.new.store cells (g.S.Sink.told c.args.sink.now) (g.S.Sink.told c.team_block.new.sink) ran (g.S.Sink.told c.dump.new.sink)
     (subst (λ ds. AddsBeginning (g.S.Sink.told c.team_block.new.sink) (g.S.Sink.told c.dump.new.sink) (dump ds (state_of c.team_block.new.store))) c.declarations-declarations.ensures.variables c.dump.ensures.beginning)

@@ -1,4 +1,4 @@
-use Rattle.std.proofs.Common.{◌≡◌, ◌++◌, List, [], IsSome, sym, ◌∙◌, subst}
+use Rattle.std.proofs.Common.{◌≡◌, ◌++◌, List, [], IsSome, refl, sym, ◌∙◌, subst}
 use Rattle.std.proofs.lemmas.Result.{on_ok_weaker}
 use Rattle.semantics.specs.Meaning.Output.{dump}
 use Rattle.semantics.specs.Meaning.Runs.{run_items}
@@ -42,7 +42,7 @@ returns-clause-all g c =
     let ran = subst (λ (z : List Item × List Slot). Ran (run_items (items_of z.0) (standing z.1 c.in_ok-store.store)) (standing z.1 c.in_ok-store.store) (standing c.block.new.frame c.block.new.store) (g.S.Sink.told c.args.sink.now) (g.S.Sink.told c.block.new.sink))
     (λ i. (c.body.ensures i, slots i)) c.in_ok-block.ensures.ran in
     on_ok_weaker c.dump.result
-    (λ e. all_written c.args.checked.now c.args.input.now c.in_ok-store.store c.declarations-declarations.ensures.sound first c.block.new.frame c.block.new.store (g.S.Sink.told c.args.sink.now) (g.S.Sink.told c.block.new.sink) ran (g.S.Sink.told c.dump.new.sink)
+    (λ e. all_written c.args.checked.now c.args.input.now c.in_ok-store.store c.declarations-declarations.ensures.sound first (standing c.block.new.frame c.block.new.store) c.block.new.store (λ x is. refl) (g.S.Sink.told c.args.sink.now) (g.S.Sink.told c.block.new.sink) ran (g.S.Sink.told c.dump.new.sink)
     (subst (λ ds. g.S.Sink.told c.dump.new.sink ≡ g.S.Sink.told c.block.new.sink ++ dump ds (state_of c.block.new.store)) c.declarations-declarations.ensures.variables e))
     c.dump.ensures.all
 
@@ -52,5 +52,5 @@ returns-clause-beginning g c =
     let slots : c.new-frame.result ≡ [] = c.new-frame.ensures ∙ c.new.ensures.items in
     let ran = subst (λ (z : List Item × List Slot). Ran (run_items (items_of z.0) (standing z.1 c.in_ok-store.store)) (standing z.1 c.in_ok-store.store) (standing c.block.new.frame c.block.new.store) (g.S.Sink.told c.args.sink.now) (g.S.Sink.told c.block.new.sink))
     (λ i. (c.body.ensures i, slots i)) c.in_ok-block.ensures.ran in
-    dump_written c.args.checked.now c.args.input.now c.in_ok-store.store c.declarations-declarations.ensures.sound first c.block.new.frame c.block.new.store (g.S.Sink.told c.args.sink.now) (g.S.Sink.told c.block.new.sink) ran (g.S.Sink.told c.dump.new.sink)
+    dump_written c.args.checked.now c.args.input.now c.in_ok-store.store c.declarations-declarations.ensures.sound first (standing c.block.new.frame c.block.new.store) c.block.new.store (λ x is. refl) (g.S.Sink.told c.args.sink.now) (g.S.Sink.told c.block.new.sink) ran (g.S.Sink.told c.dump.new.sink)
     (subst (λ ds. AddsBeginning (g.S.Sink.told c.block.new.sink) (g.S.Sink.told c.dump.new.sink) (dump ds (state_of c.block.new.store))) c.declarations-declarations.ensures.variables c.dump.ensures.beginning)

@@ -1,124 +1,36 @@
-use Rattle.std.proofs.Common.{◌+◌, ◌-◌, drop, Option, Some, IsSome, Bool, refl, sym, ap, ◌∙◌, subst, arith}
-use Rattle.std.specs.Result.{OnOk}
-use Rattle.semantics.specs.Meaning.State.{State}
-use Rattle.semantics.specs.Meaning.Value.{holds}
-use Rattle.semantics.specs.Meaning.Runs.{Effect, run, run_items, turns, greatest_trip_count, incremented}
-use Rattle.ktree.specs.declared.expression.Cond.{Cond}
-use Rattle.ktree.specs.declared.statement.Increment.{Increment}
-use Rattle.ktree.specs.View.{cond_of, increment_of, source_of}
-use Rattle.outline.specs.View.{outlined, items_outlined}
+use Rattle.std.proofs.Common.{◌+◌, drop, refl, ◌∙◌, sym, subst, arith}
+use Rattle.std.proofs.lemmas.Result.{on_ok_weaker}
+use Rattle.semantics.specs.Meaning.Runs.{run, run_items}
 use Rattle.outline.specs.Fitting.{Stands, AllStand}
-use Rattle.outline.proofs.Blocks.{block_outlined, items_stand}
-use Rattle.seqrun_value.specs.Standing.{standing}
-use Rattle.seqrun_io.specs.Told.{AddsBeginning}
-use Rattle.seqrun_io.proofs.Beginnings.{none}
-use Rattle.seqrun.specs.Ran.{Ran, text_of, lengths_of}
-use Rattle.ompk_run.proofs.Going.{next_on, item_stands}
-use Rattle.seqrun.proofs.RunLemmas.{going_from, going_same, going_on, going_over, going_stops, going_begun, ran_from_ended, rest_some, first_some, loop_begun, test_some, after_body, body_begun, turns_over, turns_last}
+use Rattle.outline.specs.View.{outlined, items_outlined}
+use Rattle.outline.proofs.Blocks.{items_stand}
+use Rattle.seqrun.specs.Ran.{lengths_of}
+use Rattle.lower_run.specs.Walk.{stage}
+use Rattle.ompk_run.proofs.Going.{item_stands}
+use Rattle.ompk_run.proofs.Steps.{comes, comes_stops}
+use Rattle.ompk_run.proofs.Turns.{OfItems, item_walked, item_begun, items_end, block_walked, block_begun, loop_entered, entry_begun, turns_stop, turns_end, turns_done, first_walked, first_begun, second_walked, second_begun, nothing_walked, statement_walked, body_walked, body_begun, step_walked, step_begun}
 use Rattle.ompk_run.proofs.teaming.+teaming.Goals as goal
 
-abbrev test_of : Cond → State → Option Bool
-test_of test u = holds u (cond_of test)
-
-abbrev step_of : Increment → State → Option Effect
-step_of step u = incremented u (increment_of step)
-
-pub team_statement-returns-in_default-clause-beginning : goal.team_statement-returns-in_default-clause-beginning
-team_statement-returns-in_default-clause-beginning g t c =
-    none (g.S.Sink.told c.args.sink.now) (text_of (run (outlined c.args.outline.now) (standing c.args.frame.now c.args.store.now)))
-
-pub team_statement-team_block-requires-clause-runs : goal.team_statement-team_block-requires-clause-runs
-team_statement-team_block-requires-clause-runs g t c κs within =
-    let h = subst (λ s. IsSome (run (outlined s) (standing c.args.frame.now c.args.store.now))) c.in-Block.is c.requires.runs in
-    let h' = subst (λ s. IsSome (run s (standing c.args.frame.now c.args.store.now))) (block_outlined c.in-Block.items) h in
-    rw c.deref-in-Block.ensures.value h'
-
-pub team_statement-returns-in-Block-clause-ran : goal.team_statement-returns-in-Block-clause-ran
-team_statement-returns-in-Block-clause-ran g t c =
-    let s = standing c.args.frame.now c.args.store.now in
-    let same = ap (λ x. run (outlined x) s) c.in-Block.is ∙ ap (λ x. run x s) (block_outlined c.in-Block.items) ∙ ap (λ xs. run_items (items_outlined xs) s) (sym c.deref-in-Block.ensures.value) in
-    subst (λ o. OnOk c.team_block.result (Ran o s (standing c.team_block.new.frame c.team_block.new.store) (g.S.Sink.told c.args.sink.now) (g.S.Sink.told c.team_block.new.sink))) (sym same) c.team_block.ensures.ran
-
-pub team_statement-returns-in-Block-clause-beginning : goal.team_statement-returns-in-Block-clause-beginning
-team_statement-returns-in-Block-clause-beginning g t c =
-    let s = standing c.args.frame.now c.args.store.now in
-    let same = ap (λ x. run (outlined x) s) c.in-Block.is ∙ ap (λ x. run x s) (block_outlined c.in-Block.items) ∙ ap (λ xs. run_items (items_outlined xs) s) (sym c.deref-in-Block.ensures.value) in
-    subst (λ o. AddsBeginning (g.S.Sink.told c.args.sink.now) (g.S.Sink.told c.team_block.new.sink) (text_of o)) (sym same) c.team_block.ensures.beginning
-
-pub team_statement-loop-turn-init : goal.team_statement-loop-turn-init
-team_statement-loop-turn-init g t c =
-    let s = standing c.args.frame.now c.args.store.now in
-    (rw c.in-For.is (loop_begun (test_of c.in-For.head.now.test) (run (outlined c.in-For.body.value)) (step_of c.in-For.head.now.step) s (standing c.set.new.self c.args.store.now) c.in-For.head.now.variable.0 (source_of c.in-For.head.now.start) c.source_value-first.result (g.S.Sink.told c.args.sink.now) c.source_value-first.ensures (c.in_ok-set-in-For.ensures.ok c.args.store.now)), refl, refl)
-
-pub team_statement-holds-requires-in-loop-turn : goal.team_statement-holds-requires-in-loop-turn
-team_statement-holds-requires-in-loop-turn g t c =
-    test_some (test_of c.in-For.head.now.test) (run (outlined c.in-For.body.value)) (step_of c.in-For.head.now.step) (greatest_trip_count - c.loop-turn._turn) (standing c.loop-turn.frame c.loop-turn.store)
-    (rest_some _ _ _ _ _ _ c.loop-turn.invariant.0 c.requires.runs)
-
-pub team_statement-returns-then-not-holds-clause-ran : goal.team_statement-returns-then-not-holds-clause-ran
-team_statement-returns-then-not-holds-clause-ran g t c = going_over _ _ _ _ _
-    (going_same _ _ _ _ _ _ _
-    (turns_over (test_of c.in-For.head.now.test) (run (outlined c.in-For.body.value)) (step_of c.in-For.head.now.step) (greatest_trip_count - c.loop-turn._turn) (standing c.loop-turn.frame c.loop-turn.store) (c.holds-in-loop-turn.ensures ∙ ap Some c.if-not-holds.true))
-    c.loop-turn.invariant.0)
-
-pub team_statement-returns-then-not-holds-clause-beginning : goal.team_statement-returns-then-not-holds-clause-beginning
-team_statement-returns-then-not-holds-clause-beginning g t c = going_stops _ _ _ _ _ _ c.loop-turn.invariant.0 c.requires.runs
-
-pub team_statement-returns-in_err-team_statement-in-For-clause-beginning : goal.team_statement-returns-in_err-team_statement-in-For-clause-beginning
-team_statement-returns-in_err-team_statement-in-For-clause-beginning g t c =
-    body_begun (test_of c.in-For.head.now.test) (run (outlined c.in-For.body.value)) (step_of c.in-For.head.now.step) _ c.loop-turn._turn _ _ _ _ _ c.loop-turn-test.true (c.holds-in-loop-turn.ensures ∙ ap Some c.if-not-holds.false) c.loop-turn.invariant.0 c.requires.runs
-    (rw c.deref-in-loop-turn.ensures at c.in_err-team_statement-in-For.ensures.beginning)
-
-pub team_statement-increment-requires : goal.team_statement-increment-requires
-team_statement-increment-requires g t c =
-    let k = after_body (test_of c.in-For.head.now.test) (run (outlined c.in-For.body.value)) (step_of c.in-For.head.now.step) _ c.loop-turn._turn _ _ (standing c.team_statement-in-loop-turn.new.frame c.team_statement-in-loop-turn.new.store) _ _ (g.S.Sink.told c.team_statement-in-loop-turn.new.sink) c.loop-turn-test.true (c.holds-in-loop-turn.ensures ∙ ap Some c.if-not-holds.false) c.loop-turn.invariant.0 (rw c.deref-in-loop-turn.ensures at c.in_ok-team_statement-in-For.ensures.ran) in
-    first_some (standing c.team_statement-in-loop-turn.new.frame c.team_statement-in-loop-turn.new.store) _ (turns (greatest_trip_count - (c.loop-turn._turn + 1)) (test_of c.in-For.head.now.test) (run (outlined c.in-For.body.value)) (step_of c.in-For.head.now.step)) (rest_some _ _ _ _ _ _ k c.requires.runs)
-
-pub team_statement-returns-in_err-increment-in-For-clause-beginning : goal.team_statement-returns-in_err-increment-in-For-clause-beginning
-team_statement-returns-in_err-increment-in-For-clause-beginning g t c =
-    let k = after_body (test_of c.in-For.head.now.test) (run (outlined c.in-For.body.value)) (step_of c.in-For.head.now.step) _ c.loop-turn._turn _ _ (standing c.team_statement-in-loop-turn.new.frame c.team_statement-in-loop-turn.new.store) _ _ (g.S.Sink.told c.team_statement-in-loop-turn.new.sink) c.loop-turn-test.true (c.holds-in-loop-turn.ensures ∙ ap Some c.if-not-holds.false) c.loop-turn.invariant.0 (rw c.deref-in-loop-turn.ensures at c.in_ok-team_statement-in-For.ensures.ran) in
-    going_stops _ _ _ _ _ _ k c.requires.runs
-
-pub team_statement-loop-turn-preserved : goal.team_statement-loop-turn-preserved
-team_statement-loop-turn-preserved g t c =
-    let k = after_body (test_of c.in-For.head.now.test) (run (outlined c.in-For.body.value)) (step_of c.in-For.head.now.step) _ c.loop-turn._turn _ _ (standing c.team_statement-in-loop-turn.new.frame c.team_statement-in-loop-turn.new.store) _ _ (g.S.Sink.told c.team_statement-in-loop-turn.new.sink) c.loop-turn-test.true (c.holds-in-loop-turn.ensures ∙ ap Some c.if-not-holds.false) c.loop-turn.invariant.0 (rw c.deref-in-loop-turn.ensures at c.in_ok-team_statement-in-For.ensures.ran) in (
-      going_on _ _ (turns (greatest_trip_count - (c.loop-turn._turn + 1)) (test_of c.in-For.head.now.test) (run (outlined c.in-For.body.value)) (step_of c.in-For.head.now.step)) _ _ _ _ _ _ k (ran_from_ended _ _ _ _ c.in_ok-increment-in-For.ensures.done),
-      c.in_ok-team_statement-in-For.ensures.sound ∙ c.loop-turn.invariant.1,
-      c.in_ok-increment-in-For.ensures.shape ∙ c.in_ok-team_statement-in-For.ensures.shape ∙ c.loop-turn.invariant.2,
-    )
-
-pub team_statement-returns-after-loop-turn-clause-ran : goal.team_statement-returns-after-loop-turn-clause-ran
-team_statement-returns-after-loop-turn-clause-ran g t c = going_over _ _ _ _ _
-    (going_same _ _ _ _ _ _ _
-    (turns_last (test_of c.in-For.head.now.test) (run (outlined c.in-For.body.value)) (step_of c.in-For.head.now.step) c.loop-turn._turn (standing c.loop-turn.frame c.loop-turn.store) (omega arith) (rest_some _ _ _ _ _ _ c.loop-turn.invariant.0 c.requires.runs))
-    c.loop-turn.invariant.0)
-
-pub team_statement-returns-after-loop-turn-clause-beginning : goal.team_statement-returns-after-loop-turn-clause-beginning
-team_statement-returns-after-loop-turn-clause-beginning g t c = going_stops _ _ _ _ _ _ c.loop-turn.invariant.0 c.requires.runs
-
 pub team_block-loop-item-init : goal.team_block-loop-item-init
-team_block-loop-item-init g t c = (going_from _ _ _, refl, refl)
+team_block-loop-item-init g t c =
+    let start = stage c.args.registers.now.items c.args.store.now (g.S.Sink.told c.args.sink.now) in
+    (comes (OfItems c.args.items.now) (run_items (items_outlined c.args.items.now)) start, refl, refl)
 
 pub team_block-team_item-requires-clause-room : goal.team_block-team_item-requires-clause-room
 team_block-team_item-requires-clause-room g t c κs within = rw c.loop-item.invariant.1 c.requires.room
 
-pub team_block-team_item-requires-clause-runs : goal.team_block-team_item-requires-clause-runs
-team_block-team_item-requires-clause-runs g t c κs within =
-    let s = standing c.loop-item.frame c.loop-item.store in
-    let on = next_on c.args.items.now c.loop-item.item-index c.item-item.result c.loop-item-test.true c.item-item.is s in
-    first_some _ _ _ (rest_some _ _ _ _ _ _ (going_same _ _ _ _ _ _ _ on c.loop-item.invariant.0) c.requires.runs)
-
 pub team_block-returns-in_err-team_item-clause-beginning : goal.team_block-returns-in_err-team_item-clause-beginning
 team_block-returns-in_err-team_item-clause-beginning g t c =
-    let s = standing c.loop-item.frame c.loop-item.store in
-    let on = next_on c.args.items.now c.loop-item.item-index c.item-item.result c.loop-item-test.true c.item-item.is s in
-    going_begun _ _ (run_items (items_outlined (drop (c.loop-item.item-index + 1) c.args.items.now))) _ _ _ _ _ (going_same _ _ _ _ _ _ _ on c.loop-item.invariant.0) c.requires.runs c.in_err-team_item.ensures.beginning
+    let start = stage c.args.registers.now.items c.args.store.now (g.S.Sink.told c.args.sink.now) in
+    let here = stage c.loop-item.registers.items c.loop-item.store (g.S.Sink.told c.loop-item.sink) in
+    item_begun c.args.items.now c.loop-item.item-index c.item-item.result c.loop-item-test.true c.item-item.is start here c.loop-item.invariant.0 (g.S.Sink.told c.team_item.new.sink) c.in_err-team_item.ensures.beginning
 
 pub team_block-loop-item-preserved : goal.team_block-loop-item-preserved
 team_block-loop-item-preserved g t c =
-    let s = standing c.loop-item.frame c.loop-item.store in
-    let on = next_on c.args.items.now c.loop-item.item-index c.item-item.result c.loop-item-test.true c.item-item.is s in (
-      going_on _ _ (run_items (items_outlined (drop (c.loop-item.item-index + 1) c.args.items.now))) _ _ _ _ _ _ (going_same _ _ _ _ _ _ _ on c.loop-item.invariant.0) c.in_ok-team_item.ensures.ran,
+    let start = stage c.args.registers.now.items c.args.store.now (g.S.Sink.told c.args.sink.now) in
+    let here = stage c.loop-item.registers.items c.loop-item.store (g.S.Sink.told c.loop-item.sink) in
+    let there = stage c.team_item.new.registers.items c.team_item.new.store (g.S.Sink.told c.team_item.new.sink) in (
+      item_walked c.args.items.now c.loop-item.item-index c.item-item.result c.loop-item-test.true c.item-item.is start here c.loop-item.invariant.0 there c.in_ok-team_item.ensures.ran,
       c.in_ok-team_item.ensures.sound ∙ c.loop-item.invariant.1,
       c.in_ok-team_item.ensures.shape ∙ c.loop-item.invariant.2,
     )
@@ -133,3 +45,140 @@ team_statement-team_block-requires-clause-stands g t c κs within =
     let shape = lengths_of c.args.store.now in
     let h = subst (Stands shape) c.in-Block.is c.requires.stands in
     rw c.deref-in-Block.ensures.value (items_stand shape c.in-Block.items h)
+
+pub team_block-returns-clause-ran : goal.team_block-returns-clause-ran
+team_block-returns-clause-ran g t c =
+    let start = stage c.args.registers.now.items c.args.store.now (g.S.Sink.told c.args.sink.now) in
+    let here = stage c.loop-item.registers.items c.loop-item.store (g.S.Sink.told c.loop-item.sink) in
+    items_end c.args.items.now c.loop-item.item-index start here c.loop-item-test.false c.loop-item.invariant.0
+
+pub team_block-returns-clause-beginning : goal.team_block-returns-clause-beginning
+team_block-returns-clause-beginning g t c =
+    let start = stage c.args.registers.now.items c.args.store.now (g.S.Sink.told c.args.sink.now) in
+    let here = stage c.loop-item.registers.items c.loop-item.store (g.S.Sink.told c.loop-item.sink) in
+    comes_stops (OfItems c.args.items.now) (run_items (items_outlined c.args.items.now)) (run_items (items_outlined (drop c.loop-item.item-index c.args.items.now))) start here c.loop-item.invariant.0
+
+pub team_statement-returns-in_err-perform-in-For-clause-beginning : goal.team_statement-returns-in_err-perform-in-For-clause-beginning
+team_statement-returns-in_err-perform-in-For-clause-beginning g t c =
+    let start = stage c.args.registers.now.items c.args.store.now (g.S.Sink.told c.args.sink.now) in
+    rw c.in-For.is (entry_begun c.in-For.lowered c.in-For._head c.in-For.body start (g.S.Sink.told c.perform-in-For.new.sink) c.in_err-perform-in-For.ensures.beginning)
+
+pub team_statement-loop-turn-init : goal.team_statement-loop-turn-init
+team_statement-loop-turn-init g t c =
+    let start = stage c.args.registers.now.items c.args.store.now (g.S.Sink.told c.args.sink.now) in
+    let there = stage c.perform-in-For.new.registers.items c.perform-in-For.new.store (g.S.Sink.told c.perform-in-For.new.sink) in
+    (rw c.in-For.is (loop_entered c.in-For.lowered c.in-For._head c.in-For.body start there c.in_ok-perform-in-For.ensures.ran), c.in_ok-perform-in-For.ensures.sound, c.in_ok-perform-in-For.ensures.shape)
+
+pub team_statement-returns-then-not-holds-clause-ran : goal.team_statement-returns-then-not-holds-clause-ran
+team_statement-returns-then-not-holds-clause-ran g t c =
+    let start = stage c.args.registers.now.items c.args.store.now (g.S.Sink.told c.args.sink.now) in
+    let here = stage c.loop-turn.registers.items c.loop-turn.store (g.S.Sink.told c.loop-turn.sink) in
+    rw c.in-For.is (turns_done c.in-For.lowered c.in-For._head c.in-For.body c.loop-turn._turn start here c.holds-in-loop-turn.result c.holds-in-loop-turn.ensures (rw c.in-For.is at c.loop-turn.invariant.0) c.if-not-holds.true)
+
+pub team_statement-returns-then-not-holds-clause-beginning : goal.team_statement-returns-then-not-holds-clause-beginning
+team_statement-returns-then-not-holds-clause-beginning g t c =
+    let start = stage c.args.registers.now.items c.args.store.now (g.S.Sink.told c.args.sink.now) in
+    let here = stage c.loop-turn.registers.items c.loop-turn.store (g.S.Sink.told c.loop-turn.sink) in
+    rw c.in-For.is (turns_stop c.in-For.lowered c.in-For._head c.in-For.body c.loop-turn._turn start here (rw c.in-For.is at c.loop-turn.invariant.0))
+
+pub team_statement-returns-after-loop-turn-clause-ran : goal.team_statement-returns-after-loop-turn-clause-ran
+team_statement-returns-after-loop-turn-clause-ran g t c =
+    let start = stage c.args.registers.now.items c.args.store.now (g.S.Sink.told c.args.sink.now) in
+    let here = stage c.loop-turn.registers.items c.loop-turn.store (g.S.Sink.told c.loop-turn.sink) in
+    rw c.in-For.is (turns_end c.in-For.lowered c.in-For._head c.in-For.body c.loop-turn._turn start here (omega arith) (rw c.in-For.is at c.loop-turn.invariant.0))
+
+pub team_statement-returns-after-loop-turn-clause-beginning : goal.team_statement-returns-after-loop-turn-clause-beginning
+team_statement-returns-after-loop-turn-clause-beginning g t c =
+    let start = stage c.args.registers.now.items c.args.store.now (g.S.Sink.told c.args.sink.now) in
+    let here = stage c.loop-turn.registers.items c.loop-turn.store (g.S.Sink.told c.loop-turn.sink) in
+    rw c.in-For.is (turns_stop c.in-For.lowered c.in-For._head c.in-For.body c.loop-turn._turn start here (rw c.in-For.is at c.loop-turn.invariant.0))
+
+pub team_statement-returns-in_err-team_statement-in-For-clause-beginning : goal.team_statement-returns-in_err-team_statement-in-For-clause-beginning
+team_statement-returns-in_err-team_statement-in-For-clause-beginning g t c =
+    let start = stage c.args.registers.now.items c.args.store.now (g.S.Sink.told c.args.sink.now) in
+    let here = stage c.loop-turn.registers.items c.loop-turn.store (g.S.Sink.told c.loop-turn.sink) in
+    rw c.in-For.is (body_begun c.in-For.lowered c.in-For._head c.in-For.body c.loop-turn._turn start here c.holds-in-loop-turn.result c.holds-in-loop-turn.ensures (rw c.in-For.is at c.loop-turn.invariant.0) c.loop-turn-test.true c.if-not-holds.false (g.S.Sink.told c.team_statement-in-loop-turn.new.sink) (rw c.deref-in-loop-turn.ensures at c.in_err-team_statement-in-For.ensures.beginning))
+
+pub team_statement-returns-in_err-perform-in-For-2-clause-beginning : goal.team_statement-returns-in_err-perform-in-For-2-clause-beginning
+team_statement-returns-in_err-perform-in-For-2-clause-beginning g t c =
+    let start = stage c.args.registers.now.items c.args.store.now (g.S.Sink.told c.args.sink.now) in
+    let here = stage c.loop-turn.registers.items c.loop-turn.store (g.S.Sink.told c.loop-turn.sink) in
+    let after = stage c.team_statement-in-loop-turn.new.registers.items c.team_statement-in-loop-turn.new.store (g.S.Sink.told c.team_statement-in-loop-turn.new.sink) in
+    let on = body_walked c.in-For.lowered c.in-For._head c.in-For.body c.loop-turn._turn start here c.holds-in-loop-turn.result c.holds-in-loop-turn.ensures (rw c.in-For.is at c.loop-turn.invariant.0) c.loop-turn-test.true c.if-not-holds.false after (rw c.deref-in-loop-turn.ensures at c.in_ok-team_statement-in-For.ensures.ran) in
+    rw c.in-For.is (step_begun c.in-For.lowered c.in-For._head c.in-For.body c.loop-turn._turn start after on (g.S.Sink.told c.perform-in-loop-turn.new.sink) c.in_err-perform-in-For-2.ensures.beginning)
+
+pub team_statement-loop-turn-preserved : goal.team_statement-loop-turn-preserved
+team_statement-loop-turn-preserved g t c =
+    let start = stage c.args.registers.now.items c.args.store.now (g.S.Sink.told c.args.sink.now) in
+    let here = stage c.loop-turn.registers.items c.loop-turn.store (g.S.Sink.told c.loop-turn.sink) in
+    let after = stage c.team_statement-in-loop-turn.new.registers.items c.team_statement-in-loop-turn.new.store (g.S.Sink.told c.team_statement-in-loop-turn.new.sink) in
+    let on = body_walked c.in-For.lowered c.in-For._head c.in-For.body c.loop-turn._turn start here c.holds-in-loop-turn.result c.holds-in-loop-turn.ensures (rw c.in-For.is at c.loop-turn.invariant.0) c.loop-turn-test.true c.if-not-holds.false after (rw c.deref-in-loop-turn.ensures at c.in_ok-team_statement-in-For.ensures.ran) in
+    let there = stage c.perform-in-loop-turn.new.registers.items c.perform-in-loop-turn.new.store (g.S.Sink.told c.perform-in-loop-turn.new.sink) in (
+      rw c.in-For.is (step_walked c.in-For.lowered c.in-For._head c.in-For.body c.loop-turn._turn start after on there c.in_ok-perform-in-For-2.ensures.ran),
+      c.in_ok-perform-in-For-2.ensures.sound ∙ c.in_ok-team_statement-in-For.ensures.sound ∙ c.loop-turn.invariant.1,
+      c.in_ok-perform-in-For-2.ensures.shape ∙ c.in_ok-team_statement-in-For.ensures.shape ∙ c.loop-turn.invariant.2,
+    )
+
+pub team_statement-returns-in-Block-clause-ran : goal.team_statement-returns-in-Block-clause-ran
+team_statement-returns-in-Block-clause-ran g t c =
+    let start = stage c.args.registers.now.items c.args.store.now (g.S.Sink.told c.args.sink.now) in
+    let there = stage c.team_block.new.registers.items c.team_block.new.store (g.S.Sink.told c.team_block.new.sink) in
+    rw c.in-Block.is (on_ok_weaker c.team_block.result (λ walked. block_walked c.in-Block.items c.deref-in-Block.result.now c.deref-in-Block.ensures.value start there walked) c.team_block.ensures.ran)
+
+pub team_statement-returns-in-Block-clause-beginning : goal.team_statement-returns-in-Block-clause-beginning
+team_statement-returns-in-Block-clause-beginning g t c =
+    let start = stage c.args.registers.now.items c.args.store.now (g.S.Sink.told c.args.sink.now) in
+    rw c.in-Block.is (block_begun c.in-Block.items c.deref-in-Block.result.now c.deref-in-Block.ensures.value start (g.S.Sink.told c.team_block.new.sink) c.team_block.ensures.beginning)
+
+pub team_statement-returns-then-holds-clause-ran : goal.team_statement-returns-then-holds-clause-ran
+team_statement-returns-then-holds-clause-ran g t c =
+    let start = stage c.args.registers.now.items c.args.store.now (g.S.Sink.told c.args.sink.now) in
+    let there = stage c.team_statement.new.registers.items c.team_statement.new.store (g.S.Sink.told c.team_statement.new.sink) in
+    rw c.in-If.is (on_ok_weaker c.team_statement.result (λ walked. first_walked c.in-If.test c.in-If._cond c.in-If.then start c.holds.result c.holds.ensures c.in-If.other c.if-holds.true there walked) (rw c.deref.ensures at c.team_statement.ensures.ran))
+
+pub team_statement-returns-then-holds-clause-beginning : goal.team_statement-returns-then-holds-clause-beginning
+team_statement-returns-then-holds-clause-beginning g t c =
+    let start = stage c.args.registers.now.items c.args.store.now (g.S.Sink.told c.args.sink.now) in
+    rw c.in-If.is (first_begun c.in-If.test c.in-If._cond c.in-If.then start c.holds.result c.holds.ensures c.in-If.other c.if-holds.true (g.S.Sink.told c.team_statement.new.sink) (rw c.deref.ensures at c.team_statement.ensures.beginning))
+
+pub team_statement-returns-in-Some-clause-ran : goal.team_statement-returns-in-Some-clause-ran
+team_statement-returns-in-Some-clause-ran g t c =
+    let start = stage c.args.registers.now.items c.args.store.now (g.S.Sink.told c.args.sink.now) in
+    let there = stage c.team_statement-in-Some.new.registers.items c.team_statement-in-Some.new.store (g.S.Sink.told c.team_statement-in-Some.new.sink) in
+    rw (c.in-If.is, c.in-Some.is) (on_ok_weaker c.team_statement-in-Some.result (λ walked. second_walked c.in-If.test c.in-If._cond c.in-If.then start c.holds.result c.holds.ensures c.in-Some.other c.if-holds.false there walked) (rw c.deref-in-Some.ensures at c.team_statement-in-Some.ensures.ran))
+
+pub team_statement-returns-in-Some-clause-beginning : goal.team_statement-returns-in-Some-clause-beginning
+team_statement-returns-in-Some-clause-beginning g t c =
+    let start = stage c.args.registers.now.items c.args.store.now (g.S.Sink.told c.args.sink.now) in
+    rw (c.in-If.is, c.in-Some.is) (second_begun c.in-If.test c.in-If._cond c.in-If.then start c.holds.result c.holds.ensures c.in-Some.other c.if-holds.false (g.S.Sink.told c.team_statement-in-Some.new.sink) (rw c.deref-in-Some.ensures at c.team_statement-in-Some.ensures.beginning))
+
+pub team_statement-returns-in_default-clause-ran : goal.team_statement-returns-in_default-clause-ran
+team_statement-returns-in_default-clause-ran g t c =
+    let start = stage c.args.registers.now.items c.args.store.now (g.S.Sink.told c.args.sink.now) in
+    rw (c.in-If.is, c.in_default.is) (nothing_walked c.in-If.test c.in-If._cond c.in-If.then start c.holds.result c.holds.ensures c.if-holds.false)
+
+pub team_statement-returns-in-Serial-clause-ran : goal.team_statement-returns-in-Serial-clause-ran
+team_statement-returns-in-Serial-clause-ran g t c =
+    rw c.in-Serial.is (on_ok_weaker c.perform.result (λ walked layout mark fits. walked layout mark _ fits) c.perform.ensures.ran)
+
+pub team_statement-returns-in-Serial-clause-beginning : goal.team_statement-returns-in-Serial-clause-beginning
+team_statement-returns-in-Serial-clause-beginning g t c =
+    rw c.in-Serial.is (λ layout mark fits. c.perform.ensures.beginning layout mark _ fits)
+
+pub team_statement-returns-in-Team-clause-ran : goal.team_statement-returns-in-Team-clause-ran
+team_statement-returns-in-Team-clause-ran g t c =
+    rw c.in-Team.is (on_ok_weaker c.run_team_loop.result (λ walked layout mark fits. walked layout mark (g.S.Sink.told c.args.sink.now) fits) c.run_team_loop.ensures.ran)
+
+pub team_item-returns-in-Plain-clause-ran : goal.team_item-returns-in-Plain-clause-ran
+team_item-returns-in-Plain-clause-ran g t c =
+    rw c.in-Plain.is (on_ok_weaker c.perform.result (λ walked layout mark fits. walked layout mark _ fits) c.perform.ensures.ran)
+
+pub team_item-returns-in-Plain-clause-beginning : goal.team_item-returns-in-Plain-clause-beginning
+team_item-returns-in-Plain-clause-beginning g t c =
+    rw c.in-Plain.is (λ layout mark fits. c.perform.ensures.beginning layout mark _ fits)
+
+pub team_item-returns-in-Statement-clause-ran : goal.team_item-returns-in-Statement-clause-ran
+team_item-returns-in-Statement-clause-ran g t c =
+    let start = stage c.args.registers.now.items c.args.store.now (g.S.Sink.told c.args.sink.now) in
+    let there = stage c.team_statement.new.registers.items c.team_statement.new.store (g.S.Sink.told c.team_statement.new.sink) in
+    rw c.in-Statement.is (on_ok_weaker c.team_statement.result (λ walked. statement_walked c.in-Statement.inner start there walked) (rw c.deref.ensures at c.team_statement.ensures.ran))

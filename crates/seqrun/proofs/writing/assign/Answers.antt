@@ -1,5 +1,6 @@
-use Rattle.std.proofs.Common.{refl, ap, ◌∙◌, Some}
+use Rattle.std.proofs.Common.{refl, sym, ap, ◌∙◌, Some}
 use Rattle.std.proofs.lemmas.Result.{on_ok_weaker}
+use Rattle.std.proofs.lemmas.Option.{get_or_from_slice_get}
 use Rattle.semantics.specs.Meaning.State.{Empty, Holds}
 use Rattle.store.proofs.Writing.{same_lengths}
 use Rattle.seqrun_value.specs.Standing.{standing, slot_of}
@@ -9,16 +10,16 @@ use Rattle.seqrun.proofs.writing.assign.Goals as goal
 
 pub place-at-requires : goal.place-at-requires
 place-at-requires c =
-    cell_there c.args.frame.now c.args.store.now c.args.variable.0 _ c.index-arrays-variable.result c.in-Outside.ensures (rw c.arrays.ensures at c.index-arrays-variable.is) c.args.n c.requires
+    cell_there c.args.frame.now c.args.store.now c.args.variable.0 _ c.array-array.result c.in-Outside.ensures (sym (get_or_from_slice_get c.args.store.now c.args.variable.0 c.array-array.result c.array-array.result c.array-array.ensures)) c.args.n c.requires
 
 pub write-requires : goal.write-requires
 write-requires c =
-    room_there c.args.frame.now c.args.store.now c.args.variable.0 _ c.index-arrays-variable.result c.in-Outside.ensures (rw c.arrays.ensures at c.index-arrays-variable.is) c.args.n c.requires c.place-at.result c.place-at.ensures
+    room_there c.args.frame.now c.args.store.now c.args.variable.0 _ c.array-array.result c.in-Outside.ensures (sym (get_or_from_slice_get c.args.store.now c.args.variable.0 c.array-array.result c.array-array.result c.array-array.ensures)) c.args.n c.requires c.place-at.result c.place-at.ensures
 
 pub returns-in-Outside-clause-done : goal.returns-in-Outside-clause-done
 returns-in-Outside-clause-done c =
     rw c.write.ensures
-    (cell_written c.args.frame.now c.args.store.now c.args.variable.0 _ c.index-arrays-variable.result c.in-Outside.ensures (rw c.arrays.ensures at c.index-arrays-variable.is) c.args.n c.requires c.place-at.result c.place-at.ensures)
+    (cell_written c.args.frame.now c.args.store.now c.args.variable.0 _ c.array-array.result c.in-Outside.ensures (sym (get_or_from_slice_get c.args.store.now c.args.variable.0 c.array-array.result c.array-array.result c.array-array.ensures)) c.args.n c.requires c.place-at.result c.place-at.ensures)
 
 pub returns-in-Outside-clause-shape : goal.returns-in-Outside-clause-shape
 returns-in-Outside-clause-shape c = ap lengths_of c.write.ensures ∙ same_lengths _ _ _ _

@@ -5,7 +5,7 @@ use Rattle.ktree.specs.View.{declaration_of}
 use Rattle.semantics.specs.Meaning.Places.{size}
 use Rattle.seqrun_io.specs.Reading.{ArePositive}
 use Rattle.seqrun_io.proofs.InputStore.{sizes_at}
-use Rattle.seqrun_io.proofs.InputRun.{one_zero, zero_kept}
+use Rattle.seqrun_io.proofs.InputRun.{one_zero}
 use Rattle.seqrun_io.proofs.reading.zeros.Goals as goal
 
 pub size_of-count-requires-clause-positive : goal.size_of-count-requires-clause-positive
@@ -25,6 +25,6 @@ size_of-count-requires-clause-few c =
 
 pub loop-declaration-preserved : goal.loop-declaration-preserved
 loop-declaration-preserved c =
-    c.in_ok-push.ensures.items
-    ∙ one_zero c.args.declarations.now c.loop-declaration.declaration-index c.declaration-item.result _ c.new.result (omega arith) c.declaration-item.is c.loop-declaration.invariant
-    (zero_kept _ _ _ _ _ c.new.ensures (c.in_ok-lengths.ensures.items ∙ c.as_slice.ensures.value) (c.in_ok-values.ensures.items_if_clones_equal (λ y e. e)) (c.size_of-count.ensures ∙ ap size c.as_slice-in-loop-declaration.ensures.value))
+    rw c.in_ok-push.ensures.items
+    (one_zero c.args.declarations.now c.loop-declaration.declaration-index c.declaration-item.result c.loop-declaration.shapes.items (record { lengths = c.in_ok-lengths.lengths; count = c.size_of-count.result; counted = _ }) (omega arith) c.declaration-item.is c.loop-declaration.invariant
+    (c.in_ok-lengths.ensures.items ∙ c.as_slice.ensures.value))

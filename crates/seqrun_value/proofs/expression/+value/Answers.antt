@@ -1,4 +1,5 @@
-use Rattle.std.proofs.Common.{rules, ◌+◌, ◌*◌, ◌<◌, length, get_or, Some, IsSome, ap, ◌∙◌, subst, arith}
+use Rattle.std.proofs.Common.{rules, ◌+◌, ◌*◌, ◌<◌, length, get_or, Some, IsSome, sym, ap, ◌∙◌, subst, arith}
+use Rattle.std.proofs.lemmas.Option.{get_or_from_slice_get}
 use Rattle.semantics.specs.Meaning.Value.{value, values}
 use Rattle.ktree.specs.View.{expr_of, exprs_of}
 use Rattle.ktree.specs.declared.expression.Expr.{the_lemmas}
@@ -36,12 +37,12 @@ pub value-element-requires : goal.value-element-requires
 value-element-requires t c =
     let out = c.slot.ensures ∙ ap (λ s. slot_of (Some s)) c.in-Outside.is in
     let h = subst (λ e. IsSome (value (standing c.args.frame.now c.args.store.now) (expr_of e))) c.in-Object.is c.requires in
-    let is = object_in c.args.frame.now c.args.store.now c.in-Object.x c.in-Object.subscripts c.in-Object._mention c.index-arrays-x.result out (rw c.arrays.ensures at c.index-arrays-x.is) h in
+    let is = object_in c.args.frame.now c.args.store.now c.in-Object.x c.in-Object.subscripts c.in-Object._mention c.array-array.result out (sym (get_or_from_slice_get c.args.store.now c.in-Object.x.0 c.array-array.result c.array-array.result c.array-array.ensures)) h in
     (search (rules, the_lemmas), rw c.deref.ensures.value (subst IsSome is h))
 
 pub value-returns-in-Outside : goal.value-returns-in-Outside
 value-returns-in-Outside t c =
     let out = c.slot.ensures ∙ ap (λ s. slot_of (Some s)) c.in-Outside.is in
     let h = subst (λ e. IsSome (value (standing c.args.frame.now c.args.store.now) (expr_of e))) c.in-Object.is c.requires in
-    let is = object_in c.args.frame.now c.args.store.now c.in-Object.x c.in-Object.subscripts c.in-Object._mention c.index-arrays-x.result out (rw c.arrays.ensures at c.index-arrays-x.is) h in
+    let is = object_in c.args.frame.now c.args.store.now c.in-Object.x c.in-Object.subscripts c.in-Object._mention c.array-array.result out (sym (get_or_from_slice_get c.args.store.now c.in-Object.x.0 c.array-array.result c.array-array.result c.array-array.ensures)) h in
     ap (λ e. value (standing c.args.frame.now c.args.store.now) (expr_of e)) c.in-Object.is ∙ is ∙ (rw c.deref.ensures.value at c.element.ensures)

@@ -1,10 +1,39 @@
-use Rattle.std.proofs.Common.{ap, ◌∙◌, get_or}
-use Rattle.store.proofs.Lists.{rewritten_at-set, there}
+use Rattle.std.proofs.Common.{◌≡◌, ◌<◌, ◌+◌, ◌≤◌, List, Option, length, sym, ap, ◌∙◌, subst, refl, arith, rules}
+use Rattle.std.specs.Prelude.{slice_get}
+use Rattle.std.proofs.lemmas.Option.{slice_get_read}
+use Rattle.store.specs.Kept.{Kept, HasRoom, rewritten_at}
+use Rattle.store.specs.Placing.{kept_in}
+use Rattle.store.proofs.Laid.{lie_at, has_it, room_at, all_written}
 use Rattle.store.proofs.arrays.Store.write.Goals as goal
+
+pub index-placed-requires : goal.index-placed-requires
+index-placed-requires c =
+    let lt : c.args.variable.0 < length c.self.inside.places.items = has_it c.self.inside.places.items c.self.inside.cells.items c.args.self.now c.args.variable.0 _ c.self.view_is c.requires in
+    search rules
+
+pub overwrite-requires : goal.overwrite-requires
+overwrite-requires c =
+    let ps = c.self.inside.places.items in
+    let cells = c.self.inside.cells.items in
+    let x = c.args.variable.0 in
+    let p = c.index-placed.result.now in
+    let n = length c.args.values.now in
+    let lt : x < length ps = has_it ps cells c.args.self.now x _ c.self.view_is c.requires in
+    let at = slice_get_read ps (length ps) x p refl lt c.index-placed.ensures in
+    let room = room_at cells ps x p (c.args.first + n) c.self.invariant at (subst (λ (ks : List Kept). HasRoom (slice_get ks x) (c.args.first + n)) (sym c.self.view_is) c.requires) in
+    let le = lie_at 0 (length cells) ps x p c.self.invariant at in
+    omega arith
 
 pub returns : goal.returns
 returns c =
-    rw c.self.view_is
-    (rewritten_at-set c.args.self.now c.args.variable.0 c.overwrite.new.self c.index_mut-array.result.now c.args.first c.args.values.now
-    (there c.args.self.now c.args.variable.0 _ c.requires)
-    (c.index_mut-array.ensures.value ∙ ap (λ l. get_or l c.args.variable.0 c.index_mut-array.result.now) c.self.view_is) c.overwrite.ensures)
+    let ps = c.self.inside.places.items in
+    let cells = c.self.inside.cells.items in
+    let x = c.args.variable.0 in
+    let p = c.index-placed.result.now in
+    let vs = c.args.values.now in
+    let lt : x < length ps = has_it ps cells c.args.self.now x _ c.self.view_is c.requires in
+    let at = slice_get_read ps (length ps) x p refl lt c.index-placed.ensures in
+    let room = room_at cells ps x p (c.args.first + length vs) c.self.invariant at (subst (λ (ks : List Kept). HasRoom (slice_get ks x) (c.args.first + length vs)) (sym c.self.view_is) c.requires) in
+    ap (λ cs. kept_in cs ps) c.overwrite.ensures
+    ∙ all_written cells ps x p c.args.first vs c.self.invariant at room
+    ∙ ap (λ (ks : List Kept). rewritten_at ks x c.args.first vs) c.self.view_is

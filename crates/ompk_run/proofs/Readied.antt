@@ -1,0 +1,63 @@
+-- What a body is made ready from.
+use Rattle.std.proofs.Common.{◌≡◌, ℕ, ◌^◌, ◌<◌, ◌≤◌, List, length, map, refl, sym, ap, ◌∙◌, subst}
+use Rattle.semantics.specs.Tree
+use Rattle.semantics.specs.Meaning.Agrees.{declared_among}
+use Rattle.semantics.specs.Meaning.Runs.{Effect, run_items}
+use Rattle.semantics.specs.Meaning.State.{State}
+use Rattle.std.specs.Prelude.{Option, IsSome}
+use Rattle.ktree.specs.View.{kernel_of, items_of}
+use Rattle.store.specs.Kept.{Kept, state_of}
+use Rattle.store.specs.Flat.{AreFilled, values_of}
+use Rattle.seqrun_io.specs.Lines.{HasLengths}
+use Rattle.seqrun.specs.Ran.{Ran, lengths_of}
+use Rattle.lower_code.specs.declared.term.Laid.{Laid}
+use Rattle.lower_code.specs.Machine.{Fits, machine}
+use Rattle.lower_code.specs.Layout.{IsLaid, shapes_of, shapes_in, cell_at}
+use Rattle.lower_code.specs.Meaning.{AreLocals, AreBelow}
+use Rattle.lower_code.proofs.Keeping.{cells_lie}
+use Rattle.lower_code.proofs.Laying.{as_many}
+use Rattle.lower_code.proofs.Marks.{locals_between}
+use Rattle.lower_run.specs.Walk.{StandFor, Arrives}
+use Rattle.lower_run.proofs.Numbered.{text_behind}
+use Rattle.outline.specs.declared.shape.OutlineItem.{OutlineItem}
+use Rattle.outline.specs.Fit.{AllFit}
+use Rattle.deptest.specs.Accepted.{Program, tree_of, IsAccepted}
+use Rattle.ompk_run.specs.Ready.{AreReady}
+
+-- registers and a store stand for the state where no local stands
+stand_first : (layout : List Laid) (mark : ℕ) (registers : List ℕ) (ks : List Kept) → IsLaid layout → shapes_of layout ≡ lengths_of ks → mark ≤ length registers → Fits (machine registers (values_of ks)) → length (values_of ks) < 2 ^ 64 → AreFilled ks
+    → StandFor layout mark (state_of ks) registers ks
+stand_first layout mark registers ks laid shapes wide fits room all = record {
+  machine = record {
+    laid = laid;
+    fits = fits;
+    width = wide;
+    room = room;
+    local = λ x v e. cc;
+    file_scope = λ x lt. refl;
+    unmarked = λ x le. refl;
+    cell = λ x is. cells_lie ks all x is ∙ ap (λ s. cell_at s (values_of ks) x is) (sym shapes);
+  };
+  shape = sym shapes;
+}
+
+-- the locals of an accepted text have registers of their own
+locals_there : (a : Program) (layout : List Laid) (mark : ℕ) → IsAccepted a → shapes_of layout ≡ shapes_in (tree_of a).variables → AreBelow mark (declared_among (items_of a.kernel.body.items)) → AreLocals layout mark (declared_among (items_of a.kernel.body.items))
+locals_there a layout mark is shapes below =
+    locals_between layout _ mark (declared_among (items_of a.kernel.body.items)) (as_many layout (tree_of a).variables shapes) (text_behind a.text (kernel_of a.kernel) is.passed.reads) below
+
+pub ready : (a : Program) (items : List OutlineItem) (registers : List ℕ) (ks : List Kept) (layout : List Laid) (mark : ℕ) → IsAccepted a → IsLaid layout → shapes_of layout ≡ shapes_in (tree_of a).variables → HasLengths (tree_of a).variables ks
+    → AreBelow mark (declared_among (items_of a.kernel.body.items)) → (AreLocals layout mark (declared_among (items_of a.kernel.body.items)) → AllFit layout mark items)
+    → mark ≤ length registers → Fits (machine registers (values_of ks)) → length (values_of ks) < 2 ^ 64 → AreFilled ks → AreReady items registers ks
+ready a items registers ks layout mark is laid shapes lengths below fit wide fits room all = record {
+  layout = layout;
+  mark = mark;
+  fit = fit (locals_there a layout mark is shapes below);
+  stand = stand_first layout mark registers ks laid (shapes ∙ sym lengths) wide fits room all;
+}
+
+-- the state at which a run arrives has the store's elements
+pub cells_of_end : (layout : List Laid) (mark : ℕ) (o : Option Effect) (s : State) (registers : List ℕ) (ks : List Kept) (text text' : List ℕ) → AreFilled ks → (a : Arrives layout mark o s registers ks text text')
+    → (x : ℕ) (is : List ℕ) → (state_of ks).cells x is ≡ a.state.cells x is
+cells_of_end layout mark o s registers ks text text' all a x is =
+    cells_lie ks all x is ∙ ap (λ shapes. cell_at shapes (values_of ks) x is) a.stand.shape ∙ sym (a.stand.machine.cell x is)

@@ -1,0 +1,5 @@
+use Rattle.std.proofs.Common.{◌≡◌, take, All}
+use Rattle.outline.proofs.handing.loop_at.Given as goal
+
+abbrev pub invariant-loop-parallel : goal.invariant-loop-parallel
+invariant-loop-parallel l = All (λ p. p.line ≡ l.directive → ⊥) (take l.parallel-index l.loops)

@@ -1,0 +1,145 @@
+//! Kernels of the arrays `A` of 8 and `B` of 2 times 3 elements and the scalar `s`, run as blocks, and what they print, as C prints it.
+
+use cparse::parse;
+use ktree::Kernel;
+use lower_block::{Cells, Compiled, FlatCells, compile, run};
+use lower_code::lower;
+use seqrun_io::Memory;
+use std::alloc::Global;
+
+/// Whether a block prints this from cells that are 0.
+fn block_prints(alloc: Global, compiled: &Compiled, expected: &str) -> bool {
+    let Ok(numbers) = Vec::from_elem(alloc, 0u64, 15) else {
+        return false;
+    };
+    let mut cells = FlatCells { numbers };
+    let Ok(mut registers) = Vec::from_elem(alloc, 0u64, compiled.registers as usize) else {
+        return false;
+    };
+    let mut sink = Memory::new(alloc);
+    let ran = run(compiled, registers.as_mut_slice(), &mut cells, &mut sink);
+    ran.is_ok() && sink.bytes() == expected.as_bytes()
+}
+
+/// Whether a kernel prints this.
+fn kernel_prints(alloc: Global, kernel: &Kernel, expected: &str) -> bool {
+    let Ok(lowered) = lower(alloc, &kernel.variables, &kernel.body) else {
+        return false;
+    };
+    match compile(alloc, &lowered.code, lowered.registers) {
+        Ok(compiled) => block_prints(alloc, &compiled, expected),
+        Err(_refusal) => false,
+    }
+}
+
+/// Whether the kernel with these lines prints this.
+fn prints(alloc: Global, lines: &str, expected: &str) -> bool {
+    let Ok(text) = format!(in alloc;
+        "#include <inttypes.h>\n#include <stdint.h>\n#include <stdio.h>\nuint64_t A[8]; uint64_t B[2][3]; uint64_t s; void kernel(void) {{ uint64_t x;\n{lines}\n}}\n"
+    ) else {
+        return false;
+    };
+    match parse(alloc, text.as_bytes()) {
+        Ok(kernel) => kernel_prints(alloc, &kernel, expected),
+        Err(_refusal) => false,
+    }
+}
+
+/// The number of the first row, from 1, that prints something else; 0 where none does.
+fn first_wrong(alloc: Global, rows: &[(&str, &str)]) -> u64 {
+    let mut number = 1u64;
+    for (lines, expected) in rows {
+        if !prints(alloc, lines, expected) {
+            return number;
+        }
+        number = number.saturating_add(1);
+    }
+    0
+}
+
+#[test]
+fn blocks_print_what_c_prints(rt: HostRuntime) {
+    let rows = [
+        (
+            "x = 7; x -= 9; printf(\"%\" PRIu64 \"\\n\", x);",
+            "18446744073709551614\n",
+        ),
+        (
+            "x = 9; s = x + 4; s = s * x; s = s / 5; s = s % 16; printf(\"%\" PRIu64 \"\", s);",
+            "7",
+        ),
+        (
+            "x = 12; s = (x & 10) | 5; s = s ^ x; s = s << 4; s = s >> 1; printf(\"%\" PRIu64 \"\", s);",
+            "8",
+        ),
+        (
+            "x = 5; s = -x; printf(\"%\" PRIu64 \" %\" PRIu64 \"\", s, ~x);",
+            "18446744073709551611 18446744073709551610",
+        ),
+        (
+            "x = 5; s = (x < 5 ? 1ull : 0ull) + (x <= 5 ? 2ull : 0ull) + (x > 5 ? 4ull : 0ull) + (x >= 5 ? 8ull : 0ull) + (x == 5 ? 16ull : 0ull) + (x != 5 ? 32ull : 0ull); printf(\"%\" PRIu64 \"\", s);",
+            "26",
+        ),
+        (
+            "x = 4; s = x < 5; A[0] = x <= 3; A[1] = x > 3; A[2] = x >= 5; A[3] = x == 4; A[4] = x != 4; printf(\"%\" PRIu64 \"%\" PRIu64 \"%\" PRIu64 \"%\" PRIu64 \"%\" PRIu64 \"%\" PRIu64 \"\", s, A[0], A[1], A[2], A[3], A[4]);",
+            "101010",
+        ),
+        (
+            "for (uint64_t i = 0; i < 8; i++) A[i] = A[i] * 3 + i * i; s = A[5] - A[7]; printf(\"%\" PRIu64 \"\", s);",
+            "18446744073709551592",
+        ),
+        (
+            "for (uint64_t i = 0; i < 2; i++) for (uint64_t j = 0; j < 3; j++) B[i][j] = 10 * i + j; for (uint64_t i = 0; i < 2; i++) { for (uint64_t j = 0; j < 3; j++) printf(\"%\" PRIu64 \" \", B[i][j]); printf(\"\\n\"); }",
+            "0 1 2 \n10 11 12 \n",
+        ),
+        (
+            "for (uint64_t i = 0; i < 8; i++) { if (i % 3 == 1) A[i] = i; else if (i % 3 == 2) A[i] = 2 * i; else A[i] = 7; s += A[i]; } printf(\"%\" PRIu64 \"\", s);",
+            "47",
+        ),
+        (
+            "for (uint64_t i = 0; i < 8; i++) { s = s * 2 + ((i > 2 && i < 6) || i == 7 ? 1 : 0); } printf(\"%\" PRIu64 \"\", s);",
+            "29",
+        ),
+        (
+            "for (uint64_t i = 5; i < 5; i++) s = 1; printf(\"%\" PRIu64 \"\", s);",
+            "0",
+        ),
+        (
+            "for (uint64_t i = 3; i >= 1; i--) { uint64_t y = i * i; s ^= y; printf(\"%\" PRIu64 \",\", y); } printf(\"%\" PRIu64 \"\", s);",
+            "9,4,1,12",
+        ),
+        (
+            "x = 0; s = x != 0 && A[x] / 2 == 0; printf(\"%\" PRIu64 \"\", s);",
+            "0",
+        ),
+        (
+            "x = 88172645463325252ull; for (uint64_t r = 0; r < 64; r++) { x ^= x << 13; x ^= x >> 7; x ^= x << 17; } printf(\"%\" PRIu64 \"\", x);",
+            "5384563294446503108",
+        ),
+        (
+            "for (uint64_t i = 0; i < 8; i++) A[i] = 27 + i; for (uint64_t t = 0; t < 20; t++) for (uint64_t i = 0; i < 8; i++) { if ((A[i] & 1) == 1) A[i] = 3 * A[i] + 1; else A[i] = A[i] >> 1; } for (uint64_t i = 0; i < 8; i++) printf(\"%\" PRIu64 \" \", A[i]);",
+            "274 2 2 2 310 1 10 4 ",
+        ),
+        (
+            "A[0] = 1; for (uint64_t i = 1; i < 8; i++) A[i] = A[i - 1] * 2 + A[7 - i]; for (uint64_t i = 0; i < 8; i++) printf(\"%\" PRIu64 \" \", A[i]);",
+            "1 2 4 8 24 52 106 213 ",
+        ),
+        (
+            "x = 3; if (!(x == 3) || !(x > 1)) printf(\"a\"); else { printf(\"b\"); if (!(x < 2)) printf(\"c\"); } printf(\"%\" PRIu64 \"!\\n\", x);",
+            "bc3!\n",
+        ),
+        (
+            "for (uint64_t i = 0; i < 2; i++) for (uint64_t j = 0; j < 3; j++) for (uint64_t k = 0; k < 4; k++) B[i][j] += (i + 1) * k * A[k + 2 * i] + k; printf(\"%\" PRIu64 \" %\" PRIu64 \"\", B[1][2], B[0][1]);",
+            "6 6",
+        ),
+        (
+            "x = 70; s = A[2 * 3 + 1] + 5; A[s] = x; B[x - 69][s - 3] = x + 1; printf(\"%\" PRIu64 \" %\" PRIu64 \"\", A[5], B[1][2]);",
+            "70 71",
+        ),
+        (
+            "for (uint64_t i = 0; i < 3; i++) for (uint64_t j = i; j < 3; j++) { if (j == 1) s += 10; s += i * j; } printf(\"%\" PRIu64 \"\", s);",
+            "27",
+        ),
+    ];
+    assert_eq!(rt; first_wrong(rt.alloc(), &rows), 0);
+}
