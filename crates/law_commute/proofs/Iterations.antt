@@ -80,7 +80,7 @@ iterations_write loops body outer s u e keeps turn like is =
     let left = (one_iteration loops body outer u keeps turn s like).left e is in
     (All-from_recursion (IsOwnWrite loops body outer u) e.writes left.own, left.quiet)
 
-contains_at : (us : List Vector) (c : ℕ) (u : Vector) → slice_get us c ≡ Some u → Contains us u
+pub contains_at : (us : List Vector) (c : ℕ) (u : Vector) → slice_get us c ≡ Some u → Contains us u
 contains_at us c u e = (c, slice_get_within us c u e, get_or_from_slice_get us c u u e)
 
 joined_both : (e : Effect) (o : Option Effect) → map_option (joined e) o ≡ both joined (Some e) o
@@ -97,10 +97,10 @@ module _ (loops : List Loop) (body : Stmt) (outer : State) (us : List Vector) (k
   abbrev alone : Vector → Option Effect
   alone u = run_iteration loops body u outer
 
-  abbrev effect_of : ℕ → Option Effect
+  abbrev pub effect_of : ℕ → Option Effect
   effect_of c = option_and_then (λ u. run_iteration loops body u outer) (slice_get us c)
 
-  abbrev all_of : List ℕ → Option Effect
+  abbrev pub all_of : List ℕ → Option Effect
   all_of [] = Some nothing
   all_of (c ∷ cs) = both joined (effect_of c) (all_of cs)
 
@@ -124,19 +124,19 @@ module _ (loops : List Loop) (body : Stmt) (outer : State) (us : List Vector) (k
       (record { differ = differ c d u v p q other; element = record { array = y; indexes = j ∷ js }; first = Writes; second = mode; one_writes = inl refl; by_first = s; by_second = t })
 
   -- each number at most once
-  abbrev Fresh : List ℕ → Type 0
+  abbrev pub Fresh : List ℕ → Type 0
   Fresh cs = (x : ℕ) → times x cs ≤ once_below x n
 
   -- before these iterations what they touch is as it was before the loop
-  record Ready (cs : List ℕ) (s : State) : Type 0 where
+  pub record Ready (cs : List ℕ) (s : State) : Type 0 where
     locals : (y : Variable) → visible_behind body y ≡ true → s.locals y ≡ outer.locals y
     scalars : (y : Variable) → visible_behind body y ≡ true → s.cells y [] ≡ outer.cells y []
     elements : (c : ℕ) (u : Vector) → 1 ≤ times c cs → At c u → (y : Variable) (j : ℕ) (js : List ℕ) (mode : Mode) → TouchesAt u mode y j js → s.cells y (j ∷ js) ≡ outer.cells y (j ∷ js)
 
-  first_in : (c : ℕ) (cs : List ℕ) → Fresh (c ∷ cs) → c < n
+  pub first_in : (c : ℕ) (cs : List ℕ) → Fresh (c ∷ cs) → c < n
   first_in c cs fresh = below_one c n (omega (arith, fresh c, once_itself c))
 
-  rest_fresh : (c : ℕ) (cs : List ℕ) → Fresh (c ∷ cs) → Fresh cs
+  pub rest_fresh : (c : ℕ) (cs : List ℕ) → Fresh (c ∷ cs) → Fresh cs
   rest_fresh c cs fresh x = omega (arith, fresh x)
 
   first_there : (c : ℕ) (cs : List ℕ) → 1 ≤ times c (c ∷ cs)
@@ -157,7 +157,7 @@ module _ (loops : List Loop) (body : Stmt) (outer : State) (us : List Vector) (k
   look_alike : (c : ℕ) (cs : List ℕ) (u : Vector) (s : State) → At c u → Ready (c ∷ cs) s → LooksAlike loops body outer u s
   look_alike c cs u s p ready = record { locals = ready.locals; scalars = ready.scalars; elements = λ y j js mode t. ready.elements c u (first_there c cs) p y j js mode t }
 
-  itself : (u : Vector) → LooksAlike loops body outer u outer
+  pub itself : (u : Vector) → LooksAlike loops body outer u outer
   itself u = record { locals = λ y h. refl; scalars = λ y h. refl; elements = λ y j js mode t. refl }
 
   -- the writes of an iteration are its own
@@ -187,7 +187,7 @@ module _ (loops : List Loop) (body : Stmt) (outer : State) (us : List Vector) (k
       untouched d v h q y j js mode t false k = not_hit y (j ∷ js) e.writes (s.cells y (j ∷ js)) k
 
   -- in any order each iteration does what it does alone
-  in_order : (cs : List ℕ) (s : State) → Fresh cs → Ready cs s → run_iterations loops body (picked us cs) s ≡ all_of cs
+  pub in_order : (cs : List ℕ) (s : State) → Fresh cs → Ready cs s → run_iterations loops body (picked us cs) s ≡ all_of cs
   in_order [] s fresh ready = refl
   in_order (c ∷ cs) s fresh ready =
       let found = inside us c (first_in c cs fresh) in
@@ -205,37 +205,46 @@ module _ (loops : List Loop) (body : Stmt) (outer : State) (us : List Vector) (k
           ap (λ o. then_from s o (run_iterations loops body (picked us cs))) is ∙ ap (map_option (joined e)) (rest e is) ∙ joined_both e (all_of cs) ∙ sym (ap (λ o. both joined o (all_of cs)) is)
 
   -- what an element holds behind some
-  abbrev acted_by : Option Effect → Variable → List ℕ → Option ℕ → Option ℕ
+  abbrev pub acted_by : Option Effect → Variable → List ℕ → Option ℕ → Option ℕ
   acted_by None y js x = x
   acted_by (Some e) y js x = acted y js e.writes x
 
-  abbrev folded : Variable → List ℕ → List ℕ → Option ℕ → Option ℕ
+  abbrev pub folded : Variable → List ℕ → List ℕ → Option ℕ → Option ℕ
   folded y js [] x = x
   folded y js (c ∷ cs) x = folded y js cs (acted_by (effect_of c) y js x)
 
   -- it is the change of each in turn
-  record Told (cs : List ℕ) (s : State) (e : Effect) : Type 0 where
-    each : (c : ℕ) → 1 ≤ times c cs → (f : Effect) × (effect_of c ≡ Some f)
-    elements : (y : Variable) (j : ℕ) (js : List ℕ) → (overwritten s e.writes).cells y (j ∷ js) ≡ folded y (j ∷ js) cs (s.cells y (j ∷ js))
+  pub record Told (cs : List ℕ) (s : State) (e : Effect) : Type 0 where
+    pub each : (c : ℕ) → 1 ≤ times c cs → (f : Effect) × (effect_of c ≡ Some f)
+    pub elements : (y : Variable) (j : ℕ) (js : List ℕ) → (overwritten s e.writes).cells y (j ∷ js) ≡ folded y (j ∷ js) cs (s.cells y (j ∷ js))
+    pub locals : (y : Variable) → visible_behind body y ≡ true → (overwritten s e.writes).locals y ≡ outer.locals y
+    pub scalars : (y : Variable) → visible_behind body y ≡ true → (overwritten s e.writes).cells y [] ≡ outer.cells y []
 
-  told : (cs : List ℕ) (s : State) (e : Effect) → Fresh cs → ((y : Variable) → visible_behind body y ≡ true → s.locals y ≡ outer.locals y)
+  pub told : (cs : List ℕ) (s : State) (e : Effect) → Fresh cs → ((y : Variable) → visible_behind body y ≡ true → s.locals y ≡ outer.locals y)
       → ((y : Variable) → visible_behind body y ≡ true → s.cells y [] ≡ outer.cells y []) → all_of cs ≡ Some e → Told cs s e
   told [] s e fresh locals scalars is =
       let same = same_Some nothing e is in
-      record { each = λ c h. absurd (omega (arith, h)); elements = λ y j js. sym (ap (λ (f : Effect). (overwritten s f.writes).cells y (j ∷ js)) same) }
+      record {
+        each = λ c h. absurd (omega (arith, h));
+        elements = λ y j js. sym (ap (λ (f : Effect). (overwritten s f.writes).cells y (j ∷ js)) same);
+        locals = λ y h. sym (ap (λ (f : Effect). (overwritten s f.writes).locals y) same) ∙ locals y h;
+        scalars = λ y h. sym (ap (λ (f : Effect). (overwritten s f.writes).cells y []) same) ∙ scalars y h;
+      }
   told (c ∷ cs) s e fresh locals scalars is =
       let parts = both_there joined (effect_of c) (all_of cs) e is in
       let found = inside us c (first_in c cs fresh) in
       let alone_is : alone found.0 ≡ Some parts.left = sym (ap (option_and_then (λ u. run_iteration loops body u outer)) found.1) ∙ parts.first in
       let change = changes c found.0 found.1 parts.left alone_is s locals scalars in
       let rest = told cs (overwritten s parts.left.writes) parts.right (rest_fresh c cs fresh) change.alike.locals change.alike.scalars parts.second in
+      let behind : overwritten s e.writes ≡ overwritten (overwritten s parts.left.writes) parts.right.writes =
+      sym (ap (λ (f : Effect). overwritten s f.writes) parts.is) ∙ overwritten-append s parts.left.writes parts.right.writes in
       record {
         each = λ d h. at d (d == c) refl (parts.left, parts.first) rest.each h;
         elements = λ y j js.
-            sym (ap (λ (f : Effect). (overwritten s f.writes).cells y (j ∷ js)) parts.is)
-            ∙ ap (λ (t : State). t.cells y (j ∷ js)) (overwritten-append s parts.left.writes parts.right.writes)
-            ∙ rest.elements y j js
+            ap (λ (t : State). t.cells y (j ∷ js)) behind ∙ rest.elements y j js
             ∙ ap (folded y (j ∷ js) cs) (change.elements y j js ∙ sym (ap (λ o. acted_by o y (j ∷ js) (s.cells y (j ∷ js))) parts.first));
+        locals = λ y h. ap (λ (t : State). t.locals y) behind ∙ rest.locals y h;
+        scalars = λ y h. ap (λ (t : State). t.cells y []) behind ∙ rest.scalars y h;
       }
     where
       at : (d : ℕ) (b : Bool) → (d == c) ≡ b → ((f : Effect) × (effect_of c ≡ Some f)) → ((x : ℕ) → 1 ≤ times x cs → (f : Effect) × (effect_of x ≡ Some f)) → 1 ≤ times d (c ∷ cs) → (f : Effect) × (effect_of d ≡ Some f)
@@ -243,7 +252,7 @@ module _ (loops : List Loop) (body : Stmt) (outer : State) (us : List Vector) (k
       at d false e f rest h = rest d (let none : once d c ≡ 0 = once_other d c (λ q. true_not_false (d == c) (eq-eqb d c (sym q)) e) in omega (arith, none, h))
 
   -- where each has an effect, all have
-  all_there : (cs : List ℕ) → ((c : ℕ) → 1 ≤ times c cs → (f : Effect) × (effect_of c ≡ Some f)) → (e : Effect) × (all_of cs ≡ Some e)
+  pub all_there : (cs : List ℕ) → ((c : ℕ) → 1 ≤ times c cs → (f : Effect) × (effect_of c ≡ Some f)) → (e : Effect) × (all_of cs ≡ Some e)
   all_there [] each = (nothing, refl)
   all_there (c ∷ cs) each =
       let one = each c (first_there c cs) in
@@ -326,7 +335,7 @@ module _ (loops : List Loop) (body : Stmt) (outer : State) (us : List Vector) (k
         at false e (inr rest) = inr (last e rest)
 
     -- any two orders leave the same
-    same_folded : (cs ds : List ℕ) → EachOnceBelow n cs → EachOnceBelow n ds → (x : Option ℕ) → folded y (j ∷ js) cs x ≡ folded y (j ∷ js) ds x
+    pub same_folded : (cs ds : List ℕ) → EachOnceBelow n cs → EachOnceBelow n ds → (x : Option ℕ) → folded y (j ∷ js) cs x ≡ folded y (j ∷ js) ds x
     same_folded cs ds p q x = at (find n)
       where
         inside_all : (es : List ℕ) → EachOnceBelow n es → ((c : ℕ) → c < n → hits c ≡ false) → (d : ℕ) → 1 ≤ times d es → hits d ≡ false
@@ -338,10 +347,10 @@ module _ (loops : List Loop) (body : Stmt) (outer : State) (us : List Vector) (k
             ∙ sym (one_folded h.0 (λ d other. one_hits h.0 d h.2 other) ds x (q h.0 ∙ once_of_below h.0 n h.1))
         at (inr h) = none_folded cs x (inside_all cs p h) ∙ sym (none_folded ds x (inside_all ds q h))
 
-  fresh_of : (cs : List ℕ) → EachOnceBelow n cs → Fresh cs
+  pub fresh_of : (cs : List ℕ) → EachOnceBelow n cs → Fresh cs
   fresh_of cs h x = omega (arith, h x)
 
-  ready_at_start : (cs : List ℕ) → Ready cs outer
+  pub ready_at_start : (cs : List ℕ) → Ready cs outer
   ready_at_start cs = record { locals = λ y h. refl; scalars = λ y h. refl; elements = λ c u h p y j js mode t. refl }
 
   pub any_order : (order : List ℕ) → EachOnceBelow n order → (e : Effect) → run_iterations loops body us outer ≡ Some e

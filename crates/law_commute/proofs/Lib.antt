@@ -7,3 +7,5 @@ pub mod Framed
 pub mod Orders
 pub mod Changes
 pub mod Iterations
+pub mod Arranged
+pub mod Joining

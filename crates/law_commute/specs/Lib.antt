@@ -1,2 +1,3 @@
 pub mod Steady
 pub mod Commuting
+pub mod Joining

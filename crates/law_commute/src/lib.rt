@@ -3,6 +3,7 @@
 #![tactic(auto)]
 
 ghost use Rattle.law_commute.specs.Commuting.{IndependentIterationsCommute, IterationsSeeWhatTheyTouch, IterationsWriteWhatTheyTouch};
+ghost use Rattle.law_commute.specs.Joining.{IndependentChunksJoin};
 
 /// What an iteration does, and whether it has a run, depends on no element that it does not touch, and on nothing that the body
 /// declares (C11 5.1.2.4, 4).
@@ -18,4 +19,10 @@ pub fn iterations_write_what_they_touch()
 /// Iterations of which no two conflict leave the same elements in any order as in sequence (OpenMP 5.2, 1.4.1 and 11.5).
 pub fn independent_iterations_commute()
     ensures { IndependentIterationsCommute }
+{}
+
+/// Chunks of iterations of which no two conflict, each run from the state before the loop, leave in whatever order they are joined
+/// what the iterations leave in sequence (OpenMP 5.2, 11.5 and 11.5.3).
+pub fn independent_chunks_join()
+    ensures { IndependentChunksJoin }
 {}
