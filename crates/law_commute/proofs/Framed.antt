@@ -24,13 +24,13 @@ some_there None h = absurd cc
 some_there (Some a) h = (a, refl)
 
 -- what a step gives its variable
-abbrev step_number : State → Increment → Option ℕ
+abbrev pub step_number : State → Increment → Option ℕ
 step_number s (Up x) = both_then (operate Plus) (look s x []) (Some 1)
 step_number s (Down x) = both_then (operate Minus) (look s x []) (Some 1)
 step_number s (Set x e) = source_value s e
 step_number s (Change x op e) = both_then (operate op) (look s x []) (value s e)
 
-abbrev number_to : Variable → Option ℕ → Option Effect
+abbrev pub number_to : Variable → Option ℕ → Option Effect
 number_to x o = map_option (λ n. one_write (Assigned x [] n)) o
 
 to_local : (s : State) (x : Variable) (v : ℕ) → s.locals x ≡ Holds v → (o : Option ℕ) → assigned s x (Some []) o ≡ number_to x o
@@ -40,7 +40,7 @@ to_local s x v e (Some n) = ap (λ k. cond (is_object_in k s x []) (Some (one_wr
 to_own : (s : State) (x y : Variable) (v : ℕ) → s.locals x ≡ Holds v → y ≡ x → (o : Option ℕ) → assigned s y (Some []) o ≡ number_to x o
 to_own s x y v e same o = ap (λ z. assigned s z (Some []) o) same ∙ to_local s x v e o
 
-step_is : (F : Variable → Bool) (s : State) (x : Variable) (v : ℕ) (step : Increment) → s.locals x ≡ Holds v → IsFixedStep F x step → incremented s step ≡ number_to x (step_number s step)
+pub step_is : (F : Variable → Bool) (s : State) (x : Variable) (v : ℕ) (step : Increment) → s.locals x ≡ Holds v → IsFixedStep F x step → incremented s step ≡ number_to x (step_number s step)
 step_is F s x v (Up y) e h = to_own s x y v e h (step_number s (Up y))
 step_is F s x v (Down y) e h = to_own s x y v e h (step_number s (Down y))
 step_is F s x v (Set y a) e h = to_own s x y v e h.0 (step_number s (Set y a))
@@ -50,13 +50,13 @@ module _ (F : Variable → Bool) (s t : State) (same : (y : Variable) → F y �
   own_look : (y : Variable) → y ≡ x → look s y [] ≡ look t y []
   own_look y e = look_same y s t (same y (ap F e ∙ there))
 
-  step_same : (step : Increment) → IsFixedStep F x step → step_number s step ≡ step_number t step
+  pub step_same : (step : Increment) → IsFixedStep F x step → step_number s step ≡ step_number t step
   step_same (Up y) h = ap (λ o. both_then (operate Plus) o (Some 1)) (own_look y h)
   step_same (Down y) h = ap (λ o. both_then (operate Minus) o (Some 1)) (own_look y h)
   step_same (Set y a) h = fixed_source F s t same a h.1
   step_same (Change y op a) h = λ i. both_then (operate op) (own_look y h.0 i) (fixed_value F s t same a h.1 i)
 
-also_itself : (V : Variable → Bool) (x : Variable) → also V x x ≡ true
+pub also_itself : (V : Variable → Bool) (x : Variable) → also V x x ≡ true
 also_itself V x = ap (λ b. b || V x) (eq-eqb x x refl)
 
 pub true_not_false : (b : Bool) → b ≡ true → b ≡ false → ⊥

@@ -29,7 +29,7 @@ use Rattle.law_commute.proofs.Orders.{inside, picked_all, below_once, once_itsel
 use Rattle.law_commute.proofs.Changes.{acted, hit, not_hit, hit_touches, Changed, changed_all}
 
 -- the loops' variables have these values in both
-cells_at : (ls : List Loop) (w : Vector) (s : State) (y : Variable) (is : List ℕ) → (at_vector ls w s).cells y is ≡ s.cells y is
+pub cells_at : (ls : List Loop) (w : Vector) (s : State) (y : Variable) (is : List ℕ) → (at_vector ls w s).cells y is ≡ s.cells y is
 cells_at [] w s y is = refl
 cells_at (l ∷ ls) [] s y is = refl
 cells_at (l ∷ ls) (v ∷ vs) s y is = cells_at ls vs (at_value s l.variable v) y is
@@ -39,7 +39,7 @@ same_at [] w s t y h = h
 same_at (l ∷ ls) [] s t y h = h
 same_at (l ∷ ls) (v ∷ vs) s t y h = same_at ls vs (at_value s l.variable v) (at_value t l.variable v) y (same_set l.variable y s t (Holds v) refl (λ e. h))
 
-outside_at : (ls : List Loop) (w : Vector) (s : State) (y : Variable) → (at_vector ls w s).locals y ≡ Outside → s.locals y ≡ Outside
+pub outside_at : (ls : List Loop) (w : Vector) (s : State) (y : Variable) → (at_vector ls w s).locals y ≡ Outside → s.locals y ≡ Outside
 outside_at [] w s y h = h
 outside_at (l ∷ ls) [] s y h = h
 outside_at (l ∷ ls) (v ∷ vs) s y h = before (y == l.variable) (outside_at ls vs (at_value s l.variable v) y h)

@@ -64,7 +64,7 @@ never (w ∷ ws) s y js e = never ws (written s w) y js (one w)
         at Empty = e
         at (Holds n) = e
 
-no_change : (b : Bool) (c : Option ℕ) (v : ℕ) → (b ≡ true → is_there c ≡ false) → cond b (renewed c v) c ≡ c
+pub no_change : (b : Bool) (c : Option ℕ) (v : ℕ) → (b ≡ true → is_there c ≡ false) → cond b (renewed c v) c ≡ c
 no_change false c v h = refl
 no_change true None v h = refl
 no_change true (Some old) v h = absurd (true_false (h refl))

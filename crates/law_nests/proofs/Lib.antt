@@ -1,0 +1,2 @@
+pub mod Steadied
+pub mod Nested
