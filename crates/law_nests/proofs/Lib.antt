@@ -1,2 +1,3 @@
 pub mod Steadied
 pub mod Nested
+pub mod Joined

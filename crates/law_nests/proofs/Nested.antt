@@ -664,6 +664,7 @@ nests_run n s loops body outer us e is keeps locals_alone are turn ran =
       effect = went.went.effect;
       run = runs_are loops body us outer ∙ went.went.ran;
       text = went.text ∙ sym went.went.text;
+      quiet = went.went.text;
       leave = record {
         cells = after.cells;
         kinds = λ y h. ap is_outside (after.locals y h);

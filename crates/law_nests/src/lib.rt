@@ -1,11 +1,17 @@
-//! Nests of loops and their iterations: the law that a nest does what its iterations do one after another, as the contract of a
-//! function that does nothing.
+//! Nests of loops and their iterations: a nest does what its iterations do one after another, and what independent ones leave that are
+//! run in chunks from the state before it. Each law is the contract of a function that does nothing.
 #![tactic(auto)]
 
-ghost use Rattle.law_nests.specs.Nests.{NestsRunTheirIterations};
+ghost use Rattle.law_nests.specs.Nests.{NestsRunTheirIterations, IndependentNestsJoin};
 
 /// A nest of loops whose bounds nothing in it changes leaves what its iterations leave one after another, each begun with its loops'
 /// variables at their values (C11 6.8.5.3; OpenMP 5.2, 4.4.2).
 pub fn nests_run_their_iterations()
     ensures { NestsRunTheirIterations }
+{}
+
+/// Chunks of a nest's iterations of which no two conflict, each run from the state before the nest, leave in whatever order they are
+/// joined what the nest leaves (OpenMP 5.2, 11.5 and 11.5.3).
+pub fn independent_nests_join()
+    ensures { IndependentNestsJoin }
 {}
