@@ -1,6 +1,6 @@
 -- In a body whose subscripts are in range each access is affine.
 use Rattle.std.specs.Prelude.{ℕ, ◌≡◌, ◌⊎◌, List, [], ◌∷◌, ◌++◌, Option, Some, None, slice_get}
-use Rattle.std.proofs.Common.{refl, inl, inr, subst}
+use Rattle.std.proofs.Common.{refl, inl, inr}
 use Rattle.semantics.specs.Tree.{Variable, Expr, Literal, Constant, Object, Unary, Binary, Conditional, Exprs, no_exprs, more_exprs, Cond, NotZero, Compare, Not, LogicalAnd, LogicalOr, Source, Number, Truth, PrintPart, Characters, Decimal, Stmt, Assign, Update, If, IfElse, For, Block, Print, Items, no_items, mark, local, stmt, Declaration}
 use Rattle.semantics.specs.Loops.Nest.{Loop}
 use Rattle.affine.specs.declared.interval.Side.{Side}
@@ -9,7 +9,7 @@ use Rattle.affine_expr.specs.Forms.{form_of}
 use Rattle.pairtest_counter.specs.Levels.{Nesting}
 use Rattle.pairtest.specs.declared.access.Mode.{Mode}
 use Rattle.nest.specs.Nests.{StaysBelow, AllStay, lengths_of, StaysInside, ExprHas, CondHas, SourceHas, StartHas, PartsHave, Has, Have}
-use Rattle.pairtest_access.specs.Sites.{Site, named, expr_sites, cond_sites, source_sites, start_sites, part_sites, IsInside}
+use Rattle.pairtest_access.specs.Sites.{Site, named, expr_sites, cond_sites, source_sites, start_sites, part_sites}
 use Rattle.pairtest_access.specs.Found.{AreEach}
 use Rattle.pairtest_access.specs.Refused.{Lacks, IsStuck, AreStuck}
 use Rattle.law_independence.specs.Inside.{LoopsAreRead, ItemsAreRead}

@@ -23,3 +23,4 @@ pub mod Conflicts
 pub mod Affinity
 pub mod RefusedNests
 pub mod RefusedKernels
+pub mod PrivateNests

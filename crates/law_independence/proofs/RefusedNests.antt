@@ -1,6 +1,6 @@
 -- The nest whose body is refused, and what is told of it.
-use Rattle.std.specs.Prelude.{ℕ, zero, suc, ◌≡◌, ◌⊎◌, List, [], ◌∷◌, length, map, Option, Some, None, IsSome, option_and_then}
-use Rattle.std.proofs.Common.{refl, sym, ap, inl, inr, ◌∙◌, subst}
+use Rattle.std.specs.Prelude.{ℕ, zero, suc, ◌≡◌, List, [], ◌∷◌, length, map, Option, Some, None, IsSome, option_and_then}
+use Rattle.std.proofs.Common.{refl, sym, inl, inr, ◌∙◌, subst}
 use Rattle.std.proofs.lemmas.Option.{same_Some}
 use Rattle.semantics.specs.Tree.{Stmt, Declaration}
 use Rattle.semantics.specs.Meaning.Value.{map_option}

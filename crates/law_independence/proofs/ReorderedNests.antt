@@ -5,7 +5,7 @@ use Rattle.std.proofs.Common.{refl, sym, ap, ◌∙◌, subst}
 use Rattle.std.proofs.lemmas.Option.{same_Some}
 use Rattle.semantics.specs.Tree.{Stmt, Declaration}
 use Rattle.semantics.specs.Meaning.State.{State}
-use Rattle.semantics.specs.Loops.Nest.{Loop, Vector, iterations, at_vector}
+use Rattle.semantics.specs.Loops.Nest.{Loop, Vector, nest_of, iterations, at_vector}
 use Rattle.nest_loop.specs.Turn.{AtTurn}
 use Rattle.pairtest_counter.specs.Levels.{Nesting, values_at}
 use Rattle.nest.specs.Nests.{Has, StaysInside}
@@ -19,7 +19,11 @@ use Rattle.semantics.specs.Loops.Access.{accesses}
 use Rattle.law_independence.proofs.Links.{linked_site, linked}
 use Rattle.law_independence.proofs.IndependentNests.{IsNestThere, shown_loops_are_independent}
 use Rattle.law_commute.specs.Commuting.{KeepsToItself, InnerLoopsTurn}
+use Rattle.law_commute.specs.Joining.{plain_loop}
 use Rattle.law_commute.proofs.Iterations.{independent_commute}
+use Rattle.law_nests.proofs.Joined.{nests_join}
+use Rattle.law_independence.proofs.PrivateNests.{private_nest}
+use Rattle.semantics.specs.Theorems.{IsTurn}
 use Rattle.law_independence.specs.OrderLaws.{CommutesAsNest}
 use Rattle.law_independence.proofs.ReorderedBodies.{IsStmtRead, body_keeps, nest_read}
 
@@ -48,14 +52,23 @@ loop_commutes ds serial round n s short entered read stays stmt (loops, body, is
     let nest = found.nest in
     let independent = shown_loops_are_independent ds serial round n s short entered read stays shown in
     let body_is : body ≡ nest.body = ap (λ (p : List Loop × Stmt). p.1) (same_Some (loops, body) (nest.loops, nest.body) (sym is_nest ∙ nest.is)) in
-    let keeps = body_keeps ds nest.inner.box nest.body found.inner nest.there.stays (subst (λ b. is_private_body b ≡ true) body_is private) in (
-      independent.0,
-      λ loop outer us is none turn are.
-          let same : (nest.loops, nest.body) ≡ (loop.loops, loop.body) = same_Some (nest.loops, nest.body) (loop.loops, loop.body) (sym nest.is ∙ is) in
-          let it = iterations_are_turns no_loops round serial (λ j. pos 0) outer turn.turns turn.turn entered (outside_is_a_turn (λ j. pos 0) outer) turn.are turn.among in
-          let at : AtTurn round.box (values_at round.levels it.0) outer = subst (AtTurn round.box (values_at round.levels it.0)) (sym turn.is) it.1.at in
-          let ready : IsReady loop.loops loop.body outer us =
-          subst (λ (p : List Loop × Stmt). iterations p.0 outer ≡ Some us → IsReady p.0 p.1 outer us) same
-          (λ are'. nest_ready ds round (length round.levels) (map (λ v. v.most) (inner_loops 0 round.levels)) n s nest it.0 outer us keeps at are') are in
-          independent_commute loop outer us none ready.keeps ready.differ ready.turn (λ u v in_u in_v. independent.1 loop is outer us u v turn are in_u in_v),
-    )
+    let private_is = subst (λ b. is_private_body b ≡ true) body_is private in
+    let keeps = body_keeps ds nest.inner.box nest.body found.inner nest.there.stays private_is in
+    let whole = body_keeps ds round.box s stmt stays (private_nest n s nest.loops nest.body nest.is private_is) in
+    let ready : (loops' : List Loop) (body' : Stmt) → nest_of n s ≡ Some (loops', body') → (outer : State) (us : List Vector) → IsTurn serial outer → iterations loops' outer ≡ Some us → IsReady loops' body' outer us =
+    λ loops' body' is outer us turn are.
+    let same : (nest.loops, nest.body) ≡ (loops', body') = same_Some (nest.loops, nest.body) (loops', body') (sym nest.is ∙ is) in
+    let it = iterations_are_turns no_loops round serial (λ j. pos 0) outer turn.turns turn.turn entered (outside_is_a_turn (λ j. pos 0) outer) turn.are turn.among in
+    let at : AtTurn round.box (values_at round.levels it.0) outer = subst (AtTurn round.box (values_at round.levels it.0)) (sym turn.is) it.1.at in
+    subst (λ (p : List Loop × Stmt). iterations p.0 outer ≡ Some us → IsReady p.0 p.1 outer us) same
+    (λ are'. nest_ready ds round (length round.levels) (map (λ v. v.most) (inner_loops 0 round.levels)) n s nest it.0 outer us keeps at are') are in
+    record {
+      nest = independent.0;
+      order = λ loop outer us is none turn are.
+          let r = ready loop.loops loop.body is outer us turn are in
+          independent_commute loop outer us none r.keeps r.differ r.turn (λ u v in_u in_v. independent.1 loop is outer us u v turn are in_u in_v);
+      chunks = λ loops' body' outer us chunks e is turn locals_alone are all ran.
+          let r = ready loops' body' is outer us turn are in
+          nests_join n s loops' body' outer us chunks e is whole r.keeps locals_alone are r.differ r.turn
+          (λ u v in_u in_v. independent.1 (plain_loop loops' body') is outer us u v turn are in_u in_v) all ran;
+    }

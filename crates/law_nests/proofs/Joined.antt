@@ -49,14 +49,14 @@ loop_declares (Block (stmt a no_items)) l b h y k =
     ap (λ (ds : List Variable). is_among ds y) (append-nil (declared_in a)) ∙ loop_declares a l b h y k
 
 -- what is known of a nest's first loop
-record IsFirst (n : ℕ) (s body : Stmt) : Type 0 where
-  loop : Loop
-  inside : Stmt
-  loops : List Loop
-  is : as_loop s ≡ Some (loop, inside)
-  rest : nest_of n inside ≡ Some (loops, body)
+pub record IsFirst (n : ℕ) (s body : Stmt) : Type 0 where
+  pub loop : Loop
+  pub inside : Stmt
+  pub loops : List Loop
+  pub is : as_loop s ≡ Some (loop, inside)
+  pub rest : nest_of n inside ≡ Some (loops, body)
 
-first_loop : (n : ℕ) (s : Stmt) (loops : List Loop) (body : Stmt) → nest_of (suc n) s ≡ Some (loops, body) → IsFirst n s body
+pub first_loop : (n : ℕ) (s : Stmt) (loops : List Loop) (body : Stmt) → nest_of (suc n) s ≡ Some (loops, body) → IsFirst n s body
 first_loop n s loops body h = at (as_loop s) refl h
   where
     inner : (l : Loop) (b : Stmt) → as_loop s ≡ Some (l, b) → (o : Option (List Loop × Stmt)) → nest_of n b ≡ o → map_option {B = List Loop × Stmt} (λ (found : List Loop × Stmt). (l ∷ found.0, found.1)) o ≡ Some (loops, body) → IsFirst n s body
@@ -70,7 +70,7 @@ first_loop n s loops body h = at (as_loop s) refl h
     at None e k = absurd (none-some (loops, body) k)
     at (Some p) e k = inner p.0 p.1 e (nest_of n p.1) refl k
 
-nest_declares : (n : ℕ) (s : Stmt) (loops : List Loop) (body : Stmt) → nest_of n s ≡ Some (loops, body) → DeclaresMore s body
+pub nest_declares : (n : ℕ) (s : Stmt) (loops : List Loop) (body : Stmt) → nest_of n s ≡ Some (loops, body) → DeclaresMore s body
 nest_declares zero s loops body h y k = ap (λ (c : Stmt). is_among (declared_in c) y) (ap (λ (p : List Loop × Stmt). p.1) (same_Some ([], s) (loops, body) h)) ∙ k
 nest_declares (suc n) s loops body h y k =
     let first = first_loop n s loops body h in
