@@ -20,7 +20,7 @@ use Rattle.law_nests.proofs.Nested.{nests_run}
 abbrev DeclaresMore : Stmt → Stmt → Type 0
 DeclaresMore s b = (y : Variable) → is_among (declared_in b) y ≡ true → is_among (declared_in s) y ≡ true
 
-visible_more : (s b : Stmt) → DeclaresMore s b → (y : Variable) → visible_behind s y ≡ true → visible_behind b y ≡ true
+pub visible_more : (s b : Stmt) → DeclaresMore s b → (y : Variable) → visible_behind s y ≡ true → visible_behind b y ≡ true
 visible_more s b more y h = at (is_among (declared_in b) y) refl
   where
     at : (c : Bool) → is_among (declared_in b) y ≡ c → not (is_among (declared_in b) y) ≡ true
@@ -49,24 +49,25 @@ loop_declares (Block (stmt a no_items)) l b h y k =
     ap (λ (ds : List Variable). is_among ds y) (append-nil (declared_in a)) ∙ loop_declares a l b h y k
 
 -- what is known of a nest's first loop
-pub record IsFirst (n : ℕ) (s body : Stmt) : Type 0 where
+pub record IsFirst (n : ℕ) (s : Stmt) (all : List Loop) (body : Stmt) : Type 0 where
   pub loop : Loop
   pub inside : Stmt
   pub loops : List Loop
   pub is : as_loop s ≡ Some (loop, inside)
   pub rest : nest_of n inside ≡ Some (loops, body)
+  pub all_are : loop ∷ loops ≡ all
 
-pub first_loop : (n : ℕ) (s : Stmt) (loops : List Loop) (body : Stmt) → nest_of (suc n) s ≡ Some (loops, body) → IsFirst n s body
+pub first_loop : (n : ℕ) (s : Stmt) (loops : List Loop) (body : Stmt) → nest_of (suc n) s ≡ Some (loops, body) → IsFirst n s loops body
 first_loop n s loops body h = at (as_loop s) refl h
   where
-    inner : (l : Loop) (b : Stmt) → as_loop s ≡ Some (l, b) → (o : Option (List Loop × Stmt)) → nest_of n b ≡ o → map_option {B = List Loop × Stmt} (λ (found : List Loop × Stmt). (l ∷ found.0, found.1)) o ≡ Some (loops, body) → IsFirst n s body
+    inner : (l : Loop) (b : Stmt) → as_loop s ≡ Some (l, b) → (o : Option (List Loop × Stmt)) → nest_of n b ≡ o → map_option {B = List Loop × Stmt} (λ (found : List Loop × Stmt). (l ∷ found.0, found.1)) o ≡ Some (loops, body) → IsFirst n s loops body
     inner l b e None k j = absurd (none-some (loops, body) j)
     inner l b e (Some p) k j =
         let same : (l ∷ p.0, p.1) ≡ (loops, body) = same_Some (l ∷ p.0, p.1) (loops, body) j in
-        record { loop = l; inside = b; loops = p.0; is = e; rest = k ∙ ap (λ z. Some (p.0, z)) (ap (λ (q : List Loop × Stmt). q.1) same) }
+        record { loop = l; inside = b; loops = p.0; is = e; rest = k ∙ ap (λ z. Some (p.0, z)) (ap (λ (q : List Loop × Stmt). q.1) same); all_are = ap (λ (q : List Loop × Stmt). q.0) same }
 
     at : (o : Option (Loop × Stmt)) → as_loop s ≡ o
-        → option_and_then (λ found. map_option {B = List Loop × Stmt} (λ inner. (found.0 ∷ inner.0, inner.1)) (nest_of n found.1)) o ≡ Some (loops, body) → IsFirst n s body
+        → option_and_then (λ found. map_option {B = List Loop × Stmt} (λ inner. (found.0 ∷ inner.0, inner.1)) (nest_of n found.1)) o ≡ Some (loops, body) → IsFirst n s loops body
     at None e k = absurd (none-some (loops, body) k)
     at (Some p) e k = inner p.0 p.1 e (nest_of n p.1) refl k
 

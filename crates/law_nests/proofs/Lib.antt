@@ -1,3 +1,4 @@
 pub mod Steadied
 pub mod Nested
 pub mod Joined
+pub mod Walked

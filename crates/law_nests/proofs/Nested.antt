@@ -12,15 +12,15 @@ use Rattle.semantics.specs.Meaning.Value.{source_value, holds, by_test, both, ma
 use Rattle.semantics.specs.Meaning.Runs.{Effect, nothing, one_write, joined, then_from, declares, incremented, turns, run, run_items, greatest_trip_count}
 use Rattle.semantics.specs.Meaning.Agrees.{also, declared_in, is_among, names_only, names_source, names_cond, names_step, visible_behind}
 use Rattle.semantics.specs.Loops.Nest.{Loop, Vector, nest_of, at_value, at_vector, values_from, iterations, concat_options}
-use Rattle.semantics.specs.Loops.Access.{Access, accesses}
+use Rattle.semantics.specs.Loops.Access.{Access, Mode, Touches, accesses}
 use Rattle.semantics.specs.Loops.Piece.{run_iterations, is_outside}
 use Rattle.semantics.proofs.NestLaw.{local_same, local_twice}
 use Rattle.law_commute.specs.Commuting.{IsOwnWrite, KeepsToItself, InnerLoopsTurn}
 use Rattle.law_commute.specs.Steady.{IsFixedCond, IsFixedStep, IsSteady}
 use Rattle.law_commute.proofs.Lists.{each_left, each_right, each_same, contains_among}
-use Rattle.law_commute.proofs.Same.{apart, also_other, also_more}
+use Rattle.law_commute.proofs.Same.{Point, apart, also_other, also_more}
 use Rattle.law_commute.proofs.Values.{first_of, second_of, fixed_source, fixed_holds}
-use Rattle.law_commute.proofs.Matched.{overwritten-append}
+use Rattle.law_commute.proofs.Matched.{Matched, overwritten-append}
 use Rattle.law_commute.proofs.Paths.{both_there}
 use Rattle.law_commute.proofs.Framed.{step_number, number_to, step_is, step_same, also_itself, true_not_false}
 use Rattle.law_commute.proofs.Iterations.{one_iteration}
@@ -53,14 +53,14 @@ went_then f x xs s P e is quiet rest = record {
 }
 
 -- what the first of two steps gave, and what the others did from there
-record Parts (s : State) (first : Option Effect) (next : State → Option Effect) (e : Effect) : Type 0 where
-  one : Effect
-  two : Effect
-  one_is : first ≡ Some one
-  two_is : next (overwritten s one.writes) ≡ Some two
-  is : joined one two ≡ e
+pub record Parts (s : State) (first : Option Effect) (next : State → Option Effect) (e : Effect) : Type 0 where
+  pub one : Effect
+  pub two : Effect
+  pub one_is : first ≡ Some one
+  pub two_is : next (overwritten s one.writes) ≡ Some two
+  pub is : joined one two ≡ e
 
-parts_of : (s : State) (first : Option Effect) (next : State → Option Effect) (e : Effect) → then_from s first next ≡ Some e → Parts s first next e
+pub parts_of : (s : State) (first : Option Effect) (next : State → Option Effect) (e : Effect) → then_from s first next ≡ Some e → Parts s first next e
 parts_of s None next e h = absurd (none-some e h)
 parts_of s (Some a) next e h = at (next (overwritten s a.writes)) refl h
   where
@@ -93,23 +93,23 @@ module _ (whole : Stmt) (outer : State) where
   V = visible_behind whole
 
   -- what is declared outside of the nest is as before it, and what it declares is no object
-  record Like (t : State) : Type 0 where
-    locals : (y : Variable) → V y ≡ true → t.locals y ≡ outer.locals y
-    scalars : (y : Variable) → V y ≡ true → t.cells y [] ≡ outer.cells y []
-    none : (y : Variable) → V y ≡ false → t.cells y [] ≡ None
+  pub record Like (t : State) : Type 0 where
+    pub locals : (y : Variable) → V y ≡ true → t.locals y ≡ outer.locals y
+    pub scalars : (y : Variable) → V y ≡ true → t.cells y [] ≡ outer.cells y []
+    pub none : (y : Variable) → V y ≡ false → t.cells y [] ≡ None
 
   -- a state with the variables of the loops round a place at their values
-  record IsRound (K : Variable → Bool) (P : State → State) : Type 0 where
-    cells : (t : State) (y : Variable) (js : List ℕ) → (P t).cells y js ≡ t.cells y js
-    locals : (s t : State) (y : Variable) → K y ≡ true → (V y ≡ true → s.locals y ≡ t.locals y) → (P s).locals y ≡ (P t).locals y
-    outside : (t : State) (y : Variable) → (P t).locals y ≡ Outside → t.locals y ≡ Outside
-    wide : (y : Variable) → V y ≡ true → K y ≡ true
+  pub record IsRound (K : Variable → Bool) (P : State → State) : Type 0 where
+    pub cells : (t : State) (y : Variable) (js : List ℕ) → (P t).cells y js ≡ t.cells y js
+    pub locals : (s t : State) (y : Variable) → K y ≡ true → (V y ≡ true → s.locals y ≡ t.locals y) → (P s).locals y ≡ (P t).locals y
+    pub outside : (t : State) (y : Variable) → (P t).locals y ≡ Outside → t.locals y ≡ Outside
+    pub wide : (y : Variable) → V y ≡ true → K y ≡ true
 
   -- the nest runs in one, and beside it the iterations in the other
-  record Beside (K : Variable → Bool) (P : State → State) (s t : State) : Type 0 where
-    like : Like t
-    cells : (y : Variable) (js : List ℕ) → s.cells y js ≡ t.cells y js
-    locals : (y : Variable) → K y ≡ true → s.locals y ≡ (P t).locals y
+  pub record Beside (K : Variable → Bool) (P : State → State) (s t : State) : Type 0 where
+    pub like : Like t
+    pub cells : (y : Variable) (js : List ℕ) → s.cells y js ≡ t.cells y js
+    pub locals : (y : Variable) → K y ≡ true → s.locals y ≡ (P t).locals y
 
   at_round : (K : Variable → Bool) (P : State → State) (x : Variable) (v : ℕ) → IsRound K P → IsRound (also K x) (λ t. at_value (P t) x v)
   at_round K P x v r = record {
@@ -240,24 +240,35 @@ module _ (whole : Stmt) (outer : State) (there : Like whole outer outer) (body :
       subst (λ a. Beside whole outer K P (overwritten a ws) (overwritten (written t (Assigned x (i ∷ is) v)) ws)) (sym one)
       (subst (λ b. Beside whole outer K P (overwritten (with_cell s x (i ∷ is) v) ws) (overwritten b ws)) (sym two) rest)
 
-  record BodyWent (s t : State) (e : Effect) : Type 0 where
-    ran : run body (P t) ≡ Some e
-    text : e.text ≡ []
-    after : Beside whole outer K P (overwritten s e.writes) (overwritten t e.writes)
+  pub record BodyWent (s t : State) (e : Effect) : Type 0 where
+    pub ran : run body (P t) ≡ Some e
+    pub text : e.text ≡ []
+    pub after : Beside whole outer K P (overwritten s e.writes) (overwritten t e.writes)
 
-  body_went : (s t : State) → Beside whole outer K P s t → ((a : Access) → Contains (accesses [] body) a → IsSome (iterations a.inner (P outer))) → (e : Effect) → run body s ≡ Some e → BodyWent s t e
-  body_went s t beside turn e is =
+  -- it does the same in both
+  body_same : (s t : State) → Beside whole outer K P s t → ((a : Access) → Contains (accesses [] body) a → IsSome (iterations a.inner (P outer)))
+      → Matched (Own (P t)) (Point (λ x i is. (mode : Mode) × Touches [] body (P t) [] (record { array = x; indexes = i ∷ is }) mode) K K (P t)) s (P t) (run body s) (run body (P t))
+  body_same s t beside turn =
       let p : State = P t in
       let turns_there : InnerLoopsTurn [] body p [] =
       λ a h. subst (λ o. IsSome o) (sym (same_inner body K p (P outer) keeps.steady (same_round whole outer K P round t there beside.like) a h)) (turn a h) in
-      let m = one_iteration [] body p [] keeps turns_there s
+      one_iteration [] body p [] keeps turns_there s
       (record {
         locals = beside.locals;
         scalars = λ y h. beside.cells y [] ∙ sym (round.cells t y []);
         elements = λ y i js mode h. beside.cells y (i ∷ js) ∙ sym (round.cells t y (i ∷ js));
-      }) in
+      })
+
+  body_went : (s t : State) → Beside whole outer K P s t → ((a : Access) → Contains (accesses [] body) a → IsSome (iterations a.inner (P outer))) → (e : Effect) → run body s ≡ Some e → BodyWent s t e
+  body_went s t beside turn e is =
+      let m = body_same s t beside turn in
       let left = m.left e is in
-      record { ran = sym m.same ∙ is; text = left.quiet; after = evolves p e.writes s t left.own (λ y h. refl) beside }
+      record { ran = sym m.same ∙ is; text = left.quiet; after = evolves (P t) e.writes s t left.own (λ y h. refl) beside }
+
+  -- as the iteration goes, the nest goes
+  pub nest_goes : (s t : State) → Beside whole outer K P s t → ((a : Access) → Contains (accesses [] body) a → IsSome (iterations a.inner (P outer))) → (e : Effect) → run body (P t) ≡ Some e
+      → (run body s ≡ Some e) × BodyWent s t e
+  nest_goes s t beside turn e is = let same : run body s ≡ Some e = (body_same s t beside turn).same ∙ is in (same, body_went s t beside turn e same)
 
 -- the loops of a nest
 module _ (whole : Stmt) (outer : State) (there : Like whole outer outer) (body : Stmt) where

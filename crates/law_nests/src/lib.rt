@@ -2,6 +2,7 @@
 //! run in chunks from the state before it. Each law is the contract of a function that does nothing.
 #![tactic(auto)]
 
+ghost use Rattle.law_nests.specs.Walks.{WalksLeaveTheSame};
 ghost use Rattle.law_nests.specs.Nests.{NestsRunTheirIterations, IndependentNestsJoin};
 
 /// A nest of loops whose bounds nothing in it changes leaves what its iterations leave one after another, each begun with its loops'
@@ -14,4 +15,10 @@ pub fn nests_run_their_iterations()
 /// joined what the nest leaves (OpenMP 5.2, 11.5 and 11.5.3).
 pub fn independent_nests_join()
     ensures { IndependentNestsJoin }
+{}
+
+/// Iterations that run one after another in one memory leave what they leave when each begins with its loops' variables alone
+/// (C11 6.2.4 and 6.8.5.3).
+pub fn walks_leave_the_same()
+    ensures { WalksLeaveTheSame }
 {}
