@@ -144,7 +144,7 @@ counted-append from (suc m) k =
     (ap (λ f. counted (suc from) m ++ counted f k) (let e : from + suc m ≡ suc from + m = omega arith in e) ∙ counted-append (suc from) m k)
     ∙ ap (counted from) (let e : suc (m + k) ≡ suc m + k = omega arith in e)
 
-times_counted : (x from m : ℕ) → times x (counted from m) + once_below x from ≡ once_below x (from + m)
+pub times_counted : (x from m : ℕ) → times x (counted from m) + once_below x from ≡ once_below x (from + m)
 times_counted x from zero = let same = ap (once_below x) (let e : from ≡ from + 0 = omega arith in e) in omega arith
 times_counted x from (suc m) =
     let r = times_counted x (suc from) m in

@@ -28,7 +28,7 @@ use Rattle.law_commute.proofs.Changes.{acted}
 use Rattle.law_commute.proofs.Arranged.{flat, times_in_any_order, counted, counted_once, spots, flat_spots, length_spots, picked_middle}
 use Rattle.law_commute.proofs.Iterations.{one_iteration, contains_at, effect_of, all_of, Fresh, acted_by, folded, Told, told, all_there, rest_fresh, first_in, in_order, fresh_of, ready_at_start, itself, same_folded}
 
-acted-append : (y : Variable) (js : List ℕ) (ws vs : List Write) (c : Option ℕ) → acted y js (ws ++ vs) c ≡ acted y js vs (acted y js ws c)
+pub acted-append : (y : Variable) (js : List ℕ) (ws vs : List Write) (c : Option ℕ) → acted y js (ws ++ vs) c ≡ acted y js vs (acted y js ws c)
 acted-append y js [] vs c = refl
 acted-append y js (Declared x v ∷ ws) vs c = acted-append y js ws vs c
 acted-append y js (Assigned x is v ∷ ws) vs c = acted-append y js ws vs (cond ((y == x) && same_indexes js is) (renewed c v) c)
@@ -39,7 +39,7 @@ stays false c v = refl
 stays true None v = refl
 stays true (Some old) v = refl
 
-acted_stays : (y : Variable) (js : List ℕ) (ws : List Write) (c : Option ℕ) → is_there (acted y js ws c) ≡ is_there c
+pub acted_stays : (y : Variable) (js : List ℕ) (ws : List Write) (c : Option ℕ) → is_there (acted y js ws c) ≡ is_there c
 acted_stays y js [] c = refl
 acted_stays y js (Declared x v ∷ ws) c = acted_stays y js ws c
 acted_stays y js (Assigned x is v ∷ ws) c =
@@ -79,14 +79,14 @@ outside_is (Holds n) e = absurd cc
 
 -- writes that are shared change the cells alone
 module _ (outer : State) where
-  abbrev IsShared : Write → Type 0
+  abbrev pub IsShared : Write → Type 0
   IsShared w = is_shared_write outer w ≡ true
 
-  record ChangedBy (s : State) (ws : List Write) : Type 0 where
-    locals : (x : Variable) → (overwritten s ws).locals x ≡ outer.locals x
-    cells : (y : Variable) (js : List ℕ) → (overwritten s ws).cells y js ≡ acted y js ws (s.cells y js)
+  pub record ChangedBy (s : State) (ws : List Write) : Type 0 where
+    pub locals : (x : Variable) → (overwritten s ws).locals x ≡ outer.locals x
+    pub cells : (y : Variable) (js : List ℕ) → (overwritten s ws).cells y js ≡ acted y js ws (s.cells y js)
 
-  shared_change : (ws : List Write) (s : State) → Each IsShared ws → ((x : Variable) → s.locals x ≡ outer.locals x) → ChangedBy s ws
+  pub shared_change : (ws : List Write) (s : State) → Each IsShared ws → ((x : Variable) → s.locals x ≡ outer.locals x) → ChangedBy s ws
   shared_change [] s h same = record { locals = same; cells = λ y js. refl }
   shared_change (Declared x v ∷ ws) s h same = absurd (let e : false ≡ true = h.0 in cc)
   shared_change (Assigned x is v ∷ ws) s h same =
@@ -98,7 +98,7 @@ module _ (outer : State) where
         cells = λ y js. ap (λ (t : State). (overwritten t ws).cells y js) is_cell ∙ rest.cells y js;
       }
 
-  all_shared : (ws : List Write) → Each IsShared (filter (is_shared_write outer) ws)
+  pub all_shared : (ws : List Write) → Each IsShared (filter (is_shared_write outer) ws)
   all_shared [] = tt
   all_shared (w ∷ ws) = at (is_shared_write outer w) refl (all_shared ws)
     where

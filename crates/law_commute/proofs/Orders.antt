@@ -25,7 +25,7 @@ found-append : {A : Type 0} (o : Option A) (xs ys : List A) → with_found o (xs
 found-append None xs ys = refl
 found-append (Some x) xs ys = refl
 
-picked-append : {A : Type 0} (xs : List A) (cs ds : List ℕ) → picked xs (cs ++ ds) ≡ picked xs cs ++ picked xs ds
+pub picked-append : {A : Type 0} (xs : List A) (cs ds : List ℕ) → picked xs (cs ++ ds) ≡ picked xs cs ++ picked xs ds
 picked-append xs [] ds = refl
 picked-append xs (c ∷ cs) ds = ap (with_found (slice_get xs c)) (picked-append xs cs ds) ∙ found-append (slice_get xs c) (picked xs cs) (picked xs ds)
 

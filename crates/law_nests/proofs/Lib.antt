@@ -2,3 +2,4 @@ pub mod Steadied
 pub mod Nested
 pub mod Joined
 pub mod Walked
+pub mod Merged

@@ -1,2 +1,3 @@
 pub mod Nests
 pub mod Walks
+pub mod Merging
