@@ -115,7 +115,7 @@ covered cs listed with_own s inside none e f =
     let L : Variable → Bool = is_among (flat_map variables_in cs) in
     let D : Variable → Bool = is_among (declared_in s) in
     let outside : list_all with_own (named_in s) ≡ list_all L (outside_of s) =
-        same_all with_own (λ x. L x || D x) (named_in s) (λ q. f q ∙ ap (λ b. b || D q) (e q)) ∙ all_filtered D L (named_in s) in
+    same_all with_own (λ x. L x || D x) (named_in s) (λ q. f q ∙ ap (λ b. b || D q) (e q)) ∙ all_filtered D L (named_in s) in
     and_same (same_all listed L inside e) outside ∙ and_swap (list_all L inside) (list_all L (outside_of s)) ∙ sym (list_all-append L (outside_of s) inside)
     ∙ sym (ap (λ b. not b || list_all L (outside_of s ++ inside)) none)
 
@@ -234,15 +234,16 @@ module _ (tree : Kernel) (ds : Directives) (lines : Lines) where
       let same : names_inside lines c.1 ≡ named_inside tree ds c.1 = sym (same_inside (constructs_in c.1) g.1) in
       let here : lines c.0 ≡ h.clauses = same_Some (sym g.0.0 ∙ h.are) in
       let shared : are_shared lines (lines c.0) c.1 ≡ true =
-          ap (λ cs. are_shared lines cs c.1) here ∙ ap (λ xs. not (list_any (is_among (flat_map kept_private h.clauses)) xs)) same ∙ ap not h.shared in
+      ap (λ cs. are_shared lines cs c.1) here ∙ ap (λ xs. not (list_any (is_among (flat_map kept_private h.clauses)) xs)) same ∙ ap not h.shared in
       let covered : is_covered lines (lines c.0) c.1 ≡ true = ap (λ cs. is_covered lines cs c.1) here ∙ ap (λ xs. covers h.clauses (outside_of c.1 ++ xs)) same ∙ h.covered in
       and_same shared covered
 
   all_right : (cs : List (ℕ × Stmt)) → AllByRecursion (Good Knows) cs → list_all (of_construct (names_rightly lines)) cs ≡ true → AllByRecursion (NamesRightly tree ds) cs
   all_right [] g h = tt
-  all_right (c ∷ cs) g h =
-      (one_right c g.0 (first_of (names_rightly lines c.0 c.1) (list_all (of_construct (names_rightly lines)) cs) h),
-        all_right cs g.1 (second_of (names_rightly lines c.0 c.1) (list_all (of_construct (names_rightly lines)) cs) h))
+  all_right (c ∷ cs) g h = (
+    one_right c g.0 (first_of (names_rightly lines c.0 c.1) (list_all (of_construct (names_rightly lines)) cs) h),
+    all_right cs g.1 (second_of (names_rightly lines c.0 c.1) (list_all (of_construct (names_rightly lines)) cs) h),
+  )
 
   all_back : (cs : List (ℕ × Stmt)) → AllByRecursion (Good Knows) cs → AllByRecursion (NamesRightly tree ds) cs → list_all (of_construct (names_rightly lines)) cs ≡ true
   all_back [] g h = refl

@@ -19,8 +19,6 @@ pub(crate) fn names_in(clause: &Clause<Named>) -> &[Named]
     ensures { map variable_named result.now ≡ variables_in (resolved_clause clause.now) }
 {
     match clause {
-        Clause::DefaultShared => &[],
-        Clause::DefaultNone => &[],
         Clause::Shared(names) => names.as_slice(),
         Clause::Private(names) => names.as_slice(),
         Clause::Firstprivate(names) => names.as_slice(),
@@ -28,11 +26,7 @@ pub(crate) fn names_in(clause: &Clause<Named>) -> &[Named]
         Clause::LastConditional(names) => names.as_slice(),
         Clause::Reduction(_, names) => names.as_slice(),
         Clause::Inscan(_, name) => from_ref(name),
-        Clause::Schedule(_) => &[],
-        Clause::Collapse(_) => &[],
-        Clause::Ordered => &[],
-        Clause::OrderedLoops(_) => &[],
-        Clause::Nowait => &[],
+        _ => &[],
     }
 }
 
@@ -59,10 +53,7 @@ fn add_names(set: &mut HashSet<u32>, names: &[Named]) -> Result<(), AllocError>
 }
 
 /// The variables that clauses name.
-pub(crate) fn listed(
-    alloc: Global,
-    clauses: &[Clause<Named>],
-) -> Result<HashSet<u32>, AllocError>
+pub(crate) fn listed(alloc: Global, clauses: &[Clause<Named>]) -> Result<HashSet<u32>, AllocError>
     ensures { IfOk result (λ set. (q : ℕ) → holds set q
         ≡ is_among (flat_map variables_in (map resolved_clause clauses.now)) q) }
 {
@@ -92,10 +83,7 @@ pub(crate) fn private_in(
 fn is_default_none(clause: &Clause<Named>) -> bool
     ensures { result ≡ forbids_default (resolved_clause clause.now) }
 {
-    match clause {
-        Clause::DefaultNone => true,
-        _ => false,
-    }
+    matches!(clause, Clause::DefaultNone)
 }
 
 /// Whether one of these clauses is (OpenMP 5.2, 5.4.1).

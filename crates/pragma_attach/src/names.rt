@@ -267,14 +267,5 @@ pub(crate) fn kernel_names(
     let Ok(mut scope) = file_scope(alloc, kernel) else {
         return Err(Stop::Memory);
     };
-    match items_names(
-        alloc,
-        directives,
-        table,
-        &mut scope,
-        kernel.body.as_slice(),
-    ) {
-        Err(stop) => Err(stop),
-        Ok(()) => Ok(()),
-    }
+    items_names(alloc, directives, table, &mut scope, kernel.body.as_slice())
 }

@@ -10,7 +10,7 @@ ghost use Rattle.pragma_attach.specs.Rightly.{lines_known, asked, each_construct
 use crate::listed::{has_default_none, listed, private_in};
 use crate::names::Table;
 use crate::resolved::Named;
-use crate::wanted::{clauses_known, first_unwanted, line_of};
+use crate::wanted::{clauses_known, inner_fault, line_of};
 use ktree::{Clause, Item, Kernel, Place, Stmt};
 use pragma_mention::{add_declared, first_unknown};
 use std::alloc::{AllocError, Global};
@@ -44,7 +44,7 @@ fn unshared(
         (stmt_of statement.now)) }
 {
     let private = private_in(alloc, clauses)?;
-    Ok(first_unwanted(table, &private, false, statement))
+    Ok(inner_fault(table, &private, false, statement))
 }
 
 /// Where a construct with `default(none)` first names what stands in none of its clauses.
@@ -62,7 +62,7 @@ fn uncovered(
         return Ok(None);
     }
     let mut set = listed(alloc, clauses)?;
-    let inside = first_unwanted(table, &set, true, statement);
+    let inside = inner_fault(table, &set, true, statement);
     add_declared(&mut set, statement)?;
     Ok(earlier(inside, first_unknown(&set, statement)))
 }

@@ -7,7 +7,7 @@ ghost use Rattle.ktree.specs.View.{stmt_of, with_item, items_of};
 ghost use Rattle.pragma_mention.specs.Sets.{holds};
 ghost use Rattle.pragma_attach.specs.Resolved.{variable_named, resolved_clause};
 ghost use Rattle.pragma_attach.specs.Told.{kept};
-ghost use Rattle.pragma_attach.specs.Rightly.{known_clauses, lines_known, is_wanted, are_wanted, line_wanted, asked, each_construct, each_among, line_in, names_inside};
+ghost use Rattle.pragma_attach.specs.Rightly.{known_clauses, lines_known, is_wanted, are_wanted, line_wanted, asked, each_construct, each_among, line_in};
 
 use crate::listed::names_in;
 use crate::names::Table;
@@ -39,11 +39,7 @@ pub(crate) fn line_of(item: &Item) -> Option<u32>
 fn is_wanted(set: &HashSet<u32>, wanted: bool, named: &Named) -> bool
     ensures { result ≡ is_wanted wanted (holds set.now (variable_named named.now)) }
 {
-    if wanted {
-        set.contains(&named.variable.0)
-    } else {
-        !set.contains(&named.variable.0)
-    }
+    set.contains(&named.variable.0) == wanted
 }
 
 /// Where the first name stands that is not as it is wanted.
@@ -84,7 +80,7 @@ fn line_fault(table: &Table, set: &HashSet<u32>, wanted: bool, before: Option<u3
 
 /// Among those on the lines before statements inside a statement.
 #[cycle(wanted)]
-fn inner_fault(
+pub(crate) fn inner_fault(
     table: &Table,
     set: &HashSet<u32>,
     wanted: bool,
@@ -151,17 +147,4 @@ fn item_fault(
             own.or(inner_fault(table, set, wanted, statement))
         }
     }
-}
-
-/// Where the first name stands, in the clauses of constructs inside a statement, whose variable is not in a set, or is, as it is wanted.
-pub(crate) fn first_unwanted(
-    table: &Table,
-    set: &HashSet<u32>,
-    wanted: bool,
-    statement: &Stmt,
-) -> Option<Place>
-    ensures { is_none result ≡ are_wanted wanted (holds set.now)
-        (names_inside (lines_known (kept table.now)) (stmt_of statement.now)) }
-{
-    inner_fault(table, set, wanted, statement)
 }
