@@ -35,8 +35,7 @@ fn private_names(clause: &Clause<Named>) -> &[Named]
     ensures { map variable_named result.now ≡ kept_private (resolved_clause clause.now) }
 {
     match clause {
-        Clause::Private(names) => names.as_slice(),
-        Clause::Firstprivate(names) => names.as_slice(),
+        Clause::Private(names) | Clause::Firstprivate(names) => names.as_slice(),
         _ => &[],
     }
 }

@@ -66,11 +66,12 @@ fn item_unknown(known: &HashSet<u32>, item: &Item) -> Option<Place>
     match item {
         Item::Directive(_) => None,
         Item::Local(local) => start(known, &local.start),
-        Item::Statement(statement) => statement_unknown(known, statement),
+        Item::Statement(inner) => statement_unknown(known, inner),
     }
 }
 
 /// Where a statement first names a variable that is not in a set: heads of loops and initialisers count, directive lines do not. What a loop's step changes is told at the word `for`.
+#[tactic(auto, using(crate::proofs::MentionsLaw::in_statement))]
 pub fn first_unknown(known: &HashSet<u32>, statement: &Stmt) -> Option<Place>
     ensures { is_none result ≡ list_all (holds known.now) (named_in (stmt_of statement.now)) }
 {
