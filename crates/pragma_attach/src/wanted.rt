@@ -42,7 +42,7 @@ fn is_wanted(set: &HashSet<u32>, wanted: bool, named: &Named) -> bool
     set.contains(&named.variable.0) == wanted
 }
 
-/// Where the first name stands that is not as it is wanted.
+/// Where the first variable is named that is not in a set as it is wanted.
 fn name_fault(set: &HashSet<u32>, wanted: bool, names: &[Named]) -> Option<Place>
     ensures { is_none result ≡ are_wanted wanted (holds set.now) (map variable_named names.now) }
 {
@@ -54,7 +54,7 @@ fn name_fault(set: &HashSet<u32>, wanted: bool, names: &[Named]) -> Option<Place
     None
 }
 
-/// Among those in clauses.
+/// Where clauses name one.
 fn clause_fault(set: &HashSet<u32>, wanted: bool, clauses: &[Clause<Named>]) -> Option<Place>
     ensures { is_none result ≡ are_wanted wanted (holds set.now)
         (flat_map variables_in (map resolved_clause clauses.now)) }
@@ -67,7 +67,7 @@ fn clause_fault(set: &HashSet<u32>, wanted: bool, clauses: &[Clause<Named>]) -> 
     None
 }
 
-/// Among those on the line before a statement.
+/// Where the line before a statement does.
 fn line_fault(table: &Table, set: &HashSet<u32>, wanted: bool, before: Option<u32>) -> Option<Place>
     ensures { (s : Tree) → is_none result
         ≡ asked (line_wanted wanted (holds set.now) (lines_known (kept table.now))) before s }
@@ -78,7 +78,7 @@ fn line_fault(table: &Table, set: &HashSet<u32>, wanted: bool, before: Option<u3
     }
 }
 
-/// Among those on the lines before statements inside a statement.
+/// Where the clauses of the constructs inside a statement first name a variable that is not in a set, or is in it, as it is wanted.
 #[cycle(wanted)]
 pub(crate) fn inner_fault(
     table: &Table,
@@ -106,7 +106,7 @@ pub(crate) fn inner_fault(
     }
 }
 
-/// Among those in a block.
+/// Where those in a block do.
 #[cycle(wanted)]
 fn items_fault(table: &Table, set: &HashSet<u32>, wanted: bool, items: &[Item]) -> Option<Place>
     ensures { is_none result
@@ -123,7 +123,7 @@ fn items_fault(table: &Table, set: &HashSet<u32>, wanted: bool, items: &[Item]) 
     None
 }
 
-/// Among those on the line before an item, and inside it.
+/// Where the line before an item does, or those inside the item.
 #[cycle(wanted)]
 fn item_fault(
     table: &Table,
