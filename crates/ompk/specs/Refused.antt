@@ -33,7 +33,7 @@ RefusesNests text tree r = (r ≡ OutOfMemory) ⊎ ((f : loop_faults.Fault) × (
 abbrev pub RefusesRanges : Kernel → Refusal → Type 0
 RefusesRanges tree r = (place : Place) × (r ≡ SubscriptOutOfRange place) × LeavesSomewhere tree
 
--- K03, K11, K13 or K21: the text's directives are not attached to the tree, since one is not read, does not stand where it may, or names what is no variable or one twice
+-- K03, K11, K13 or K21: the text's directives are not attached to the tree, since one is not read, does not stand where it may, names what is no variable, or has a variable in the wrong clause, in two or in none
 abbrev pub RefusesDirectives : List ℕ → Kernel → Refusal → Type 0
 RefusesDirectives text tree r = IsOfDirectives r × ((ds : Directives) → IsAttached text tree ds → ⊥)
 

@@ -25,8 +25,8 @@ use pragma::{Directives, first_fault};
 use pragma_attach::attach;
 use std::alloc::Global;
 
-// Refuses a kernel with a directive line that is none, does not stand where it may or names what is no variable, and one with
-// a line that is no `parallel for` of the known clauses before a loop.
+// Refuses a kernel with a directive line that is none, does not stand where it may, names what is no variable or has one in the wrong
+// clauses, and one with a line that is no `parallel for` of the known clauses before a loop.
 fn judge_lines(alloc: Global, kernel: &Kernel, directives: &Directives) -> Result<(), Refusal>
     ensures ok { IfOk result (λ _. IsDirected directives.now (kernel_of kernel.now)) }
     ensures refusal { IfErr result (RefusesLines directives.now (kernel_of kernel.now)) }

@@ -9,3 +9,4 @@ pub mod ResolvedLaw
 pub mod AttachLaw
 pub mod OnceLaw
 pub mod NamedOnceLaw
+pub mod RightlyLaw

@@ -2,7 +2,7 @@
 use Rattle.std.specs.Prelude.{ℕ, ◌+◌, Bool, true, false, not, ◌&&◌, ◌||◌, ◌==◌, nat_eq, cond, ◌≡◌, ◌<◌, List, [], ◌∷◌, length, map, get_or, drop}
 use Rattle.std.specs.List.{list_any}
 use Rattle.std.specs.HashSet.{HashSet, IsEmpty}
-use Rattle.pragma_attach.specs.Once.{holds}
+use Rattle.pragma_mention.specs.Sets.{holds}
 use Rattle.std.proofs.Common.{add-one, drop-cons, refl, sym, ap, ◌∙◌, arith}
 use Rattle.std.proofs.lemmas.Bool.Decides.{nat_tests}
 use Rattle.semantics.specs.Meaning.Agrees.{is_among}

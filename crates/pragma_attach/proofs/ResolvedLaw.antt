@@ -9,16 +9,18 @@ use Rattle.semantics.specs.Tree.{Name, Variable, Kernel}
 use Rattle.semantics.specs.Source.Scope.{Scope}
 use Rattle.semantics.specs.Directives.Directive.{Clause, Directive}
 use Rattle.semantics.specs.Directives.Annotated.{Directives, clauses_there, resolve_clauses, scope_at, lines_of, clauses_at, IsResolved}
-use Rattle.semantics.specs.Directives.Naming.{variables_in, are_distinct, constructs_among, NamesRightly, IsAttached}
+use Rattle.semantics.specs.Directives.Naming.{variables_in, are_distinct, constructs_among, NamesRightly, NameRightly, IsAttached}
 use Rattle.semantics.specs.Directives.Placed.{is_well_placed}
 use Rattle.pragma_attach.specs.declared.names.Clauses.{Clauses}
 use Rattle.pragma_attach.specs.Standing.{directive_on, is_standing}
 use Rattle.pragma_attach.specs.Attached.{with_directive, directives_on, directives_of}
 use Rattle.pragma_attach.specs.Resolved.{resolved_clauses}
 use Rattle.pragma_attach.specs.Told.{unless_twice, clauses_by, told, kept}
+use Rattle.pragma_attach.specs.Rightly.{Lines, known_clauses, lines_known, name_rightly}
 use Rattle.pragma_attach.proofs.LinesLaw.{AllLines, AllRead, Found, AllFound, all_found, the_same}
 use Rattle.pragma_attach.proofs.NamedOnceLaw.{Once, once_among}
 use Rattle.pragma_attach.proofs.PlacingLaw.{all_placed, read_among}
+use Rattle.pragma_attach.proofs.RightlyLaw.{Knows, rightly_named, named_back}
 
 -- ---- where a line is told, it is by what is visible there
 
@@ -78,6 +80,10 @@ of_lines text P (l ∷ ls) r h =
 
 -- ---- of a tree
 
+-- clauses that are resolved
+abbrev HasClauses : Kernel → Directives → ℕ → Type 0
+HasClauses tree ds n = (cs : List (Clause Variable)) × (clauses_at tree ds n ≡ Some cs)
+
 module _ (text : List ℕ) (tree : Kernel) where
   lines : List (ℕ × Scope)
   lines = lines_of tree
@@ -86,20 +92,17 @@ module _ (text : List ℕ) (tree : Kernel) where
   pub same_clauses : (ds : Directives) (n : ℕ) → Found text ds n → clauses_at tree ds n ≡ resolve_clauses (scope_at (lines_of tree) n) (clauses_there (directive_on text n))
   same_clauses ds n f = ap (λ o. resolve_clauses (scope_at (lines_of tree) n) (clauses_there o)) (f.2 ∙ sym f.1)
 
-  -- what a table knows is resolved
-  known : {S : Type 0} (table : HashMap ℕ Clauses S) (n : ℕ) (r : Option (List (Clause Variable))) → kept table n ≡ Some r → (cs : List (Clause Variable)) × (r ≡ Some cs)
+  -- what a table knows is what it tells
+  known : {S : Type 0} (table : HashMap ℕ Clauses S) (n : ℕ) (r : Option (List (Clause Variable))) → kept table n ≡ Some r → r ≡ Some (lines_known (kept table) n)
   known table n r e = go (get nat_eq table n) e
     where
       inner : {a b : Option (List (Clause Variable))} → Some a ≡ Some b → b ≡ a
       inner p = cc p
 
-      go : (o : Option Clauses) → option_map (λ (c : Clauses). Some (resolved_clauses c.clauses)) o ≡ Some r → (cs : List (Clause Variable)) × (r ≡ Some cs)
+      go : (o : Option Clauses) → option_map (λ (c : Clauses). Some (resolved_clauses c.clauses)) o ≡ Some r
+          → r ≡ Some (known_clauses (option_map (λ (c : Clauses). Some (resolved_clauses c.clauses)) o))
       go None e = absurd (cc e)
-      go (Some c) e = (resolved_clauses c.clauses, inner e)
-
-  -- clauses that are resolved, with no variable twice
-  abbrev pub HasOnce : Directives → ℕ → Type 0
-  HasOnce ds n = (cs : List (Clause Variable)) × (clauses_at tree ds n ≡ Some cs) × (are_distinct (flat_map variables_in cs) ≡ true)
+      go (Some c) e = inner e
 
   once_there : (o : Option (List (Clause Variable))) (cs : List (Clause Variable)) → unless_twice o ≡ Some cs → (o ≡ Some cs) × (are_distinct (flat_map variables_in cs) ≡ true)
   once_there None cs e = absurd (cc e)
@@ -109,21 +112,32 @@ module _ (text : List ℕ) (tree : Kernel) where
       go true t e = (e, subst (λ o. are_distinct (flat_map variables_in (unwrap_or o [])) ≡ true) e t)
       go false t e = absurd (cc e)
 
-  both_told : {S : Type 0} (table : HashMap ℕ Clauses S) (ds : Directives) → ((n : ℕ) → kept table n ≡ told text (lines_of tree) n) → (ls : List (ℕ × Scope)) → AllFound text ds ls → AllLines (IsTold text (lines_of tree)) ls
-      → AllLines (HasOnce ds) ls
-  both_told table ds k [] f t = tt
-  both_told table ds k (l ∷ ls) f t =
-      let c = known table l.0 (at text (lines_of tree) l.0) (k l.0 ∙ t.0) in
-      let once = once_there (resolve_clauses (scope_at (lines_of tree) l.0) (clauses_there (directive_on text l.0))) c.0 c.1 in
-      ((c.0, same_clauses ds l.0 f.0 ∙ once.0, once.1), both_told table ds k ls f.1 t.1)
+  module _ {S : Type 0} (table : HashMap ℕ Clauses S) (k : (n : ℕ) → kept table n ≡ told text (lines_of tree) n) where
+    abbrev pub table_lines : Lines
+    table_lines = lines_known (kept table)
 
-  pub all_resolved : {S : Type 0} (table : HashMap ℕ Clauses S) → ((n : ℕ) → kept table n ≡ told text (lines_of tree) n) → AllRead text (lines_of tree) → All (λ (d : ℕ × Directive Name). HasOnce (directives_of text tree) d.0) (directives_of text tree)
-  all_resolved table k r =
-      let ds = directives_of text tree in
-      of_lines text (HasOnce ds) (lines_of tree) r (both_told table ds k (lines_of tree) (all_found text (lines_of tree) r) (all_told text (lines_of tree)))
+    both_told : (ds : Directives) (ls : List (ℕ × Scope)) → AllFound text ds ls → AllLines (IsTold text (lines_of tree)) ls → AllLines (Knows tree ds table_lines) ls
+    both_told ds [] f t = tt
+    both_told ds (l ∷ ls) f t =
+        let there = known table l.0 (at text (lines_of tree) l.0) (k l.0 ∙ t.0) in
+        let once = once_there (resolve_clauses (scope_at (lines_of tree) l.0) (clauses_there (directive_on text l.0))) (table_lines l.0) there in
+        ((same_clauses ds l.0 f.0 ∙ once.0, once.1), both_told ds ls f.1 t.1)
 
-  pub are_resolved : (ds : Directives) → All (λ (d : ℕ × Directive Name). HasOnce ds d.0) ds → IsResolved tree ds
-  are_resolved ds h = record { each = λ i d lt. ((h i d lt).0, (h i d lt).1) }
+    -- of the lines of directives that are found it knows the clauses
+    pub all_known : (ds : Directives) → AllFound text ds (lines_of tree) → AllLines (Knows tree ds table_lines) (lines_of tree)
+    all_known ds f = both_told ds (lines_of tree) f (all_told text (lines_of tree))
+
+    has_clauses : (ds : Directives) (ls : List (ℕ × Scope)) → AllLines (Knows tree ds table_lines) ls → AllLines (HasClauses tree ds) ls
+    has_clauses ds [] h = tt
+    has_clauses ds (l ∷ ls) h = ((table_lines l.0, h.0.0), has_clauses ds ls h.1)
+
+    pub are_resolved : AllRead text (lines_of tree) → IsResolved tree (directives_of text tree)
+    are_resolved r =
+        let ds = directives_of text tree in
+        record { each = of_lines text (HasClauses tree ds) (lines_of tree) r (has_clauses ds (lines_of tree) (all_known ds (all_found text (lines_of tree) r))) }
+
+    pub are_named : AllRead text (lines_of tree) → name_rightly table_lines tree ≡ true → NameRightly tree (directives_of text tree)
+    are_named r h = rightly_named tree (directives_of text tree) table_lines (all_known (directives_of text tree) (all_found text (lines_of tree) r)) h
 
   -- ---- what stands
 
@@ -162,3 +176,7 @@ module _ (text : List ℕ) (tree : Kernel) where
         let is : at text (lines_of tree) n ≡ Some c.0 = ap unless_twice (sym (same_clauses ds n f) ∙ c.1) ∙ ap (λ (b : Bool). if b then Some c.0 else None) (once c.0 c.1) in
         let clash : Some None ≡ Some (Some c.0) = sym e ∙ t ∙ ap Some is in
         absurd (cc clash)
+
+    -- the names of its constructs stand rightly
+    pub attached_named : {S : Type 0} (table : HashMap ℕ Clauses S) → ((n : ℕ) → kept table n ≡ told text (lines_of tree) n) → name_rightly (lines_known (kept table)) tree ≡ true
+    attached_named table k = named_back tree ds (lines_known (kept table)) (all_known table k ds found_there) a.named

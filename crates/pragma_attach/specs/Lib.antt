@@ -4,5 +4,4 @@ pub mod Opened
 pub mod Attached
 pub mod Resolved
 pub mod Told
-pub mod Resolving
-pub mod Once
+pub mod Rightly

@@ -1,6 +1,6 @@
 //! A kernel's directives, each at its place.
 
-ghost use Rattle.std.specs.Prelude.{◌≡◌, ◌⊎◌, ℕ, IfOk, IfErr};
+ghost use Rattle.std.specs.Prelude.{◌≡◌, ◌⊎◌, ◌&&◌, ℕ, is_none, IfOk, IfErr};
 ghost use Rattle.semantics.specs.Directives.Annotated.{Directives as Those, lines_of};
 ghost use Rattle.semantics.specs.Directives.Naming.{IsAttached};
 ghost use Rattle.ktree.specs.View.{kernel_of};
@@ -8,16 +8,17 @@ ghost use Rattle.ktree.specs.declared.refusal.Refusal.TheVariants.{OutOfMemory};
 ghost use Rattle.pragma_attach.specs.declared.stop.Stop.TheVariants.{Memory};
 ghost use Rattle.pragma_attach.specs.Faults.{IsOfDirectives};
 ghost use Rattle.pragma_attach.specs.Attached.{directives_of};
-ghost use Rattle.pragma_attach.specs.Resolving.{AreResolved};
 ghost use Rattle.pragma_attach.specs.Told.{told, kept};
 
 use crate::fault::{Fault, Flaw, first};
 use crate::names::{Table, kernel_names};
+use crate::naming::naming_fault;
 use crate::placed::placing_fault;
 use crate::stop::Stop;
 use ktree::{Kernel, Place, Refusal};
 use pragma::Directives;
 use std::alloc::Global;
+use std::collections::HashMap;
 
 /// The clauses of a kernel's directive lines, their names resolved.
 #[derive(Drop)]
@@ -44,15 +45,32 @@ fn stopped(stop: Stop, placing: Option<Fault>) -> Refusal
     }
 }
 
-/// Attaches the directives of a text to its kernel: each line is read, each construct stands where it may, and each name in a
-/// clause is that of a visible variable (OpenMP 5.2, 3.1, 5.1, 10.1, 11.5 and 17; C11 6.2.1).
+/// The first of what is wrong with constructs, and of a name in a construct that stands in the wrong clauses or in none.
+fn first_fault(placing: Option<Fault>, naming: Option<Place>) -> Option<Fault>
+    ensures { is_none result ≡ (is_none placing && is_none naming) }
+{
+    match naming {
+        None => placing,
+        Some(place) => Some(first(
+            Fault {
+                place,
+                flaw: Flaw::ClauseForVariable,
+            },
+            placing,
+        )),
+    }
+}
+
+/// Attaches the directives of a text to its kernel, exactly where that can be: each line is read, each construct stands where it may, each name in a
+/// clause is that of a visible variable, none stands twice in a directive's clauses, a `for` inside a `parallel` names only what is shared there, and under
+/// `default(none)` each variable from outside stands in a clause (OpenMP 5.2, 3.1, 5.1, 5.4, 10.1, 11.5 and 17; C11 6.2.1).
 ///
 /// # Errors
 ///
 /// [`Refusal::OutOfMemory`], and of several faults the first in the text, by its place, and at one place that of the lower number:
-/// [`Refusal::UnknownName`] at a name, [`Refusal::Directive`] and [`Refusal::Limit`] at a line's `#`.
+/// [`Refusal::UnknownName`] and [`Refusal::ClauseForVariable`] at a name, [`Refusal::Directive`] and [`Refusal::Limit`] at a line's `#`.
 pub fn attach(alloc: Global, kernel: &Kernel, directives: &Directives) -> Result<Attached, Refusal>
-    ensures resolved { IfOk result (λ attached. AreResolved directives.now (kernel_of kernel.now)
+    ensures attached { IfOk result (λ attached. IsAttached directives.now (kernel_of kernel.now)
         (directives_of directives.now (kernel_of kernel.now))) }
     ensures known { IfOk result (λ attached. (n : ℕ) → kept attached.lines n
         ≡ told directives.now (lines_of (kernel_of kernel.now)) n) }
@@ -61,9 +79,13 @@ pub fn attach(alloc: Global, kernel: &Kernel, directives: &Directives) -> Result
         × ((ds : Those) → IsAttached directives.now (kernel_of kernel.now) ds → ⊥))) }
 {
     let placing = placing_fault(kernel, directives);
-    match kernel_names(alloc, kernel, directives) {
-        Err(stop) => Err(stopped(stop, placing)),
-        Ok(lines) => match placing {
+    let mut lines = HashMap::new(alloc);
+    let names = kernel_names(alloc, kernel, directives, &mut lines);
+    let naming = naming_fault(alloc, kernel, &lines)?;
+    let fault = first_fault(placing, naming);
+    match names {
+        Err(stop) => Err(stopped(stop, fault)),
+        Ok(()) => match fault {
             None => Ok(Attached { lines }),
             Some(fault) => Err(fault.refusal()),
         },

@@ -3,12 +3,15 @@
 
 mod attaching;
 mod fault;
+mod listed;
 mod names;
+mod naming;
 mod once;
 mod placed;
 mod resolved;
 mod stop;
 mod visible;
+mod wanted;
 
 pub use attaching::{Attached, attach};
 pub use names::Clauses;

@@ -1,6 +1,6 @@
 //! The names in the clauses of a kernel's directive lines, each resolved by what is visible there (C11 6.2.1).
 
-ghost use Rattle.std.specs.Prelude.{◌≡◌, ◌∷◌, ◌++◌, ℕ, nat_eq, List, length, take, map, cond, string_bytes, Some, None, IfOk, IfErr, OnOk};
+ghost use Rattle.std.specs.Prelude.{◌≡◌, ◌∷◌, ◌++◌, ℕ, nat_eq, List, length, take, map, cond, string_bytes, Some, None, IfErr, OnOk};
 ghost use Rattle.semantics.specs.Tree.{Items};
 ghost use Rattle.semantics.specs.Source.Scope.{AVariable, Scope as Visible};
 ghost use Rattle.semantics.specs.Directives.Annotated.{clauses_of, clauses_there, lines_in, lines_among, lines_of};
@@ -251,13 +251,15 @@ fn item_names<'k>(
     }
 }
 
-/// The clauses of a kernel's directive lines, their names resolved.
+/// Resolves the names in the clauses of a kernel's directive lines, into a table that knows none. Where that stops, it knows the lines before.
 pub(crate) fn kernel_names(
     alloc: Global,
     kernel: &Kernel,
     directives: &Directives,
-) -> Result<Table, Stop>
-    ensures ok { IfOk result (λ table. (n : ℕ) → kept table n
+    table: &mut Table,
+) -> Result<(), Stop>
+    requires { (n : ℕ) → kept table.old n ≡ None }
+    ensures ok { OnOk result ((n : ℕ) → kept table.new n
         ≡ told directives.now (lines_of (kernel_of kernel.now)) n) }
     ensures err { IfErr result (λ stop. Blames stop ((n : ℕ)
         × (told directives.now (lines_of (kernel_of kernel.now)) n ≡ Some None))) }
@@ -265,15 +267,5 @@ pub(crate) fn kernel_names(
     let Ok(mut scope) = file_scope(alloc, kernel) else {
         return Err(Stop::Memory);
     };
-    let mut table = HashMap::new(alloc);
-    match items_names(
-        alloc,
-        directives,
-        &mut table,
-        &mut scope,
-        kernel.body.as_slice(),
-    ) {
-        Err(stop) => Err(stop),
-        Ok(()) => Ok(table),
-    }
+    items_names(alloc, directives, table, &mut scope, kernel.body.as_slice())
 }

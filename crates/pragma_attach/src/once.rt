@@ -1,6 +1,6 @@
 //! Variables that a directive names twice (OpenMP 5.2, 5.4).
 
-ghost use Rattle.std.specs.Prelude.{◌≡◌, ◌++◌, ℕ, not, cond, true, nat_eq, is_none, map, flat_map, IfOk, IfErr, OnOk};
+ghost use Rattle.std.specs.Prelude.{◌≡◌, is_none, map, flat_map, IfOk, IfErr};
 ghost use Rattle.semantics.specs.Directives.Naming.{variables_in, are_distinct};
 ghost use Rattle.pragma_attach.specs.declared.stop.Stop.TheVariants.{Memory};
 ghost use Rattle.semantics.specs.Directives.Annotated.{resolve_clauses};
@@ -8,39 +8,15 @@ ghost use Rattle.cparse_cursor.specs.Names.{names_of};
 ghost use Rattle.pragma_clause.specs.Views.{written_clause};
 ghost use Rattle.pragma_attach.specs.Resolved.{variable_named, resolved_clause, resolved_clauses, Gives};
 ghost use Rattle.pragma_attach.specs.Told.{unless_twice};
-ghost use Rattle.pragma_attach.specs.Once.{holds};
 
+use crate::listed::names_in;
 use crate::resolved::{Named, resolve_clauses};
 use crate::stop::Stop;
 use cparse_cursor::scope::Scope;
 use ktree::{Clause, Place, Written};
+use pragma_mention::note;
 use std::alloc::Global;
 use std::collections::HashSet;
-
-/// Adds the variables that a clause names.
-fn add_named(list: &mut Vec<Named>, clause: &Clause<Named>) -> Result<(), Stop>
-    ensures ok { OnOk result (map variable_named list.new.items
-        ≡ map variable_named list.old.items ++ variables_in (resolved_clause clause.now)) }
-    ensures err { IfErr result (λ stop. stop ≡ Memory) }
-{
-    match clause {
-        Clause::DefaultShared => {}
-        Clause::DefaultNone => {}
-        Clause::Shared(names) => list.extend_from_slice(names)?,
-        Clause::Private(names) => list.extend_from_slice(names)?,
-        Clause::Firstprivate(names) => list.extend_from_slice(names)?,
-        Clause::Lastprivate(names) => list.extend_from_slice(names)?,
-        Clause::LastConditional(names) => list.extend_from_slice(names)?,
-        Clause::Reduction(_, names) => list.extend_from_slice(names)?,
-        Clause::Inscan(_, name) => list.push(*name)?,
-        Clause::Schedule(_) => {}
-        Clause::Collapse(_) => {}
-        Clause::Ordered => {}
-        Clause::OrderedLoops(_) => {}
-        Clause::Nowait => {}
-    }
-    Ok(())
-}
 
 /// The variables that clauses name, in their order.
 fn named(alloc: Global, clauses: &[Clause<Named>]) -> Result<Vec<Named>, Stop>
@@ -50,20 +26,9 @@ fn named(alloc: Global, clauses: &[Clause<Named>]) -> Result<Vec<Named>, Stop>
 {
     let mut list = Vec::new(alloc);
     for clause in clauses {
-        add_named(&mut list, clause)?;
+        list.extend_from_slice(names_in(clause))?;
     }
     Ok(list)
-}
-
-/// Adds a variable to those that are seen, and says whether it is new.
-fn note(seen: &mut HashSet<u32>, variable: u32) -> Result<bool, Stop>
-    ensures added { IfOk result (λ added. added ≡ not (holds seen.old variable)) }
-    ensures noted { OnOk result ((q : ℕ)
-        → holds seen.new q ≡ cond (nat_eq variable q) true (holds seen.old q)) }
-    ensures err { IfErr result (λ stop. stop ≡ Memory) }
-{
-    let added = seen.insert(variable)?;
-    Ok(added)
 }
 
 /// Where the first variable stands that stood before.
@@ -74,7 +39,7 @@ fn first_twice(alloc: Global, list: &[Named]) -> Result<Option<Place>, Stop>
 {
     let mut seen = HashSet::new(alloc);
     for named in list {
-        if !note(&mut seen, named.variable.0)? {
+        if !note(&mut seen, named.variable)? {
             return Ok(Some(named.place));
         }
     }

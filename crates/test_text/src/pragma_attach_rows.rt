@@ -119,6 +119,30 @@ fn constructs_stand_before_their_statements(rt: HostRuntime) {
             2,
             1,
         ),
+        (
+            "uint64_t v; void kernel(void) { v = 1;\n#pragma omp parallel for\n}\n",
+            11,
+            2,
+            1,
+        ),
+        (
+            "uint64_t v; void kernel(void) {\n#pragma omp ordered\nv = 1; }\n",
+            0,
+            0,
+            0,
+        ),
+        (
+            "uint64_t v; void kernel(void) {\n#pragma omp scan inclusive(v)\nv = 1; }\n",
+            0,
+            0,
+            0,
+        ),
+        (
+            "uint64_t v; void kernel(void) {\n#pragma omp ordered doacross(source:)\nv = 1; }\n",
+            0,
+            0,
+            0,
+        ),
     ];
     assert_eq!(rt; other_told(rt.alloc(), &rows), None);
 }
@@ -228,6 +252,243 @@ fn the_first_fault_is_told(rt: HostRuntime) {
             11,
             2,
             1,
+        ),
+        (
+            "uint64_t A[8]; uint64_t B[8]; void kernel(void) {\n#pragma omp parallel for default(none) shared(A)\nfor (uint64_t i = 0; i < 8; i++) { A[i] = B[i]; }\n#pragma omp simd\n}\n",
+            13,
+            3,
+            43,
+        ),
+        (
+            "uint64_t A[8]; uint64_t B[8]; void kernel(void) {\n#pragma omp parallel for default(none) shared(A)\nfor (uint64_t i = 0; i < 8; i++) { A[i] = B[i]; }\n#pragma omp parallel for shared(w)\nfor (uint64_t i = 0; i < 8; i++) { } }\n",
+            13,
+            3,
+            43,
+        ),
+        (
+            "uint64_t A[8]; uint64_t B[8]; void kernel(void) {\n#pragma omp parallel for shared(w)\nfor (uint64_t i = 0; i < 8; i++) { }\n#pragma omp parallel for default(none) shared(A)\nfor (uint64_t i = 0; i < 8; i++) { A[i] = B[i]; } }\n",
+            3,
+            2,
+            33,
+        ),
+        (
+            "uint64_t A[8]; uint64_t B[8]; void kernel(void) {\n#pragma omp parallel for default(none) shared(A)\n{ A[0] = B[0]; } }\n",
+            11,
+            2,
+            1,
+        ),
+        (
+            "uint64_t A[8]; uint64_t B[8]; void kernel(void) {\n#pragma omp parallel default(none) shared(A)\n{\n#pragma omp for\nfor (uint64_t i = 0; i < 8; i++) { A[i] = B[i]; }\n#pragma omp for private(w)\nfor (uint64_t i = 0; i < 8; i++) { A[i] = 1; } } }\n",
+            13,
+            5,
+            43,
+        ),
+        (
+            "uint64_t A[8]; uint64_t B[8]; void kernel(void) { uint64_t x = 1; A[0] = x;\n#pragma omp parallel default(none) shared(A, x)\n{\n#pragma omp for private(x) firstprivate(x)\nfor (uint64_t i = 0; i < 8; i++) { A[i] = B[i]; } } }\n",
+            13,
+            4,
+            41,
+        ),
+    ];
+    assert_eq!(rt; other_told(rt.alloc(), &rows), None);
+}
+
+#[test]
+fn default_none_wants_each_variable_from_outside_in_a_clause(rt: HostRuntime) {
+    let rows = [
+        (
+            "uint64_t A[8]; uint64_t B[8]; void kernel(void) {\n#pragma omp parallel for default(none) shared(A)\nfor (uint64_t i = 0; i < 8; i++) { A[i] = B[i]; } }\n",
+            13,
+            3,
+            43,
+        ),
+        (
+            "uint64_t A[8]; uint64_t B[8]; void kernel(void) {\n#pragma omp parallel for default(none) shared(A, B)\nfor (uint64_t i = 0; i < 8; i++) { A[i] = B[i]; } }\n",
+            0,
+            0,
+            0,
+        ),
+        (
+            "uint64_t A[8]; uint64_t B[8]; void kernel(void) {\n#pragma omp parallel for default(shared) shared(A)\nfor (uint64_t i = 0; i < 8; i++) { A[i] = B[i]; } }\n",
+            0,
+            0,
+            0,
+        ),
+        (
+            "uint64_t A[8]; void kernel(void) {\n#pragma omp parallel for default(none)\nfor (uint64_t i = 0; i < 8; i++) { uint64_t t = i; for (uint64_t j = 0; j < t; j++) { t = t + j; } } }\n",
+            0,
+            0,
+            0,
+        ),
+        (
+            "uint64_t A[8]; void kernel(void) { for (uint64_t t = 0; t < 8; t++) {\n#pragma omp parallel for default(none) shared(A)\nfor (uint64_t i = 0; i < 8; i++) { A[i] = t; } } }\n",
+            13,
+            3,
+            43,
+        ),
+        (
+            "uint64_t A[8]; void kernel(void) { for (uint64_t t = 0; t < 8; t++) {\n#pragma omp parallel for default(none) shared(A) firstprivate(t)\nfor (uint64_t i = 0; i < 8; i++) { A[i] = t; } } }\n",
+            0,
+            0,
+            0,
+        ),
+        (
+            "uint64_t A[8]; void kernel(void) { for (uint64_t t = 0; t < 8; t++) {\n#pragma omp parallel for default(none) shared(A)\nfor (uint64_t i = 0; i < t; i++) { A[i] = 1; } } }\n",
+            13,
+            3,
+            26,
+        ),
+        (
+            "uint64_t A[8]; uint64_t s; void kernel(void) {\n#pragma omp parallel for default(none) shared(A)\nfor (uint64_t i = 0; i < 8; i++) { A[i + s] = 1; } }\n",
+            13,
+            3,
+            42,
+        ),
+        (
+            "uint64_t A[8]; uint64_t s; void kernel(void) {\n#pragma omp parallel for default(none) shared(A)\nfor (uint64_t i = 0; i < 8; i++) { if (A[i] > 1) s += A[i]; } }\n",
+            13,
+            3,
+            50,
+        ),
+        (
+            "uint64_t A[8]; uint64_t s; void kernel(void) {\n#pragma omp parallel for default(none) shared(A)\nfor (uint64_t i = 0; i < 8; i++) { uint64_t t = s; A[i] = t; } }\n",
+            13,
+            3,
+            49,
+        ),
+        (
+            "uint64_t A[8]; uint64_t s; void kernel(void) {\n#pragma omp parallel for default(none) shared(A)\nfor (uint64_t i = 0; i < 8; i++) { if (i < 3 && s > 1) A[i] = 1; else A[i] = 2; } }\n",
+            13,
+            3,
+            49,
+        ),
+        (
+            "uint64_t A[8]; uint64_t s; void kernel(void) {\n#pragma omp parallel for default(none) shared(A)\nfor (uint64_t i = 0; i < 8; i++) { if (i < 3) A[i] = 1; else A[i] = s; } }\n",
+            13,
+            3,
+            69,
+        ),
+        (
+            "uint64_t A[8]; uint64_t s; void kernel(void) {\n#pragma omp parallel for default(none) shared(A) reduction(+: s)\nfor (uint64_t i = 0; i < 8; i++) { s += A[i]; } }\n",
+            0,
+            0,
+            0,
+        ),
+        (
+            "uint64_t A[8]; uint64_t s; void kernel(void) {\n#pragma omp parallel for default(none) shared(A)\nfor (uint64_t i = 0; i < 8; i++) { A[i] = 1;\n#pragma omp scan inclusive(s)\nA[i] = 2; } }\n",
+            0,
+            0,
+            0,
+        ),
+        (
+            "uint64_t A[8]; uint64_t s; void kernel(void) {\n#pragma omp parallel for default(none) shared(A)\nfor (uint64_t i = 0; i < 8; i++) {\n#pragma omp ordered doacross(sink: s-1)\nA[i] = 2; } }\n",
+            0,
+            0,
+            0,
+        ),
+        (
+            "uint64_t A[8]; uint64_t s; void kernel(void) {\n#pragma omp parallel for default(none) shared(A)\nfor (uint64_t i = 0; i < 8; i += s) { A[i] = 1; } }\n",
+            13,
+            3,
+            34,
+        ),
+        (
+            "uint64_t A[8]; uint64_t s; void kernel(void) {\n#pragma omp parallel for default(none) shared(A)\nfor (uint64_t i = 0; i < 8; i++) { printf(\"%\" PRIu64 \" %\" PRIu64 \"\\n\", A[i], s); } }\n",
+            13,
+            3,
+            78,
+        ),
+        (
+            "enum { N = 8 }; uint64_t A[N]; void kernel(void) {\n#pragma omp parallel for default(none) shared(A)\nfor (uint64_t i = 0; i < N; i++) { A[i] = 1ull + N; } }\n",
+            0,
+            0,
+            0,
+        ),
+    ];
+    assert_eq!(rt; other_told(rt.alloc(), &rows), None);
+}
+
+#[test]
+fn default_none_of_a_parallel_counts_for_its_loops(rt: HostRuntime) {
+    let rows = [
+        (
+            "uint64_t A[8]; uint64_t B[8]; void kernel(void) {\n#pragma omp parallel default(none) shared(A)\n{\n#pragma omp for\nfor (uint64_t i = 0; i < 8; i++) { A[i] = 1; }\n#pragma omp for\nfor (uint64_t j = 0; j < 8; j++) { B[j] = 1; } } }\n",
+            13,
+            7,
+            36,
+        ),
+        (
+            "uint64_t A[8]; uint64_t B[8]; void kernel(void) {\n#pragma omp parallel default(none) shared(A, B)\n{\n#pragma omp for\nfor (uint64_t i = 0; i < 8; i++) { A[i] = 1; }\n#pragma omp for\nfor (uint64_t j = 0; j < 8; j++) { B[j] = 1; } } }\n",
+            0,
+            0,
+            0,
+        ),
+        (
+            "uint64_t A[8]; uint64_t s; void kernel(void) {\n#pragma omp parallel default(none) shared(A)\n{\n#pragma omp for reduction(+: s)\nfor (uint64_t i = 0; i < 8; i++) { A[i] = 1; } } }\n",
+            13,
+            4,
+            30,
+        ),
+        (
+            "uint64_t A[8]; uint64_t s; void kernel(void) {\n#pragma omp parallel default(none) shared(A, s)\n{\n#pragma omp for reduction(+: s)\nfor (uint64_t i = 0; i < 8; i++) { A[i] = 1; } } }\n",
+            0,
+            0,
+            0,
+        ),
+    ];
+    assert_eq!(rt; other_told(rt.alloc(), &rows), None);
+}
+
+#[test]
+fn a_for_names_what_its_parallel_shares(rt: HostRuntime) {
+    let rows = [
+        (
+            "uint64_t A[8]; void kernel(void) { uint64_t x = 1; A[0] = x;\n#pragma omp parallel private(x)\n{\n#pragma omp for private(x)\nfor (uint64_t i = 0; i < 8; i++) { x = i; A[i] = x; } } }\n",
+            13,
+            4,
+            25,
+        ),
+        (
+            "uint64_t A[8]; void kernel(void) { uint64_t x = 1;\n#pragma omp parallel firstprivate(x)\n{\n#pragma omp for lastprivate(x)\nfor (uint64_t i = 0; i < 8; i++) { x = i; A[i] = x; } } }\n",
+            13,
+            4,
+            29,
+        ),
+        (
+            "uint64_t A[8]; void kernel(void) { uint64_t x = 1; A[0] = x;\n#pragma omp parallel shared(x)\n{\n#pragma omp for private(x)\nfor (uint64_t i = 0; i < 8; i++) { x = i; A[i] = x; } } }\n",
+            0,
+            0,
+            0,
+        ),
+        (
+            "uint64_t A[8]; void kernel(void) { uint64_t x = 1; uint64_t y = 1; A[0] = x + y;\n#pragma omp parallel private(x)\n{\n#pragma omp for private(y)\nfor (uint64_t i = 0; i < 8; i++) { y = i; A[i] = y; }\n#pragma omp for firstprivate(y) reduction(max: x)\nfor (uint64_t i = 0; i < 8; i++) { A[i] = y; } } }\n",
+            13,
+            6,
+            48,
+        ),
+        (
+            "uint64_t A[8]; void kernel(void) { uint64_t x = 1; A[0] = x;\n#pragma omp parallel private(x)\n{\n#pragma omp for\nfor (uint64_t i = 0; i < 8; i++) { x = i; A[i] = x; }\n#pragma omp for lastprivate(conditional: x)\nfor (uint64_t i = 0; i < 8; i++) { x = i; } } }\n",
+            13,
+            6,
+            42,
+        ),
+        (
+            "uint64_t A[8]; void kernel(void) { uint64_t x = 1; A[0] = x;\n#pragma omp parallel private(x)\n{\n#pragma omp for\nfor (uint64_t i = 0; i < 8; i++) { x = i; A[i] = x; } }\n#pragma omp parallel\n{\n#pragma omp for private(x)\nfor (uint64_t i = 0; i < 8; i++) { x = i; A[i] = x; } } }\n",
+            0,
+            0,
+            0,
+        ),
+        (
+            "uint64_t A[8]; uint64_t s; void kernel(void) { uint64_t x = 1; A[0] = x;\n#pragma omp parallel default(none) private(x) shared(A)\n{\n#pragma omp for reduction(+: s) private(x)\nfor (uint64_t i = 0; i < 8; i++) { s += i; } } }\n",
+            13,
+            4,
+            30,
+        ),
+        (
+            "uint64_t A[8]; uint64_t s; void kernel(void) { uint64_t x = 1; A[0] = x;\n#pragma omp parallel default(none) private(x) shared(A)\n{\n#pragma omp for private(x) reduction(+: s)\nfor (uint64_t i = 0; i < 8; i++) { s += i; } } }\n",
+            13,
+            4,
+            25,
         ),
     ];
     assert_eq!(rt; other_told(rt.alloc(), &rows), None);

@@ -1,9 +1,9 @@
-use Rattle.std.specs.Prelude.{is_none}
+use Rattle.std.specs.Prelude.{◌≡◌, ◌&&◌, true, is_none}
 use Rattle.std.proofs.Common.{sym, ap, ◌∙◌, inr}
+use Rattle.semantics.proofs.EraseTokenLaw.{first_of, second_of}
 use Rattle.ktree.specs.View.{kernel_of}
-use Rattle.pragma_attach.specs.Attached.{directives_of}
-use Rattle.pragma_attach.proofs.AttachLaw.{stopped_rightly, not_standing}
-use Rattle.pragma_attach.proofs.ResolvedLaw.{standing_read, standing_placed, all_resolved, are_resolved}
+use Rattle.pragma_attach.proofs.AttachLaw.{stopped_rightly, not_right}
+use Rattle.pragma_attach.proofs.ResolvedLaw.{standing_read, standing_placed, are_resolved, are_named}
 use Rattle.pragma_attach.proofs.LinesLaw.{are_read}
 use Rattle.pragma_attach.proofs.attaching.attach.Goals as goal
 
@@ -11,15 +11,27 @@ pub returns-in-Err-clause-err : goal.returns-in-Err-clause-err
 returns-in-Err-clause-err c =
     stopped_rightly c.args.directives.now (kernel_of c.args.kernel.now) c.in-Err.stop c.stopped.result c.stopped.ensures.memory c.stopped.ensures.told c.in-Err.ensures.err
 
-pub returns-in-None-clause-resolved : goal.returns-in-None-clause-resolved
-returns-in-None-clause-resolved c =
+pub returns-in-None-clause-attached : goal.returns-in-None-clause-attached
+returns-in-None-clause-attached c =
     let text = c.args.directives.now in
     let tree = kernel_of c.args.kernel.now in
-    let stands = sym c.placing_fault-placing.ensures ∙ ap is_none c.in-None.is in
+    let placing = is_none c.placing_fault-placing.result in
+    let naming = is_none c.in_ok-naming.naming in
+    let right : (placing && naming) ≡ true = sym c.first_fault-fault.ensures ∙ ap is_none c.in-None.is in
+    let stands = sym c.placing_fault-placing.ensures ∙ first_of placing naming right in
     let read = standing_read text tree stands in
-    let once = all_resolved text tree c.in-Ok.lines c.in-Ok.ensures.ok read in
-    record { read = are_read text tree read; placed = standing_placed text tree stands; resolved = are_resolved text tree (directives_of text tree) once; once = once }
+    let table = c.kernel_names-names.new.table in
+    record {
+      read = are_read text tree read;
+      placed = standing_placed text tree stands;
+      resolved = are_resolved text tree table c.in-Ok.ensures.ok read;
+      named = are_named text tree table c.in-Ok.ensures.ok read (sym c.in_ok-naming.ensures ∙ second_of placing naming right);
+    }
 
 pub returns-in-Some-clause-err : goal.returns-in-Some-clause-err
 returns-in-Some-clause-err c =
-    inr ((c.in-Some.fault, c.refusal.ensures), not_standing c.args.directives.now (kernel_of c.args.kernel.now) (sym (ap is_none c.in-Some.is) ∙ c.placing_fault-placing.ensures))
+    inr (
+      (c.in-Some.fault, c.refusal.ensures),
+      not_right c.args.directives.now (kernel_of c.args.kernel.now) c.kernel_names-names.new.table c.in-Ok.ensures.ok (is_none c.placing_fault-placing.result) (is_none c.in_ok-naming.naming)
+          (sym (ap is_none c.in-Some.is) ∙ c.first_fault-fault.ensures) c.placing_fault-placing.ensures c.in_ok-naming.ensures,
+    )

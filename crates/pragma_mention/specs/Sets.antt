@@ -1,7 +1,7 @@
--- Variables that were seen.
+-- Variables in a set.
 use Rattle.std.specs.Prelude.{ℕ, Bool, nat_eq}
 use Rattle.std.specs.HashSet.{HashSet, contains}
 
 -- a variable is among them
 abbrev pub holds : {S : Type 0} → HashSet ℕ S → ℕ → Bool
-holds seen x = contains nat_eq seen x
+holds set x = contains nat_eq set x
