@@ -1,0 +1,431 @@
+#!/usr/bin/env python3
+"""Times the bodies of serial loops: `ompk run --workers 1` and `ompk seq` beside gcc -O2 and -O0, Lua 5.4 and Python.
+
+    python3 bench/bodies.py [PROGRAM [KERNEL..]]     the program as it is proved here, or another one
+
+Each program has a kernel many times and a few times; the difference of the two runs is its time, so that starting, reading and
+writing count for neither. Times are those of the processor, of one core; all programs of a kernel run in turn, and the median of
+the rounds counts. A line for each kernel: nanoseconds an innermost statement and the ratio to gcc -O2, and the geometric
+mean of the ratios at the end. Every program has to leave the same digest of all variables. The status is 1 where a target is
+missed: `run` faster than Lua on each kernel, no ratio above 25, the mean of them at most 10.
+"""
+import math
+import os
+import pathlib
+import statistics
+import subprocess
+import sys
+import tempfile
+
+TOP = pathlib.Path(__file__).resolve().parent.parent
+PROGRAM = TOP / "crates/ompk_cli/out/ompk_cli"
+ROUNDS = 5
+MASK = (1 << 64) - 1
+WORST = 25
+MEAN = 10
+
+C_MAIN = """
+#include <stdio.h>
+static uint64_t digest_of(const uint64_t *p, uint64_t n, uint64_t d)
+{
+    for (uint64_t i = 0; i < n; i++) { d = d * 31 + p[i]; }
+    return d;
+}
+int main(void)
+{
+    uint64_t d = 0;
+    kernel();
+    CALLS
+    printf("%llu\\n", (unsigned long long)d);
+    return 0;
+}
+"""
+LUA_END = """
+local d = 0
+local function add(v) if type(v) == "table" then for i = 0, #v do add(v[i]) end else d = d * 31 + v end end
+"""
+PYTHON_END = """
+def add(d, v):
+    if isinstance(v, list):
+        for it in v:
+            d = add(d, it)
+        return d
+    return (d * 31 + v) & M
+d = 0
+"""
+
+
+class Kernel:
+    """A kernel in three languages. `many` and `few` are its rounds, `statements` the innermost statements of one."""
+
+    def __init__(self, name, variables, statements, many, few, slow, c, lua, python):
+        self.name, self.variables, self.statements = name, variables, statements
+        self.many, self.few, self.slow = many, few, slow
+        self.c, self.lua, self.python = c, lua, python
+
+
+MAP = Kernel(
+    "map", ["A"], 65536, 96, 32, (3, 1),
+    """uint64_t A[65536];
+void kernel(void)
+{
+    for (uint64_t t = 0; t < ROUNDS; t++) {
+        for (uint64_t i = 0; i < 65536; i++) { A[i] = A[i] * 3 + i; }
+    }
+}
+""",
+    """local A = {} for i = 0, 65535 do A[i] = 0 end
+for t = 1, ROUNDS do
+    for i = 0, 65535 do A[i] = A[i] * 3 + i end
+end
+""",
+    """A = [0] * 65536
+for t in range(ROUNDS):
+    for i in range(65536):
+        A[i] = (A[i] * 3 + i) & M
+""",
+)
+PRODUCT_C = """uint64_t A[192][192];
+uint64_t B[192][192];
+uint64_t C[192][192];
+void kernel(void)
+{
+    for (uint64_t i = 0; i < 192; i++) {
+        for (uint64_t j = 0; j < 192; j++) { A[i][j] = i + j; B[i][j] = 3 * i + j; }
+    }
+    for (uint64_t t = 0; t < ROUNDS; t++) {
+        LOOPS { C[i][j] += A[i][k] * B[k][j]; }
+    }
+}
+"""
+PRODUCT_LUA = """local A, B, C = {}, {}, {}
+for i = 0, 191 do
+    A[i], B[i], C[i] = {}, {}, {}
+    for j = 0, 191 do A[i][j] = i + j; B[i][j] = 3 * i + j; C[i][j] = 0 end
+end
+for t = 1, ROUNDS do
+    LOOPS C[i][j] = C[i][j] + A[i][k] * B[k][j] end end end
+end
+"""
+PRODUCT_PYTHON = """A = [[i + j for j in range(192)] for i in range(192)]
+B = [[3 * i + j for j in range(192)] for i in range(192)]
+C = [[0] * 192 for _ in range(192)]
+for t in range(ROUNDS):
+    LOOPS
+                C[i][j] = (C[i][j] + A[i][k] * B[k][j]) & M
+"""
+
+
+def product(order):
+    """The matrix product with its loops in this order."""
+    c = " ".join(f"for (uint64_t {v} = 0; {v} < 192; {v}++)" for v in order)
+    lua = " ".join(f"for {v} = 0, 191 do" for v in order)
+    python = "\n".join(" " * (4 * depth + (4 if depth else 0)) + f"for {v} in range(192):" for depth, v in enumerate(order))
+    return Kernel(
+        f"product {order}", ["A", "B", "C"], 192**3, 2, 1, (1, 0),
+        PRODUCT_C.replace("LOOPS", c), PRODUCT_LUA.replace("LOOPS", lua), PRODUCT_PYTHON.replace("LOOPS", python),
+    )
+
+
+XORSHIFT = Kernel(
+    "xorshift", ["A"], 1024 * 64 * 3, 48, 16, (2, 1),
+    """uint64_t A[1024];
+void kernel(void)
+{
+    for (uint64_t t = 0; t < ROUNDS; t++) {
+        for (uint64_t i = 0; i < 1024; i++) {
+            uint64_t x = A[i] + i + 88172645463325252ull;
+            for (uint64_t r = 0; r < 64; r++) { x ^= x << 13; x ^= x >> 7; x ^= x << 17; }
+            A[i] = x;
+        }
+    }
+}
+""",
+    """local A = {} for i = 0, 1023 do A[i] = 0 end
+for t = 1, ROUNDS do
+    for i = 0, 1023 do
+        local x = A[i] + i + 88172645463325252
+        for r = 1, 64 do x = x ~ (x << 13); x = x ~ (x >> 7); x = x ~ (x << 17) end
+        A[i] = x
+    end
+end
+""",
+    """A = [0] * 1024
+for t in range(ROUNDS):
+    for i in range(1024):
+        x = (A[i] + i + 88172645463325252) & M
+        for r in range(64):
+            x ^= (x << 13) & M
+            x ^= x >> 7
+            x ^= (x << 17) & M
+        A[i] = x
+""",
+)
+COLLATZ = Kernel(
+    "collatz", ["A"], 65536, 48, 16, (3, 1),
+    """uint64_t A[65536];
+void kernel(void)
+{
+    for (uint64_t i = 0; i < 65536; i++) { A[i] = (i * 6364136223846793005ull + 1442695040888963407ull) >> 1; A[i] ^= A[i] >> 31; }
+    for (uint64_t t = 0; t < ROUNDS; t++) {
+        for (uint64_t i = 0; i < 65536; i++) {
+            if ((A[i] & 1) == 1) { A[i] = 3 * A[i] + 1; } else { A[i] = A[i] >> 1; }
+        }
+    }
+}
+""",
+    """local A = {}
+for i = 0, 65535 do A[i] = (i * 6364136223846793005 + 1442695040888963407) >> 1; A[i] = A[i] ~ (A[i] >> 31) end
+for t = 1, ROUNDS do
+    for i = 0, 65535 do
+        if A[i] & 1 == 1 then A[i] = 3 * A[i] + 1 else A[i] = A[i] >> 1 end
+    end
+end
+""",
+    """A = [((i * 6364136223846793005 + 1442695040888963407) & M) >> 1 for i in range(65536)]
+A = [v ^ v >> 31 for v in A]
+for t in range(ROUNDS):
+    for i in range(65536):
+        if A[i] & 1 == 1:
+            A[i] = (3 * A[i] + 1) & M
+        else:
+            A[i] = A[i] >> 1
+""",
+)
+PREFIX = Kernel(
+    "prefix", ["A"], 511 * 511, 24, 8, (2, 1),
+    """uint64_t A[512][512];
+void kernel(void)
+{
+    for (uint64_t i = 0; i < 512; i++) { A[i][0] = i + 1; A[0][i] = 2 * i + 1; }
+    for (uint64_t t = 0; t < ROUNDS; t++) {
+        for (uint64_t i = 1; i < 512; i++) {
+            for (uint64_t j = 1; j < 512; j++) { A[i][j] = A[i - 1][j] + A[i][j - 1]; }
+        }
+    }
+}
+""",
+    """local A = {}
+for i = 0, 511 do A[i] = {} for j = 0, 511 do A[i][j] = 0 end end
+for i = 0, 511 do A[i][0] = i + 1; A[0][i] = 2 * i + 1 end
+for t = 1, ROUNDS do
+    for i = 1, 511 do
+        for j = 1, 511 do A[i][j] = A[i - 1][j] + A[i][j - 1] end
+    end
+end
+""",
+    """A = [[0] * 512 for _ in range(512)]
+for i in range(512):
+    A[i][0] = i + 1
+    A[0][i] = 2 * i + 1
+for t in range(ROUNDS):
+    for i in range(1, 512):
+        for j in range(1, 512):
+            A[i][j] = (A[i - 1][j] + A[i][j - 1]) & M
+""",
+)
+STENCIL = Kernel(
+    "stencil", ["A", "B"], 2 * 126 * 126, 150, 50, (6, 1),
+    """uint64_t A[128][128];
+uint64_t B[128][128];
+void kernel(void)
+{
+    for (uint64_t i = 0; i < 128; i++) {
+        for (uint64_t j = 0; j < 128; j++) { A[i][j] = i * 7 + j; }
+    }
+    for (uint64_t t = 0; t < ROUNDS; t++) {
+        for (uint64_t i = 1; i < 127; i++) {
+            for (uint64_t j = 1; j < 127; j++) { B[i][j] = A[i][j] + A[i - 1][j] + A[i + 1][j] + A[i][j - 1] + A[i][j + 1]; }
+        }
+        for (uint64_t i = 1; i < 127; i++) {
+            for (uint64_t j = 1; j < 127; j++) { A[i][j] = B[i][j] + B[i - 1][j] + B[i + 1][j] + B[i][j - 1] + B[i][j + 1]; }
+        }
+    }
+}
+""",
+    """local A, B = {}, {}
+for i = 0, 127 do A[i], B[i] = {}, {} for j = 0, 127 do A[i][j] = i * 7 + j; B[i][j] = 0 end end
+for t = 1, ROUNDS do
+    for i = 1, 126 do
+        for j = 1, 126 do B[i][j] = A[i][j] + A[i - 1][j] + A[i + 1][j] + A[i][j - 1] + A[i][j + 1] end
+    end
+    for i = 1, 126 do
+        for j = 1, 126 do A[i][j] = B[i][j] + B[i - 1][j] + B[i + 1][j] + B[i][j - 1] + B[i][j + 1] end
+    end
+end
+""",
+    """A = [[i * 7 + j for j in range(128)] for i in range(128)]
+B = [[0] * 128 for _ in range(128)]
+for t in range(ROUNDS):
+    for i in range(1, 127):
+        for j in range(1, 127):
+            B[i][j] = (A[i][j] + A[i - 1][j] + A[i + 1][j] + A[i][j - 1] + A[i][j + 1]) & M
+    for i in range(1, 127):
+        for j in range(1, 127):
+            A[i][j] = (B[i][j] + B[i - 1][j] + B[i + 1][j] + B[i][j - 1] + B[i][j + 1]) & M
+""",
+)
+FNV = Kernel(
+    "fnv", ["A", "h"], 4096, 1500, 500, (60, 20),
+    """uint64_t A[4096];
+uint64_t h;
+void kernel(void)
+{
+    uint64_t x = 14695981039346656037ull;
+    for (uint64_t i = 0; i < 4096; i++) { A[i] = i * 2654435761 % 256; }
+    for (uint64_t t = 0; t < ROUNDS; t++) {
+        for (uint64_t i = 0; i < 4096; i++) { x = (x ^ A[i]) * 1099511628211ull; }
+    }
+    h = x;
+}
+""",
+    """local A = {} for i = 0, 4095 do A[i] = i * 2654435761 % 256 end
+local x = 0xcbf29ce484222325
+for t = 1, ROUNDS do
+    for i = 0, 4095 do x = (x ~ A[i]) * 1099511628211 end
+end
+local h = x
+""",
+    """A = [i * 2654435761 % 256 for i in range(4096)]
+x = 14695981039346656037
+for t in range(ROUNDS):
+    for i in range(4096):
+        x = ((x ^ A[i]) * 1099511628211) & M
+h = x
+""",
+)
+SQUARES = Kernel(
+    "squares", ["A", "s"], 4096, 1500, 500, (60, 20),
+    """uint64_t A[4096];
+uint64_t s;
+void kernel(void)
+{
+    for (uint64_t i = 0; i < 4096; i++) { A[i] = i * 2654435761; }
+    for (uint64_t t = 0; t < ROUNDS; t++) {
+        for (uint64_t i = 0; i < 4096; i++) { s += A[i] * A[i]; }
+    }
+}
+""",
+    """local A = {} for i = 0, 4095 do A[i] = i * 2654435761 end
+local s = 0
+for t = 1, ROUNDS do
+    for i = 0, 4095 do s = s + A[i] * A[i] end
+end
+""",
+    """A = [i * 2654435761 for i in range(4096)]
+s = 0
+for t in range(ROUNDS):
+    for i in range(4096):
+        s = (s + A[i] * A[i]) & M
+""",
+)
+KERNELS = [MAP, product("ijk"), product("ikj"), XORSHIFT, COLLATZ, PREFIX, STENCIL, FNV, SQUARES]
+
+
+def timed(words):
+    """The output of a command on one core, and its seconds of the processor."""
+    with tempfile.TemporaryFile() as out:
+        child = subprocess.Popen(words, stdout=out, preexec_fn=lambda: os.sched_setaffinity(0, {max(os.sched_getaffinity(0))}))
+        _, status, usage = os.wait4(child.pid, 0)
+        child.returncode = os.waitstatus_to_exitcode(status)
+        if child.returncode != 0:
+            sys.exit(f"status {child.returncode} of {words}")
+        out.seek(0)
+        return out.read().decode(), usage.ru_utime + usage.ru_stime
+
+
+def dump_digest(text):
+    """The digest of the lines `A = 1 2 3`."""
+    d = 0
+    for line in text.splitlines():
+        for word in line.split()[2:]:
+            d = (d * 31 + int(word)) & MASK
+    return d
+
+
+def digest(text):
+    """The digest that another program printed."""
+    return int(text) & MASK
+
+
+def made(kernel, rounds, slow_rounds, folder, name, program):
+    """The command and the reader of its output for each way to run a kernel with so many rounds."""
+    text = kernel.c.replace("ROUNDS", str(rounds))
+    (folder / f"{name}.c").write_text(text)
+    calls = "".join(f"d = digest_of((const uint64_t *)&{v}, sizeof {v} / 8, d); " for v in kernel.variables)
+    (folder / f"{name}-main.c").write_text("#include <stdint.h>\n" + text + C_MAIN.replace("CALLS", calls))
+    for flag in ("-O2", "-O0"):
+        subprocess.run(["gcc", "-std=c11", flag, "-o", folder / f"{name}{flag}", folder / f"{name}-main.c"], check=True)
+    lua = kernel.lua.replace("ROUNDS", str(rounds)) + LUA_END
+    (folder / f"{name}.lua").write_text(lua + "".join(f"add({v}) " for v in kernel.variables) + '\nprint(string.format("%d", d))\n')
+    python = "M = (1 << 64) - 1\n" + kernel.python.replace("ROUNDS", str(slow_rounds)) + PYTHON_END
+    (folder / f"{name}.py").write_text(python + "".join(f"d = add(d, {v})\n" for v in kernel.variables) + "print(d)\n")
+    return {
+        "run": ([program, "run", folder / f"{name}.c", "--workers", "1"], dump_digest),
+        "seq": ([program, "seq", folder / f"{name}.c"], dump_digest),
+        "gcc -O2": ([folder / f"{name}-O2"], digest),
+        "gcc -O0": ([folder / f"{name}-O0"], digest),
+        "lua": (["lua5.4", folder / f"{name}.lua"], digest),
+        "python": ([sys.executable, folder / f"{name}.py"], digest),
+    }
+
+
+def measure(kernel, folder, program):
+    """Nanoseconds an innermost statement by each way to run a kernel."""
+    many = made(kernel, kernel.many, kernel.slow[0], folder, "many", program)
+    few = made(kernel, kernel.few, kernel.slow[1], folder, "few", program)
+    times = {way: [] for way in many}
+    for round_ in range(ROUNDS):
+        digests = {}
+        for way in many:
+            if round_ and way in ("python", "seq"):
+                continue
+            # the fast ones are too short for one run
+            repeats = {"gcc -O2": 5, "gcc -O0": 2, "run": 2}.get(way, 1)
+            spent = 0.0
+            for words, sign in ((many[way], 1), (few[way], -1)):
+                for _ in range(repeats):
+                    text, seconds = timed(words[0])
+                    spent += sign * seconds / repeats
+                if way != "python":
+                    digests.setdefault(sign, set()).add(words[1](text))
+            turns = kernel.slow[0] - kernel.slow[1] if way == "python" else kernel.many - kernel.few
+            times[way].append(spent * 1e9 / (turns * kernel.statements))
+        if any(len(found) != 1 for found in digests.values()):
+            sys.exit(f"{kernel.name}: digests differ: {digests}")
+    return {way: statistics.median(found) for way, found in times.items()}
+
+
+def main(words):
+    program = pathlib.Path(words[0]).resolve() if words else PROGRAM
+    if not words:
+        subprocess.run([TOP / "ompk", "--help"], check=True, stdout=subprocess.DEVNULL)
+    ways = ["gcc -O2", "run", "gcc -O0", "lua", "seq", "python"]
+    print(f"{'ns/statement':14}" + "".join(f"{way:>9}" + ("   ratio" if way != "gcc -O2" else "") for way in ways), flush=True)
+    ratios, missed = {way: [] for way in ways}, []
+    with tempfile.TemporaryDirectory() as name:
+        for kernel in KERNELS:
+            if words[1:] and not any(kernel.name.startswith(word) for word in words[1:]):
+                continue
+            found = measure(kernel, pathlib.Path(name), program)
+            line = f"{kernel.name:14}"
+            for way in ways:
+                ratio = found[way] / found["gcc -O2"]
+                ratios[way].append(ratio)
+                line += f"{found[way]:9.2f}" + (f"{ratio:8.1f}" if way != "gcc -O2" else "")
+            print(line, flush=True)
+            if found["run"] >= found["lua"]:
+                missed.append(f"{kernel.name} is no faster than Lua")
+            if ratios["run"][-1] > WORST:
+                missed.append(f"{kernel.name} takes more than {WORST} times gcc -O2's time")
+    means = {way: math.exp(statistics.fmean(map(math.log, found))) for way, found in ratios.items()}
+    print(f"{'mean':14}" + "".join(" " * 9 + (f"{means[way]:8.1f}" if way != "gcc -O2" else "") for way in ways))
+    if means["run"] > MEAN:
+        missed.append(f"the mean is above {MEAN}")
+    for line in missed:
+        print(f"missed: {line}")
+    sys.exit(1 if missed else 0)
+
+
+if __name__ == "__main__":
+    main(sys.argv[1:])
