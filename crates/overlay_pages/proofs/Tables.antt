@@ -294,3 +294,97 @@ module _ (t : Table) (s : IsSound t) (p n : ℕ) (less : p < t.size) (there : 0 
           slot_other r ne
           ∙ sym (at_range (slot t) t.size r None below)
           ∙ sym (get_or-set_other (slots t) p r (Some n) None ne)
+
+-- tables by their parts
+pub entering_is : (t u : Table) (q : ℕ) → u.size ≡ t.size → u.masks ≡ t.masks → u.numbers ≡ slice_set t.numbers q (suc (length t.entered)) → u.entered ≡ t.entered ++ q ∷ [] → u.values ≡ t.values ++ replicate 64 0 → u ≡ entering t q
+entering_is t u q a b c d e = λ i. record { size = a i; masks = b i; numbers = c i; entered = d i; values = e i }
+
+pub setting_is : (t u : Table) (p n : ℕ) → u.size ≡ t.size → u.masks ≡ (setting t p n).masks → u.numbers ≡ t.numbers → u.entered ≡ t.entered → u.values ≡ (setting t p n).values → u ≡ setting t p n
+setting_is t u p n a b c d e = λ i. record { size = a i; masks = b i; numbers = c i; entered = d i; values = e i }
+
+-- tables of zeros
+zero_at : (n q : ℕ) → slice_index (replicate n 0) q ≡ 0
+zero_at zero q = refl
+zero_at (suc n) zero = refl
+zero_at (suc n) (suc q) = zero_at n q
+
+pub zeros_hold : (n : ℕ) (ns : List ℕ) → ns ≡ replicate n 0 → (q : ℕ) → slice_index ns q ≡ 0
+zeros_hold n ns e q = ap (λ (l : List ℕ). slice_index l q) e ∙ zero_at n q
+
+pub bits_of_zeros : (t : Table) (n : ℕ) → t.masks ≡ replicate n 0 → (p : ℕ) → bit t p ≡ 0
+bits_of_zeros t n e p = ap (λ m. bit_at m (p % 64)) (zeros_hold n t.masks e (p / 64)) ∙ bit_at-zero (p % 64)
+
+-- pages that are left while the first so many are cleared
+pub record Clearing (t : Table) (i : ℕ) (numbers masks : List ℕ) : Type 0 where
+  pub numbered : length numbers ≡ length t.numbers
+  pub masked : length masks ≡ length t.numbers
+  pub left : (q : ℕ) → 0 < slice_index numbers q → (slice_index numbers q ≡ slice_index t.numbers q) × (i < slice_index numbers q)
+  pub bits : (p : ℕ) → bit_at (slice_index masks (p / 64)) (p % 64) ≡ 1 → 0 < slice_index numbers (p / 64)
+
+pub clearing_from : (t : Table) → IsSound t → Clearing t 0 t.numbers t.masks
+clearing_from t s = record { numbered = refl; masked = s.masked; left = λ q lt. (refl, lt); bits = λ p e. (s.within p e).1 }
+
+-- the page that is cleared next is there
+pub page_there : (t : Table) → IsSound t → (i : ℕ) → i < length t.entered → slice_index t.entered i < length t.numbers
+page_there t s i lt = let k = s.known i lt in inside t.numbers (slice_index t.entered i) (omega arith)
+
+module _ (t : Table) (s : IsSound t) (i : ℕ) (lt : i < length t.entered) (numbers masks : List ℕ) (c : Clearing t i numbers masks) where
+  abbrev page : ℕ
+  page = slice_index t.entered i
+
+  gone : slice_index (slice_set numbers page 0) page ≡ 0
+  gone = let there = page_there t s i lt in let n = c.numbered in get_or-set_same numbers page 0 0 (omega arith)
+
+  left_then : (q : ℕ) → 0 < slice_index (slice_set numbers page 0) q → (q ≡ page) ⊎ (q ≢ page) → (slice_index (slice_set numbers page 0) q ≡ slice_index t.numbers q) × (i + 1 < slice_index (slice_set numbers page 0) q)
+  left_then q more (inl e) = let z : slice_index (slice_set numbers page 0) q ≡ 0 = ap (slice_index (slice_set numbers page 0)) e ∙ gone in absurd (omega arith)
+  left_then q more (inr ne) =
+      let o : slice_index (slice_set numbers page 0) q ≡ slice_index numbers q = get_or-set_other numbers page q 0 0 ne in
+      let was = c.left q (omega arith) in
+      let same = was.0 in
+      let past = was.1 in
+      let entered = s.listed q (omega arith) in
+      let number = entered.number in
+      let later : entered.at ≢ i = λ e. ne (sym entered.names ∙ ap (slice_index t.entered) e) in
+      (o ∙ same, omega arith)
+
+  bits_then : (p : ℕ) → bit_at (slice_index (slice_set masks page 0) (p / 64)) (p % 64) ≡ 1 → (p / 64 ≡ page) ⊎ (p / 64 ≢ page) → 0 < slice_index (slice_set numbers page 0) (p / 64)
+  bits_then p one (inl e) =
+      let there = page_there t s i lt in
+      let n = c.masked in
+      let z : bit_at (slice_index (slice_set masks page 0) (p / 64)) (p % 64) ≡ 0 = ap (λ q. bit_at (slice_index (slice_set masks page 0) q) (p % 64)) e ∙ ap (λ m. bit_at m (p % 64)) (get_or-set_same masks page 0 0 (omega arith)) ∙ bit_at-zero (p % 64) in
+      absurd (omega arith)
+  bits_then p one (inr ne) =
+      let was = c.bits p (sym (ap (λ m. bit_at m (p % 64)) (get_or-set_other masks page (p / 64) 0 0 ne)) ∙ one) in
+      let o : slice_index (slice_set numbers page 0) (p / 64) ≡ slice_index numbers (p / 64) = get_or-set_other numbers page (p / 64) 0 0 ne in
+      omega arith
+
+  pub clearing_on : Clearing t (i + 1) (slice_set numbers (slice_index t.entered i) 0) (slice_set masks (slice_index t.entered i) 0)
+  clearing_on =
+      record {
+        numbered = length-set numbers page 0 ∙ c.numbered;
+        masked = length-set masks page 0 ∙ c.masked;
+        left = λ q more. left_then q more (same_or_not q page);
+        bits = λ p e. bits_then p e (same_or_not (p / 64) page);
+      }
+
+-- once all are cleared, nothing is left
+pub cleared_numbers : (t : Table) → IsSound t → (i : ℕ) → length t.entered ≤ i → (numbers masks : List ℕ) → Clearing t i numbers masks → (q : ℕ) → slice_index numbers q ≡ 0
+cleared_numbers t s i le numbers masks c q = go (slice_index numbers q) refl
+  where
+    go : (n : ℕ) → slice_index numbers q ≡ n → slice_index numbers q ≡ 0
+    go zero e = e
+    go (suc n) e =
+        let was = c.left q (omega arith) in
+        let same = was.0 in
+        let past = was.1 in
+        let entered = s.listed q (omega arith) in
+        let number = entered.number in
+        let below = entered.below in
+        absurd (omega arith)
+
+pub cleared_bits : (t : Table) → IsSound t → (i : ℕ) → length t.entered ≤ i → (numbers masks : List ℕ) → Clearing t i numbers masks → (p : ℕ) → bit_at (slice_index masks (p / 64)) (p % 64) ≡ 0
+cleared_bits t s i le numbers masks c p = go (is_one (bit_at (slice_index masks (p / 64)) (p % 64)) (bit_at-lt (slice_index masks (p / 64)) (p % 64)))
+  where
+    go : (bit_at (slice_index masks (p / 64)) (p % 64) ≡ 1) ⊎ (bit_at (slice_index masks (p / 64)) (p % 64) ≡ 0) → bit_at (slice_index masks (p / 64)) (p % 64) ≡ 0
+    go (inl one) = let more = c.bits p one in let z = cleared_numbers t s i le numbers masks c (p / 64) in absurd (omega arith)
+    go (inr z) = z
