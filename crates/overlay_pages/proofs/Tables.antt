@@ -36,19 +36,19 @@ absent_all [] h = refl
 absent_all (zero ∷ ns) h = ap suc (absent_all ns (λ i. h (suc i)))
 absent_all (suc n ∷ ns) h = let e = h 0 in absurd (omega arith)
 
-same_or_not : (i j : ℕ) → (i ≡ j) ⊎ (i ≢ j)
+pub same_or_not : (i j : ℕ) → (i ≡ j) ⊎ (i ≢ j)
 same_or_not i j = go (i == j) refl
   where
     go : (b : Bool) → (i == j) ≡ b → (i ≡ j) ⊎ (i ≢ j)
     go true e = inl (eqb-true i j e)
     go false e = inr (eqb-false i j e)
 
-is_one : (n : ℕ) → n < 2 → (n ≡ 1) ⊎ (n ≡ 0)
+pub is_one : (n : ℕ) → n < 2 → (n ≡ 1) ⊎ (n ≡ 0)
 is_one zero lt = inr refl
 is_one (suc zero) lt = inl refl
 is_one (suc (suc n)) lt = absurd (omega arith)
 
-bit_is : (t : Table) (p : ℕ) → (bit t p ≡ 1) ⊎ (bit t p ≡ 0)
+pub bit_is : (t : Table) (p : ℕ) → (bit t p ≡ 1) ⊎ (bit t p ≡ 0)
 bit_is t p = is_one (bit t p) (bit_at-lt (slice_index t.masks (p / 64)) (p % 64))
 
 -- what is written at a place, by its bit

@@ -89,3 +89,12 @@ up_to t m place = if nat_lt (spot t place) m then slot t place else None
 pub record Gathers (t : Table) (m : ℕ) (cs : List Change) : Type 0 where
   pub each : (place : ℕ) → writes_of cs place ≡ up_to t m place
   pub once : AreOnce cs
+
+-- of a page that was entered, the cells before one are gathered, and the rest of its mask is left
+pub record Gathering (t : Table) (k turn rest : ℕ) (cs : List Change) : Type 0 where
+  pub from : ℕ
+  pub turned : turn ≤ from
+  pub inside : from ≤ 64
+  pub done : (r : ℕ) → r < from → bit_at rest r ≡ 0
+  pub left : (r : ℕ) → from ≤ r → r < 64 → bit_at rest r ≡ bit_at (slice_index t.masks (slice_index t.entered k)) r
+  pub gathered : Gathers t (64 * suc k + from) cs

@@ -2,6 +2,11 @@
 #![tactic(auto)]
 
 mod changes;
+mod chunk;
+mod gathering;
+mod own;
 mod pages;
 
 pub use changes::{Change, Changes};
+pub use chunk::Chunk;
+pub use own::Own;
