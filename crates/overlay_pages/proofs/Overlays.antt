@@ -1,7 +1,12 @@
 -- Cells with writes over them.
-use Rattle.std.proofs.Common.{ℕ, zero, suc, ◌≡◌, ◌≢◌, ◌+◌, ◌<◌, ◌≤◌, ◌⊎◌, inl, inr, Bool, true, false, cond, List, [], ◌∷◌, ◌++◌, length, get_or, replicate, Option, Some, None, refl, sym, ap, ◌∙◌, subst, arith}
+use Rattle.std.proofs.Common.{ℕ, zero, suc, ◌≡◌, ◌≢◌, ◌+◌, ◌<◌, ◌≤◌, ◌⊎◌, inl, inr, Bool, true, false, cond, List, [], ◌∷◌, ◌++◌, length, get_or, take, drop, replicate, Option, Some, None, refl, sym, ap, ◌∙◌, subst, arith}
 use Rattle.std.specs.Prelude.{◌==◌, slice_index, slice_set, if◌then◌else◌}
 use Rattle.std.proofs.lemmas.Bool.{eq-eqb, eqb-true, eqb-false}
+use Rattle.std.proofs.lemmas.List.{length-append, length-take-le, length-drop, take_at, drop_at, take_more}
+use Rattle.std.proofs.lemmas.List.Concat.{flat_map-cons}
+use Rattle.store.specs.Kept.{Kept}
+use Rattle.store.specs.Flat.{values_of, filled}
+use Rattle.lower_code.proofs.Keeping.{filled_values}
 use Rattle.overlay_pages.specs.declared.changes.Change.{Change}
 use Rattle.overlay_pages.specs.Over.{Writes, or_else, written_over, and_at, writes_in, last_of, writes_of, AreOnce}
 
@@ -98,3 +103,45 @@ over_commutes v w (n ∷ ns) h = λ i. go (h 0) i ∷ over_commutes (λ p. v (su
     go : (v 0 ≡ None) ⊎ (w 0 ≡ None) → or_else (v 0) (or_else (w 0) n) ≡ or_else (w 0) (or_else (v 0) n)
     go (inl e) = ap (λ o. or_else o (or_else (w 0) n)) e ∙ ap (λ o. or_else (w 0) (or_else o n)) (sym e)
     go (inr e) = ap (λ o. or_else (v 0) (or_else o n)) e ∙ ap (λ o. or_else o (or_else (v 0) n)) (sym e)
+
+pub read_over : (os : List (Option ℕ)) (ns : List ℕ) (p : ℕ) → length os ≡ length ns → slice_index (written_over (writes_in os) ns) p ≡ or_else (writes_in os p) (slice_index ns p)
+read_over [] [] p e = refl
+read_over [] (n ∷ ns) p e = absurd (omega arith)
+read_over (o ∷ os) [] p e = absurd (omega arith)
+read_over (o ∷ os) (n ∷ ns) zero e = refl
+read_over (o ∷ os) (n ∷ ns) (suc p) e = read_over os ns p (omega arith)
+
+-- a store that is filled twice
+pub filled_self : (ks : List Kept) → filled (values_of ks) ks ≡ ks
+filled_self [] = refl
+filled_self (k ∷ ks) =
+    let cells = flat_map-cons (λ (j : Kept). j.values) k ks in
+    ap (λ l. filled l (k ∷ ks)) cells
+    ∙ (λ i. record { lengths = k.lengths; values = take_at k.values (values_of ks) (length k.values) refl i } ∷ filled (drop_at k.values (values_of ks) (length k.values) refl i) ks)
+    ∙ ap (λ l. k ∷ l) (filled_self ks)
+
+pub filled_twice : (ms ns : List ℕ) (ks : List Kept) → length ns ≡ length (values_of ks) → filled ms (filled ns ks) ≡ filled ms ks
+filled_twice ms ns [] e = refl
+filled_twice ms ns (k ∷ ks) e =
+    let both : length ns ≡ length k.values + length (values_of ks) = e ∙ ap (λ (l : List ℕ). length l) (flat_map-cons (λ (j : Kept). j.values) k ks) ∙ length-append k.values (values_of ks) in
+    let same : length (take (length k.values) ns) ≡ length k.values = length-take-le (length k.values) ns (omega arith) in
+    let rest : length (drop (length k.values) ns) ≡ length (values_of ks) = omega (arith, length-drop (length k.values) ns) in
+    (λ i. record { lengths = k.lengths; values = take (same i) ms } ∷ filled (drop (same i) ms) (filled (drop (length k.values) ns) ks))
+    ∙ ap (λ l. record { lengths = k.lengths; values = take (length k.values) ms } ∷ l) (filled_twice (drop (length k.values) ms) (drop (length k.values) ns) ks rest)
+
+-- one more change of a store
+pub changed_on : (ks now later : List Kept) (cs : List Change) (i : ℕ) (d : Change) → i < length cs → now ≡ filled (written_over (writes_of (take i cs)) (values_of ks)) ks → later ≡ filled (slice_set (values_of now) (get_or cs i d).place (get_or cs i d).value) now → later ≡ filled (written_over (writes_of (take (i + 1) cs)) (values_of ks)) ks
+changed_on ks now later cs i d lt e f =
+    let c = get_or cs i d in
+    let over = written_over (writes_of (take i cs)) (values_of ks) in
+    let long = length_over (writes_of (take i cs)) (values_of ks) in
+    f
+    ∙ ap (λ s. filled (slice_set (values_of s) c.place c.value) s) e
+    ∙ ap (λ l. filled (slice_set l c.place c.value) (filled over ks)) (filled_values over ks long)
+    ∙ filled_twice (slice_set over c.place c.value) over ks long
+    ∙ ap (λ l. filled l ks) (sym (over_and_at (writes_of (take i cs)) (values_of ks) c.place c.value))
+    ∙ ap (λ l. filled l ks) (over_same (and_at (writes_of (take i cs)) c.place c.value) (writes_of (take i cs ++ c ∷ [])) (values_of ks) (λ p. sym (writes_push (take i cs) c p)))
+    ∙ ap (λ l. filled (written_over (writes_of l) (values_of ks)) ks) (sym (take_more cs i d lt))
+
+pub changed_none : (ks : List Kept) → ks ≡ filled (written_over (writes_of []) (values_of ks)) ks
+changed_none ks = sym (ap (λ l. filled l ks) (over_nothing (writes_of []) (values_of ks) (λ p. refl)) ∙ filled_self ks)
