@@ -1,12 +1,12 @@
 -- The writes that tables hold, gathered page by page.
-use Rattle.std.proofs.Common.{w64, ◌-◌, ◌^◌, ℕ, zero, suc, ◌≡◌, ◌≢◌, ◌+◌, ◌*◌, ◌/◌, ◌%◌, ◌<◌, ◌≤◌, ◌⊎◌, inl, inr, Bool, true, false, cond, List, [], ◌∷◌, ◌++◌, length, Option, Some, None, refl, sym, ap, ◌∙◌, subst, arith}
+use Rattle.std.proofs.Common.{w64, ◌-◌, ◌^◌, ℕ, suc, ◌≡◌, ◌≢◌, ◌+◌, ◌*◌, ◌/◌, ◌%◌, ◌<◌, ◌≤◌, ◌⊎◌, inl, inr, Bool, true, false, cond, List, [], ◌∷◌, ◌++◌, length, Option, Some, None, refl, sym, ap, ◌∙◌, subst, arith}
 use Rattle.std.specs.Prelude.{◌==◌, nat_lt, slice_index, bit_and}
 use Rattle.std.specs.Int.{bit_at, trailing_zeros}
-use Rattle.std.proofs.lemmas.Bool.{eq-eqb, eqb-true, eqb-false, ltb-true, ltb-false, lt-ltb, le-ltb}
+use Rattle.std.proofs.lemmas.Bool.{eqb-true, eqb-false, ltb-true, ltb-false, lt-ltb, le-ltb}
 use Rattle.std.proofs.lemmas.Nat.Bits.{bit_at-trailing_zeros, bit_at_clear_same, bit_at_clear_other}
 use Rattle.overlay_pages.specs.declared.changes.Change.{Change}
-use Rattle.overlay_pages.specs.Over.{writes_of, AreOnce, writes_in, and_at}
-use Rattle.overlay_pages.specs.Table.{Table, number_at, bit, spot, slot, slots, IsEntered, IsSound, up_to, Gathers, Gathering}
+use Rattle.overlay_pages.specs.Over.{writes_of, writes_in}
+use Rattle.overlay_pages.specs.Table.{Table, number_at, bit, spot, slot, slots, IsSound, up_to, Gathers, Gathering}
 use Rattle.overlay_pages.proofs.Tables.{slot_set, slot_clear, bit_is, same_or_not, spot_within, slots_say}
 use Rattle.overlay_pages.proofs.Overlays.{writes_push, once_push}
 
@@ -105,8 +105,8 @@ module _ (t : Table) (s : IsSound t) (k : ℕ) (lt : k < length t.entered) (turn
         gathered =
             gathers_on t s k lt b less (sym (g.left b from less) ∙ one) cs
             (gathers_skip t (64 * suc k + g.from) (64 * suc k + b) cs (omega arith)
-              (none_between t s k lt g.from b (omega arith) (λ r h i. sym (g.left r h (omega arith)) ∙ low r i))
-              g.gathered)
+            (none_between t s k lt g.from b (omega arith) (λ r h i. sym (g.left r h (omega arith)) ∙ low r i))
+            g.gathered)
             c place value;
       }
     where
@@ -124,8 +124,8 @@ module _ (t : Table) (s : IsSound t) (k : ℕ) (lt : k < length t.entered) (turn
       let within = g.inside in
       subst (λ (m : ℕ). Gathers t m cs) far
       (gathers_skip t (64 * suc k + g.from) (64 * suc k + 64) cs (omega arith)
-        (none_between t s k lt g.from 64 (omega arith) (λ r h i. sym (g.left r h i) ∙ none r h i))
-        g.gathered)
+      (none_between t s k lt g.from 64 (omega arith) (λ r h i. sym (g.left r h i) ∙ none r h i))
+      g.gathered)
 
 pub gathering_from : (t : Table) (k rest : ℕ) (cs : List Change) → rest ≡ slice_index t.masks (slice_index t.entered k) → Gathers t (64 * suc k) cs → Gathering t k 0 rest cs
 gathering_from t k rest cs e g =

@@ -1,15 +1,14 @@
 -- Tables stay sound, and hold what was written.
-use Rattle.std.proofs.Common.{w64, ℕ, zero, suc, ◌≡◌, ◌≢◌, ◌+◌, ◌-◌, ◌*◌, ◌/◌, ◌%◌, ◌^◌, ◌<◌, ◌≤◌, ◌⊎◌, inl, inr, Bool, true, false, cond, List, [], ◌∷◌, ◌++◌, map, length, get_or, set, replicate, Option, Some, None, refl, sym, ap, ◌∙◌, subst, arith}
-use Rattle.std.specs.Prelude.{◌==◌, nat_lt, slice_index, slice_set, bit_or, if◌then◌else◌}
+use Rattle.std.proofs.Common.{w64, ℕ, zero, suc, ◌≡◌, ◌≢◌, ◌+◌, ◌*◌, ◌/◌, ◌%◌, ◌^◌, ◌<◌, ◌≤◌, ◌⊎◌, inl, inr, Bool, true, false, cond, List, [], ◌∷◌, ◌++◌, map, length, get_or, replicate, Some, None, refl, sym, ap, ◌∙◌, subst, arith}
+use Rattle.std.specs.Prelude.{◌==◌, nat_lt, slice_index, slice_set, bit_or}
 use Rattle.std.specs.List.{range_with_len}
 use Rattle.std.specs.Int.{bit_at}
-use Rattle.std.proofs.lemmas.Bool.{eq-eqb, eqb-true, eqb-false, ltb-true, ltb-false, lt-ltb, le-ltb}
-use Rattle.std.proofs.lemmas.List.{length-set, length-append, length-replicate, length-map, length_push, get_or-set_same, get_or-set_other, get_or_append_left, get_or_push, get_or_past, ext_get_or}
+use Rattle.std.proofs.lemmas.Bool.{eq-eqb, eqb-true, eqb-false, ltb-true, ltb-false}
+use Rattle.std.proofs.lemmas.List.{length-set, length-append, length-replicate, length_push, get_or-set_same, get_or-set_other, get_or_append_left, get_or_push, get_or_past, ext_get_or}
 use Rattle.std.proofs.lemmas.List.FromFn.{length-map-range_with_len, get_or-map-range_with_len}
 use Rattle.std.proofs.lemmas.Nat.Bits.{bit_at_set_same, bit_at_set_other, bit_at-zero, bit_at-lt}
-use Rattle.overlay_pages.specs.declared.changes.Change.{Change}
-use Rattle.overlay_pages.specs.Over.{Writes, writes_of, last_of, AreOnce, writes_in}
-use Rattle.overlay_pages.specs.Table.{Table, number_at, bit, spot, slot, slots, absent, IsEntered, IsSound, entering, setting, up_to, Gathers}
+use Rattle.overlay_pages.specs.Over.{writes_in}
+use Rattle.overlay_pages.specs.Table.{Table, number_at, bit, spot, slot, slots, absent, IsEntered, IsSound, entering, setting}
 
 -- a number that is not 0 stands in its list
 pub inside : (ns : List ℕ) (i : ℕ) → 0 < slice_index ns i → i < length ns

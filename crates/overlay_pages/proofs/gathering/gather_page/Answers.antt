@@ -1,11 +1,11 @@
-use Rattle.std.proofs.Common.{w64, suc, ◌≡◌, ◌*◌, ◌<◌, length, ℕ, ◌+◌, ◌^◌, ◌≤◌, sym, ap, ◌∙◌, arith, subst}
+use Rattle.std.proofs.Common.{w64, suc, ◌≡◌, ◌*◌, ◌<◌, ℕ, ◌+◌, ◌^◌, ap, ◌∙◌, arith}
 use Rattle.std.specs.Prelude.{slice_index}
 use Rattle.std.proofs.lemmas.List.{get_or_read}
-use Rattle.std.proofs.lemmas.Nat.Bits.{bit_at-zero, bit_at-trailing_zeros}
+use Rattle.std.proofs.lemmas.Nat.Bits.{bit_at-trailing_zeros}
 use Rattle.overlay_pages.specs.declared.changes.Change.{Change}
-use Rattle.overlay_pages.specs.Table.{table_of, Gathering}
+use Rattle.overlay_pages.specs.Table.{table_of}
 use Rattle.overlay_pages.proofs.Tables.{page_there}
-use Rattle.overlay_pages.proofs.Gathered.{gathering_from, gathering_on, gathering_over}
+use Rattle.overlay_pages.proofs.Gathered.{gathering_from, gathering_on}
 use Rattle.overlay_pages.proofs.gathering.gather_page.Goals as goal
 
 pub index-rest-requires : goal.index-rest-requires
@@ -63,7 +63,7 @@ loop-turn-preserved c =
     let value : c.index-value.result.now ≡ slice_index p.values.items (64 * suc c.args.k + c.from-bit.result) =
     get_or_read p.values.items (64 * (c.args.k + 1) + c.from-bit.result) _ (omega arith) c.index-value.ensures 0 ∙ ap (slice_index p.values.items) spot in
     rw c.in_ok-push.ensures.items
-      (gathering_on (table_of p) c.requires.sound c.args.k c.requires.there c.loop-turn._turn rest c.loop-turn.changes.items c.loop-turn.invariant
-        more fits c.from-bit.result c.from-bit.ensures at
-        (ap (λ (n : ℕ). 64 * n + c.from-bit.result) page)
-        value)
+    (gathering_on (table_of p) c.requires.sound c.args.k c.requires.there c.loop-turn._turn rest c.loop-turn.changes.items c.loop-turn.invariant
+    more fits c.from-bit.result c.from-bit.ensures at
+    (ap (λ (n : ℕ). 64 * n + c.from-bit.result) page)
+    value)

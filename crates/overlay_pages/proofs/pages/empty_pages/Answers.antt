@@ -1,4 +1,4 @@
-use Rattle.std.proofs.Common.{rules, ℕ, suc, ◌≡◌, ◌+◌, ◌*◌, ◌/◌, ◌%◌, ◌^◌, ◌<◌, ◌≤◌, List, length, replicate, sym, ap, ◌∙◌, refl, arith}
+use Rattle.std.proofs.Common.{rules, ℕ, ◌≡◌, ◌+◌, ◌*◌, ◌/◌, ◌^◌, ◌<◌, List, length, sym, ap, ◌∙◌, arith}
 use Rattle.std.proofs.lemmas.List.{length-replicate}
 use Rattle.overlay_pages.specs.Table.{Table}
 use Rattle.overlay_pages.proofs.Tables.{sound_empty, slots_empty, bits_of_zeros, zeros_hold}

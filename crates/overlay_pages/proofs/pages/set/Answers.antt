@@ -1,7 +1,7 @@
-use Rattle.std.proofs.Common.{rules, ℕ, suc, ◌≡◌, ◌+◌, ◌*◌, ◌/◌, ◌%◌, ◌^◌, ◌<◌, ◌≤◌, length, sym, ap, subst, refl, arith}
+use Rattle.std.proofs.Common.{ℕ, ◌≡◌, ◌+◌, ◌*◌, ◌/◌, ◌%◌, ◌^◌, ◌<◌, length, sym, ap, subst, refl, arith}
 use Rattle.std.specs.Prelude.{slice_set, slice_index, bit_or}
 use Rattle.std.proofs.lemmas.List.{get_or_read}
-use Rattle.overlay_pages.specs.Table.{table_of, spot, IsSound}
+use Rattle.overlay_pages.specs.Table.{table_of, IsSound}
 use Rattle.overlay_pages.proofs.Tables.{inside, sound_setting, setting_is}
 use Rattle.overlay_pages.proofs.pages.set.Goals as goal
 
@@ -17,9 +17,9 @@ returns-clause-roomy c =
       sound =
           subst IsSound
           (sym (setting_is (table_of old) _ p c.args.n refl
-            (ap (λ (m : ℕ). slice_set old.masks.items (p / 64) (bit_or m (1 * 2 ^ (p % 64) % 2 ^ 64))) mask)
-            refl refl
-            (ap (λ (m : ℕ). slice_set old.values.items (64 * m + p % 64) c.args.n) number)))
+          (ap (λ (m : ℕ). slice_set old.masks.items (p / 64) (bit_or m (1 * 2 ^ (p % 64) % 2 ^ 64))) mask)
+          refl refl
+          (ap (λ (m : ℕ). slice_set old.values.items (64 * m + p % 64) c.args.n) number)))
           (sound_setting (table_of old) c.requires.roomy.sound p c.args.n c.requires.there c.requires.entered);
       entered = c.requires.roomy.entered;
       values = c.requires.roomy.values;

@@ -1,4 +1,4 @@
-use Rattle.std.proofs.Common.{◌≡◌, ◌<◌, length, arith}
+use Rattle.std.proofs.Common.{arith}
 use Rattle.overlay_pages.proofs.Overlays.{changed_on, changed_none}
 use Rattle.overlay_pages.proofs.changes.Changes.apply.Goals as goal
 

@@ -1,4 +1,4 @@
-use Rattle.std.proofs.Common.{◌≡◌, ℕ, List, length, replicate, Option, None, ap, sym, ◌∙◌}
+use Rattle.std.proofs.Common.{ℕ, List, length, replicate, Option, None, ap, sym, ◌∙◌}
 use Rattle.overlay_pages.specs.Table.{table_of}
 use Rattle.overlay_pages.proofs.Tables.{length_slots}
 use Rattle.overlay_pages.proofs.own.Own.finish.Goals as goal

@@ -1,4 +1,4 @@
-use Rattle.std.proofs.Common.{◌≡◌, sym, ap, ◌∙◌}
+use Rattle.std.proofs.Common.{sym, ap, ◌∙◌}
 use Rattle.overlay_pages.specs.Over.{writes_in}
 use Rattle.overlay_pages.specs.Table.{table_of}
 use Rattle.overlay_pages.proofs.Tables.{slots_say}
