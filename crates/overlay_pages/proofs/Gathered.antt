@@ -7,7 +7,7 @@ use Rattle.std.proofs.lemmas.Nat.Bits.{bit_at-trailing_zeros, bit_at_clear_same,
 use Rattle.overlay_pages.specs.declared.changes.Change.{Change}
 use Rattle.overlay_pages.specs.Over.{writes_of, writes_in}
 use Rattle.overlay_pages.specs.Table.{Table, number_at, bit, spot, slot, slots, IsSound, up_to, Gathers, Gathering}
-use Rattle.overlay_pages.proofs.Tables.{slot_set, slot_clear, bit_is, same_or_not, spot_within, slots_say}
+use Rattle.overlay_pages.proofs.Tables.{slot_set, slot_clear, bit_is, same_or_not, spot_before, slots_say}
 use Rattle.overlay_pages.proofs.Overlays.{writes_push, once_push}
 
 before_it : (t : Table) (m p : ℕ) → spot t p < m → up_to t m p ≡ slot t p
@@ -160,7 +160,7 @@ pub gathers_all : (t : Table) → IsSound t → (cs : List Change) → Gathers t
 gathers_all t s cs g p = g.each p ∙ go (bit_is t p) ∙ sym (slots_say t s p)
   where
     go : (bit t p ≡ 1) ⊎ (bit t p ≡ 0) → up_to t (64 * suc (length t.entered)) p ≡ slot t p
-    go (inl one) = let w = s.within p one in let l = spot_within t s p w.1 in let z = s.sized in before_it t (64 * suc (length t.entered)) p (omega arith)
+    go (inl one) = let w = s.within p one in before_it t (64 * suc (length t.entered)) p (spot_before t s p w.1)
     go (inr z) = ap (λ o. cond (nat_lt (spot t p) (64 * suc (length t.entered))) o None) (slot_clear t p z) ∙ nothing (nat_lt (spot t p) (64 * suc (length t.entered))) ∙ sym (slot_clear t p z)
       where
         nothing : (b : Bool) → cond b none_of none_of ≡ none_of

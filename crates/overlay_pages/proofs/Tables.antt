@@ -1,5 +1,5 @@
 -- Tables stay sound, and hold what was written.
-use Rattle.std.proofs.Common.{w64, ℕ, zero, suc, ◌≡◌, ◌≢◌, ◌+◌, ◌*◌, ◌/◌, ◌%◌, ◌^◌, ◌<◌, ◌≤◌, ◌⊎◌, inl, inr, Bool, true, false, cond, List, [], ◌∷◌, ◌++◌, map, length, get_or, replicate, Some, None, refl, sym, ap, ◌∙◌, subst, arith}
+use Rattle.std.proofs.Common.{w64, ℕ, zero, suc, ◌≡◌, ◌≢◌, ◌+◌, ◌-◌, ◌*◌, ◌/◌, ◌%◌, ◌^◌, ◌<◌, ◌≤◌, ◌⊎◌, inl, inr, Bool, true, false, cond, List, [], ◌∷◌, ◌++◌, map, length, get_or, replicate, Some, None, refl, sym, ap, ◌∙◌, subst, arith}
 use Rattle.std.specs.Prelude.{◌==◌, nat_lt, slice_index, slice_set, bit_or}
 use Rattle.std.specs.List.{range_with_len}
 use Rattle.std.specs.Int.{bit_at}
@@ -58,16 +58,21 @@ pub slot_clear : (t : Table) (p : ℕ) → bit t p ≡ 0 → slot t p ≡ None
 slot_clear t p e = ap (λ n. cond (n == 1) (Some (slice_index t.values (spot t p))) None) e
 
 -- the place of a written cell is within the values
-pub spot_within : (t : Table) → IsSound t → (p : ℕ) → 0 < number_at t p → spot t p < length t.values
-spot_within t s p lt =
+pub spot_before : (t : Table) → IsSound t → (p : ℕ) → 0 < number_at t p → spot t p < 64 * suc (length t.entered)
+spot_before t s p lt =
     let e = s.listed (p / 64) lt in
     let i = e.below in
     let n = e.number in
+    omega arith
+
+spot_within : (t : Table) → IsSound t → (p : ℕ) → 0 < number_at t p → spot t p < length t.values
+spot_within t s p lt =
+    let b = spot_before t s p lt in
     let z = s.sized in
     omega arith
 
 -- a table of cells of which none is written
-pub sound_empty : (t : Table) → length t.masks ≡ length t.numbers → t.size ≤ 64 * length t.numbers → 64 * suc (length t.numbers) < 2 ^ 64 → t.entered ≡ [] → length t.values ≡ 64 → ((q : ℕ) → slice_index t.numbers q ≡ 0) → ((p : ℕ) → bit t p ≡ 0) → IsSound t
+pub sound_empty : (t : Table) → length t.masks ≡ length t.numbers → t.size ≤ 64 * length t.numbers → 64 * suc (length t.numbers) < 2 ^ 64 → t.entered ≡ [] → 64 ≤ length t.values → ((q : ℕ) → slice_index t.numbers q ≡ 0) → ((p : ℕ) → bit t p ≡ 0) → IsSound t
 sound_empty t masked covers small none sized zeros clear =
     let nothing : length t.entered ≡ 0 = ap (λ (l : List ℕ). length l) none in
     record {
@@ -176,10 +181,11 @@ module _ (t : Table) (s : IsSound t) (q : ℕ) (lt : q < length t.numbers) (new 
             let c = s.counted in
             omega arith;
         sized =
-            let a = length-append t.values (replicate 64 0) in
-            let z0 : ℕ = 0 in let r : length (replicate 64 z0) ≡ 64 = length-replicate 64 z0 in
+            let more = 64 * suc (suc (length t.entered)) - length t.values in
+            let z : ℕ = 0 in
+            let a = length-append t.values (replicate more z) in
+            let r : length (replicate more z) ≡ more = length-replicate more z in
             let p = length_push t.entered q in
-            let z = s.sized in
             omega arith;
         listed = listed_then;
         known = known_then;
@@ -202,8 +208,8 @@ module _ (t : Table) (s : IsSound t) (q : ℕ) (lt : q < length t.numbers) (new 
           let apart : p / 64 ≢ q = λ e. let z : slice_index t.numbers (p / 64) ≡ 0 = ap (slice_index t.numbers) e ∙ new in absurd (omega arith) in
           let same : spot (entering t q) p ≡ spot t p = ap (λ n. 64 * n + p % 64) (other (p / 64) apart) in
           slot_set (entering t q) p one
-          ∙ ap (λ n. Some (slice_index (t.values ++ replicate 64 0) n)) same
-          ∙ ap Some (get_or_append_left t.values (replicate 64 0) 0 (spot t p) (spot_within t s p w.1))
+          ∙ ap (λ n. Some (slice_index (t.values ++ replicate (64 * suc (suc (length t.entered)) - length t.values) 0) n)) same
+          ∙ ap Some (get_or_append_left t.values (replicate (64 * suc (suc (length t.entered)) - length t.values) 0) 0 (spot t p) (spot_within t s p w.1))
           ∙ sym (slot_set t p one)
       go (inr z) = slot_clear (entering t q) p z ∙ sym (slot_clear t p z)
 
@@ -242,7 +248,7 @@ module _ (t : Table) (s : IsSound t) (p n : ℕ) (less : p < t.size) (there : 0 
         covers = s.covers;
         small = s.small;
         counted = s.counted;
-        sized = length-set t.values (spot t p) n ∙ s.sized;
+        sized = let l = length-set t.values (spot t p) n in let z = s.sized in omega arith;
         listed = λ q lt. let e = s.listed q lt in record { at = e.at; below = e.below; number = e.number; names = e.names };
         known = s.known;
         within = λ r e. go r e (same_or_not r p);
@@ -295,7 +301,7 @@ module _ (t : Table) (s : IsSound t) (p n : ℕ) (less : p < t.size) (there : 0 
           ∙ sym (get_or-set_other (slots t) p r (Some n) None ne)
 
 -- tables by their parts
-pub entering_is : (t u : Table) (q : ℕ) → u.size ≡ t.size → u.masks ≡ t.masks → u.numbers ≡ slice_set t.numbers q (suc (length t.entered)) → u.entered ≡ t.entered ++ q ∷ [] → u.values ≡ t.values ++ replicate 64 0 → u ≡ entering t q
+pub entering_is : (t u : Table) (q : ℕ) → u.size ≡ t.size → u.masks ≡ t.masks → u.numbers ≡ slice_set t.numbers q (suc (length t.entered)) → u.entered ≡ t.entered ++ q ∷ [] → u.values ≡ t.values ++ replicate (64 * suc (suc (length t.entered)) - length t.values) 0 → u ≡ entering t q
 entering_is t u q a b c d e = λ i. record { size = a i; masks = b i; numbers = c i; entered = d i; values = e i }
 
 pub setting_is : (t u : Table) (p n : ℕ) → u.size ≡ t.size → u.masks ≡ (setting t p n).masks → u.numbers ≡ t.numbers → u.entered ≡ t.entered → u.values ≡ (setting t p n).values → u ≡ setting t p n

@@ -1,5 +1,5 @@
 -- The tables of a worker: which cells are written, a mask of 64 bits for each page of 64 cells, and the values of the pages that were entered.
-use Rattle.std.specs.Prelude.{ℕ, zero, suc, ◌≡◌, ◌+◌, ◌*◌, ◌/◌, ◌%◌, ◌^◌, ◌<◌, ◌≤◌, ◌==◌, if◌then◌else◌, nat_lt, List, [], ◌∷◌, ◌++◌, map, length, replicate, Option, Some, None, slice_index, slice_set, bit_or}
+use Rattle.std.specs.Prelude.{ℕ, zero, suc, ◌≡◌, ◌+◌, ◌-◌, ◌*◌, ◌/◌, ◌%◌, ◌^◌, ◌<◌, ◌≤◌, ◌==◌, if◌then◌else◌, nat_lt, List, [], ◌∷◌, ◌++◌, map, length, replicate, Option, Some, None, slice_index, slice_set, bit_or}
 use Rattle.std.specs.List.{range_with_len}
 use Rattle.std.specs.Int.{bit_at}
 use Rattle.std.specs.Vec.{vec_capacity}
@@ -8,7 +8,7 @@ use Rattle.overlay_pages.specs.declared.pages.Pages.{Pages}
 use Rattle.overlay_pages.specs.Over.{Writes, writes_of, AreOnce}
 
 -- how many cells there are; for each page its mask, and the number of its values from 1, or 0 where it was not entered; the pages in the order in which they
--- were entered; and the values, 64 for each of them behind 64 that no cell has
+-- were entered; and the values, 64 for each of them behind 64 that no cell has, and what is left behind those
 pub record Table : Type 0 where
   pub size : ℕ
   pub masks : List ℕ
@@ -56,14 +56,14 @@ pub record IsSound (t : Table) : Type 0 where
   pub covers : t.size ≤ 64 * length t.numbers
   pub small : 64 * suc (length t.numbers) < 2 ^ 64
   pub counted : absent t.numbers + length t.entered ≡ length t.numbers
-  pub sized : length t.values ≡ 64 * suc (length t.entered)
+  pub sized : 64 * suc (length t.entered) ≤ length t.values
   pub listed : (page : ℕ) → 0 < slice_index t.numbers page → IsEntered t page
   pub known : (k : ℕ) → k < length t.entered → slice_index t.numbers (slice_index t.entered k) ≡ suc k
   pub within : (place : ℕ) → bit t place ≡ 1 → (place < t.size) × (0 < number_at t place)
 
 -- a page is entered, none of its cells written
 abbrev pub entering : Table → ℕ → Table
-entering t page = record { size = t.size; masks = t.masks; numbers = slice_set t.numbers page (suc (length t.entered)); entered = t.entered ++ page ∷ []; values = t.values ++ replicate 64 0 }
+entering t page = record { size = t.size; masks = t.masks; numbers = slice_set t.numbers page (suc (length t.entered)); entered = t.entered ++ page ∷ []; values = t.values ++ replicate (64 * suc (suc (length t.entered)) - length t.values) 0 }
 
 -- a cell of a page that was entered is written
 abbrev pub setting : Table → ℕ → ℕ → Table

@@ -1,6 +1,6 @@
 //! The tables of a worker.
 
-ghost use Rattle.std.specs.Prelude.{suc, ◌≡◌, ◌+◌, ◌*◌, ◌<◌, ◌≤◌, ◌++◌, [], length, replicate, slice_index, slice_set, IfOk};
+ghost use Rattle.std.specs.Prelude.{suc, ◌≡◌, ◌+◌, ◌-◌, ◌*◌, ◌<◌, ◌≤◌, ◌++◌, [], length, replicate, slice_index, slice_set, IfOk};
 ghost use Rattle.std.specs.Vec.{vec_capacity};
 ghost use Rattle.overlay_pages.specs.Table.{table_of, number_at, slot, slots, IsSound, IsRoomy, entering, setting};
 
@@ -45,13 +45,14 @@ fn tables(alloc: Global, pages: u64) -> Result<(Vec<u64>, Vec<u64>), AllocError>
     Ok((masks, numbers))
 }
 
-// So many zeros more, for which there is room.
-fn push_zeros(values: &mut Vec<u64>, count: u64)
-    requires { length values.old.items + count ≤ vec_capacity values.old }
-    ensures items { values.new.items ≡ values.old.items ++ replicate count 0 }
+// Zeros behind these values until there are so many, for which there is room.
+fn fill(values: &mut Vec<u64>, count: u64)
+    requires { count ≤ vec_capacity values.old }
+    ensures items { values.new.items
+        ≡ values.old.items ++ replicate (count - length values.old.items) 0 }
     ensures capacity { vec_capacity values.new ≡ vec_capacity values.old }
 {
-    for _zero in 0..count {
+    for _zero in 0..count.saturating_sub(values.len() as u64) {
         values.push_reserved(0);
     }
 }
@@ -64,7 +65,7 @@ fn rows(alloc: Global, pages: u64, count: u64) -> Result<(Vec<u64>, Vec<u64>), A
 {
     let entered = Vec::with_capacity(alloc, pages as usize)?;
     let mut values = Vec::with_capacity(alloc, count as usize)?;
-    push_zeros(&mut values, 64);
+    fill(&mut values, 64);
     Ok((entered, values))
 }
 
@@ -102,8 +103,9 @@ fn enter(pages: &mut Pages, page: u64)
     ensures entered { table_of pages.new ≡ entering (table_of pages.old) page }
 {
     pages.entered.push_reserved(page);
-    pages.numbers[page as usize] = pages.entered.len() as u64;
-    push_zeros(&mut pages.values, 64);
+    let number = pages.entered.len() as u64;
+    pages.numbers[page as usize] = number;
+    fill(&mut pages.values, 64 * (number + 1));
 }
 
 // A cell of a page that was entered is written.
@@ -163,5 +165,4 @@ pub fn clear(pages: &mut Pages)
         pages.masks[page] = 0;
     }
     pages.entered.clear();
-    pages.values.truncate(64);
 }

@@ -63,7 +63,7 @@ returns-clause-roomy c =
     let ends = c.len-k-end.ensures in
     let done : length old.entered.items ≤ k = (let o = old.entered.ok.0 in omega arith) in
     let inv = c.loop-k.invariant in
-    let t : Table = record { size = c.loop-k.pages.size; masks = c.loop-k.pages.masks.items; numbers = c.loop-k.pages.numbers.items; entered = c.clear.new.self.items; values = c.truncate.new.self.items } in
+    let t : Table = record { size = c.loop-k.pages.size; masks = c.loop-k.pages.masks.items; numbers = c.loop-k.pages.numbers.items; entered = c.clear.new.self.items; values = c.loop-k.pages.values.items } in
     let sound = c.requires.sound in
     let numbered = inv.cleared.numbered in
     let masked = inv.cleared.masked in
@@ -77,10 +77,9 @@ returns-clause-roomy c =
     let kept : vec_capacity c.loop-k.pages.entered ≡ vec_capacity old.entered = ap (λ (v : Vec ℕ Global). vec_capacity v) inv.entered in
     let held : vec_capacity c.loop-k.pages.values ≡ vec_capacity old.values = ap (λ (v : Vec ℕ Global). vec_capacity v) inv.values in
     let ke = c.clear.ensures.capacity in
-    let kv = c.truncate.ensures.capacity in
     record {
       sound = sound_empty t (masked ∙ sym numbered) (omega arith) (omega arith) c.clear.ensures.items
-          (ap (λ (l : List ℕ). length l) c.truncate.ensures.items ∙ length-take-le 64 c.loop-k.pages.values.items (omega arith))
+          (omega arith)
           (cleared_numbers (table_of old) sound k done t.numbers t.masks inv.cleared)
           (cleared_bits (table_of old) sound k done t.numbers t.masks inv.cleared);
       entered = omega arith;
@@ -92,6 +91,6 @@ returns-clause-none c =
     let test = c.loop-k-test.false in
     let ends = c.len-k-end.ensures in
     let done : length c.args.pages.now.entered.items ≤ c.loop-k.k = (let o = c.args.pages.now.entered.ok.0 in omega arith) in
-    let t : Table = record { size = c.loop-k.pages.size; masks = c.loop-k.pages.masks.items; numbers = c.loop-k.pages.numbers.items; entered = c.clear.new.self.items; values = c.truncate.new.self.items } in
+    let t : Table = record { size = c.loop-k.pages.size; masks = c.loop-k.pages.masks.items; numbers = c.loop-k.pages.numbers.items; entered = c.clear.new.self.items; values = c.loop-k.pages.values.items } in
     slots_empty t (cleared_bits (table_of c.args.pages.now) c.requires.sound c.loop-k.k done t.numbers t.masks c.loop-k.invariant.cleared)
     ∙ ap (λ n. replicate n None) c.loop-k.invariant.size

@@ -17,7 +17,7 @@ returns-clause-right c =
     let kv = c.in_ok-entered.ensures.values.1 in
     record {
       sound =
-          sound_empty t (masked ∙ sym numbered) (omega arith) (omega arith) c.in_ok-entered.ensures.entered.0 c.in_ok-entered.ensures.values.0
+          sound_empty t (masked ∙ sym numbered) (omega arith) (omega arith) c.in_ok-entered.ensures.entered.0 (let l = c.in_ok-entered.ensures.values.0 in omega arith)
           (zeros_hold pages t.numbers c.in_ok-masks.ensures.1)
           (bits_of_zeros t pages c.in_ok-masks.ensures.0);
       entered = omega arith;

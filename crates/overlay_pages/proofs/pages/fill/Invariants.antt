@@ -1,6 +1,6 @@
 use Rattle.std.proofs.Common.{◌≡◌, ◌++◌, replicate}
 use Rattle.std.specs.Vec.{vec_capacity}
-use Rattle.overlay_pages.proofs.pages.push_zeros.Given as goal
+use Rattle.overlay_pages.proofs.pages.fill.Given as goal
 
 abbrev pub invariant-loop-zero : goal.invariant-loop-zero
 invariant-loop-zero l =
