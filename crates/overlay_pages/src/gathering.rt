@@ -30,6 +30,16 @@ fn gather_page(pages: &Pages, k: usize, changes: &mut Vec<Change>) -> Result<(),
     Ok(())
 }
 
+// How many writes there are; memory is taken for so many, and no promise rests on it.
+fn count(pages: &Pages) -> usize {
+    let mut count = 0usize;
+    for page in &pages.entered {
+        let mask = pages.masks.get(*page as usize).copied().unwrap_or(0);
+        count = count.saturating_add(mask.count_ones() as usize);
+    }
+    count
+}
+
 /// The writes that tables hold, each place once.
 ///
 /// # Errors
@@ -40,7 +50,7 @@ pub fn gather(alloc: Global, pages: &Pages) -> Result<Vec<Change>, AllocError>
     ensures { IfOk result (λ changes. Gathers (table_of pages.now)
         (64 * suc (length pages.now.entered.items)) changes.items) }
 {
-    let mut changes = Vec::new(alloc);
+    let mut changes = Vec::with_capacity(alloc, count(pages))?;
     for k in 0..pages.entered.len() {
         gather_page(pages, k, &mut changes)?;
     }

@@ -4,9 +4,11 @@
 mod changes;
 mod chunk;
 mod gathering;
+mod laws;
 mod own;
 mod pages;
 
 pub use changes::{Change, Changes};
 pub use chunk::Chunk;
+pub use laws::{cells_hold_their_writes, disjoint_changes_commute};
 pub use own::Own;

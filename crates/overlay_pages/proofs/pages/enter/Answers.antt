@@ -1,4 +1,4 @@
-use Rattle.std.proofs.Common.{◌-◌, ◌++◌, ◌∙◌, replicate, suc, ◌≡◌, length, sym, ap, subst, refl, arith}
+use Rattle.std.proofs.Common.{◌+◌, ◌*◌, ◌-◌, ◌++◌, ◌∙◌, replicate, suc, ◌≡◌, length, sym, ap, subst, refl, arith}
 use Rattle.std.specs.Prelude.{slice_set}
 use Rattle.std.proofs.lemmas.List.{length-set}
 use Rattle.overlay_pages.specs.Table.{table_of, IsSound}
