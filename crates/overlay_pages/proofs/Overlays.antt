@@ -1,5 +1,5 @@
 -- Cells with writes over them.
-use Rattle.std.proofs.Common.{ℕ, zero, suc, ◌≡◌, ◌≢◌, ◌+◌, ◌<◌, ◌⊎◌, inl, inr, Bool, true, false, cond, List, [], ◌∷◌, ◌++◌, length, get_or, take, drop, Option, Some, None, refl, sym, ap, ◌∙◌, arith}
+use Rattle.std.proofs.Common.{◌^◌, ℕ, zero, suc, ◌≡◌, ◌≢◌, ◌+◌, ◌<◌, ◌⊎◌, inl, inr, Bool, true, false, cond, List, [], ◌∷◌, ◌++◌, length, get_or, take, drop, Option, Some, None, refl, sym, ap, ◌∙◌, arith}
 use Rattle.std.specs.Prelude.{◌==◌, slice_index, slice_set}
 use Rattle.std.proofs.lemmas.Bool.{eq-eqb, eqb-true, eqb-false}
 use Rattle.std.proofs.lemmas.List.{length-append, length-take-le, length-drop, take_at, drop_at, take_more}
@@ -145,3 +145,7 @@ changed_on ks now later cs i d lt e f =
 
 pub changed_none : (ks : List Kept) → ks ≡ filled (written_over (writes_of []) (values_of ks)) ks
 changed_none ks = sym (ap (λ l. filled l ks) (over_nothing (writes_of []) (values_of ks) (λ p. refl)) ∙ filled_self ks)
+
+pub either_fits : (o : Option ℕ) (n : ℕ) → or_else o 0 < 2 ^ 64 → n < 2 ^ 64 → or_else o n < 2 ^ 64
+either_fits None n a b = b
+either_fits (Some m) n a b = a

@@ -1,8 +1,9 @@
 //! A chunk that runs over a store.
 
-ghost use Rattle.std.specs.Prelude.{◌≡◌, ℕ, length, replicate, IfOk, None};
+ghost use Rattle.std.specs.Prelude.{◌≡◌, ℕ, ◌<◌, ◌^◌, length, replicate, IfOk, None};
 ghost use Rattle.store.specs.Flat.{values_of};
 ghost use Rattle.seqrun.specs.Ran.{lengths_of};
+ghost use Rattle.lower_code.specs.Machine.{Fits, machine};
 ghost use Rattle.overlay_pages.specs.Over.{writes_of, writes_in, AreOnce};
 ghost use Rattle.overlay_pages.specs.Seen.{cells_of};
 
@@ -12,6 +13,14 @@ use lower_block::Cells;
 use std::alloc::{AllocError, Global};
 use std::marker::Model;
 use store::Store;
+
+// Registers and cells hold numbers of 64 bits, as their types say.
+fn fit(registers: &[u64], cells: &[u64])
+    ensures words { Fits (machine registers.now cells.now) }
+    ensures room { length cells.now < 2 ^ 64 }
+{
+    let _counts = (registers.len(), cells.len());
+}
 
 /// The cells of a lent store, and over them what a worker wrote in its chunk.
 #[derive(Drop)]
@@ -38,6 +47,15 @@ impl<'s> Chunk<'s> {
         ensures written { result.written ≡ own }
     {
         Chunk { store, own }
+    }
+
+    /// Registers and the cells that the chunk sees hold numbers of 64 bits, as their types say.
+    pub fn are_words(&self, registers: &[u64])
+        ensures words { Fits (machine registers.now (cells_of self.now)) }
+        ensures room { length (cells_of self.now) < 2 ^ 64 }
+    {
+        self.own.are_words();
+        fit(registers, self.store.cells());
     }
 
     /// Ends a chunk: its writes. Nothing is written then, and the next chunk may run. This takes time for the pages with written cells alone.

@@ -10,5 +10,7 @@ mod pages;
 
 pub use changes::{Change, Changes};
 pub use chunk::Chunk;
-pub use laws::{cells_hold_their_writes, disjoint_changes_commute};
+pub use laws::{
+    cells_hold_their_writes, changes_leave_what_the_chunk_saw, disjoint_changes_commute,
+};
 pub use own::Own;

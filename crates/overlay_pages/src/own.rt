@@ -1,13 +1,13 @@
 //! What a worker writes.
 
-ghost use Rattle.std.specs.Prelude.{◌≡◌, ℕ, length, replicate, slice_set, IfOk, None, Some};
+ghost use Rattle.std.specs.Prelude.{◌≡◌, ℕ, ◌<◌, ◌^◌, length, replicate, slice_set, IfOk, None, Some};
 ghost use Rattle.store.specs.Flat.{values_of};
-ghost use Rattle.overlay_pages.specs.Over.{writes_of, writes_in, AreOnce};
+ghost use Rattle.overlay_pages.specs.Over.{or_else, writes_of, writes_in, AreOnce};
 ghost use Rattle.overlay_pages.specs.Table.{table_of, slots, IsRoomy};
 
 use crate::changes::Changes;
 use crate::gathering::gather;
-use crate::pages::{Pages, clear, empty_pages, slot_at, write_at};
+use crate::pages::{Pages, clear, empty_pages, slot_at, write_at, written_words};
 use std::alloc::{AllocError, Global};
 use std::marker::Model;
 use store::Store;
@@ -75,6 +75,13 @@ impl Own {
         ensures { self.new ≡ slice_set self.old place (Some n) }
     {
         write_at(&mut self.pages, place, n);
+    }
+
+    // What is written is a number of 64 bits at each place.
+    pub(crate) fn are_words(&self)
+        ensures { (place : ℕ) → or_else (writes_in self.now place) 0 < 2 ^ 64 }
+    {
+        written_words(&self.pages);
     }
 
     // Ends a chunk: its writes, and nothing is written then.

@@ -1,7 +1,8 @@
 //! The tables of a worker.
 
-ghost use Rattle.std.specs.Prelude.{suc, ◌≡◌, ◌+◌, ◌-◌, ◌*◌, ◌<◌, ◌≤◌, ◌++◌, [], length, replicate, slice_index, slice_set, IfOk};
+ghost use Rattle.std.specs.Prelude.{ℕ, ◌^◌, suc, ◌≡◌, ◌+◌, ◌-◌, ◌*◌, ◌<◌, ◌≤◌, ◌++◌, [], length, replicate, slice_index, slice_set, IfOk};
 ghost use Rattle.std.specs.Vec.{vec_capacity};
+ghost use Rattle.overlay_pages.specs.Over.{or_else};
 ghost use Rattle.overlay_pages.specs.Table.{table_of, number_at, slot, slots, IsSound, IsRoomy, entering, setting};
 
 use std::alloc::{AllocError, Global};
@@ -137,6 +138,20 @@ fn reach(pages: &mut Pages, place: u64)
     if pages.numbers[page as usize] == 0 {
         enter(pages, page);
     }
+}
+
+// Values are numbers of 64 bits, as their type says.
+fn are_words(values: &[u64])
+    ensures { (k : ℕ) → slice_index values.now k < 2 ^ 64 }
+{
+    let _count = values.len();
+}
+
+/// What is written is a number of 64 bits at each place.
+pub fn written_words(pages: &Pages)
+    ensures { (place : ℕ) → or_else (slot (table_of pages.now) place) 0 < 2 ^ 64 }
+{
+    are_words(pages.values.as_slice());
 }
 
 /// Writes at a place, and nothing outside.
