@@ -5,3 +5,5 @@
 mod lower_block_rows;
 #[cfg(test)]
 mod lower_code_rows;
+#[cfg(test)]
+mod overlay_pages_rows;

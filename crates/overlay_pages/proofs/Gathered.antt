@@ -1,0 +1,168 @@
+-- The writes that tables hold, gathered page by page.
+use Rattle.std.proofs.Common.{w64, ◌-◌, ◌^◌, ℕ, suc, ◌≡◌, ◌≢◌, ◌+◌, ◌*◌, ◌/◌, ◌%◌, ◌<◌, ◌≤◌, ◌⊎◌, inl, inr, Bool, true, false, cond, List, [], ◌∷◌, ◌++◌, length, Option, Some, None, refl, sym, ap, ◌∙◌, subst, arith}
+use Rattle.std.specs.Prelude.{◌==◌, nat_lt, slice_index, bit_and}
+use Rattle.std.specs.Int.{bit_at, trailing_zeros}
+use Rattle.std.proofs.lemmas.Bool.{eqb-true, eqb-false, ltb-true, ltb-false, lt-ltb, le-ltb}
+use Rattle.std.proofs.lemmas.Nat.Bits.{bit_at-trailing_zeros, bit_at_clear_same, bit_at_clear_other}
+use Rattle.overlay_pages.specs.declared.changes.Change.{Change}
+use Rattle.overlay_pages.specs.Over.{writes_of, writes_in}
+use Rattle.overlay_pages.specs.Table.{Table, number_at, bit, spot, slot, slots, IsSound, up_to, Gathers, Gathering}
+use Rattle.overlay_pages.proofs.Tables.{slot_set, slot_clear, bit_is, same_or_not, spot_before, slots_say}
+use Rattle.overlay_pages.proofs.Overlays.{writes_push, once_push}
+
+before_it : (t : Table) (m p : ℕ) → spot t p < m → up_to t m p ≡ slot t p
+before_it t m p lt = ap (λ b. cond b (slot t p) None) (lt-ltb (spot t p) m lt)
+
+behind_it : (t : Table) (m p : ℕ) → m ≤ spot t p → up_to t m p ≡ None
+behind_it t m p le = ap (λ b. cond b (slot t p) None) (le-ltb (spot t p) m le)
+
+-- where nothing is written between two spots, what is gathered to the one is gathered to the other
+pub gathers_skip : (t : Table) (a b : ℕ) (cs : List Change) → a ≤ b → ((p : ℕ) → a ≤ spot t p → spot t p < b → slot t p ≡ None) → Gathers t a cs → Gathers t b cs
+gathers_skip t a b cs le none g = record { each = λ p. g.each p ∙ go p (nat_lt (spot t p) a) refl (nat_lt (spot t p) b) refl; once = g.once }
+  where
+    go : (p : ℕ) → (x : Bool) → nat_lt (spot t p) a ≡ x → (y : Bool) → nat_lt (spot t p) b ≡ y → up_to t a p ≡ up_to t b p
+    go p true e y f = let lt = ltb-true (spot t p) a e in before_it t a p lt ∙ sym (before_it t b p (omega arith))
+    go p false e true f = let past = ltb-false (spot t p) a e in let lt = ltb-true (spot t p) b f in behind_it t a p past ∙ sym (before_it t b p lt ∙ none p past lt)
+    go p false e false f = let past = ltb-false (spot t p) a e in let far = ltb-false (spot t p) b f in behind_it t a p past ∙ sym (behind_it t b p far)
+
+-- a page that was entered, and the places at its spots
+module _ (t : Table) (s : IsSound t) (k : ℕ) (lt : k < length t.entered) where
+  pub number_is : slice_index t.numbers (slice_index t.entered k) ≡ suc k
+  number_is = s.known k lt
+
+  pub at_spot : (p r : ℕ) → r < 64 → spot t p ≡ 64 * suc k + r → (p / 64 ≡ slice_index t.entered k) × (p % 64 ≡ r)
+  at_spot p r less e =
+      let number : number_at t p ≡ suc k = omega arith in
+      let entered = s.listed (p / 64) (omega arith) in
+      let n = entered.number in
+      let same : entered.at ≡ k = omega arith in
+      (sym entered.names ∙ ap (slice_index t.entered) same, omega arith)
+
+  pub spot_is : (r : ℕ) → r < 64 → spot t (64 * slice_index t.entered k + r) ≡ 64 * suc k + r
+  spot_is r less =
+      let page : (64 * slice_index t.entered k + r) / 64 ≡ slice_index t.entered k = omega arith in
+      let rest : (64 * slice_index t.entered k + r) % 64 ≡ r = omega arith in
+      (λ i. 64 * slice_index t.numbers (page i) + rest i) ∙ ap (λ n. 64 * n + r) number_is
+
+  pub bit_is_there : (r : ℕ) → r < 64 → bit t (64 * slice_index t.entered k + r) ≡ bit_at (slice_index t.masks (slice_index t.entered k)) r
+  bit_is_there r less =
+      let page : (64 * slice_index t.entered k + r) / 64 ≡ slice_index t.entered k = omega arith in
+      let rest : (64 * slice_index t.entered k + r) % 64 ≡ r = omega arith in
+      λ i. bit_at (slice_index t.masks (page i)) (rest i)
+
+  -- no bit of the mask is set from one on and before another
+  pub none_between : (a b : ℕ) → b ≤ 64 → ((r : ℕ) → a ≤ r → r < b → bit_at (slice_index t.masks (slice_index t.entered k)) r ≡ 0) → (p : ℕ) → 64 * suc k + a ≤ spot t p → spot t p < 64 * suc k + b → slot t p ≡ None
+  none_between a b le clear p from before =
+      let number : number_at t p ≡ suc k = omega arith in
+      let e : spot t p ≡ 64 * suc k + p % 64 = omega arith in
+      let there = at_spot p (p % 64) (omega arith) e in
+      slot_clear t p (ap (λ q. bit_at (slice_index t.masks q) (p % 64)) there.0 ∙ clear (p % 64) (omega arith) (omega arith))
+
+  -- one more is gathered
+  pub gathers_on : (r : ℕ) → r < 64 → bit_at (slice_index t.masks (slice_index t.entered k)) r ≡ 1 → (cs : List Change) → Gathers t (64 * suc k + r) cs → (c : Change) → c.place ≡ 64 * slice_index t.entered k + r → c.value ≡ slice_index t.values (64 * suc k + r) → Gathers t (64 * suc k + suc r) (cs ++ c ∷ [])
+  gathers_on r less one cs g c place value =
+      record {
+        each = λ p. writes_push cs c p ∙ go p (p == c.place) refl;
+        once = once_push cs c g.once (g.each c.place ∙ behind_it t (64 * suc k + r) c.place (let h = here in omega arith));
+      }
+    where
+      here : spot t c.place ≡ 64 * suc k + r
+      here = ap (spot t) place ∙ spot_is r less
+
+      filled : slot t c.place ≡ Some c.value
+      filled = slot_set t c.place (ap (bit t) place ∙ bit_is_there r less ∙ one) ∙ ap (λ n. Some (slice_index t.values n)) here ∙ ap Some (sym value)
+
+      go : (p : ℕ) (b : Bool) → (p == c.place) ≡ b → cond (p == c.place) (Some c.value) (writes_of cs p) ≡ up_to t (64 * suc k + suc r) p
+      go p true e =
+          let same = eqb-true p c.place e in
+          ap (λ b. cond b (Some c.value) (writes_of cs p)) e ∙ sym filled ∙ ap (slot t) (sym same)
+          ∙ sym (before_it t (64 * suc k + suc r) p (let h : spot t p ≡ 64 * suc k + r = ap (spot t) same ∙ here in omega arith))
+      go p false e = ap (λ b. cond b (Some c.value) (writes_of cs p)) e ∙ g.each p ∙ next (nat_lt (spot t p) (64 * suc k + r)) refl
+        where
+          next : (b : Bool) → nat_lt (spot t p) (64 * suc k + r) ≡ b → up_to t (64 * suc k + r) p ≡ up_to t (64 * suc k + suc r) p
+          next true f = let before = ltb-true (spot t p) (64 * suc k + r) f in before_it t (64 * suc k + r) p before ∙ sym (before_it t (64 * suc k + suc r) p (omega arith))
+          next false f =
+              let past = ltb-false (spot t p) (64 * suc k + r) f in
+              let apart : spot t p ≢ 64 * suc k + r = λ h. let q = at_spot p r less h in let q0 = q.0 in let q1 = q.1 in eqb-false p c.place e (let z : p ≡ c.place = omega arith in z) in
+              behind_it t (64 * suc k + r) p past ∙ sym (behind_it t (64 * suc k + suc r) p (omega arith))
+
+-- along a mask
+module _ (t : Table) (s : IsSound t) (k : ℕ) (lt : k < length t.entered) (turn rest : ℕ) (cs : List Change) (g : Gathering t k turn rest cs) where
+  pub gathering_on : 0 < rest → rest < 2 ^ 64 → (b : ℕ) → b ≡ trailing_zeros w64 rest → (c : Change) → c.place ≡ 64 * slice_index t.entered k + b → c.value ≡ slice_index t.values (64 * suc k + b) → Gathering t k (turn + 1) (bit_and rest (18446744073709551615 - 1 * 2 ^ b % 18446744073709551616)) (cs ++ c ∷ [])
+  gathering_on more fits b e c place value =
+      let z = bit_at-trailing_zeros w64 rest more fits in
+      let less : b < 64 = (let z0 = z.0 in omega arith) in
+      let one : bit_at rest b ≡ 1 = ap (bit_at rest) e ∙ z.1 in
+      let low : (r : ℕ) → r < b → bit_at rest r ≡ 0 = λ r h. z.2 r (omega arith) in
+      let from : g.from ≤ b = later b one (nat_lt b g.from) refl in
+      let turned = g.turned in
+      record {
+        from = suc b;
+        turned = omega arith;
+        inside = less;
+        done = λ r h. cleared b less low r h (same_or_not r b);
+        left = λ r h i. bit_at_clear_other w64 rest b less r i (λ q. absurd (omega arith)) ∙ g.left r (omega arith) i;
+        gathered =
+            gathers_on t s k lt b less (sym (g.left b from less) ∙ one) cs
+            (gathers_skip t (64 * suc k + g.from) (64 * suc k + b) cs (omega arith)
+            (none_between t s k lt g.from b (omega arith) (λ r h i. sym (g.left r h (omega arith)) ∙ low r i))
+            g.gathered)
+            c place value;
+      }
+    where
+      later : (b : ℕ) → bit_at rest b ≡ 1 → (x : Bool) → nat_lt b g.from ≡ x → g.from ≤ b
+      later b one true h = let z = g.done b (ltb-true b g.from h) in absurd (omega arith)
+      later b one false h = ltb-false b g.from h
+
+      cleared : (b : ℕ) → b < 64 → ((r : ℕ) → r < b → bit_at rest r ≡ 0) → (r : ℕ) → r < suc b → (r ≡ b) ⊎ (r ≢ b) → bit_at (bit_and rest (18446744073709551615 - 1 * 2 ^ b % 18446744073709551616)) r ≡ 0
+      cleared b less low r h (inl q) = ap (bit_at (bit_and rest (18446744073709551615 - 1 * 2 ^ b % 18446744073709551616))) q ∙ bit_at_clear_same w64 rest b less
+      cleared b less low r h (inr ne) = bit_at_clear_other w64 rest b less r (omega arith) ne ∙ low r (omega arith)
+
+  pub gathering_over : ((r : ℕ) → g.from ≤ r → r < 64 → bit_at rest r ≡ 0) → Gathers t (64 * suc (suc k)) cs
+  gathering_over none =
+      let far : 64 * suc k + 64 ≡ 64 * suc (suc k) = omega arith in
+      let within = g.inside in
+      subst (λ (m : ℕ). Gathers t m cs) far
+      (gathers_skip t (64 * suc k + g.from) (64 * suc k + 64) cs (omega arith)
+      (none_between t s k lt g.from 64 (omega arith) (λ r h i. sym (g.left r h i) ∙ none r h i))
+      g.gathered)
+
+pub gathering_from : (t : Table) (k rest : ℕ) (cs : List Change) → rest ≡ slice_index t.masks (slice_index t.entered k) → Gathers t (64 * suc k) cs → Gathering t k 0 rest cs
+gathering_from t k rest cs e g =
+    record {
+      from = 0;
+      turned = omega arith;
+      inside = omega arith;
+      done = λ r h. absurd (omega arith);
+      left = λ r h i. ap (λ m. bit_at m r) e;
+      gathered = let same : 64 * suc k ≡ 64 * suc k + 0 = omega arith in subst (λ (m : ℕ). Gathers t m cs) same g;
+    }
+
+-- at the start nothing is gathered
+pub gathers_none : (t : Table) → IsSound t → Gathers t (64 * suc 0) []
+gathers_none t s = record { each = λ p. go p (nat_lt (spot t p) (64 * suc 0)) refl; once = tt }
+  where
+    go : (p : ℕ) (b : Bool) → nat_lt (spot t p) (64 * suc 0) ≡ b → None ≡ up_to t (64 * suc 0) p
+    go p false e = sym (behind_it t (64 * suc 0) p (ltb-false (spot t p) (64 * suc 0) e))
+    go p true e =
+        let lt = ltb-true (spot t p) (64 * suc 0) e in
+        sym (before_it t (64 * suc 0) p lt ∙ none (bit_is t p))
+      where
+        none : (bit t p ≡ 1) ⊎ (bit t p ≡ 0) → slot t p ≡ None
+        none (inl one) = let w = s.within p one in let more = w.1 in let lt = ltb-true (spot t p) (64 * suc 0) e in absurd (omega arith)
+        none (inr z) = slot_clear t p z
+
+abbrev none_of : Option ℕ
+none_of = None
+
+-- at the end everything is
+pub gathers_all : (t : Table) → IsSound t → (cs : List Change) → Gathers t (64 * suc (length t.entered)) cs → (p : ℕ) → writes_of cs p ≡ writes_in (slots t) p
+gathers_all t s cs g p = g.each p ∙ go (bit_is t p) ∙ sym (slots_say t s p)
+  where
+    go : (bit t p ≡ 1) ⊎ (bit t p ≡ 0) → up_to t (64 * suc (length t.entered)) p ≡ slot t p
+    go (inl one) = let w = s.within p one in before_it t (64 * suc (length t.entered)) p (spot_before t s p w.1)
+    go (inr z) = ap (λ o. cond (nat_lt (spot t p) (64 * suc (length t.entered))) o None) (slot_clear t p z) ∙ nothing (nat_lt (spot t p) (64 * suc (length t.entered))) ∙ sym (slot_clear t p z)
+      where
+        nothing : (b : Bool) → cond b none_of none_of ≡ none_of
+        nothing true = refl
+        nothing false = refl

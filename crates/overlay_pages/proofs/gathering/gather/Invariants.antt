@@ -1,0 +1,6 @@
+use Rattle.std.proofs.Common.{suc, ◌*◌}
+use Rattle.overlay_pages.specs.Table.{table_of, Gathers}
+use Rattle.overlay_pages.proofs.gathering.gather.Given as goal
+
+abbrev pub invariant-loop-k : goal.invariant-loop-k
+invariant-loop-k l = Gathers (table_of l.pages) (64 * suc l.k) l.changes.items

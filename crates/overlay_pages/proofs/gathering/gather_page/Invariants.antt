@@ -1,0 +1,5 @@
+use Rattle.overlay_pages.specs.Table.{table_of, Gathering}
+use Rattle.overlay_pages.proofs.gathering.gather_page.Given as goal
+
+abbrev pub invariant-loop-turn : goal.invariant-loop-turn
+invariant-loop-turn l = Gathering (table_of l.pages) l.k l._turn l.rest l.changes.items

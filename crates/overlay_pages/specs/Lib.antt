@@ -1,0 +1,3 @@
+pub mod Over
+pub mod Seen
+pub mod Table

@@ -1,0 +1,56 @@
+//! The writes of a finished chunk.
+
+ghost use Rattle.std.specs.Prelude.{◌≡◌};
+ghost use Rattle.store.specs.Flat.{values_of, filled};
+ghost use Rattle.overlay_pages.specs.Over.{written_over, writes_of};
+
+use std::marker::Model;
+use store::Store;
+
+/// A write: a place among the cells of a store, and its value.
+#[derive(Clone, Copy, Debug, PartialEq, Eq)]
+pub struct Change {
+    pub place: u64,
+    pub value: u64,
+}
+
+/// The writes of a chunk, without the store that the chunk ran over.
+#[derive(Drop)]
+pub struct Changes {
+    writes: Vec<Change>,
+}
+
+impl Model for Changes {
+    ghost use Rattle.std.specs.Prelude.{List};
+    ghost use Rattle.overlay_pages.specs.declared.changes.Change.{Change};
+
+    ghost Value = { List Change };
+
+    ghost view = { λ c. c.writes.items };
+}
+
+impl Changes {
+    /// These writes.
+    pub(crate) fn of(writes: Vec<Change>) -> Changes
+        ensures { result ≡ writes.items }
+    {
+        Changes { writes }
+    }
+
+    /// The writes, in no order that is told.
+    pub fn writes(&self) -> &[Change]
+        ensures { result.now ≡ self.now }
+    {
+        self.writes.as_slice()
+    }
+
+    /// Overwrites the cells of a store by these writes, and changes nothing else.
+    pub fn apply(&self, store: &mut Store)
+        ensures { store.new
+            ≡ filled (written_over (writes_of self.now) (values_of store.old)) store.old }
+    {
+        for change in &self.writes {
+            store.put(change.place, change.value);
+        }
+    }
+}

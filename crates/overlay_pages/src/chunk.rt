@@ -1,0 +1,103 @@
+//! A chunk that runs over a store.
+
+ghost use Rattle.std.specs.Prelude.{◌≡◌, ℕ, ◌<◌, ◌^◌, length, replicate, IfOk, None};
+ghost use Rattle.store.specs.Flat.{values_of};
+ghost use Rattle.seqrun.specs.Ran.{lengths_of};
+ghost use Rattle.lower_code.specs.Machine.{Fits, machine};
+ghost use Rattle.overlay_pages.specs.Over.{writes_of, writes_in, AreOnce};
+ghost use Rattle.overlay_pages.specs.Seen.{cells_of};
+
+use crate::changes::Changes;
+use crate::own::Own;
+use lower_block::Cells;
+use std::alloc::{AllocError, Global};
+use std::marker::Model;
+use store::Store;
+
+// Registers and cells hold numbers of 64 bits, as their types say.
+fn fit(registers: &[u64], cells: &[u64])
+    ensures words { Fits (machine registers.now cells.now) }
+    ensures room { length cells.now < 2 ^ 64 }
+{
+    let _counts = (registers.len(), cells.len());
+}
+
+/// The cells of a lent store, and over them what a worker wrote in its chunk.
+#[derive(Drop)]
+pub struct Chunk<'s> {
+    store: &'s Store,
+    own: Own,
+}
+
+impl<'s> Model for Chunk<'s> {
+    ghost use Rattle.overlay_pages.specs.Seen.{Seen, IsOver};
+
+    ghost Value = { Seen };
+
+    ghost view = { λ c. record { store = c.store.now; written = c.own } };
+
+    ghost invariant = { λ c. IsOver (record { store = c.store.now; written = c.own }) };
+}
+
+impl<'s> Chunk<'s> {
+    /// A worker's chunks over a store of as many cells as the one that its own was made for.
+    pub fn over(store: &'s Store, own: Own) -> Chunk<'s>
+        requires { length own ≡ length (values_of store.now) }
+        ensures store { result.store ≡ store.now }
+        ensures written { result.written ≡ own }
+    {
+        Chunk { store, own }
+    }
+
+    /// Registers and the cells that the chunk sees hold numbers of 64 bits, as their types say.
+    pub fn are_words(&self, registers: &[u64])
+        ensures words { Fits (machine registers.now (cells_of self.now)) }
+        ensures room { length (cells_of self.now) < 2 ^ 64 }
+    {
+        self.own.are_words();
+        fit(registers, self.store.cells());
+    }
+
+    /// Ends a chunk: its writes. Nothing is written then, and the next chunk may run. This takes time for the pages with written cells alone.
+    ///
+    /// # Errors
+    ///
+    /// Where memory runs out. Nothing is written then either.
+    pub fn finish(&mut self, alloc: Global) -> Result<Changes, AllocError>
+        ensures changes { IfOk result (λ changes. (place : ℕ)
+            → writes_of changes place ≡ writes_in self.old.written place) }
+        ensures once { IfOk result AreOnce }
+        ensures store { self.new.store ≡ self.old.store }
+        ensures none { self.new.written ≡ replicate (length (values_of self.old.store)) None }
+    {
+        self.own.finish(alloc)
+    }
+
+    /// Ends the loan of the store, and gives back what the worker keeps.
+    pub fn release(self) -> Own
+        ensures value { result ≡ self.entry.written }
+        ensures room { length result ≡ length (values_of self.entry.store) }
+    {
+        let Chunk { store: _, own } = self;
+        own
+    }
+}
+
+impl<'s> Cells for Chunk<'s> {
+    ghost cells = { λ c. cells_of c };
+
+    ghost shape = { λ c. lengths_of c.store };
+
+    #[inline]
+    fn read(&self, place: u64) -> u64 {
+        match self.own.read(place) {
+            Some(n) => n,
+            None => self.store.cell(place),
+        }
+    }
+
+    #[inline]
+    fn write(&mut self, place: u64, n: u64) {
+        self.own.write(place, n);
+    }
+}

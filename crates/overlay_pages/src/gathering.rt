@@ -1,0 +1,58 @@
+//! The writes that tables hold, gathered.
+
+ghost use Rattle.std.specs.Prelude.{suc, ◌≡◌, ◌*◌, ◌<◌, length, IfOk, OnOk};
+ghost use Rattle.overlay_pages.specs.Table.{table_of, IsSound, Gathers};
+
+use crate::changes::Change;
+use crate::pages::Pages;
+use std::alloc::{AllocError, Global};
+
+// Adds the writes of a page that was entered.
+fn gather_page(pages: &Pages, k: usize, changes: &mut Vec<Change>) -> Result<(), AllocError>
+    requires sound { IsSound (table_of pages.now) }
+    requires there { k < length pages.now.entered.items }
+    requires so_far { Gathers (table_of pages.now) (64 * suc k) changes.old.items }
+    ensures { OnOk result (Gathers (table_of pages.now) (64 * suc (suc k)) changes.new.items) }
+{
+    let page = pages.entered[k];
+    let start = 64 * (k as u64 + 1);
+    let mut rest = pages.masks[page as usize];
+    for _turn in 0..64u64 {
+        if rest == 0 {
+            return Ok(());
+        }
+        let bit = u64::from(rest.trailing_zeros());
+        let value = pages.values[(start + bit) as usize];
+        let place = 64 * page + bit;
+        changes.push(Change { place, value })?;
+        rest &= !(1 << bit);
+    }
+    Ok(())
+}
+
+// How many writes there are; memory is taken for so many, and no promise rests on it.
+fn count(pages: &Pages) -> usize {
+    let mut count = 0usize;
+    for page in &pages.entered {
+        let mask = pages.masks.get(*page as usize).copied().unwrap_or(0);
+        count = count.saturating_add(mask.count_ones() as usize);
+    }
+    count
+}
+
+/// The writes that tables hold, each place once.
+///
+/// # Errors
+///
+/// Where memory runs out.
+pub fn gather(alloc: Global, pages: &Pages) -> Result<Vec<Change>, AllocError>
+    requires { IsSound (table_of pages.now) }
+    ensures { IfOk result (λ changes. Gathers (table_of pages.now)
+        (64 * suc (length pages.now.entered.items)) changes.items) }
+{
+    let mut changes = Vec::with_capacity(alloc, count(pages))?;
+    for k in 0..pages.entered.len() {
+        gather_page(pages, k, &mut changes)?;
+    }
+    Ok(changes)
+}

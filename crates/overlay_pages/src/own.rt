@@ -1,0 +1,96 @@
+//! What a worker writes.
+
+ghost use Rattle.std.specs.Prelude.{◌≡◌, ℕ, ◌<◌, ◌^◌, length, replicate, slice_set, IfOk, None, Some};
+ghost use Rattle.store.specs.Flat.{values_of};
+ghost use Rattle.overlay_pages.specs.Over.{or_else, writes_of, writes_in, AreOnce};
+ghost use Rattle.overlay_pages.specs.Table.{table_of, slots, IsRoomy};
+
+use crate::changes::Changes;
+use crate::gathering::gather;
+use crate::pages::{Pages, clear, empty_pages, slot_at, write_at, written_words};
+use std::alloc::{AllocError, Global};
+use std::marker::Model;
+use store::Store;
+
+/// What a worker wrote in its chunk so far: for each place among the cells of a store its value, if it is written. A worker keeps it from chunk to chunk.
+///
+/// It has memory for pages of 64 cells that were written once, and room for all of them from the start: so writing takes no memory that can be wanting.
+#[derive(Drop)]
+pub struct Own {
+    pages: Pages,
+}
+
+impl Model for Own {
+    ghost use Rattle.std.specs.Prelude.{ℕ, List, Option};
+    ghost use Rattle.overlay_pages.specs.Table.{table_of, slots, IsRoomy};
+
+    ghost Value = { List (Option ℕ) };
+
+    ghost view = { λ o. slots (table_of o.pages) };
+
+    ghost invariant = { λ o. IsRoomy o.pages };
+}
+
+// Ends a chunk: its writes, and tables in which nothing is written.
+fn take(alloc: Global, pages: &mut Pages) -> Result<Changes, AllocError>
+    requires { IsRoomy pages.old }
+    ensures changes { IfOk result (λ changes. (place : ℕ)
+        → writes_of changes place ≡ writes_in (slots (table_of pages.old)) place) }
+    ensures once { IfOk result AreOnce }
+    ensures roomy { IsRoomy pages.new }
+    ensures none { slots (table_of pages.new) ≡ replicate pages.old.size None }
+{
+    let gathered = gather(alloc, pages);
+    clear(pages);
+    match gathered {
+        Ok(writes) => Ok(Changes::of(writes)),
+        Err(want) => Err(want),
+    }
+}
+
+impl Own {
+    /// Nothing is written yet, over the cells of this store.
+    ///
+    /// # Errors
+    ///
+    /// Where memory runs out.
+    pub fn new(alloc: Global, store: &Store) -> Result<Own, AllocError>
+        ensures { IfOk result (λ own. own ≡ replicate (length (values_of store.now)) None) }
+    {
+        let pages = empty_pages(alloc, store.cells().len() as u64)?;
+        Ok(Own { pages })
+    }
+
+    // What is written at a place, if anything.
+    #[inline]
+    pub(crate) fn read(&self, place: u64) -> Option<u64>
+        ensures { result ≡ writes_in self.now place }
+    {
+        slot_at(&self.pages, place)
+    }
+
+    // Writes at a place, and nothing outside.
+    #[inline]
+    pub(crate) fn write(&mut self, place: u64, n: u64)
+        ensures { self.new ≡ slice_set self.old place (Some n) }
+    {
+        write_at(&mut self.pages, place, n);
+    }
+
+    // What is written is a number of 64 bits at each place.
+    pub(crate) fn are_words(&self)
+        ensures { (place : ℕ) → or_else (writes_in self.now place) 0 < 2 ^ 64 }
+    {
+        written_words(&self.pages);
+    }
+
+    // Ends a chunk: its writes, and nothing is written then.
+    pub(crate) fn finish(&mut self, alloc: Global) -> Result<Changes, AllocError>
+        ensures changes { IfOk result (λ changes. (place : ℕ)
+            → writes_of changes place ≡ writes_in self.old place) }
+        ensures once { IfOk result AreOnce }
+        ensures none { self.new ≡ replicate (length self.old) None }
+    {
+        take(alloc, &mut self.pages)
+    }
+}
