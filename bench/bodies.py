@@ -4,9 +4,9 @@
     python3 bench/bodies.py [PROGRAM [KERNEL..]]     the program as it is proved here, or another one
 
 Each program has a kernel many times and a few times; the difference of the two runs is its time, so that starting, reading and
-writing count for neither. Times are those of the processor, of one core; all programs of a kernel run in turn, and the median of
-the rounds counts. A line for each kernel: nanoseconds an innermost statement and the ratio to gcc -O2, and the geometric
-mean of the ratios at the end. Every program has to leave the same digest of all variables. The status is 1 where a target is
+writing count for neither. Times are those of the processor, of one core; all programs of a kernel run in turn, round by round. A line for
+each kernel: the median of nanoseconds an innermost statement, and of the ratios to gcc -O2 in the same round; the geometric
+mean of the ratios at the end. Python and `seq` run in one round. Every program has to leave the same digest of all variables. The status is 1 where a target is
 missed: `run` faster than Lua on each kernel, no ratio above 25, the mean of them at most 10.
 """
 import math
@@ -19,7 +19,8 @@ import tempfile
 
 TOP = pathlib.Path(__file__).resolve().parent.parent
 PROGRAM = TOP / "crates/ompk_cli/out/ompk_cli"
-ROUNDS = 5
+ROUNDS = 7
+LONGER = 8
 MASK = (1 << 64) - 1
 WORST = 25
 MEAN = 10
@@ -272,7 +273,7 @@ uint64_t h;
 void kernel(void)
 {
     uint64_t x = 14695981039346656037ull;
-    for (uint64_t i = 0; i < 4096; i++) { A[i] = i * 2654435761 % 256; }
+    for (uint64_t i = 0; i < 4096; i++) { A[i] = i * 2654435761ull % 256; }
     for (uint64_t t = 0; t < ROUNDS; t++) {
         for (uint64_t i = 0; i < 4096; i++) { x = (x ^ A[i]) * 1099511628211ull; }
     }
@@ -300,7 +301,7 @@ SQUARES = Kernel(
 uint64_t s;
 void kernel(void)
 {
-    for (uint64_t i = 0; i < 4096; i++) { A[i] = i * 2654435761; }
+    for (uint64_t i = 0; i < 4096; i++) { A[i] = i * 2654435761ull; }
     for (uint64_t t = 0; t < ROUNDS; t++) {
         for (uint64_t i = 0; i < 4096; i++) { s += A[i] * A[i]; }
     }
@@ -349,13 +350,16 @@ def digest(text):
 
 
 def made(kernel, rounds, slow_rounds, folder, name, program):
-    """The command and the reader of its output for each way to run a kernel with so many rounds."""
+    """The command and the reader of its output for each way to run a kernel with so many rounds; those that gcc compiles are
+    also made with `LONGER` times as many, by which they are timed."""
     text = kernel.c.replace("ROUNDS", str(rounds))
     (folder / f"{name}.c").write_text(text)
     calls = "".join(f"d = digest_of((const uint64_t *)&{v}, sizeof {v} / 8, d); " for v in kernel.variables)
-    (folder / f"{name}-main.c").write_text("#include <stdint.h>\n" + text + C_MAIN.replace("CALLS", calls))
-    for flag in ("-O2", "-O0"):
-        subprocess.run(["gcc", "-std=c11", flag, "-o", folder / f"{name}{flag}", folder / f"{name}-main.c"], check=True)
+    for suffix, times in (("", 1), ("-longer", LONGER)):
+        longer = kernel.c.replace("ROUNDS", str(rounds * times))
+        (folder / f"{name}-main.c").write_text("#include <stdint.h>\n" + longer + C_MAIN.replace("CALLS", calls))
+        for flag in ("-O2", "-O0"):
+            subprocess.run(["gcc", "-std=c11", flag, "-o", folder / f"{name}{flag}{suffix}", folder / f"{name}-main.c"], check=True)
     lua = kernel.lua.replace("ROUNDS", str(rounds)) + LUA_END
     (folder / f"{name}.lua").write_text(lua + "".join(f"add({v}) " for v in kernel.variables) + '\nprint(string.format("%d", d))\n')
     python = "M = (1 << 64) - 1\n" + kernel.python.replace("ROUNDS", str(slow_rounds)) + PYTHON_END
@@ -370,30 +374,35 @@ def made(kernel, rounds, slow_rounds, folder, name, program):
     }
 
 
+def same_digests(kernel, programs):
+    """Whether all but Python, which has fewer rounds, leave the same."""
+    found = {read(timed(words)[0]) for way, (words, read) in programs.items() if way != "python"}
+    if len(found) != 1:
+        sys.exit(f"{kernel.name}: digests differ: {found}")
+
+
+def spent(way, many, few):
+    """The seconds of the rounds by which the one has more than the other."""
+    suffix = "-longer" if way.startswith("gcc") else ""
+    words = [[str(made[way][0][0]) + suffix, *made[way][0][1:]] if suffix else made[way][0] for made in (many, few)]
+    return timed(words[0])[1] - timed(words[1])[1]
+
+
 def measure(kernel, folder, program):
-    """Nanoseconds an innermost statement by each way to run a kernel."""
+    """Nanoseconds an innermost statement by each way to run a kernel, a list by rounds."""
     many = made(kernel, kernel.many, kernel.slow[0], folder, "many", program)
     few = made(kernel, kernel.few, kernel.slow[1], folder, "few", program)
+    same_digests(kernel, many)
+    same_digests(kernel, few)
     times = {way: [] for way in many}
-    for round_ in range(ROUNDS):
-        digests = {}
+    for number in range(ROUNDS):
         for way in many:
-            if round_ and way in ("python", "seq"):
+            if number and way in ("python", "seq"):
                 continue
-            # the fast ones are too short for one run
-            repeats = {"gcc -O2": 5, "gcc -O0": 2, "run": 2}.get(way, 1)
-            spent = 0.0
-            for words, sign in ((many[way], 1), (few[way], -1)):
-                for _ in range(repeats):
-                    text, seconds = timed(words[0])
-                    spent += sign * seconds / repeats
-                if way != "python":
-                    digests.setdefault(sign, set()).add(words[1](text))
             turns = kernel.slow[0] - kernel.slow[1] if way == "python" else kernel.many - kernel.few
-            times[way].append(spent * 1e9 / (turns * kernel.statements))
-        if any(len(found) != 1 for found in digests.values()):
-            sys.exit(f"{kernel.name}: digests differ: {digests}")
-    return {way: statistics.median(found) for way, found in times.items()}
+            turns *= LONGER if way.startswith("gcc") else 1
+            times[way].append(spent(way, many, few) * 1e9 / (turns * kernel.statements))
+    return times
 
 
 def main(words):
@@ -407,10 +416,11 @@ def main(words):
         for kernel in KERNELS:
             if words[1:] and not any(kernel.name.startswith(word) for word in words[1:]):
                 continue
-            found = measure(kernel, pathlib.Path(name), program)
+            times = measure(kernel, pathlib.Path(name), program)
+            found = {way: statistics.median(each) for way, each in times.items()}
             line = f"{kernel.name:14}"
             for way in ways:
-                ratio = found[way] / found["gcc -O2"]
+                ratio = statistics.median(own / best for own, best in zip(times[way], times["gcc -O2"]))
                 ratios[way].append(ratio)
                 line += f"{found[way]:9.2f}" + (f"{ratio:8.1f}" if way != "gcc -O2" else "")
             print(line, flush=True)

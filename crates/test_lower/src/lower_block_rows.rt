@@ -143,3 +143,38 @@ fn blocks_print_what_c_prints(rt: HostRuntime) {
     ];
     assert_eq!(rt; first_wrong(rt.alloc(), &rows), 0);
 }
+
+#[test]
+fn instructions_in_place_of_two_print_what_c_prints(rt: HostRuntime) {
+    let rows = [
+        (
+            "x = 1000; for (uint64_t i = 0; i < 8; i++) A[i] = i * i + 7; for (uint64_t i = 0; i < 8; i++) { x = x + A[i]; x = x * A[i]; x = x ^ A[i]; x = x - A[i]; s = s + (x & A[i]); } printf(\"%\" PRIu64 \" %\" PRIu64 \"\", x, s);",
+            "17603740202424 156",
+        ),
+        (
+            "x = 1000; for (uint64_t i = 0; i < 2; i++) for (uint64_t j = 0; j < 3; j++) { B[i][j] = i * 10 + j + 3; } for (uint64_t i = 0; i < 2; i++) for (uint64_t j = 0; j < 3; j++) { x = x + B[i][j]; x = x * B[i][j]; x = x ^ B[i][j]; x = x - B[i][j]; s = s ^ (x & B[i][j]); } printf(\"%\" PRIu64 \" %\" PRIu64 \"\", x, s);",
+            "164370875 1",
+        ),
+        (
+            "x = 77; for (uint64_t i = 0; i < 4; i++) { A[2 * i] = i + 5; x = A[2 * i] * x + i; x = A[2 * i] ^ x; s = A[2 * i] - x + s; x = (A[2 * i] & 12) + x; } printf(\"%\" PRIu64 \" %\" PRIu64 \"\", x, s);",
+            "132339 18446744073709400028",
+        ),
+        (
+            "x = 5; uint64_t y = 9; for (uint64_t i = 0; i < 6; i++) { x = x * 31 + y; y = x + y * i; x = (y << 3) ^ x; y ^= x >> 5; x ^= y << 4; } s = y; printf(\"%\" PRIu64 \" %\" PRIu64 \"\", x, s);",
+            "81412517323482805 8838876492253503",
+        ),
+        (
+            "x = 3; for (uint64_t i = 0; i < 8; i++) { A[i] += x * i; A[i] = A[i] + A[i]; A[i] = A[7 - i] + 5; A[i] = A[i] - 2; s += A[i]; } for (uint64_t i = 0; i < 2; i++) for (uint64_t j = 0; j < 3; j++) { B[i][j] += A[j] * 2; B[i][j] = B[i][j] + 1; B[1][j] = B[0][j] + i; } for (uint64_t i = 0; i < 8; i++) printf(\"%\" PRIu64 \" \", A[i]); for (uint64_t i = 0; i < 2; i++) for (uint64_t j = 0; j < 3; j++) printf(\"%\" PRIu64 \" \", B[i][j]);",
+            "3 3 3 3 6 6 6 6 7 7 7 8 8 8 ",
+        ),
+        (
+            "x = 10; for (uint64_t i = 0; i < 8; i += 3) { s = s * 10 + i; } for (uint64_t i = 1; i <= 7; i += 2) { s = s * 10 + i; } for (uint64_t i = 8; i > 0; i -= 4) { s = s * 10 + i; } for (uint64_t i = 0; i < x; i++) { x = x - 1; } for (uint64_t i = 9; i < 9; i++) { s = 0; } printf(\"%\" PRIu64 \" %\" PRIu64 \"\", x, s);",
+            "5 36135784",
+        ),
+        (
+            "x = 6; for (uint64_t i = 0; i < 8; i++) { A[i] = i * 7 % 5; if (A[i] > 2) { x += A[i]; s ^= i; } } for (uint64_t i = 0; i < 8; i++) { s += i; if (A[i] == 1) x = x * 3; else { x = x + 1; A[i] = x; } s += x & 1; } for (uint64_t i = 8; i > 0; i--) { if (i != 4) x += i; else x -= 1; } printf(\"%\" PRIu64 \" %\" PRIu64 \"\", x, s);",
+            "95 32",
+        ),
+    ];
+    assert_eq!(rt; first_wrong(rt.alloc(), &rows), 0);
+}
