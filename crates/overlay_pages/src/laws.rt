@@ -10,21 +10,18 @@ pub fn disjoint_changes_commute()
     ensures { (v w : Writes) (cells : List ℕ)
         → ((place : ℕ) → (v place ≡ None) ⊎ (w place ≡ None))
         → written_over v (written_over w cells) ≡ written_over w (written_over v cells) }
-{
-}
+{}
 
 /// The changes of a chunk, over the store that it ran over, leave the cells that it saw.
 pub fn changes_leave_what_the_chunk_saw()
     ensures { (chunk : Seen) (w : Writes)
         → ((place : ℕ) → w place ≡ writes_in chunk.written place)
         → written_over w (values_of chunk.store) ≡ cells_of chunk }
-{
-}
+{}
 
 /// A cell holds what was written there, or else what it held.
 pub fn cells_hold_their_writes()
     ensures { (w : Writes) (cells : List ℕ) (place : ℕ)
         → place < length cells
         → slice_index (written_over w cells) place ≡ or_else (w place) (slice_index cells place) }
-{
-}
+{}

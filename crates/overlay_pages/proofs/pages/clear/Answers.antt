@@ -1,6 +1,6 @@
-use Rattle.std.proofs.Common.{Vec, Global, ◌≡◌, ℕ, ◌+◌, ◌<◌, ◌≤◌, List, length, replicate, None, ap, sym, ◌∙◌, subst, arith}
+use Rattle.std.proofs.Common.{Vec, Global, ◌≡◌, ℕ, ◌+◌, ◌<◌, ◌≤◌, length, replicate, None, ap, sym, ◌∙◌, subst, arith}
 use Rattle.std.specs.Prelude.{slice_index, slice_set}
-use Rattle.std.proofs.lemmas.List.{get_or_read, length-take-le}
+use Rattle.std.proofs.lemmas.List.{get_or_read}
 use Rattle.std.specs.Vec.{vec_capacity}
 use Rattle.overlay_pages.specs.Table.{Table, table_of}
 use Rattle.overlay_pages.proofs.Tables.{sound_empty, slots_empty, Clearing, clearing_on, cleared_numbers, cleared_bits, page_there}
