@@ -6,7 +6,7 @@ use Rattle.std.proofs.lemmas.Bool.{eqb-true, eqb-false, ltb-true, ltb-false, lt-
 use Rattle.std.proofs.lemmas.Nat.Bits.{bit_at-trailing_zeros, bit_at_clear_same, bit_at_clear_other}
 use Rattle.overlay_pages.specs.declared.changes.Change.{Change}
 use Rattle.overlay_pages.specs.Over.{writes_of, writes_in}
-use Rattle.overlay_pages.specs.Table.{Table, number_at, bit, spot, slot, slots, IsSound, up_to, Gathers, Gathering}
+use Rattle.overlay_pages.specs.Table.{Table, number_at, bit, spot, slot, slots, IsSound, up_to, Gathers}
 use Rattle.overlay_pages.proofs.Tables.{slot_set, slot_clear, bit_is, same_or_not, spot_before, slots_say}
 use Rattle.overlay_pages.proofs.Overlays.{writes_push, once_push}
 
@@ -85,6 +85,15 @@ module _ (t : Table) (s : IsSound t) (k : ℕ) (lt : k < length t.entered) where
               let past = ltb-false (spot t p) (64 * suc k + r) f in
               let apart : spot t p ≢ 64 * suc k + r = λ h. let q = at_spot p r less h in let q0 = q.0 in let q1 = q.1 in eqb-false p c.place e (let z : p ≡ c.place = omega arith in z) in
               behind_it t (64 * suc k + r) p past ∙ sym (behind_it t (64 * suc k + suc r) p (omega arith))
+
+-- of a page that was entered, the cells before one are gathered, and the rest of its mask is left
+pub record Gathering (t : Table) (k turn rest : ℕ) (cs : List Change) : Type 0 where
+  pub from : ℕ
+  pub turned : turn ≤ from
+  pub inside : from ≤ 64
+  pub done : (r : ℕ) → r < from → bit_at rest r ≡ 0
+  pub left : (r : ℕ) → from ≤ r → r < 64 → bit_at rest r ≡ bit_at (slice_index t.masks (slice_index t.entered k)) r
+  pub gathered : Gathers t (64 * suc k + from) cs
 
 -- along a mask
 module _ (t : Table) (s : IsSound t) (k : ℕ) (lt : k < length t.entered) (turn rest : ℕ) (cs : List Change) (g : Gathering t k turn rest cs) where

@@ -24,11 +24,12 @@ and_at w place n p = if p == place then Some n else w p
 abbrev pub writes_in : List (Option ℕ) → Writes
 writes_in slots p = slice_index_or slots p None
 
--- the last of these changes at each place
+-- the later of two writes, if there is one
 abbrev pub last_of : Option ℕ → Option ℕ → Option ℕ
 last_of None o = o
 last_of (Some n) o = Some n
 
+-- what changes write one after another: at each place the last of them stays
 abbrev pub writes_of : List Change → Writes
 writes_of [] p = None
 writes_of (c ∷ cs) p = last_of (writes_of cs p) (if p == c.place then Some c.value else None)

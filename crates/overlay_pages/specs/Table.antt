@@ -31,10 +31,11 @@ bit t place = bit_at (slice_index t.masks (place / 64)) (place % 64)
 abbrev pub spot : Table → ℕ → ℕ
 spot t place = 64 * number_at t place + place % 64
 
+-- what is written at a place, if anything
 abbrev pub slot : Table → Writes
 slot t place = if bit t place == 1 then Some (slice_index t.values (spot t place)) else None
 
--- what is written at each place
+-- the same at each place
 abbrev pub slots : Table → List (Option ℕ)
 slots t = map (slot t) (range_with_len 0 t.size)
 
@@ -51,6 +52,7 @@ pub record IsEntered (t : Table) (page : ℕ) : Type 0 where
   pub number : slice_index t.numbers page ≡ suc at
   pub names : slice_index t.entered at ≡ page
 
+-- each entered page has its own number and row of values, and no other page has one; a written cell is there, on a page that was entered
 pub record IsSound (t : Table) : Type 0 where
   pub masked : length t.masks ≡ length t.numbers
   pub covers : t.size ≤ 64 * length t.numbers
@@ -61,9 +63,16 @@ pub record IsSound (t : Table) : Type 0 where
   pub known : (k : ℕ) → k < length t.entered → slice_index t.numbers (slice_index t.entered k) ≡ suc k
   pub within : (place : ℕ) → bit t place ≡ 1 → (place < t.size) × (0 < number_at t place)
 
--- a page is entered, none of its cells written
+-- a page is entered, none of its cells written; its row of values may be there already
 abbrev pub entering : Table → ℕ → Table
-entering t page = record { size = t.size; masks = t.masks; numbers = slice_set t.numbers page (suc (length t.entered)); entered = t.entered ++ page ∷ []; values = t.values ++ replicate (64 * suc (suc (length t.entered)) - length t.values) 0 }
+entering t page =
+    record {
+      size = t.size;
+      masks = t.masks;
+      numbers = slice_set t.numbers page (suc (length t.entered));
+      entered = t.entered ++ page ∷ [];
+      values = t.values ++ replicate (64 * suc (suc (length t.entered)) - length t.values) 0;
+    }
 
 -- a cell of a page that was entered is written
 abbrev pub setting : Table → ℕ → ℕ → Table
@@ -86,15 +95,7 @@ pub record IsRoomy (p : Pages) : Type 0 where
 abbrev pub up_to : Table → ℕ → Writes
 up_to t m place = if nat_lt (spot t place) m then slot t place else None
 
+-- these are the changes so far, each place once
 pub record Gathers (t : Table) (m : ℕ) (cs : List Change) : Type 0 where
   pub each : (place : ℕ) → writes_of cs place ≡ up_to t m place
   pub once : AreOnce cs
-
--- of a page that was entered, the cells before one are gathered, and the rest of its mask is left
-pub record Gathering (t : Table) (k turn rest : ℕ) (cs : List Change) : Type 0 where
-  pub from : ℕ
-  pub turned : turn ≤ from
-  pub inside : from ≤ 64
-  pub done : (r : ℕ) → r < from → bit_at rest r ≡ 0
-  pub left : (r : ℕ) → from ≤ r → r < 64 → bit_at rest r ≡ bit_at (slice_index t.masks (slice_index t.entered k)) r
-  pub gathered : Gathers t (64 * suc k + from) cs

@@ -37,9 +37,10 @@ pub fn slot_at(pages: &Pages, place: u64) -> Option<u64>
     }
 }
 
-// Tables of so many cells, none written.
+// Masks and numbers for so many pages, none entered.
 fn tables(alloc: Global, pages: u64) -> Result<(Vec<u64>, Vec<u64>), AllocError>
-    ensures { IfOk result (λ r. (r.0.items ≡ replicate pages 0) × (r.1.items ≡ replicate pages 0)) }
+    ensures { IfOk result (λ r. (r.0.items ≡ replicate pages 0)
+        × (r.1.items ≡ replicate pages 0)) }
 {
     let masks = Vec::from_elem(alloc, 0u64, pages as usize)?;
     let numbers = Vec::from_elem(alloc, 0u64, pages as usize)?;

@@ -1,4 +1,5 @@
-use Rattle.overlay_pages.specs.Table.{table_of, Gathering}
+use Rattle.overlay_pages.specs.Table.{table_of}
+use Rattle.overlay_pages.proofs.Gathered.{Gathering}
 use Rattle.overlay_pages.proofs.gathering.gather_page.Given as goal
 
 abbrev pub invariant-loop-turn : goal.invariant-loop-turn
