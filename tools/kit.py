@@ -1,4 +1,5 @@
 """The toolchain's command `rt` as a module, for scripts that need more than its commands give."""
+import fcntl
 import importlib.machinery
 import importlib.util
 import os
@@ -51,3 +52,22 @@ def sum_once(rtlib):
             return kept[crate.name]
 
     rtlib.Crate.stamp = stamp
+
+
+def share_built(rtlib):
+    """Lets checks of different crates run at once: of a library below that is built no more than a shared lock is taken."""
+
+    def lock(crates):
+        """Waits until no other rt works in the last crate's folder, nor in those of libraries that are still to be built."""
+        seen, held = set(), []
+        for crate in crates:
+            folder = os.path.realpath(crate.folder)
+            if folder in seen:
+                continue
+            seen.add(folder)
+            kind = fcntl.LOCK_SH if crate is not crates[-1] and crate.is_built() else fcntl.LOCK_EX
+            held.append(os.open(folder, os.O_RDONLY))
+            fcntl.flock(held[-1], kind)
+        return held
+
+    rtlib.lock = lock

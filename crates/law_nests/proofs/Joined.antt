@@ -90,11 +90,19 @@ agrees_join s body a b c more one two = record {
     and_true true e = refl
     and_true false e = e
 
+-- what a nest's body declares, the nest declares
+pub hidden : (n : ℕ) (s : Stmt) (loops : List Loop) (body : Stmt) → nest_of n s ≡ Some (loops, body) → (x : Variable) → visible_behind body x ≡ false → visible_behind s x ≡ false
+hidden n s loops body is x h = at (visible_behind s x) refl
+  where
+    at : (c : Bool) → visible_behind s x ≡ c → visible_behind s x ≡ false
+    at true k = absurd (true_not_false (visible_behind body x) (visible_more s body (nest_declares n s loops body is) x k) h)
+    at false k = k
+
 pub nests_join : IndependentNestsJoin
 nests_join n s loops body outer us chunks e is keeps body_keeps locals_alone are different turning independent whole ran =
     let more = nest_declares n s loops body is in
     let went = nests_run n s loops body outer us e is keeps locals_alone are turning ran in
-    let body_locals : DeclaresLocals body outer = λ x h. locals_alone x (hidden x h more) in
+    let body_locals : DeclaresLocals body outer = λ x h. locals_alone x (hidden n s loops body is x h) in
     let joined = independent_join loops body outer us chunks went.effect body_keeps different turning independent body_locals whole went.run in
     record {
       pieces = joined.pieces;
@@ -103,10 +111,3 @@ nests_join n s loops body outer us chunks e is keeps body_keeps locals_alone are
       quiet = joined.quiet;
       text = went.text ∙ went.quiet;
     }
-  where
-    hidden : (x : Variable) → visible_behind body x ≡ false → DeclaresMore s body → visible_behind s x ≡ false
-    hidden x h more = at (visible_behind s x) refl
-      where
-        at : (c : Bool) → visible_behind s x ≡ c → visible_behind s x ≡ false
-        at true k = absurd (true_not_false (visible_behind body x) (visible_more s body more x k) h)
-        at false k = k

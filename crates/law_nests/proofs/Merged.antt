@@ -1,27 +1,34 @@
 -- Chunks put together by what each of them changed.
-use Rattle.std.specs.Prelude.{ℕ, zero, suc, Bool, true, false, ◌≡◌, ◌+◌, ◌-◌, ◌<◌, ◌==◌, ◌&&◌, ◌||◌, ◌⊎◌, List, [], ◌∷◌, ◌++◌, length, map, flat_map, Option, Some, None, slice_get}
-use Rattle.std.specs.List.{AllByRecursion as Each}
+use Rattle.std.specs.Prelude.{ℕ, zero, suc, Bool, true, false, ◌≡◌, ◌≢◌, ◌+◌, ◌-◌, ◌<◌, ◌==◌, ◌&&◌, ◌||◌, ◌⊎◌, List, [], ◌∷◌, ◌++◌, length, map, flat_map, Option, Some, None, slice_get, slice_index_or, option_and_then, Contains, All}
+use Rattle.std.specs.List.{AllPairs, AllByRecursion as Each}
 use Rattle.std.proofs.Common.{refl, sym, ap, ◌∙◌, subst, cond, arith, inl, inr}
-use Rattle.std.proofs.lemmas.Bool.{eq-eqb, eqb-true}
 use Rattle.std.proofs.lemmas.Bool.Decides.{nat_tests}
-use Rattle.std.proofs.lemmas.List.{append_assoc}
+use Rattle.std.proofs.lemmas.List.{append_assoc, append-nil, length-append, get_or_append_left, get_or-append-add}
+use Rattle.std.proofs.lemmas.List.Elements.{All-from_recursion, Contains-append_left, Contains-append_right}
 use Rattle.std.proofs.lemmas.Option.{same_Some, none-some}
 use Rattle.semantics.specs.Tree.{Variable, Stmt}
 use Rattle.semantics.specs.Meaning.State.{State, Write, Declared, Assigned, renewed, same_indexes, is_there, overwritten}
 use Rattle.semantics.specs.Meaning.Value.{map_option}
 use Rattle.semantics.specs.Meaning.Runs.{Effect}
 use Rattle.semantics.specs.Loops.Arrangement.{once, once_below, EachOnceBelow, with_found, picked}
-use Rattle.semantics.specs.Loops.Nest.{Loop, Vector}
+use Rattle.semantics.specs.Loops.Nest.{Loop, Vector, nest_of, at_value, loop_values, concat_options, iterations}
+use Rattle.semantics.specs.Loops.Access.{Conflict}
 use Rattle.semantics.specs.Loops.Piece.{Piece, no_roles, piece, piece_of, run_iterations}
 use Rattle.semantics.proofs.TicketLaw.{times-append, once_below-more}
-use Rattle.law_commute.specs.Joining.{plain_loop}
+use Rattle.law_commute.specs.Commuting.{KeepsToItself, InnerLoopsTurn}
+use Rattle.law_commute.specs.Joining.{plain_loop, DeclaresLocals}
 use Rattle.law_commute.proofs.Framed.{true_not_false}
 use Rattle.law_commute.proofs.Lists.{each_join}
 use Rattle.law_commute.proofs.Orders.{picked-append}
 use Rattle.law_commute.proofs.Changes.{acted, hit, not_hit}
 use Rattle.law_commute.proofs.Arranged.{counted, times_counted, counted_once}
-use Rattle.law_commute.proofs.Joining.{acted-append, acted_stays, IsShared, all_shared, shared_change}
-use Rattle.law_nests.specs.Merging.{MergedPiecesLeaveTheSame}
+use Rattle.law_commute.proofs.Paths.{both_there}
+use Rattle.law_commute.proofs.Joining.{acted-append, acted_stays, IsShared, all_shared, shared_change, independent_join}
+use Rattle.law_nests.specs.Walks.{walk}
+use Rattle.law_nests.specs.Nests.{JoinAsTheNest}
+use Rattle.law_nests.specs.Merging.{Cells, left_by, NoneChanges, OneChanges, Merges, IndependentChunksMerge}
+use Rattle.law_nests.proofs.Joined.{hidden, nests_join}
+use Rattle.law_nests.proofs.Walked.{walks_leave}
 
 -- what hits an object leaves the same in it, whatever it held
 hit_alike : (y : Variable) (js : List ℕ) (ws : List Write) (c d : Option ℕ) → is_there c ≡ is_there d → hit y js ws ≡ true → acted y js ws c ≡ acted y js ws d
@@ -39,17 +46,6 @@ hit_alike y js (Assigned x is v ∷ ws) c d there h = at ((y == x) && same_index
     at true k rest = ap (acted y js ws) (renewed_alike c d there)
     at false k rest = rest k
 
--- whether two are the same
-same_or_not : (a b : Option ℕ) → (a ≡ b) ⊎ (a ≡ b → ⊥)
-same_or_not None None = inl refl
-same_or_not None (Some n) = inr (λ e. none-some n e)
-same_or_not (Some m) None = inr (λ e. none-some m (sym e))
-same_or_not (Some m) (Some n) = at (m == n) refl
-  where
-    at : (b : Bool) → (m == n) ≡ b → (Some m ≡ Some n) ⊎ (Some m ≡ Some n → ⊥)
-    at true e = inl (ap Some (eqb-true m n e))
-    at false e = inr (λ k. true_not_false (m == n) (eq-eqb m n (same_Some m n k)) e)
-
 abbrev writes_of : List Piece → List Write
 writes_of ps = flat_map (λ p. p.writes) ps
 
@@ -58,31 +54,11 @@ module _ (outer : State) (y : Variable) (js : List ℕ) where
   was = outer.cells y js
 
   -- what an object holds behind a piece
-  abbrev left_by : Piece → Option ℕ
-  left_by p = acted y js p.writes was
-
-  -- some piece changes it, or none
-  record Changes (ps : List Piece) : Type 0 where
-    number : ℕ
-    changing : Piece
-    is : slice_get ps number ≡ Some changing
-    changes : left_by changing ≡ was → ⊥
+  abbrev left_by_piece : Piece → Option ℕ
+  left_by_piece p = acted y js p.writes was
 
   abbrev AllKeep : List Piece → Type 0
-  AllKeep ps = (k : ℕ) (p : Piece) → slice_get ps k ≡ Some p → left_by p ≡ was
-
-  find : (ps : List Piece) → Changes ps ⊎ AllKeep ps
-  find [] = inr (λ k p e. absurd (none-some p e))
-  find (p ∷ ps) = at (same_or_not (left_by p) was) (find ps)
-    where
-      at : (left_by p ≡ was) ⊎ (left_by p ≡ was → ⊥) → Changes ps ⊎ AllKeep ps → Changes (p ∷ ps) ⊎ AllKeep (p ∷ ps)
-      at (inr not_kept) rest = inl (record { number = 0; changing = p; is = refl; changes = not_kept })
-      at (inl kept) (inl c) = inl (record { number = suc c.number; changing = c.changing; is = c.is; changes = c.changes })
-      at (inl kept) (inr all) = inr keep
-        where
-          keep : AllKeep (p ∷ ps)
-          keep zero q e = ap left_by (sym (same_Some p q e)) ∙ kept
-          keep (suc k) q e = all k q e
+  AllKeep ps = (k : ℕ) (p : Piece) → slice_get ps k ≡ Some p → left_by_piece p ≡ was
 
   -- where none does, it is as before
   all_keep : (ps : List Piece) (order : List ℕ) → AllKeep ps → acted y js (writes_of (picked ps order)) was ≡ was
@@ -96,7 +72,7 @@ module _ (outer : State) (y : Variable) (js : List ℕ) where
           ∙ acted-append y js p.writes (writes_of (picked ps cs)) was ∙ ap (acted y js (writes_of (picked ps cs))) (keep c p e) ∙ rest
 
   -- where one does and comes last, it is as that one leaves it
-  last_counts : (ps : List Piece) (front : List ℕ) (k : ℕ) (p : Piece) → slice_get ps k ≡ Some p → (left_by p ≡ was → ⊥) → acted y js (writes_of (picked ps (front ++ k ∷ []))) was ≡ left_by p
+  last_counts : (ps : List Piece) (front : List ℕ) (k : ℕ) (p : Piece) → slice_get ps k ≡ Some p → (left_by_piece p ≡ was → ⊥) → acted y js (writes_of (picked ps (front ++ k ∷ []))) was ≡ left_by_piece p
   last_counts ps front k p e changes =
       let others = writes_of (picked ps front) in
       ap (λ l. acted y js (writes_of l) was) (picked-append ps front (k ∷ []) ∙ ap (λ o. picked ps front ++ with_found o []) e)
@@ -109,7 +85,7 @@ module _ (outer : State) (y : Variable) (js : List ℕ) where
       joined [] bs = refl
       joined (q ∷ qs) bs = ap (λ ws. q.writes ++ ws) (joined qs bs) ∙ sym (append_assoc q.writes (writes_of qs) (writes_of bs))
 
-      hits : (b : Bool) → hit y js p.writes ≡ b → (c : Option ℕ) → is_there c ≡ is_there was → acted y js p.writes c ≡ left_by p
+      hits : (b : Bool) → hit y js p.writes ≡ b → (c : Option ℕ) → is_there c ≡ is_there was → acted y js p.writes c ≡ left_by_piece p
       hits true h c there = hit_alike y js p.writes c was there h
       hits false h c there = absurd (changes (not_hit y js p.writes was h))
 
@@ -175,33 +151,190 @@ module _ (loops : List Loop) (body : Stmt) (outer : State) where
   cells_behind : (ws : List Write) → Each (IsShared outer) ws → (y : Variable) (js : List ℕ) → (overwritten outer ws).cells y js ≡ acted y js ws (outer.cells y js)
   cells_behind ws h y js = (shared_change outer ws outer h (λ x. refl)).cells y js
 
-pub merged_leave : MergedPiecesLeaveTheSame
-merged_leave s loops body chunks outer after e join merges y js = at (find outer y js ps)
+-- an iteration has a value for each loop
+abbrev HasValues : List Loop → Vector → Type 0
+HasValues ls u = length u ≡ length ls
+
+longer : (l : Loop) (ls : List Loop) (v : ℕ) (ws : List Vector) → Each (HasValues ls) ws → Each (HasValues (l ∷ ls)) (map (λ us. v ∷ us) ws)
+longer l ls v [] h = tt
+longer l ls v (w ∷ ws) h = (let e = h.0 in omega (arith, e), longer l ls v ws h.1)
+
+abbrev inner_iterations : List Loop → State → Variable → ℕ → Option (List Vector)
+inner_iterations ls s x v = map_option (map (λ us. v ∷ us)) (iterations ls (at_value s x v))
+
+longer_all : (l : Loop) (ls : List Loop) (s : State) → ((t : State) (zs : List Vector) → iterations ls t ≡ Some zs → Each (HasValues ls) zs)
+    → (vs : List ℕ) (ws : List Vector) → concat_options (map (inner_iterations ls s l.variable) vs) ≡ Some ws → Each (HasValues (l ∷ ls)) ws
+longer_all l ls s h [] ws k = subst (Each (HasValues (l ∷ ls))) (same_Some [] ws k) tt
+longer_all l ls s h (v ∷ vs) ws k =
+    let parts = both_there (λ a b. a ++ b) (inner_iterations ls s l.variable v) (concat_options (map (inner_iterations ls s l.variable) vs)) ws k in
+    subst (Each (HasValues (l ∷ ls))) parts.is
+    (each_join (HasValues (l ∷ ls)) parts.left parts.right (one (iterations ls (at_value s l.variable v)) parts.left (λ zs m. h (at_value s l.variable v) zs m) parts.first) (longer_all l ls s h vs parts.right parts.second))
   where
-    ps : List Piece
-    ps = join.pieces
+    one : (o : Option (List Vector)) (zs : List Vector) → ((xs : List Vector) → o ≡ Some xs → Each (HasValues ls) xs) → map_option (map (λ us. v ∷ us)) o ≡ Some zs → Each (HasValues (l ∷ ls)) zs
+    one None zs m e = absurd (none-some zs e)
+    one (Some xs) zs m e = subst (Each (HasValues (l ∷ ls))) (same_Some (map (λ us. v ∷ us) xs) zs e) (longer l ls v xs (m xs refl))
 
-    shared : Each (λ (p : Piece). Each (IsShared outer) p.writes) ps
-    shared = shared_writes loops body outer chunks ps join.each
+lengths : (ls : List Loop) (s : State) (us : List Vector) → iterations ls s ≡ Some us → Each (HasValues ls) us
+lengths [] s us e = subst (Each (HasValues [])) (same_Some ([] ∷ []) us e) (refl, tt)
+lengths (l ∷ ls) s us e = at (loop_values l s) e (λ t zs k. lengths ls t zs k)
+  where
+    at : (o : Option (List ℕ)) → option_and_then (λ vs. concat_options (map (inner_iterations ls s l.variable) vs)) o ≡ Some us
+        → ((t : State) (zs : List Vector) → iterations ls t ≡ Some zs → Each (HasValues ls) zs) → Each (HasValues (l ∷ ls)) us
+    at None k h = absurd (none-some us k)
+    at (Some vs) k h = longer_all l ls s h vs us k
 
-    count : length ps ≡ length chunks
-    count = same_length (piece (plain_loop loops body) outer) chunks ps join.each
+-- of lists one behind another, the first and the others
+first_pairs : {A : Type 0} (R : A → A → Type 0) (xs ys : List A) → AllPairs R (xs ++ ys) → AllPairs R xs
+first_pairs R xs ys h i j d lt below =
+    let long = length-append xs ys in
+    let e = get_or_append_left xs ys d i (omega (arith, lt, below)) in
+    let f = get_or_append_left xs ys d j below in
+    subst (λ z. R z (slice_index_or xs j d)) e (subst (λ z. R (slice_index_or (xs ++ ys) i d) z) f (h i j d lt (omega (arith, long, below))))
 
-    joined_cells : (order : List ℕ) → EachOnceBelow (length chunks) order → (overwritten outer e.writes).cells y js ≡ acted y js (writes_of (picked ps order)) (outer.cells y js)
-    joined_cells order once = (join.leave order once).cells y js ∙ cells_behind loops body outer (writes_of (picked ps order)) (shared_picked loops body outer ps order shared) y js
+other_pairs : {A : Type 0} (R : A → A → Type 0) (xs ys : List A) → AllPairs R (xs ++ ys) → AllPairs R ys
+other_pairs R xs ys h i j d lt below =
+    let long = length-append xs ys in
+    let e = get_or-append-add xs ys i d in
+    let f = get_or-append-add xs ys j d in
+    subst (λ z. R z (slice_index_or ys j d)) e (subst (λ z. R (slice_index_or (xs ++ ys) (length xs + i) d) z) f (h (length xs + i) (length xs + j) d (omega (arith, lt)) (omega (arith, long, below))))
 
-    own_cells : (k : ℕ) (p : Piece) → slice_get ps k ≡ Some p → (overwritten outer p.writes).cells y js ≡ acted y js p.writes (outer.cells y js)
-    own_cells k p is = cells_behind loops body outer p.writes (found_shared loops body outer ps k p is shared) y js
+-- what is known of a nest
+record Known (n : ℕ) (s : Stmt) (loops : List Loop) (body : Stmt) (outer : State) (us : List Vector) : Type 0 where
+  nest : nest_of n s ≡ Some (loops, body)
+  keeps : KeepsToItself s
+  own : KeepsToItself body
+  locals_alone : DeclaresLocals s outer
+  body_locals : DeclaresLocals body outer
+  long : (u : Vector) → Contains us u → length u ≡ length loops
+  turning : (u : Vector) → Contains us u → InnerLoopsTurn loops body outer u
+  independent : (u v : Vector) → Contains us u → Contains us v → Conflict loops body outer u v → ⊥
 
-    at : Changes outer y js ps ⊎ AllKeep outer y js ps → after.cells y js ≡ (overwritten outer e.writes).cells y js
-    at (inl c) =
-        let own = own_cells c.number c.changing c.is in
-        let lt : c.number < length chunks = omega (arith, below_length ps c.number c.changing c.is, count) in
-        merges.changed y js c.number c.changing c.is (λ keeps. c.changes (sym own ∙ keeps))
-        ∙ own
-        ∙ sym (last_counts outer y js ps (counted 0 c.number ++ counted (suc c.number) (length chunks - suc c.number)) c.number c.changing c.is c.changes)
-        ∙ sym (joined_cells (with_last c.number (length chunks)) (last_once c.number (length chunks) lt))
-    at (inr keep) =
-        merges.same y js (λ k p is. own_cells k p is ∙ keep k p is)
-        ∙ sym (all_keep outer y js ps (counted 0 (length chunks)) keep)
-        ∙ sym (joined_cells (counted 0 (length chunks)) (counted_once (length chunks)))
+module _ (n : ℕ) (s : Stmt) (loops : List Loop) (body : Stmt) (outer : State) (us : List Vector) (known : Known n s loops body outer us) where
+  -- an effect leaves what a piece leaves
+  abbrev Alike : Effect → Piece → Type 0
+  Alike e p = (y : Variable) (js : List ℕ) → left_by outer e y js ≡ (overwritten outer p.writes).cells y js
+
+  abbrev AreAlike : List Effect → List Piece → Type 0
+  AreAlike [] [] = Unit {0}
+  AreAlike [] (p ∷ ps) = ⊥
+  AreAlike (e ∷ es) [] = ⊥
+  AreAlike (e ∷ es) (p ∷ ps) = Alike e p × AreAlike es ps
+
+  -- a chunk's walk, with its piece
+  record Walked (vs : List Vector) (p : Piece) : Type 0 where
+    effect : Effect
+    ran : walk loops body vs outer ≡ Some effect
+    alike : Alike effect p
+
+  single : (vs : List Vector) (p : Piece) (ps : List Piece) → map (piece (plain_loop loops body) outer) (vs ∷ []) ≡ map Some ps → piece (plain_loop loops body) outer vs ≡ Some p → ps ≡ p ∷ []
+  single vs p [] e is = absurd cc
+  single vs p (q ∷ r ∷ qs) e is = absurd cc
+  single vs p (q ∷ []) e is = cc
+
+  walked : (vs : List Vector) (p : Piece) → AllPairs (λ u v. u ≢ v) vs → ((u : Vector) → Contains vs u → Contains us u) → piece (plain_loop loops body) outer vs ≡ Some p → Walked vs p
+  walked vs p apart within is = at (run_iterations loops body vs outer) refl is
+    where
+      at : (o : Option Effect) → run_iterations loops body vs outer ≡ o → map_option (piece_of no_roles outer) o ≡ Some p → Walked vs p
+      at None ran e = absurd (none-some p e)
+      at (Some f) ran e =
+          let walks = walks_leave n s loops body outer vs f known.nest known.keeps known.own known.locals_alone (λ u h. (known.long u (within u h), known.turning u (within u h))) ran in
+          let joins = independent_join loops body outer vs (vs ∷ []) f known.own apart (λ u h. known.turning u (within u h)) (λ u v h k. known.independent u v (within u h) (within v k)) known.body_locals (append-nil vs) ran in
+          let alone = single vs p joins.pieces joins.each is in
+          record {
+            effect = walks.effect;
+            ran = walks.ran;
+            alike = λ y js. walks.cells y js ∙ (joins.leave (0 ∷ []) (counted_once 1)).cells y js ∙ ap (λ (ps : List Piece). (overwritten outer (writes_of (picked ps (0 ∷ [])))).cells y js) alone ∙ ap (λ ws. (overwritten outer ws).cells y js) (append-nil p.writes);
+          }
+
+  record Apart (chunks : List (List Vector)) (ps : List Piece) : Type 0 where
+    effects : List Effect
+    each : map (λ vs. walk loops body vs outer) chunks ≡ map Some effects
+    alike : AreAlike effects ps
+
+  apart : (chunks : List (List Vector)) (ps : List Piece) → AllPairs (λ u v. u ≢ v) (flat_map (λ vs. vs) chunks) → ((u : Vector) → Contains (flat_map (λ vs. vs) chunks) u → Contains us u)
+      → map (piece (plain_loop loops body) outer) chunks ≡ map Some ps → Apart chunks ps
+  apart [] [] different within e = record { effects = []; each = refl; alike = tt }
+  apart [] (p ∷ ps) different within e = absurd cc
+  apart (vs ∷ chunks) [] different within e = absurd cc
+  apart (vs ∷ chunks) (p ∷ ps) different within e =
+      let others = flat_map (λ (vs : List Vector). vs) chunks in
+      let one = walked vs p (first_pairs (λ u v. u ≢ v) vs others different) (λ u h. within u (Contains-append_left vs others u h)) (head e) in
+      let rest = apart chunks ps (other_pairs (λ u v. u ≢ v) vs others different) (λ u h. within u (Contains-append_right vs others u h)) (tail e) in
+      record { effects = one.effect ∷ rest.effects; each = λ i. one.ran i ∷ rest.each i; alike = (one.alike, rest.alike) }
+    where
+      head : (map (piece (plain_loop loops body) outer) (vs ∷ chunks) ≡ map Some (p ∷ ps)) → piece (plain_loop loops body) outer vs ≡ Some p
+      head e = cc
+
+      tail : (map (piece (plain_loop loops body) outer) (vs ∷ chunks) ≡ map Some (p ∷ ps)) → map (piece (plain_loop loops body) outer) chunks ≡ map Some ps
+      tail e = cc
+
+  -- the piece of an effect, and the effect of a piece
+  record Beside (es : List Effect) (ps : List Piece) (k : ℕ) (e : Effect) : Type 0 where
+    own : Piece
+    is : slice_get ps k ≡ Some own
+    alike : Alike e own
+
+  beside : (es : List Effect) (ps : List Piece) → AreAlike es ps → (k : ℕ) (e : Effect) → slice_get es k ≡ Some e → Beside es ps k e
+  beside [] [] h k e is = absurd (none-some e is)
+  beside [] (p ∷ ps) h k e is = absurd h
+  beside (f ∷ es) [] h k e is = absurd h
+  beside (f ∷ es) (p ∷ ps) h zero e is = record { own = p; is = refl; alike = subst (λ g. Alike g p) (same_Some f e is) h.0 }
+  beside (f ∷ es) (p ∷ ps) h (suc k) e is = let r = beside es ps h.1 k e is in record { own = r.own; is = r.is; alike = r.alike }
+
+  record Before (es : List Effect) (ps : List Piece) (k : ℕ) (p : Piece) : Type 0 where
+    own : Effect
+    is : slice_get es k ≡ Some own
+    alike : Alike own p
+
+  before : (es : List Effect) (ps : List Piece) → AreAlike es ps → (k : ℕ) (p : Piece) → slice_get ps k ≡ Some p → Before es ps k p
+  before [] [] h k p is = absurd (none-some p is)
+  before [] (q ∷ ps) h k p is = absurd h
+  before (f ∷ es) [] h k p is = absurd h
+  before (f ∷ es) (q ∷ ps) h zero p is = record { own = f; is = refl; alike = subst (λ z. Alike f z) (same_Some q p is) h.0 }
+  before (f ∷ es) (q ∷ ps) h (suc k) p is = let r = before es ps h.1 k p is in record { own = r.own; is = r.is; alike = r.alike }
+
+  merged : (chunks : List (List Vector)) (e : Effect) (join : JoinAsTheNest s loops body chunks outer e) (es : List Effect) → AreAlike es join.pieces
+      → (after : Cells) → Merges outer es after → (y : Variable) (js : List ℕ) → after y js ≡ left_by outer e y js
+  merged chunks e join es alike after merges y js = at (merges y js)
+    where
+      ps : List Piece
+      ps = join.pieces
+
+      shared : Each (λ (p : Piece). Each (IsShared outer) p.writes) ps
+      shared = shared_writes loops body outer chunks ps join.each
+
+      count : length ps ≡ length chunks
+      count = same_length (piece (plain_loop loops body) outer) chunks ps join.each
+
+      joined_cells : (order : List ℕ) → EachOnceBelow (length chunks) order → left_by outer e y js ≡ acted y js (writes_of (picked ps order)) (outer.cells y js)
+      joined_cells order once = (join.leave order once).cells y js ∙ cells_behind loops body outer (writes_of (picked ps order)) (shared_picked loops body outer ps order shared) y js
+
+      own_cells : (k : ℕ) (p : Piece) → slice_get ps k ≡ Some p → (overwritten outer p.writes).cells y js ≡ acted y js p.writes (outer.cells y js)
+      own_cells k p is = cells_behind loops body outer p.writes (found_shared loops body outer ps k p is shared) y js
+
+      at : ((NoneChanges outer es y js) × (after y js ≡ outer.cells y js)) ⊎ OneChanges outer es after y js → after y js ≡ left_by outer e y js
+      at (inr c) =
+          let mine = beside es ps alike c.number c.effect c.among in
+          let own = own_cells c.number mine.own mine.is in
+          let lt : c.number < length chunks = omega (arith, below_length ps c.number mine.own mine.is, count) in
+          let changes : left_by_piece outer y js mine.own ≡ outer.cells y js → ⊥ = λ k. c.changes (mine.alike y js ∙ own ∙ k) in
+          c.leaves ∙ mine.alike y js ∙ own
+          ∙ sym (last_counts outer y js ps (counted 0 c.number ++ counted (suc c.number) (length chunks - suc c.number)) c.number mine.own mine.is changes)
+          ∙ sym (joined_cells (with_last c.number (length chunks)) (last_once c.number (length chunks) lt))
+      at (inl none) =
+          let keep : AllKeep outer y js ps = λ k p is. let mine = before es ps alike k p is in sym (own_cells k p is) ∙ sym (mine.alike y js) ∙ none.0 k mine.own mine.is in
+          none.1 ∙ sym (all_keep outer y js ps (counted 0 (length chunks)) keep) ∙ sym (joined_cells (counted 0 (length chunks)) (counted_once (length chunks)))
+
+pub chunks_merge : IndependentChunksMerge
+chunks_merge n s loops body outer us chunks e nest keeps own locals_alone are different turning independent whole ran =
+    let join = nests_join n s loops body outer us chunks e nest keeps own locals_alone are different turning independent whole ran in
+    let known : Known n s loops body outer us = record {
+      nest = nest; keeps = keeps; own = own; locals_alone = locals_alone;
+      body_locals = λ x h. locals_alone x (hidden n s loops body nest x h);
+      long = λ u h. contained (All-from_recursion (HasValues loops) us (lengths loops outer us are)) u h;
+      turning = turning; independent = independent } in
+    let found = apart n s loops body outer us known chunks join.pieces (subst (AllPairs (λ u v. u ≢ v)) (sym whole) different) (λ u h. subst (λ l. Contains l u) whole h) join.each in
+    record { effects = found.effects; each = found.each; merge = merged n s loops body outer us known chunks e join found.effects found.alike }
+  where
+    contained : All (λ (u : Vector). length u ≡ length loops) us → (u : Vector) → Contains us u → length u ≡ length loops
+    contained h u k = ap (λ l. length l) (sym k.2) ∙ h k.0 u k.1

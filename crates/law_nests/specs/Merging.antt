@@ -1,25 +1,51 @@
 -- Chunks put together by what each of them changed. (OpenMP 5.2, 11.5.3)
-use Rattle.std.specs.Prelude.{ℕ, ◌≡◌, List, Some, slice_get}
+use Rattle.std.specs.Prelude.{ℕ, ◌≡◌, ◌≢◌, ◌⊎◌, List, map, flat_map, Option, Some, Contains, slice_get}
+use Rattle.std.specs.List.{AllPairs}
 use Rattle.semantics.specs.Tree.{Variable, Stmt}
 use Rattle.semantics.specs.Meaning.State.{State, overwritten}
-use Rattle.semantics.specs.Meaning.Runs.{Effect}
-use Rattle.semantics.specs.Loops.Nest.{Loop, Vector}
-use Rattle.semantics.specs.Loops.Piece.{Piece}
-use Rattle.law_nests.specs.Nests.{JoinAsTheNest}
+use Rattle.semantics.specs.Meaning.Runs.{Effect, run}
+use Rattle.semantics.specs.Loops.Nest.{Loop, Vector, nest_of, iterations}
+use Rattle.semantics.specs.Loops.Access.{Conflict}
+use Rattle.law_commute.specs.Commuting.{KeepsToItself, InnerLoopsTurn}
+use Rattle.law_commute.specs.Joining.{DeclaresLocals}
+use Rattle.law_nests.specs.Walks.{walk}
 
--- behind a piece an object holds this still
-abbrev pub Keeps : State → Piece → Variable → List ℕ → Type 0
-Keeps before p x is = (overwritten before p.writes).cells x is ≡ before.cells x is
+-- what objects at file scope hold
+abbrev pub Cells : Type 0
+Cells = Variable → List ℕ → Option ℕ
 
--- each object at file scope that no piece changes is as before, and one that a piece changes is as that piece leaves it
-pub record MergesTo (before : State) (pieces : List Piece) (after : State) : Type 0 where
-  pub same : (x : Variable) (is : List ℕ) → ((k : ℕ) (p : Piece) → slice_get pieces k ≡ Some p → Keeps before p x is) → after.cells x is ≡ before.cells x is
-  pub changed : (x : Variable) (is : List ℕ) (k : ℕ) (p : Piece) → slice_get pieces k ≡ Some p → (Keeps before p x is → ⊥)
-      → after.cells x is ≡ (overwritten before p.writes).cells x is
+-- what they hold behind an effect
+abbrev pub left_by : State → Effect → Cells
+left_by s e = (overwritten s e.writes).cells
 
--- where a nest's pieces join in any order to what it leaves, what they changed, put together, is what it leaves
-abbrev pub MergedPiecesLeaveTheSame : Type 0
-MergedPiecesLeaveTheSame =
-    (s : Stmt) (loops : List Loop) (body : Stmt) (chunks : List (List Vector)) (outer after : State) (e : Effect)
-    (join : JoinAsTheNest s loops body chunks outer e) → MergesTo outer join.pieces after
-    → (x : Variable) (is : List ℕ) → after.cells x is ≡ (overwritten outer e.writes).cells x is
+-- none of these effects changes an object
+abbrev pub NoneChanges : State → List Effect → Variable → List ℕ → Type 0
+NoneChanges outer es x is = (k : ℕ) (e : Effect) → slice_get es k ≡ Some e → left_by outer e x is ≡ outer.cells x is
+
+-- one of them does, and the object holds what that one leaves
+pub record OneChanges (outer : State) (es : List Effect) (after : Cells) (x : Variable) (is : List ℕ) : Type 0 where
+  pub number : ℕ
+  pub effect : Effect
+  pub among : slice_get es number ≡ Some effect
+  pub changes : left_by outer effect x is ≡ outer.cells x is → ⊥
+  pub leaves : after x is ≡ left_by outer effect x is
+
+-- each object is as before where none of these effects changes it, and else as one of them leaves it that does
+abbrev pub Merges : State → List Effect → Cells → Type 0
+Merges outer es after =
+    (x : Variable) (is : List ℕ) → (NoneChanges outer es x is × (after x is ≡ outer.cells x is)) ⊎ OneChanges outer es after x is
+
+-- chunks of a nest's iterations, each from the state before the nest, have a run each, which prints nothing, and what they change, put together, is what the nest leaves
+pub record WalkApart (loops : List Loop) (body : Stmt) (chunks : List (List Vector)) (outer : State) (e : Effect) : Type 0 where
+  pub effects : List Effect
+  pub each : map (λ us. walk loops body us outer) chunks ≡ map Some effects
+  pub merge : (after : Cells) → Merges outer effects after → (x : Variable) (is : List ℕ) → after x is ≡ left_by outer e x is
+
+-- so do chunks of iterations that are all different and of which no two conflict: which of them comes last is of no matter
+abbrev pub IndependentChunksMerge : Type 0
+IndependentChunksMerge =
+    (n : ℕ) (s : Stmt) (loops : List Loop) (body : Stmt) (outer : State) (us : List Vector) (chunks : List (List Vector)) (e : Effect)
+    → nest_of n s ≡ Some (loops, body) → KeepsToItself s → KeepsToItself body → DeclaresLocals s outer → iterations loops outer ≡ Some us
+    → AllPairs (λ u v. u ≢ v) us → ((u : Vector) → Contains us u → InnerLoopsTurn loops body outer u)
+    → ((u v : Vector) → Contains us u → Contains us v → Conflict loops body outer u v → ⊥)
+    → flat_map (λ vs. vs) chunks ≡ us → run s outer ≡ Some e → WalkApart loops body chunks outer e

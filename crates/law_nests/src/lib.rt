@@ -3,7 +3,7 @@
 #![tactic(auto)]
 
 ghost use Rattle.law_nests.specs.Walks.{WalksLeaveTheSame};
-ghost use Rattle.law_nests.specs.Merging.{MergedPiecesLeaveTheSame};
+ghost use Rattle.law_nests.specs.Merging.{IndependentChunksMerge};
 ghost use Rattle.law_nests.specs.Nests.{NestsRunTheirIterations, IndependentNestsJoin};
 
 /// A nest of loops whose bounds nothing in it changes leaves what its iterations leave one after another, each begun with its loops'
@@ -24,9 +24,9 @@ pub fn walks_leave_the_same()
     ensures { WalksLeaveTheSame }
 {}
 
-/// What the chunks of a nest changed, each run from the state before the nest, is put together what the nest leaves, where they join to
-/// that in any order: which of them comes last is of no matter, and what a chunk wrote and did not change need not be told
-/// (OpenMP 5.2, 11.5.3).
-pub fn merged_pieces_leave_the_same()
-    ensures { MergedPiecesLeaveTheSame }
+/// What chunks of a nest's iterations changed, no two of which conflict, each run from the state before the nest, is put together what the
+/// nest leaves: which of them comes last is of no matter, and what a chunk wrote and did not change need not be told
+/// (OpenMP 5.2, 11.5 and 11.5.3).
+pub fn independent_chunks_merge()
+    ensures { IndependentChunksMerge }
 {}
