@@ -8,7 +8,7 @@ use Rattle.store.specs.Kept.{Kept}
 use Rattle.store.specs.Flat.{values_of, filled}
 use Rattle.lower_code.proofs.Keeping.{filled_values}
 use Rattle.overlay_pages.specs.declared.changes.Change.{Change}
-use Rattle.overlay_pages.specs.Over.{Writes, or_else, written_over, and_at, writes_in, last_of, writes_of, AreOnce}
+use Rattle.overlay_pages.specs.Over.{Writes, or_else, written_over, and_at, writes_in, last_of, writes_of, unless_held, changing, ChangeCells, AreOnce}
 
 -- the writes of a list with one more at its end
 pub writes_push : (cs : List Change) (c : Change) (p : ℕ) → writes_of (cs ++ c ∷ []) p ≡ and_at (writes_of cs) c.place c.value p
@@ -57,6 +57,38 @@ over_same v w (n ∷ ns) h = λ i. or_else (h 0 i) n ∷ over_same (λ p. v (suc
 pub over_nothing : (w : Writes) (ns : List ℕ) → ((p : ℕ) → w p ≡ None) → written_over w ns ≡ ns
 over_nothing w [] h = refl
 over_nothing w (n ∷ ns) h = λ i. or_else (h 0 i) n ∷ over_nothing (λ p. w (suc p)) ns (λ p. h (suc p)) i
+
+-- a write that a cell holds already may be left out
+held_over : (o : Option ℕ) (n : ℕ) → or_else (unless_held n o) n ≡ or_else o n
+held_over None n = refl
+held_over (Some m) n = go (m == n) refl
+  where
+    go : (b : Bool) → (m == n) ≡ b → or_else (cond b None (Some m)) n ≡ m
+    go true e = sym (eqb-true m n e)
+    go false e = refl
+
+pub over_changing : (w : Writes) (ns : List ℕ) → written_over (changing w ns) ns ≡ written_over w ns
+over_changing w [] = refl
+over_changing w (n ∷ ns) = λ i. held_over (w 0) n i ∷ over_changing (λ p. w (suc p)) ns i
+
+-- a table has nothing behind its end
+within_table : (os : List (Option ℕ)) (p n : ℕ) → writes_in os p ≡ Some n → p < length os
+within_table [] p n e = absurd cc
+within_table (o ∷ os) zero n e = omega arith
+within_table (o ∷ os) (suc p) n e = let r = within_table os p n e in omega arith
+
+pub change_cells : (os : List (Option ℕ)) (ns : List ℕ) (cs : List Change) → length os ≡ length ns → ((p : ℕ) → writes_of cs p ≡ changing (writes_in os) ns p) → ChangeCells ns cs
+change_cells os ns cs long each p n e = go (writes_in os p) refl (sym (each p) ∙ e)
+  where
+    go : (o : Option ℕ) → writes_in os p ≡ o → unless_held (slice_index ns p) o ≡ Some n → (p < length ns) × (slice_index ns p ≡ n → ⊥)
+    go None is f = absurd cc
+    go (Some m) is f = held (m == slice_index ns p) refl f
+      where
+        held : (b : Bool) → (m == slice_index ns p) ≡ b → cond b None (Some m) ≡ Some n → (p < length ns) × (slice_index ns p ≡ n → ⊥)
+        held true h g = absurd cc
+        held false h g =
+            let lt = within_table os p m is in
+            (omega arith, λ q. eqb-false m (slice_index ns p) h (let s : m ≡ n = ap (λ o. or_else o 0) g in s ∙ sym q))
 
 unlike : (i j : ℕ) → i ≢ j → (i == j) ≡ false
 unlike i j ne = go (i == j) refl

@@ -1,5 +1,5 @@
 -- Cells with writes over them.
-use Rattle.std.specs.Prelude.{ℕ, suc, ◌≡◌, ◌==◌, if◌then◌else◌, List, [], ◌∷◌, Option, Some, None, slice_index_or}
+use Rattle.std.specs.Prelude.{ℕ, suc, ◌≡◌, ◌<◌, ◌==◌, if◌then◌else◌, List, [], ◌∷◌, Option, Some, None, length, slice_index, slice_index_or}
 use Rattle.overlay_pages.specs.declared.changes.Change.{Change}
 
 -- what is written at each place, if anything
@@ -33,6 +33,19 @@ last_of (Some n) o = Some n
 abbrev pub writes_of : List Change → Writes
 writes_of [] p = None
 writes_of (c ∷ cs) p = last_of (writes_of cs p) (if p == c.place then Some c.value else None)
+
+-- a write that tells something new of a cell: another number than the cell holds
+abbrev pub unless_held : ℕ → Option ℕ → Option ℕ
+unless_held held None = None
+unless_held held (Some n) = if n == held then None else Some n
+
+-- those of some writes that change these cells
+abbrev pub changing : Writes → List ℕ → Writes
+changing w cells p = unless_held (slice_index cells p) (w p)
+
+-- each change is one of these cells, and makes it another number
+abbrev pub ChangeCells : List ℕ → List Change → Type 0
+ChangeCells cells cs = (place n : ℕ) → writes_of cs place ≡ Some n → (place < length cells) × (slice_index cells place ≡ n → ⊥)
 
 -- each place is changed once
 abbrev pub AreOnce : List Change → Type 0

@@ -5,7 +5,7 @@ use Rattle.std.specs.Int.{bit_at}
 use Rattle.std.specs.Vec.{vec_capacity}
 use Rattle.overlay_pages.specs.declared.changes.Change.{Change}
 use Rattle.overlay_pages.specs.declared.pages.Pages.{Pages}
-use Rattle.overlay_pages.specs.Over.{Writes, writes_of, AreOnce}
+use Rattle.overlay_pages.specs.Over.{Writes, writes_of, changing, AreOnce}
 
 -- how many cells there are; for each page its mask, and the number of its values from 1, or 0 where it was not entered; the pages in the order in which they
 -- were entered; and the values, 64 for each of them behind 64 that no cell has, and what is left behind those
@@ -91,11 +91,11 @@ pub record IsRoomy (p : Pages) : Type 0 where
   pub entered : length p.numbers.items ≤ vec_capacity p.entered
   pub values : 64 * suc (length p.numbers.items) ≤ vec_capacity p.values
 
--- the values before a spot, gathered
-abbrev pub up_to : Table → ℕ → Writes
-up_to t m place = if nat_lt (spot t place) m then slot t place else None
+-- the values before a spot that change these cells, gathered
+abbrev pub up_to : List ℕ → Table → ℕ → Writes
+up_to cells t m place = if nat_lt (spot t place) m then changing (slot t) cells place else None
 
 -- these are the changes so far, each place once
-pub record Gathers (t : Table) (m : ℕ) (cs : List Change) : Type 0 where
-  pub each : (place : ℕ) → writes_of cs place ≡ up_to t m place
+pub record Gathers (cells : List ℕ) (t : Table) (m : ℕ) (cs : List Change) : Type 0 where
+  pub each : (place : ℕ) → writes_of cs place ≡ up_to cells t m place
   pub once : AreOnce cs

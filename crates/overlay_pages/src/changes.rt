@@ -1,4 +1,4 @@
-//! The writes of a finished chunk.
+//! The changes of a finished chunk.
 
 ghost use Rattle.std.specs.Prelude.{◌≡◌};
 ghost use Rattle.store.specs.Flat.{values_of, filled};
@@ -7,14 +7,14 @@ ghost use Rattle.overlay_pages.specs.Over.{written_over, writes_of};
 use std::marker::Model;
 use store::Store;
 
-/// A write: a place among the cells of a store, and its value.
+/// A change: a place among the cells of a store, and its new value.
 #[derive(Clone, Copy, Debug, PartialEq, Eq)]
 pub struct Change {
     pub place: u64,
     pub value: u64,
 }
 
-/// The writes of a chunk, without the store that the chunk ran over.
+/// The changes of a chunk, without the store that the chunk ran over.
 #[derive(Drop)]
 pub struct Changes {
     writes: Vec<Change>,
@@ -37,7 +37,7 @@ impl Changes {
         Changes { writes }
     }
 
-    /// The writes, in no order that is told.
+    /// The changes, in no order that is told.
     pub fn writes(&self) -> &[Change]
         ensures { result.now ≡ self.now }
     {

@@ -4,7 +4,7 @@ ghost use Rattle.std.specs.Prelude.{◌≡◌, ℕ, ◌<◌, ◌^◌, length, re
 ghost use Rattle.store.specs.Flat.{values_of};
 ghost use Rattle.seqrun.specs.Ran.{lengths_of};
 ghost use Rattle.lower_code.specs.Machine.{Fits, machine};
-ghost use Rattle.overlay_pages.specs.Over.{writes_of, writes_in, AreOnce};
+ghost use Rattle.overlay_pages.specs.Over.{writes_of, writes_in, changing, written_over, ChangeCells, AreOnce};
 ghost use Rattle.overlay_pages.specs.Seen.{cells_of};
 
 use crate::changes::Changes;
@@ -58,19 +58,22 @@ impl<'s> Chunk<'s> {
         fit(registers, self.store.cells());
     }
 
-    /// Ends a chunk: its writes. Nothing is written then, and the next chunk may run. This takes time for the pages with written cells alone.
+    /// Ends a chunk: what it changed, which is each place where it wrote another number than the store holds. Nothing is written then, and the next chunk may run. This takes time for the pages with written cells alone.
     ///
     /// # Errors
     ///
     /// Where memory runs out. Nothing is written then either.
     pub fn finish(&mut self, alloc: Global) -> Result<Changes, AllocError>
         ensures changes { IfOk result (λ changes. (place : ℕ)
-            → writes_of changes place ≡ writes_in self.old.written place) }
+            → writes_of changes place ≡ changing (writes_in self.old.written) (values_of self.old.store) place) }
+        ensures leave { IfOk result (λ changes.
+            written_over (writes_of changes) (values_of self.old.store) ≡ cells_of self.old) }
+        ensures only { IfOk result (ChangeCells (values_of self.old.store)) }
         ensures once { IfOk result AreOnce }
         ensures store { self.new.store ≡ self.old.store }
         ensures none { self.new.written ≡ replicate (length (values_of self.old.store)) None }
     {
-        self.own.finish(alloc)
+        self.own.finish(alloc, self.store)
     }
 
     /// Ends the loan of the store, and gives back what the worker keeps.

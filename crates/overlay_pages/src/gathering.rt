@@ -1,18 +1,37 @@
-//! The writes that tables hold, gathered.
+//! The writes that tables hold and that change cells, gathered.
 
-ghost use Rattle.std.specs.Prelude.{suc, ◌≡◌, ◌*◌, ◌<◌, length, IfOk, OnOk};
+ghost use Rattle.std.specs.Prelude.{suc, ◌≡◌, ◌==◌, ◌*◌, ◌<◌, ◌++◌, ◌∷◌, [], cond, length, slice_index, IfOk, OnOk};
+ghost use Rattle.store.specs.Flat.{values_of};
 ghost use Rattle.overlay_pages.specs.Table.{table_of, IsSound, Gathers};
 
 use crate::changes::Change;
 use crate::pages::Pages;
 use std::alloc::{AllocError, Global};
+use store::Store;
 
-// Adds the writes of a page that was entered.
-fn gather_page(pages: &Pages, k: usize, changes: &mut Vec<Change>) -> Result<(), AllocError>
+// Adds a write where the cell holds another number.
+fn add(store: &Store, change: Change, changes: &mut Vec<Change>) -> Result<(), AllocError>
+    ensures { OnOk result (changes.new.items
+        ≡ cond (change.value == slice_index (values_of store.now) change.place) changes.old.items (changes.old.items ++ change ∷ [])) }
+{
+    if change.value == store.cell(change.place) {
+        return Ok(());
+    }
+    changes.push(change)?;
+    Ok(())
+}
+
+// Adds the changes of a page that was entered.
+fn gather_page(
+    store: &Store,
+    pages: &Pages,
+    k: usize,
+    changes: &mut Vec<Change>,
+) -> Result<(), AllocError>
     requires sound { IsSound (table_of pages.now) }
     requires there { k < length pages.now.entered.items }
-    requires so_far { Gathers (table_of pages.now) (64 * suc k) changes.old.items }
-    ensures { OnOk result (Gathers (table_of pages.now) (64 * suc (suc k)) changes.new.items) }
+    requires so_far { Gathers (values_of store.now) (table_of pages.now) (64 * suc k) changes.old.items }
+    ensures { OnOk result (Gathers (values_of store.now) (table_of pages.now) (64 * suc (suc k)) changes.new.items) }
 {
     let page = pages.entered[k];
     let start = 64 * (k as u64 + 1);
@@ -24,7 +43,7 @@ fn gather_page(pages: &Pages, k: usize, changes: &mut Vec<Change>) -> Result<(),
         let bit = u64::from(rest.trailing_zeros());
         let value = pages.values[(start + bit) as usize];
         let place = 64 * page + bit;
-        changes.push(Change { place, value })?;
+        add(store, Change { place, value }, changes)?;
         rest &= !(1 << bit);
     }
     Ok(())
@@ -40,19 +59,19 @@ fn count(pages: &Pages) -> usize {
     count
 }
 
-/// The writes that tables hold, each place once.
+/// The writes that tables hold and that change the cells of this store, each place once.
 ///
 /// # Errors
 ///
 /// Where memory runs out.
-pub fn gather(alloc: Global, pages: &Pages) -> Result<Vec<Change>, AllocError>
+pub fn gather(alloc: Global, store: &Store, pages: &Pages) -> Result<Vec<Change>, AllocError>
     requires { IsSound (table_of pages.now) }
-    ensures { IfOk result (λ changes. Gathers (table_of pages.now)
+    ensures { IfOk result (λ changes. Gathers (values_of store.now) (table_of pages.now)
         (64 * suc (length pages.now.entered.items)) changes.items) }
 {
     let mut changes = Vec::with_capacity(alloc, count(pages))?;
     for k in 0..pages.entered.len() {
-        gather_page(pages, k, &mut changes)?;
+        gather_page(store, pages, k, &mut changes)?;
     }
     Ok(changes)
 }

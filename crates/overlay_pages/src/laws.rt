@@ -1,7 +1,7 @@
 //! Laws of changes.
 
 ghost use Rattle.std.specs.Prelude.{◌≡◌, ℕ, List, ◌⊎◌, ◌<◌, length, slice_index, None};
-ghost use Rattle.overlay_pages.specs.Over.{Writes, or_else, writes_in, written_over};
+ghost use Rattle.overlay_pages.specs.Over.{Writes, or_else, writes_in, changing, written_over};
 ghost use Rattle.overlay_pages.specs.Seen.{Seen, cells_of};
 ghost use Rattle.store.specs.Flat.{values_of};
 
@@ -15,7 +15,7 @@ pub fn disjoint_changes_commute()
 /// The changes of a chunk, over the store that it ran over, leave the cells that it saw.
 pub fn changes_leave_what_the_chunk_saw()
     ensures { (chunk : Seen) (w : Writes)
-        → ((place : ℕ) → w place ≡ writes_in chunk.written place)
+        → ((place : ℕ) → w place ≡ changing (writes_in chunk.written) (values_of chunk.store) place)
         → written_over w (values_of chunk.store) ≡ cells_of chunk }
 {}
 

@@ -2,7 +2,7 @@
 
 ghost use Rattle.std.specs.Prelude.{◌≡◌, ℕ, ◌<◌, ◌^◌, length, replicate, slice_set, IfOk, None, Some};
 ghost use Rattle.store.specs.Flat.{values_of};
-ghost use Rattle.overlay_pages.specs.Over.{or_else, writes_of, writes_in, AreOnce};
+ghost use Rattle.overlay_pages.specs.Over.{or_else, writes_of, writes_in, changing, AreOnce};
 ghost use Rattle.overlay_pages.specs.Table.{table_of, slots, IsRoomy};
 
 use crate::changes::Changes;
@@ -31,16 +31,16 @@ impl Model for Own {
     ghost invariant = { λ o. IsRoomy o.pages };
 }
 
-// Ends a chunk: its writes, and tables in which nothing is written.
-fn take(alloc: Global, pages: &mut Pages) -> Result<Changes, AllocError>
+// Ends a chunk: what it changed of a store, and tables in which nothing is written.
+fn take(alloc: Global, store: &Store, pages: &mut Pages) -> Result<Changes, AllocError>
     requires { IsRoomy pages.old }
     ensures changes { IfOk result (λ changes. (place : ℕ)
-        → writes_of changes place ≡ writes_in (slots (table_of pages.old)) place) }
+        → writes_of changes place ≡ changing (writes_in (slots (table_of pages.old))) (values_of store.now) place) }
     ensures once { IfOk result AreOnce }
     ensures roomy { IsRoomy pages.new }
     ensures none { slots (table_of pages.new) ≡ replicate pages.old.size None }
 {
-    let gathered = gather(alloc, pages);
+    let gathered = gather(alloc, store, pages);
     clear(pages);
     match gathered {
         Ok(writes) => Ok(Changes::of(writes)),
@@ -84,13 +84,13 @@ impl Own {
         written_words(&self.pages);
     }
 
-    // Ends a chunk: its writes, and nothing is written then.
-    pub(crate) fn finish(&mut self, alloc: Global) -> Result<Changes, AllocError>
+    // Ends a chunk: what it changed of a store, and nothing is written then.
+    pub(crate) fn finish(&mut self, alloc: Global, store: &Store) -> Result<Changes, AllocError>
         ensures changes { IfOk result (λ changes. (place : ℕ)
-            → writes_of changes place ≡ writes_in self.old place) }
+            → writes_of changes place ≡ changing (writes_in self.old) (values_of store.now) place) }
         ensures once { IfOk result AreOnce }
         ensures none { self.new ≡ replicate (length self.old) None }
     {
-        take(alloc, &mut self.pages)
+        take(alloc, store, &mut self.pages)
     }
 }

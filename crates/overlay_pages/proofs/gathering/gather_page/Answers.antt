@@ -2,6 +2,7 @@ use Rattle.std.proofs.Common.{w64, suc, ◌≡◌, ◌*◌, ◌<◌, ℕ, ◌+�
 use Rattle.std.specs.Prelude.{slice_index}
 use Rattle.std.proofs.lemmas.List.{get_or_read}
 use Rattle.std.proofs.lemmas.Nat.Bits.{bit_at-trailing_zeros}
+use Rattle.store.specs.Flat.{values_of}
 use Rattle.overlay_pages.specs.declared.changes.Change.{Change}
 use Rattle.overlay_pages.specs.Table.{table_of}
 use Rattle.overlay_pages.proofs.Tables.{page_there}
@@ -23,7 +24,7 @@ loop-turn-init c =
     let page : c.index-page.result.now ≡ slice_index p.entered.items c.args.k = get_or_read p.entered.items c.args.k _ c.requires.there c.index-page.ensures 0 in
     let there = page_there (table_of p) c.requires.sound c.args.k c.requires.there in
     let masked = c.requires.sound.masked in
-    gathering_from (table_of p) c.args.k c.index-rest.result.now c.args.changes.now.items
+    gathering_from (values_of c.args.store.now) (table_of p) c.args.k c.index-rest.result.now c.args.changes.now.items
     (get_or_read p.masks.items c.index-page.result.now _ (omega arith) c.index-rest.ensures 0 ∙ ap (slice_index p.masks.items) page)
     c.requires.so_far
 
@@ -62,8 +63,8 @@ loop-turn-preserved c =
     let spot : 64 * (c.args.k + 1) + c.from-bit.result ≡ 64 * suc c.args.k + c.from-bit.result = omega arith in
     let value : c.index-value.result.now ≡ slice_index p.values.items (64 * suc c.args.k + c.from-bit.result) =
     get_or_read p.values.items (64 * (c.args.k + 1) + c.from-bit.result) _ (omega arith) c.index-value.ensures 0 ∙ ap (slice_index p.values.items) spot in
-    rw c.in_ok-push.ensures.items
-    (gathering_on (table_of p) c.requires.sound c.args.k c.requires.there c.loop-turn._turn rest c.loop-turn.changes.items c.loop-turn.invariant
+    rw c.in_ok-add.ensures
+    (gathering_on (values_of c.args.store.now) (table_of p) c.requires.sound c.args.k c.requires.there c.loop-turn._turn rest c.loop-turn.changes.items c.loop-turn.invariant
     more fits c.from-bit.result c.from-bit.ensures at
     (ap (λ (n : ℕ). 64 * n + c.from-bit.result) page)
     value)
