@@ -21,7 +21,7 @@ use Rattle.law_independence.proofs.IndependentNests.{IsNestThere, shown_loops_ar
 use Rattle.law_commute.specs.Commuting.{KeepsToItself, InnerLoopsTurn}
 use Rattle.law_commute.specs.Joining.{plain_loop}
 use Rattle.law_commute.proofs.Iterations.{independent_commute}
-use Rattle.law_nests.proofs.Joined.{nests_join}
+use Rattle.law_nests.proofs.Merged.{chunks_merge}
 use Rattle.law_independence.proofs.PrivateNests.{private_nest}
 use Rattle.semantics.specs.Theorems.{IsTurn}
 use Rattle.law_independence.specs.OrderLaws.{CommutesAsNest}
@@ -69,6 +69,6 @@ loop_commutes ds serial round n s short entered read stays stmt (loops, body, is
           independent_commute loop outer us none r.keeps r.differ r.turn (λ u v in_u in_v. independent.1 loop is outer us u v turn are in_u in_v);
       chunks = λ loops' body' outer us chunks e is turn locals_alone are all ran.
           let r = ready loops' body' is outer us turn are in
-          nests_join n s loops' body' outer us chunks e is whole r.keeps locals_alone are r.differ r.turn
+          chunks_merge n s loops' body' outer us chunks e is whole r.keeps locals_alone are r.differ r.turn
           (λ u v in_u in_v. independent.1 (plain_loop loops' body') is outer us u v turn are in_u in_v) all ran;
     }
