@@ -1,0 +1,77 @@
+-- The texts of lines and regions, taken apart.
+use Rattle.std.specs.Prelude.{ℕ, suc, Bool, true, ◌≡◌, ◌+◌, ◌<◌, if◌then◌else◌, ◌⊎◌, List, [], ◌∷◌, ◌++◌, length, map, take, codes, Result, Ok, Err, OnOk}
+use Rattle.std.specs.Fmt.{decimal}
+use Rattle.std.proofs.Common.{refl, sym, ap, ◌∙◌, subst, append_assoc, arith, get_or, add-one, inl, inr}
+use Rattle.std.proofs.lemmas.Grind.{flat_map-append}
+use Rattle.std.proofs.lemmas.List.{map-append, length-map, length-take-le}
+use Rattle.std.proofs.Math.Seq.{take-suc}
+use Rattle.semantics.specs.Directives.Directive.{Schedule, StaticPlain, StaticSize, DynamicSize, GuidedSize, Auto, Runtime}
+use Rattle.semantics.specs.Directives.Listing.{ListedLoop, Lines, is_static, begin_lines, end_lines, loop_lines, numbered, loops_text, regions_text}
+use Rattle.ktree.specs.declared.directive.Schedule as code
+use Rattle.ktree.specs.declared.directive.Schedule.TheVariants as kind
+use Rattle.ktree.specs.DirectiveView.{schedule_of}
+use Rattle.flow.specs.declared.environment.ParallelLoop.{ParallelLoop}
+use Rattle.listing.specs.Regions.{plain_loop, region_of}
+
+numbered-append : (r l : ℕ) (xs ys : Lines) → numbered r l (xs ++ ys) ≡ numbered r l xs ++ numbered r l ys
+numbered-append r l xs ys = flat_map-append (λ line. decimal r ++ 46 ∷ (decimal l ++ 32 ∷ (line ++ 10 ∷ []))) xs ys
+
+-- lines behind lines
+pub both_added : (r l : ℕ) (a b c : List ℕ) (xs ys : Lines) → b ≡ a ++ numbered r l xs → c ≡ b ++ numbered r l ys → c ≡ a ++ numbered r l (xs ++ ys)
+both_added r l a b c xs ys e f =
+    f ∙ ap (λ t. t ++ numbered r l ys) e ∙ append_assoc a (numbered r l xs) (numbered r l ys) ∙ ap (λ t. a ++ t) (sym (numbered-append r l xs ys))
+
+pub both_added_ok : {T E : Type 0} (q : Result T E) (r l : ℕ) (a b c : List ℕ) (xs ys : Lines) → b ≡ a ++ numbered r l xs → OnOk q (c ≡ b ++ numbered r l ys) → OnOk q (c ≡ a ++ numbered r l (xs ++ ys))
+both_added_ok (Ok x) r l a b c xs ys e f = both_added r l a b c xs ys e f
+both_added_ok (Err x) r l a b c xs ys e f = tt
+
+-- the begin of a loop, as its schedule has it
+pub begun_ok : {T E : Type 0} (q : Result T E) (r l : ℕ) (a b : List ℕ) (s t : code.Schedule) (xs : Lines) → s ≡ t → xs ≡ begin_lines (schedule_of t) → OnOk q (b ≡ a ++ numbered r l xs) → OnOk q (b ≡ a ++ numbered r l (begin_lines (schedule_of s)))
+begun_ok q r l a b s t xs e f o =
+    subst (λ (s : code.Schedule). OnOk q (b ≡ a ++ numbered r l (begin_lines (schedule_of s)))) (sym e)
+    (subst (λ (xs : Lines). OnOk q (b ≡ a ++ numbered r l xs)) f o)
+
+pub plain_ok : {T E : Type 0} (q : Result T E) (r l : ℕ) (a b : List ℕ) (s : code.Schedule) → (s ≡ kind.Static) ⊎ (s ≡ kind.Auto) → OnOk q (b ≡ a ++ numbered r l (codes "__kmpc_for_static_init_8u static" ∷ [])) → OnOk q (b ≡ a ++ numbered r l (begin_lines (schedule_of s)))
+plain_ok q r l a b s (inl e) o = begun_ok q r l a b s kind.Static _ e refl o
+plain_ok q r l a b s (inr e) o = begun_ok q r l a b s kind.Auto _ e refl o
+
+-- the end of a static one
+pub ended_ok : {T E : Type 0} (q : Result T E) (r l : ℕ) (a b : List ℕ) (s : Schedule) → is_static s ≡ true → OnOk q (b ≡ a ++ numbered r l (codes "__kmpc_for_static_fini" ∷ [])) → OnOk q (b ≡ a ++ numbered r l (end_lines s))
+ended_ok q r l a b s e o =
+    subst (λ (t : Bool). OnOk q (b ≡ a ++ numbered r l (if t then codes "__kmpc_for_static_fini" ∷ [] else []))) (sym e) o
+
+-- begin, end and barrier are its lines
+loop_parts : (s : Schedule) → (begin_lines s ++ end_lines s) ++ codes "__kmpc_barrier" ∷ [] ≡ loop_lines (plain_loop s)
+loop_parts StaticPlain = refl
+loop_parts (StaticSize k) = refl
+loop_parts (DynamicSize k) = refl
+loop_parts (GuidedSize k) = refl
+loop_parts Auto = refl
+loop_parts Runtime = refl
+
+pub loop_ok : {T E : Type 0} (q : Result T E) (r l : ℕ) (a b c d : List ℕ) (s : Schedule) → b ≡ a ++ numbered r l (begin_lines s) → c ≡ b ++ numbered r l (end_lines s) → OnOk q (d ≡ c ++ numbered r l (codes "__kmpc_barrier" ∷ [])) → OnOk q (d ≡ a ++ numbered r l (loop_lines (plain_loop s)))
+loop_ok q r l a b c d s e f o =
+    subst (λ (xs : Lines). OnOk q (d ≡ a ++ numbered r l xs)) (loop_parts s)
+    (both_added_ok q r l a c d (begin_lines s ++ end_lines s) (codes "__kmpc_barrier" ∷ []) (both_added r l a b c (begin_lines s) (end_lines s) e f) o)
+
+-- the regions so far, and one more
+regions-append : (r n : ℕ) (first others : List (List ListedLoop)) → n ≡ r + length first → regions_text r (first ++ others) ≡ regions_text r first ++ regions_text n others
+regions-append r n [] others e = ap (λ k. regions_text k others) (let k : r ≡ n = omega arith in k)
+regions-append r n (x ∷ first) others e =
+    ap (λ t. (numbered r 0 (codes "__kmpc_fork_call" ∷ []) ++ loops_text r 1 x) ++ t) (regions-append (suc r) n first others (omega arith))
+    ∙ sym (append_assoc (numbered r 0 (codes "__kmpc_fork_call" ∷ []) ++ loops_text r 1 x) (regions_text (suc r) first) (regions_text n others))
+
+pub one_more : (a b c : List ℕ) (ls : List ParallelLoop) (i : ℕ) (l : ParallelLoop) → i < length ls → l ≡ get_or ls i l → b ≡ a ++ regions_text 1 (map region_of (take i ls)) → c ≡ b ++ regions_text (i + 1) (region_of l ∷ []) → c ≡ a ++ regions_text 1 (map region_of (take (i + 1) ls))
+one_more a b c ls i l lt is e f =
+    f
+    ∙ ap (λ t. t ++ regions_text (i + 1) (region_of l ∷ [])) e
+    ∙ append_assoc a (regions_text 1 (map region_of (take i ls))) (regions_text (i + 1) (region_of l ∷ []))
+    ∙ ap (λ t. a ++ t)
+    (sym (regions-append 1 (i + 1) (map region_of (take i ls)) (region_of l ∷ []) count)
+    ∙ ap (regions_text 1) (sym (map-append region_of (take i ls) (l ∷ [])) ∙ ap (map region_of) (sym taken)))
+  where
+    count : i + 1 ≡ 1 + length (map region_of (take i ls))
+    count = omega (arith, length-map (take i ls) region_of, length-take-le i ls (omega arith))
+
+    taken : take (i + 1) ls ≡ take i ls ++ l ∷ []
+    taken = ap (λ n. take n ls) (add-one i) ∙ take-suc ls i l lt ∙ ap (λ x. take i ls ++ x ∷ []) (sym is)

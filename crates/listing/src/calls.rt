@@ -1,0 +1,143 @@
+//! The calls that stand for a loop, by its schedule.
+
+ghost use Rattle.std.specs.Prelude.{◌≡◌, ◌++◌, ◌∷◌, [], codes, OnOk};
+ghost use Rattle.semantics.specs.Theorems.{Begins};
+ghost use Rattle.semantics.specs.Directives.Listing.{is_static as are_static, begin_lines, end_lines, loop_lines, numbered};
+ghost use Rattle.ktree.specs.DirectiveView.{schedule_of};
+ghost use Rattle.listing.specs.Regions.{plain_loop};
+
+use crate::lines::add_line;
+use itoa::Buffer;
+use ktree::Schedule;
+use std::alloc::AllocError;
+
+// A loop that asks for chunks: its begin, and the first call that asks.
+fn add_dispatch(
+    text: &mut Vec<u8>,
+    region: usize,
+    number: usize,
+    words: &[u8],
+    size: &[u8],
+) -> Result<(), AllocError>
+    ensures added { OnOk result (text.new.items
+        ≡ text.old.items ++ numbered region number
+        ((words.now ++ size.now) ∷ codes "__kmpc_dispatch_next_8u" ∷ [])) }
+    ensures front { Begins text.old.items text.new.items }
+{
+    add_line(text, region, number, words, size)?;
+    add_line(text, region, number, b"__kmpc_dispatch_next_8u", b"")
+}
+
+// How a loop begins (`__kmpc_for_static_init_8u`, or `__kmpc_dispatch_init_8u` and `__kmpc_dispatch_next_8u`).
+fn add_begin(
+    text: &mut Vec<u8>,
+    region: usize,
+    number: usize,
+    schedule: &Schedule,
+) -> Result<(), AllocError>
+    ensures added { OnOk result (text.new.items
+        ≡ text.old.items ++ numbered region number
+        (begin_lines (schedule_of schedule.now))) }
+    ensures front { Begins text.old.items text.new.items }
+{
+    let mut digits = Buffer::new();
+    match schedule {
+        Schedule::Static | Schedule::Auto => {
+            add_line(
+                text,
+                region,
+                number,
+                b"__kmpc_for_static_init_8u static",
+                b"",
+            )
+        }
+        Schedule::StaticChunks(size) => {
+            let size = digits.format(size.get()).as_bytes();
+            add_line(
+                text,
+                region,
+                number,
+                b"__kmpc_for_static_init_8u static,",
+                size,
+            )
+        }
+        Schedule::Dynamic(size) => {
+            let size = digits.format(size.get()).as_bytes();
+            add_dispatch(
+                text,
+                region,
+                number,
+                b"__kmpc_dispatch_init_8u dynamic,",
+                size,
+            )
+        }
+        Schedule::Guided(size) => {
+            let size = digits.format(size.get()).as_bytes();
+            add_dispatch(
+                text,
+                region,
+                number,
+                b"__kmpc_dispatch_init_8u guided,",
+                size,
+            )
+        }
+        Schedule::Runtime => add_dispatch(
+            text,
+            region,
+            number,
+            b"__kmpc_dispatch_init_8u runtime",
+            b"",
+        ),
+    }
+}
+
+// Whether each worker knows its chunks from its own number.
+fn is_static(schedule: &Schedule) -> bool
+    ensures { result ≡ are_static (schedule_of schedule.now) }
+{
+    match schedule {
+        Schedule::Static | Schedule::StaticChunks(_) | Schedule::Auto => true,
+        Schedule::Dynamic(_) | Schedule::Guided(_) | Schedule::Runtime => false,
+    }
+}
+
+// How a static loop ends (`__kmpc_for_static_fini`).
+fn add_end(
+    text: &mut Vec<u8>,
+    region: usize,
+    number: usize,
+    schedule: &Schedule,
+) -> Result<(), AllocError>
+    ensures added { OnOk result (text.new.items
+        ≡ text.old.items ++ numbered region number
+        (end_lines (schedule_of schedule.now))) }
+    ensures front { Begins text.old.items text.new.items }
+{
+    if is_static(schedule) {
+        add_line(text, region, number, b"__kmpc_for_static_fini", b"")
+    } else {
+        Ok(())
+    }
+}
+
+/// Adds the lines of a loop with this schedule (OpenMP 5.2, 11.5.3): its begin and end, and the barrier behind it
+/// (`__kmpc_barrier`; 11.5).
+///
+/// # Errors
+///
+/// Where memory runs out.
+pub(crate) fn add_loop(
+    text: &mut Vec<u8>,
+    region: usize,
+    number: usize,
+    schedule: &Schedule,
+) -> Result<(), AllocError>
+    ensures added { OnOk result (text.new.items
+        ≡ text.old.items ++ numbered region number
+        (loop_lines (plain_loop (schedule_of schedule.now)))) }
+    ensures front { Begins text.old.items text.new.items }
+{
+    add_begin(text, region, number, schedule)?;
+    add_end(text, region, number, schedule)?;
+    add_line(text, region, number, b"__kmpc_barrier", b"")
+}

@@ -1,0 +1,8 @@
+//! The listing of a kernel: a line for each call of LLVM's OpenMP runtime that its directives stand for.
+#![tactic(auto)]
+
+mod calls;
+mod lines;
+mod regions;
+
+pub use regions::add_listing;
