@@ -1,4 +1,4 @@
-//! What the command line asks for: `check F`, `run F [--input I] [--workers N] [--schedule KIND[,K]]` or `seq F [--input I]`.
+//! What the command line asks for: `check F`, `lower F`, `run F [--input I] [--workers N] [--schedule KIND[,K]]` or `seq F [--input I]`.
 #![tactic(auto)]
 
 mod schedule_words;

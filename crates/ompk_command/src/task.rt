@@ -18,6 +18,9 @@ pub enum Task<'a> {
     Check {
         file: &'a str,
     },
+    Lower {
+        file: &'a str,
+    },
     Run {
         file: &'a str,
         input: Option<&'a str>,
@@ -50,6 +53,13 @@ fn input<'a>(alloc: Global) -> Arg<'a> {
 fn check_command<'a>(alloc: Global) -> Result<Command<'a>, AllocError> {
     Command::new(alloc, "check")
         .about("Checks a kernel")
+        .arg(file(alloc))
+}
+
+// `ompk lower F`.
+fn lower_command<'a>(alloc: Global) -> Result<Command<'a>, AllocError> {
+    Command::new(alloc, "lower")
+        .about("Lists the calls of LLVM's OpenMP runtime that an accepted kernel stands for")
         .arg(file(alloc))
 }
 
@@ -100,6 +110,7 @@ fn command<'a>(alloc: Global) -> Result<Command<'a>, AllocError> {
         )
         .subcommand_required(true)
         .subcommand(check_command(alloc)?)?
+        .subcommand(lower_command(alloc)?)?
         .subcommand(run_command(alloc)?)?
         .subcommand(seq_command(alloc)?)
 }
@@ -181,6 +192,11 @@ fn task_of<'a>(matches: &ArgMatches<'a>) -> Result<Task<'a>, Flaw> {
     if let Some(found) = matches.subcommand_matches("check") {
         if let Some(file) = found.get_str("file") {
             return Ok(Task::Check { file });
+        }
+    }
+    if let Some(found) = matches.subcommand_matches("lower") {
+        if let Some(file) = found.get_str("file") {
+            return Ok(Task::Lower { file });
         }
     }
     if let Some(found) = matches.subcommand_matches("run") {
