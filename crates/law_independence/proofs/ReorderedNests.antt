@@ -1,5 +1,5 @@
 -- The iterations of a nest that is shown to be independent commute.
-use Rattle.std.specs.Prelude.{ℕ, true, ◌≡◌, ◌≢◌, ℤ, pos, List, [], length, map, Contains, Some}
+use Rattle.std.specs.Prelude.{ℕ, true, ◌≡◌, ◌≢◌, ℤ, pos, List, [], length, map, Contains, Some, IsSome}
 use Rattle.std.specs.List.{AllPairs}
 use Rattle.std.proofs.Common.{refl, sym, ap, ◌∙◌, subst}
 use Rattle.std.proofs.lemmas.Option.{same_Some}
@@ -67,6 +67,11 @@ loop_commutes ds serial round n s short entered read stays stmt (loops, body, is
       order = λ loop outer us is none turn are.
           let r = ready loop.loops loop.body is outer us turn are in
           independent_commute loop outer us none r.keeps r.differ r.turn (λ u v in_u in_v. independent.1 loop is outer us u v turn are in_u in_v);
+      there = λ loops' body' outer is turn.
+          let same : (nest.loops, nest.body) ≡ (loops', body') = same_Some (nest.loops, nest.body) (loops', body') (sym nest.is ∙ is) in
+          let it = iterations_are_turns no_loops round serial (λ j. pos 0) outer turn.turns turn.turn entered (outside_is_a_turn (λ j. pos 0) outer) turn.are turn.among in
+          let at : AtTurn round.box (values_at round.levels it.0) outer = subst (AtTurn round.box (values_at round.levels it.0)) (sym turn.is) it.1.at in
+          subst (λ (p : List Loop × Stmt). IsSome (iterations p.0 outer)) same (iterations_are_there round nest.inner nest.loops it.0 outer nest.entered at);
       chunks = λ loops' body' outer us chunks e is turn locals_alone are all ran.
           let r = ready loops' body' is outer us turn are in
           chunks_merge n s loops' body' outer us chunks e is whole r.keeps locals_alone are r.differ r.turn

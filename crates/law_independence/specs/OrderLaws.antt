@@ -21,17 +21,22 @@ CommutesAtTurns serial n s =
     (loop : SharedLoop) (outer : State) (us : List Vector) → nest_of n s ≡ Some (loop.loops, loop.body) → loop.roles.reductions ≡ []
     → IsTurn serial outer → iterations loop.loops outer ≡ Some us → CommutesInAnyOrder loop outer us
 
+-- they are there
+abbrev pub IterateAtTurns : List Loop → ℕ → Stmt → Type 0
+IterateAtTurns serial n s = (loops : List Loop) (body : Stmt) (outer : State) → nest_of n s ≡ Some (loops, body) → IsTurn serial outer → IsSome (iterations loops outer)
+
 -- and wherever it has a run there, chunks of them, each from the state before the nest, have a run each, and what they change, put together, is what it leaves
 abbrev pub WalkApartAtTurns : List Loop → ℕ → Stmt → Type 0
 WalkApartAtTurns serial n s =
     (loops : List Loop) (body : Stmt) (outer : State) (us : List Vector) (chunks : List (List Vector)) (e : Effect)
     → nest_of n s ≡ Some (loops, body) → IsTurn serial outer → DeclaresLocals s outer → iterations loops outer ≡ Some us
-    → flat_map (λ vs. vs) chunks ≡ us → run s outer ≡ Some e → WalkApart loops body chunks outer e
+    → flat_map (λ vs. vs) chunks ≡ us → run s outer ≡ Some e → WalkApart s loops body chunks outer e
 
 -- a statement is a nest of so many loops, whose iterations may be run in any order and in chunks
 pub record CommutesAsNest (serial : List Loop) (n : ℕ) (s : Stmt) : Type 0 where
   pub nest : IsSome (nest_of n s)
   pub order : CommutesAtTurns serial n s
+  pub there : IterateAtTurns serial n s
   pub chunks : WalkApartAtTurns serial n s
 
 -- so each parallel loop of a kernel of the grammar, where no subscript leaves its dimension, no local is read before it is assigned, parallel loops keep to their own scalars and print nothing, and the test of pairs shows all of them to be independent

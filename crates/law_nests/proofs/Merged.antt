@@ -11,6 +11,7 @@ use Rattle.semantics.specs.Meaning.State.{State, Write, Declared, Assigned, rene
 use Rattle.semantics.specs.Meaning.Value.{map_option}
 use Rattle.semantics.specs.Meaning.Runs.{Effect}
 use Rattle.semantics.specs.Loops.Arrangement.{once, once_below, EachOnceBelow, with_found, picked}
+use Rattle.semantics.specs.Meaning.Agrees.{visible_behind}
 use Rattle.semantics.specs.Loops.Nest.{Loop, Vector, nest_of, at_value, loop_values, concat_options, iterations}
 use Rattle.semantics.specs.Loops.Access.{Conflict}
 use Rattle.semantics.specs.Loops.Piece.{Piece, no_roles, piece, piece_of, run_iterations}
@@ -325,6 +326,19 @@ module _ (n : ℕ) (s : Stmt) (loops : List Loop) (body : Stmt) (outer : State) 
           let keep : AllKeep outer y js ps = λ k p is. let mine = before es ps alike k p is in sym (own_cells k p is) ∙ sym (mine.alike y js) ∙ none.0 k mine.own mine.is in
           none.1 ∙ sym (all_keep outer y js ps (counted 0 (length chunks)) keep) ∙ sym (joined_cells (counted 0 (length chunks)) (counted_once (length chunks)))
 
+-- what is visible round a nest is as it was
+locals_kept : (s : Stmt) (loops : List Loop) (body : Stmt) (outer : State) (chunks : List (List Vector)) (e : Effect) → JoinAsTheNest s loops body chunks outer e
+    → (x : Variable) → visible_behind s x ≡ true → (overwritten outer e.writes).locals x ≡ outer.locals x
+locals_kept s loops body outer chunks e join x seen =
+    let order = counted 0 (length chunks) in
+    let shared = shared_picked loops body outer join.pieces order (shared_writes loops body outer chunks join.pieces join.each) in
+    (join.leave order (counted_once (length chunks))).values x (and_true (visible_behind s x) seen)
+    ∙ (shared_change outer (writes_of (picked join.pieces order)) outer shared (λ y. refl)).locals x
+  where
+    and_true : (b : Bool) → b ≡ true → (b && true) ≡ true
+    and_true true h = refl
+    and_true false h = h
+
 pub chunks_merge : IndependentChunksMerge
 chunks_merge n s loops body outer us chunks e nest keeps own locals_alone are different turning independent whole ran =
     let join = nests_join n s loops body outer us chunks e nest keeps own locals_alone are different turning independent whole ran in
@@ -334,7 +348,7 @@ chunks_merge n s loops body outer us chunks e nest keeps own locals_alone are di
       long = λ u h. contained (All-from_recursion (HasValues loops) us (lengths loops outer us are)) u h;
       turning = turning; independent = independent } in
     let found = apart n s loops body outer us known chunks join.pieces (subst (AllPairs (λ u v. u ≢ v)) (sym whole) different) (λ u h. subst (λ l. Contains l u) whole h) join.each in
-    record { effects = found.effects; each = found.each; merge = merged n s loops body outer us known chunks e join found.effects found.alike }
+    record { effects = found.effects; each = found.each; merge = merged n s loops body outer us known chunks e join found.effects found.alike; locals = locals_kept s loops body outer chunks e join; quiet = join.text }
   where
     contained : All (λ (u : Vector). length u ≡ length loops) us → (u : Vector) → Contains us u → length u ≡ length loops
     contained h u k = ap (λ l. length l) (sym k.2) ∙ h k.0 u k.1

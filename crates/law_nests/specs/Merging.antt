@@ -1,9 +1,10 @@
 -- Chunks put together by what each of them changed. (OpenMP 5.2, 11.5.3)
-use Rattle.std.specs.Prelude.{ℕ, ◌≡◌, ◌≢◌, ◌⊎◌, List, map, flat_map, Option, Some, Contains, slice_get}
+use Rattle.std.specs.Prelude.{ℕ, true, ◌≡◌, ◌≢◌, ◌⊎◌, List, [], map, flat_map, Option, Some, Contains, slice_get}
 use Rattle.std.specs.List.{AllPairs}
 use Rattle.semantics.specs.Tree.{Variable, Stmt}
 use Rattle.semantics.specs.Meaning.State.{State, overwritten}
 use Rattle.semantics.specs.Meaning.Runs.{Effect, run}
+use Rattle.semantics.specs.Meaning.Agrees.{visible_behind}
 use Rattle.semantics.specs.Loops.Nest.{Loop, Vector, nest_of, iterations}
 use Rattle.semantics.specs.Loops.Access.{Conflict}
 use Rattle.law_commute.specs.Commuting.{KeepsToItself, InnerLoopsTurn}
@@ -35,11 +36,13 @@ abbrev pub Merges : State → List Effect → Cells → Type 0
 Merges outer es after =
     (x : Variable) (is : List ℕ) → (NoneChanges outer es x is × (after x is ≡ outer.cells x is)) ⊎ OneChanges outer es after x is
 
--- chunks of a nest's iterations, each from the state before the nest, have a run each, which prints nothing, and what they change, put together, is what the nest leaves
-pub record WalkApart (loops : List Loop) (body : Stmt) (chunks : List (List Vector)) (outer : State) (e : Effect) : Type 0 where
+-- chunks of a nest's iterations, each from the state before the nest, have a run each, and what they change, put together, is what the nest leaves; it prints nothing and leaves what is visible round it as it was
+pub record WalkApart (s : Stmt) (loops : List Loop) (body : Stmt) (chunks : List (List Vector)) (outer : State) (e : Effect) : Type 0 where
   pub effects : List Effect
   pub each : map (λ us. walk loops body us outer) chunks ≡ map Some effects
   pub merge : (after : Cells) → Merges outer effects after → (x : Variable) (is : List ℕ) → after x is ≡ left_by outer e x is
+  pub locals : (x : Variable) → visible_behind s x ≡ true → (overwritten outer e.writes).locals x ≡ outer.locals x
+  pub quiet : e.text ≡ []
 
 -- so do chunks of iterations that are all different and of which no two conflict: which of them comes last is of no matter
 abbrev pub IndependentChunksMerge : Type 0
@@ -48,4 +51,4 @@ IndependentChunksMerge =
     → nest_of n s ≡ Some (loops, body) → KeepsToItself s → KeepsToItself body → DeclaresLocals s outer → iterations loops outer ≡ Some us
     → AllPairs (λ u v. u ≢ v) us → ((u : Vector) → Contains us u → InnerLoopsTurn loops body outer u)
     → ((u v : Vector) → Contains us u → Contains us v → Conflict loops body outer u v → ⊥)
-    → flat_map (λ vs. vs) chunks ≡ us → run s outer ≡ Some e → WalkApart loops body chunks outer e
+    → flat_map (λ vs. vs) chunks ≡ us → run s outer ≡ Some e → WalkApart s loops body chunks outer e

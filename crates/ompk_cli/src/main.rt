@@ -1,4 +1,4 @@
-//! `ompk`: checks a kernel, or runs it, on a team of workers or by one thread.
+//! `ompk`: checks a kernel, lists its runtime calls, or runs it, on a team of workers or by one thread.
 #![tactic(auto)]
 
 ghost use Rattle.std.specs.Prelude.{◌+◌, ◌<◌, ◌^◌};
@@ -8,6 +8,7 @@ mod fault;
 
 use fault::Fault;
 use ktree::{Refusal, Workers};
+use listing::add_listing;
 use ompk::{Checked, Sched, check, run, seq, status, tell};
 use ompk_command::{Task, read_task};
 use seqrun_io::{Sink, Writer, put_all};
@@ -115,6 +116,19 @@ where
     Ok(put_all(sink, b"accepted\n")?)
 }
 
+// Lists the runtime calls of the kernel of a file.
+fn lower_file<'a, R, S>(rt: &R, file: &'a str, sink: &mut S) -> Result<(), Fault<'a>>
+where
+    R: Files + AllocGlobal,
+    S: Sink,
+    requires { S.failed sink.old + 1 < 2 ^ 64 }
+{
+    let kernel = accept_file(rt, file)?;
+    let mut lines = Vec::new(rt.alloc());
+    add_listing(&kernel, &mut lines)?;
+    Ok(put_all(sink, lines.as_slice())?)
+}
+
 // Does what is asked for, and writes to this sink.
 fn perform<'a, R, S>(rt: &R, task: &Task<'a>, sink: &mut S) -> Result<(), Fault<'a>>
 where
@@ -124,6 +138,7 @@ where
 {
     match task {
         Task::Check { file } => check_file(rt, file, sink),
+        Task::Lower { file } => lower_file(rt, file, sink),
         Task::Run {
             file,
             input,
