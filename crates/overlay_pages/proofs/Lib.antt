@@ -1,3 +1,4 @@
 pub mod Gathered
+pub mod Lent
 pub mod Overlays
 pub mod Tables

@@ -1,5 +1,5 @@
 -- What contracts see of a chunk that runs over a store.
-use Rattle.std.specs.Prelude.{ℕ, ◌≡◌, List, Option, length}
+use Rattle.std.specs.Prelude.{ℕ, ◌≡◌, List, [], ◌∷◌, Option, length}
 use Rattle.store.specs.Kept.{Kept}
 use Rattle.store.specs.Flat.{values_of}
 use Rattle.overlay_pages.specs.Over.{written_over, writes_in}
@@ -12,6 +12,11 @@ pub record Seen : Type 0 where
 -- the cells as the chunk sees them: the store's, with what the chunk wrote over them
 abbrev pub cells_of : Seen → List ℕ
 cells_of c = written_over (writes_in c.written) (values_of c.store)
+
+-- the lent store as lists: of each variable its lengths and its values
+abbrev pub lent_of : List Kept → List (List ℕ)
+lent_of [] = []
+lent_of (k ∷ ks) = k.lengths ∷ k.values ∷ lent_of ks
 
 -- as many entries as cells
 abbrev pub IsOver : Seen → Type 0

@@ -2,10 +2,9 @@
 
 ghost use Rattle.std.specs.Prelude.{◌≡◌, ℕ, ◌<◌, ◌^◌, length, replicate, IfOk, None};
 ghost use Rattle.store.specs.Flat.{values_of};
-ghost use Rattle.seqrun.specs.Ran.{lengths_of};
 ghost use Rattle.lower_code.specs.Machine.{Fits, machine};
 ghost use Rattle.overlay_pages.specs.Over.{writes_of, writes_in, changing, written_over, ChangeCells, AreOnce};
-ghost use Rattle.overlay_pages.specs.Seen.{cells_of};
+ghost use Rattle.overlay_pages.specs.Seen.{cells_of, lent_of};
 
 use crate::changes::Changes;
 use crate::own::Own;
@@ -76,6 +75,14 @@ impl<'s> Chunk<'s> {
         self.own.finish(alloc, self.store)
     }
 
+    /// Forgets what was written. This takes time for the pages with written cells alone.
+    pub fn clear(&mut self)
+        ensures store { self.new.store ≡ self.old.store }
+        ensures none { self.new.written ≡ replicate (length (values_of self.old.store)) None }
+    {
+        self.own.clear();
+    }
+
     /// Ends the loan of the store, and gives back what the worker keeps.
     pub fn release(self) -> Own
         ensures value { result ≡ self.entry.written }
@@ -89,7 +96,7 @@ impl<'s> Chunk<'s> {
 impl<'s> Cells for Chunk<'s> {
     ghost cells = { λ c. cells_of c };
 
-    ghost shape = { λ c. lengths_of c.store };
+    ghost shape = { λ c. lent_of c.store };
 
     #[inline]
     fn read(&self, place: u64) -> u64 {

@@ -93,4 +93,11 @@ impl Own {
     {
         take(alloc, store, &mut self.pages)
     }
+
+    // Forgets what was written.
+    pub(crate) fn clear(&mut self)
+        ensures { self.new ≡ replicate (length self.old) None }
+    {
+        clear(&mut self.pages);
+    }
 }
