@@ -22,7 +22,12 @@ plain_loop s = record { schedule = s; doacross = None; sinks = []; reductions = 
 abbrev pub region_of : ParallelLoop → List ListedLoop
 region_of l = plain_loop (schedule_listed l.directive) ∷ []
 
--- behind what was there stands the listing of a program's parallel loops
+-- behind what was there stands the listing of a program's parallel loops, as some list has them
 abbrev pub AddsListing : Program → List ℕ → List ℕ → Type 0
 AddsListing p before after =
     (loops : List ParallelLoop) × AreParallelLoops p.text (kernel_of p.kernel) loops × (after ≡ before ++ listing (map region_of loops))
+
+-- and as each list has them
+abbrev pub AddsNoOther : Program → List ℕ → List ℕ → Type 0
+AddsNoOther p before after =
+    (loops : List ParallelLoop) → AreParallelLoops p.text (kernel_of p.kernel) loops → after ≡ before ++ listing (map region_of loops)

@@ -102,6 +102,7 @@ fn is_static(schedule: &Schedule) -> bool
 }
 
 // How a static loop ends (`__kmpc_for_static_fini`).
+#[tactic(auto, using(crate::proofs::Texts::ended_ok))]
 fn add_end(
     text: &mut Vec<u8>,
     region: usize,
@@ -126,6 +127,7 @@ fn add_end(
 /// # Errors
 ///
 /// Where memory runs out.
+#[tactic(auto, using(crate::proofs::Texts::loop_ok))]
 pub(crate) fn add_loop(
     text: &mut Vec<u8>,
     region: usize,

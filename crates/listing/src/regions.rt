@@ -4,7 +4,7 @@ ghost use Rattle.std.specs.Prelude.{◌≡◌, ◌++◌, ◌∷◌, [], map, OnO
 ghost use Rattle.semantics.specs.Theorems.{Begins};
 ghost use Rattle.semantics.specs.Directives.Listing.{regions_text, listing};
 ghost use Rattle.ktree.specs.DirectiveView.{schedule_of};
-ghost use Rattle.listing.specs.Regions.{schedule_listed, region_of, AddsListing};
+ghost use Rattle.listing.specs.Regions.{schedule_listed, region_of, AddsListing, AddsNoOther};
 
 use crate::calls::add_loop;
 use crate::lines::add_line;
@@ -59,6 +59,7 @@ fn add_regions(text: &mut Vec<u8>, loops: &[ParallelLoop]) -> Result<(), AllocEr
 /// `OutOfMemory`; the lines are then as they were.
 pub fn add_listing(kernel: &Checked, lines: &mut Vec<u8>) -> Result<(), Refusal>
     ensures added { OnOk result (AddsListing kernel.now lines.old.items lines.new.items) }
+    ensures only { OnOk result (AddsNoOther kernel.now lines.old.items lines.new.items) }
     ensures kept { OnErr result (lines.new.items ≡ lines.old.items) }
     ensures err { IfErr result (λ refusal. refusal ≡ Refusal.OutOfMemory) }
 {
