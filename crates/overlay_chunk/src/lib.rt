@@ -1,0 +1,7 @@
+//! Chunks of a lowered loop: each run from the store before the loop, over what it writes itself.
+#![tactic(auto)]
+
+mod walking;
+mod worker;
+
+pub use worker::{Work, Worker};
