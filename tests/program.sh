@@ -56,6 +56,8 @@ done
 expect 0 "$all" '' seq examples/increment.c --input examples/increment.in
 expect 0 "$all" '' run examples/increment.c --input examples/increment.in
 expect 0 $'A = 0 1 2 3 4 5 6 7\n' '' run examples/increment.c
+expect 0 $'1.0 __kmpc_fork_call\n1.1 __kmpc_dispatch_init_8u dynamic,3\n1.1 __kmpc_dispatch_next_8u\n1.1 __kmpc_barrier\n' '' lower examples/increment.c
+expect 3 '' $'K19 9:9 conflict: A at 9:9 and 9:16, iterations 0 and 1, element A[1]\n' lower examples/shift.c
 printf 'uint64_t x;\nuint64_t B[2][2];\nvoid kernel(void)\n{\n}\n' >"$work/empty.c"
 printf 'B 1 2 3 18446744073709551615\n' >"$work/input"
 expect 0 $'x = 0\nB = 1 2 3 18446744073709551615\n' '' run "$work/empty.c" --input "$work/input"
@@ -184,7 +186,7 @@ printf 'void kernel(void)\n{\n}' >"$work/text.c"
 expect 3 '' $'K01 3:2 syntax\n' run "$work/text.c" --input nothing.in
 
 # an output that is not taken
-for words in 'check examples/increment.c' 'run examples/increment.c' 'seq examples/increment.c'; do
+for words in 'check examples/increment.c' 'lower examples/increment.c' 'run examples/increment.c' 'seq examples/increment.c'; do
     # shellcheck disable=SC2086
     "$program" $words >&- 2>"$work/err"
     last=$?
@@ -210,12 +212,13 @@ misuse check a b
 misuse check --workers 2 examples/increment.c
 misuse seq
 misuse seq --workers 2 examples/increment.c
-misuse lower examples/increment.c
+misuse lower
+misuse lower --workers 2 examples/increment.c
 misuse run examples/increment.c --workers
 for workers in 0 65 04 +4 4x '' ' 4' -1 18446744073709551617; do
     misuse run examples/increment.c --workers "$workers"
 done
-for words in --help 'run --help' 'check -h' 'seq -h'; do
+for words in --help 'run --help' 'check -h' 'lower -h' 'seq -h'; do
     # shellcheck disable=SC2086
     "$program" $words >"$work/out" 2>"$work/err"
     if [ $? -ne 0 ] || [ ! -s "$work/out" ] || [ -s "$work/err" ]; then
