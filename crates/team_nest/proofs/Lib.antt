@@ -1,0 +1,5 @@
+pub mod Cutting
+pub mod Ending
+pub mod Dealing
+pub mod Applying
+pub mod Merging

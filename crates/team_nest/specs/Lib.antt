@@ -1,0 +1,4 @@
+pub mod Together
+pub mod Applied
+pub mod Ends
+pub mod Dealt

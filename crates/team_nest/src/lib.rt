@@ -1,0 +1,11 @@
+//! A team of workers, each in a thread of its own, that runs the chunks of any lowered nest (OpenMP 5.2, 11.5).
+#![tactic(auto)]
+
+mod applied;
+mod dealt;
+mod drawn;
+mod job;
+mod teamwork;
+mod worker;
+
+pub use teamwork::run_loop;
