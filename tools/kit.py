@@ -55,19 +55,23 @@ def sum_once(rtlib):
 
 
 def share_built(rtlib):
-    """Lets checks of different crates run at once: of a library below that is built no more than a shared lock is taken."""
+    """Lets checks of different crates run at once: of a library below no more than a shared lock is held once it is built."""
+    kept, build = {}, rtlib.Crate.build_rlib
 
     def lock(crates):
         """Waits until no other rt works in the last crate's folder, nor in those of libraries that are still to be built."""
-        seen, held = set(), []
         for crate in crates:
             folder = os.path.realpath(crate.folder)
-            if folder in seen:
-                continue
-            seen.add(folder)
-            kind = fcntl.LOCK_SH if crate is not crates[-1] and crate.is_built() else fcntl.LOCK_EX
-            held.append(os.open(folder, os.O_RDONLY))
-            fcntl.flock(held[-1], kind)
-        return held
+            if folder not in kept:
+                kept[folder] = os.open(folder, os.O_RDONLY)
+                fcntl.flock(kept[folder], fcntl.LOCK_SH if crate is not crates[-1] and crate.is_built() else fcntl.LOCK_EX)
+        return list(kept.values())
 
-    rtlib.lock = lock
+    def build_rlib(crate, flags, anew):
+        status = build(crate, flags, anew)
+        folder = os.path.realpath(crate.folder)
+        if status == 0 and folder in kept:
+            fcntl.flock(kept[folder], fcntl.LOCK_SH)
+        return status
+
+    rtlib.lock, rtlib.Crate.build_rlib = lock, build_rlib

@@ -1,0 +1,4 @@
+pub mod Shared
+pub mod Same
+pub mod Kept
+pub mod Accepted
