@@ -2,7 +2,7 @@
 use Rattle.std.specs.Prelude.{ℕ, ◌≡◌, ◌<◌, ◌⊎◌, List, [], ◌∷◌, ◌++◌, length, map, drop, slice_get, Option, Some, None}
 use Rattle.std.proofs.Common.{refl, ap, ◌∙◌, inl, inr, arith}
 use Rattle.std.proofs.lemmas.Option.{slice_get_within}
-use Rattle.std.proofs.lemmas.List.Elements.{All-nil, All-push}
+use Rattle.std.proofs.lemmas.List.Elements.{All-push}
 use Rattle.schedule.proofs.Sized.{get-append_left, get-append_seam}
 use Rattle.store.specs.Kept.{Kept}
 use Rattle.store.specs.Flat.{values_of, filled}
@@ -12,10 +12,6 @@ use Rattle.overlay_pages.proofs.Overlays.{length_over}
 use Rattle.team_nest.specs.declared.worker.ChunkChanges.{ChunkChanges}
 use Rattle.team_nest.specs.Applied.{NoneWrites, OneWrites, AreApplied}
 use Rattle.team_nest.proofs.Merging.{get_none, get_some}
-
--- no changes yet
-pub applied_none : (cells : List ℕ) → AreApplied cells cells []
-applied_none cells = record { long = refl; each = λ place lt. inl (All-nil (λ (c : ChunkChanges). writes_of c.changes place ≡ None), refl) }
 
 module _ (before now later : List ℕ) (cs : List ChunkChanges) (c : ChunkChanges) (was : AreApplied before now cs) (is : later ≡ written_over (writes_of c.changes) now) where
   module _ (place : ℕ) (lt : place < length before) where

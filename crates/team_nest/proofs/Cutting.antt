@@ -1,5 +1,5 @@
--- Where the chunks of a cut lie, and that they leave out no iteration.
-use Rattle.std.specs.Prelude.{ℕ, zero, suc, Bool, true, false, ◌≡◌, ◌+◌, ◌<◌, ◌≤◌, ◌==◌, nat_lt, List, [], ◌∷◌, length, map, flat_map, slice_get, All, Some}
+-- Where the chunks of a cut lie, and how many there are.
+use Rattle.std.specs.Prelude.{ℕ, zero, suc, Bool, true, false, ◌≡◌, ◌+◌, ◌<◌, ◌≤◌, ◌==◌, List, [], ◌∷◌, length, map, flat_map, slice_get, All, Some}
 use Rattle.std.proofs.Common.{refl, sym, ap, ◌∙◌, subst, arith}
 use Rattle.std.proofs.lemmas.Bool.Decides.{nat_tests}
 use Rattle.std.proofs.lemmas.Bool.{eqb-false}
@@ -38,17 +38,6 @@ inside x f (suc m) le lt = go ((f + m) == x) refl (λ less. inside x f m le less
     go true e rest = let one : once x (f + m) ≡ 1 = grind (arith, nat_tests) in omega (arith, from_more x f m)
     go false e rest = let apart = eqb-false (f + m) x e in let r = rest (omega arith) in omega (arith, from_more x f m)
 
-pub between : (x f m : ℕ) → 0 < times x (from f m) → (f ≤ x) × (x < f + m)
-between x f zero h = absurd (omega arith)
-between x f (suc m) h = go ((f + m) == x) refl (λ more. between x f m more)
-  where
-    go : (b : Bool) → ((f + m) == x) ≡ b → (0 < times x (from f m) → (f ≤ x) × (x < f + m)) → (f ≤ x) × (x < f + suc m)
-    go true e rest = let same : f + m ≡ x = grind (arith, nat_tests) in (omega arith, omega arith)
-    go false e rest =
-        let none : once x (f + m) ≡ 0 = grind (arith, nat_tests) in
-        let r = rest (omega (arith, from_more x f m)) in
-        (r.0, omega (arith, r.1))
-
 -- one chunk's iterations are among all
 among : (x t : ℕ) (cs : List Chunk) (c : Chunk) → slice_get cs t ≡ Some c → times x (chunk_iterations c) ≤ times x (flat_map chunk_iterations cs)
 among x t [] c e = absurd cc
@@ -78,35 +67,6 @@ chunk_within n t cs c cut e = go c.count refl (each_filled t cs c cut.filled e)
         let less : 0 < once_below last n = omega arith in
         let lt : last < n = grind (arith, nat_tests) in
         omega arith
-
--- the chunk of an iteration
-pub record Found (i : ℕ) (cs : List Chunk) : Type 0 where
-  pub number : ℕ
-  pub chunk : Chunk
-  pub is : slice_get cs number ≡ Some chunk
-  pub first : chunk.first ≤ i
-  pub end : i < chunk.first + chunk.count
-
-found : (i : ℕ) (cs : List Chunk) → 0 < times i (flat_map chunk_iterations cs) → Found i cs
-found i [] h = absurd (omega arith)
-found i (c ∷ cs) h = go (nat_lt 0 (times i (chunk_iterations c))) refl (λ more. found i cs more)
-  where
-    go : (b : Bool) → nat_lt 0 (times i (chunk_iterations c)) ≡ b → (0 < times i (flat_map chunk_iterations cs) → Found i cs) → Found i (c ∷ cs)
-    go true e rest =
-        let here : 0 < times i (chunk_iterations c) = grind (arith, nat_tests) in
-        let b = between i c.first c.count here in
-        record { number = zero; chunk = c; is = refl; first = b.0; end = b.1 }
-    go false e rest =
-        let none : times i (chunk_iterations c) ≡ 0 = grind (arith, nat_tests) in
-        let r = rest (omega (arith, times-append i (chunk_iterations c) (flat_map chunk_iterations cs))) in
-        record { number = suc r.number; chunk = r.chunk; is = r.is; first = r.first; end = r.end }
-
--- each iteration stands in some chunk
-pub chunk_of : (n i : ℕ) (cs : List Chunk) → IsCut n cs → i < n → Found i cs
-chunk_of n i cs cut lt =
-    let whole = ap (times i) cut.joined ∙ times_below i n in
-    let one : once_below i n ≡ 1 = grind (arith, nat_tests) in
-    found i cs (omega arith)
 
 pub length_below : (n : ℕ) → length (below n) ≡ n
 length_below zero = refl

@@ -1,6 +1,6 @@
 -- What the workers' ends are together.
-use Rattle.std.specs.Prelude.{ℕ, suc, ◌<◌, ◌≡◌, true, List, [], ◌∷◌, ◌++◌, map, flat_map, length, All, Result, Ok, Err, IfOk}
-use Rattle.std.proofs.Common.{refl, sym, ap, ◌∙◌, subst, append-nil, length-append, arith}
+use Rattle.std.specs.Prelude.{suc, ◌≡◌, true, List, [], ◌∷◌, ◌++◌, map, flat_map, length, All, Result, Ok, IfOk}
+use Rattle.std.proofs.Common.{refl, sym, ap, ◌∙◌, subst, append-nil}
 use Rattle.std.proofs.lemmas.List.{map-append}
 use Rattle.std.proofs.lemmas.Grind.{flat_map-append}
 use Rattle.std.proofs.lemmas.List.Elements.{All-nil, All-cons, All-head, All-tail, All-append, All-same, All-push}
@@ -38,10 +38,6 @@ kept-more p hs hs' h is all here =
 pub member : {X : Type 0} (P : X → Type 0) (ys rest : List X) (x : X) → All P (ys ++ x ∷ rest) → P x
 member P [] rest x h = All-head P x rest h
 member P (y ∷ ys) rest x h = member P ys rest x (All-tail P y (ys ++ x ∷ rest) h)
-
--- so many come before one that stands in the list
-pub fewer : {X : Type 0} (ys rest all : List X) (x : X) (n : ℕ) → ys ++ x ∷ rest ≡ all → n ≡ length ys → n < length all
-fewer ys rest all x n whole is = let long = ap length whole in omega (arith, length-append ys (x ∷ rest))
 
 length_mapped : {X Y : Type 0} (f : X → Y) (xs : List X) → length (map f xs) ≡ length xs
 length_mapped f [] = refl
@@ -94,8 +90,3 @@ module _ (job : Job) (of : DrawingName) where
 
 pub came-length : (ends : List (Result Finished Refusal)) (seats : List SeatState) (cs : List ChunkChanges) → CameFrom ends seats cs → length seats ≡ length ends
 came-length ends seats cs from = ap length from.seats_are ∙ (length_mapped (λ (f : Finished). f.seat) from.finished ∙ (sym (length_mapped Ok from.finished) ∙ sym (ap length from.ends_are)))
-
--- what holds of a value in two parts
-pub if_both_ok : {A E : Type 0} (P Q R : A → Type 0) (r : Result A E) → IfOk r P → IfOk r Q → ((a : A) → P a → Q a → R a) → IfOk r R
-if_both_ok P Q R (Ok a) p q h = h a p q
-if_both_ok P Q R (Err e) p q h = tt
