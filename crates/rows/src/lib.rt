@@ -1,5 +1,5 @@
-//! Tests of the whole road: kernels and what they write, calls and what they answer, the verdicts on parallel loops, found by hand, and which of
-//! two faults is told.
+//! Tests of the whole road: kernels and what they write, calls and what they answer, their listings, the verdicts on parallel loops, found by
+//! hand, and which of two faults is told.
 #![tactic(auto)]
 
 #[cfg(test)]
@@ -8,5 +8,7 @@ mod calls;
 mod first_faults;
 #[cfg(test)]
 mod kernels;
+#[cfg(test)]
+mod runtime_calls;
 #[cfg(test)]
 mod verdicts;

@@ -1,0 +1,101 @@
+//! Kernels and their listings: the calls of LLVM's OpenMP runtime that stand for their parallel loops.
+
+use listing::add_listing;
+use ompk::{Checked, check};
+use std::alloc::{AllocError, Global};
+
+/// The statements of a kernel, and what is listed of it.
+#[derive(Clone, Copy)]
+struct Row {
+    body: &'static str,
+    listing: &'static str,
+}
+
+/// The text with this body.
+fn text(alloc: Global, body: &str) -> Result<String, AllocError> {
+    format!(in alloc; "uint64_t A[8];\nuint64_t B[4][4];\nvoid kernel(void) {{\n{body}\n}}\n")
+}
+
+/// Whether just this is added to lines that are there.
+fn is_added(alloc: Global, kernel: &Checked, listing: &str) -> bool {
+    let mut lines = Vec::new(alloc);
+    lines.extend_from_slice(b"0.0\n").is_ok()
+        && add_listing(kernel, &mut lines).is_ok()
+        && lines.as_slice().strip_prefix(b"0.0\n") == Some(listing.as_bytes())
+}
+
+/// Whether this is the listing of a text.
+fn is_listed(alloc: Global, text: &[u8], listing: &str) -> bool {
+    match check(alloc, text) {
+        Ok(kernel) => is_added(alloc, &kernel, listing),
+        Err(_refusal) => false,
+    }
+}
+
+/// Whether a row's listing is that of its kernel.
+fn holds(alloc: Global, row: Row) -> bool {
+    match text(alloc, row.body) {
+        Ok(text) => is_listed(alloc, text.as_bytes(), row.listing),
+        Err(_error) => false,
+    }
+}
+
+/// The first body of some rows of which something else is listed.
+fn first_other(alloc: Global, rows: &[Row]) -> Option<&'static str> {
+    for row in rows {
+        if !holds(alloc, *row) {
+            return Some(row.body);
+        }
+    }
+    None
+}
+
+#[test]
+fn schedules_are_listed(rt: HostRuntime) {
+    let rows = [
+        Row {
+            body: "#pragma omp parallel for\nfor (uint64_t i = 0; i < 8; i++) { A[i] = i; }",
+            listing: "1.0 __kmpc_fork_call\n1.1 __kmpc_for_static_init_8u static\n1.1 __kmpc_for_static_fini\n1.1 __kmpc_barrier\n",
+        },
+        Row {
+            body: "#pragma omp parallel for schedule(static)\nfor (uint64_t i = 0; i < 8; i++) { A[i] = i; }",
+            listing: "1.0 __kmpc_fork_call\n1.1 __kmpc_for_static_init_8u static\n1.1 __kmpc_for_static_fini\n1.1 __kmpc_barrier\n",
+        },
+        Row {
+            body: "#pragma omp parallel for schedule(static, 4)\nfor (uint64_t i = 0; i < 8; i++) { A[i] = i; }",
+            listing: "1.0 __kmpc_fork_call\n1.1 __kmpc_for_static_init_8u static,4\n1.1 __kmpc_for_static_fini\n1.1 __kmpc_barrier\n",
+        },
+        Row {
+            body: "#pragma omp parallel for schedule(dynamic, 3)\nfor (uint64_t i = 0; i < 8; i++) { A[i] = i; }",
+            listing: "1.0 __kmpc_fork_call\n1.1 __kmpc_dispatch_init_8u dynamic,3\n1.1 __kmpc_dispatch_next_8u\n1.1 __kmpc_barrier\n",
+        },
+        Row {
+            body: "#pragma omp parallel for schedule(guided)\nfor (uint64_t i = 0; i < 8; i++) { A[i] = i; }",
+            listing: "1.0 __kmpc_fork_call\n1.1 __kmpc_dispatch_init_8u guided,1\n1.1 __kmpc_dispatch_next_8u\n1.1 __kmpc_barrier\n",
+        },
+        Row {
+            body: "#pragma omp parallel for schedule(runtime)\nfor (uint64_t i = 0; i < 8; i++) { A[i] = i; }",
+            listing: "1.0 __kmpc_fork_call\n1.1 __kmpc_dispatch_init_8u runtime\n1.1 __kmpc_dispatch_next_8u\n1.1 __kmpc_barrier\n",
+        },
+        Row {
+            body: "#pragma omp parallel for schedule(auto)\nfor (uint64_t i = 0; i < 8; i++) { A[i] = i; }",
+            listing: "1.0 __kmpc_fork_call\n1.1 __kmpc_for_static_init_8u static\n1.1 __kmpc_for_static_fini\n1.1 __kmpc_barrier\n",
+        },
+    ];
+    assert_eq!(rt; first_other(rt.alloc(), &rows), None);
+}
+
+#[test]
+fn regions_are_numbered_in_the_order_of_the_text(rt: HostRuntime) {
+    let rows = [
+        Row {
+            body: "A[0] = 1;",
+            listing: "",
+        },
+        Row {
+            body: "for (uint64_t t = 0; t < 3; t++) {\n#pragma omp parallel for schedule(dynamic)\nfor (uint64_t i = 0; i < 8; i++) { A[i] = i; }\n}\n#pragma omp parallel for collapse(2) schedule(static, 16777216)\nfor (uint64_t i = 0; i < 4; i++) for (uint64_t j = 0; j < 4; j++) { B[i][j] = i; }",
+            listing: "1.0 __kmpc_fork_call\n1.1 __kmpc_dispatch_init_8u dynamic,1\n1.1 __kmpc_dispatch_next_8u\n1.1 __kmpc_barrier\n2.0 __kmpc_fork_call\n2.1 __kmpc_for_static_init_8u static,16777216\n2.1 __kmpc_for_static_fini\n2.1 __kmpc_barrier\n",
+        },
+    ];
+    assert_eq!(rt; first_other(rt.alloc(), &rows), None);
+}
