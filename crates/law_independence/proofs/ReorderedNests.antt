@@ -1,5 +1,5 @@
 -- The iterations of a nest that is shown to be independent commute.
-use Rattle.std.specs.Prelude.{ℕ, true, ◌≡◌, ◌≢◌, ℤ, pos, List, [], length, map, Contains, Some, IsSome}
+use Rattle.std.specs.Prelude.{ℕ, true, ◌≡◌, ◌≢◌, ℤ, pos, List, [], ◌∷◌, length, map, Contains, Some, IsSome}
 use Rattle.std.specs.List.{AllPairs}
 use Rattle.std.proofs.Common.{refl, sym, ap, ◌∙◌, subst}
 use Rattle.std.proofs.lemmas.Option.{same_Some}
@@ -24,7 +24,7 @@ use Rattle.law_commute.proofs.Iterations.{independent_commute}
 use Rattle.law_nests.proofs.Merged.{chunks_merge}
 use Rattle.law_independence.proofs.PrivateNests.{private_nest}
 use Rattle.semantics.specs.Theorems.{IsTurn}
-use Rattle.law_independence.specs.OrderLaws.{CommutesAsNest}
+use Rattle.law_independence.specs.OrderLaws.{AreStepsRead, CommutesAsNest}
 use Rattle.law_independence.proofs.ReorderedBodies.{IsStmtRead, body_keeps, nest_read}
 
 -- what the law of commuting iterations asks of a nest at a turn of the loops round it
@@ -45,6 +45,12 @@ nest_ready ds round outer serial n s nest steps state us keeps at are =
           iterations_are_there nest.inner l.0.round access.inner it.0 (at_vector nest.loops u state) l.2.entered it.1.at;
     }
 
+-- the steps of loops that were entered
+steps_read : (before : Nesting) (hs : List Loop) (after : Nesting) → AreEntered before hs after → AreStepsRead hs
+steps_read before [] after e = tt
+steps_read before (h ∷ hs) after (s, v, head, level, rest) =
+    (record { scope = head.scope; order = head.order; tokens = head.tokens; small = head.small; reads = head.reads }, steps_read (record { box = s ∷ before.box; levels = v ∷ before.levels }) hs after rest)
+
 pub loop_commutes : (ds : List Declaration) (serial : List Loop) (round : Nesting) (n : ℕ) (s : Stmt) → HaveShort ds → AreEntered no_loops serial round → LoopsAreRead round.box s → Has (StaysInside ds) round.box s
     → IsStmtRead ds round.box s → IsPrivate serial n s → IsShownLoop round n s → CommutesAsNest serial n s
 loop_commutes ds serial round n s short entered read stays stmt (loops, body, is_nest, private) shown =
@@ -64,6 +70,10 @@ loop_commutes ds serial round n s short entered read stays stmt (loops, body, is
     (λ are'. nest_ready ds round (length round.levels) (map (λ v. v.most) (inner_loops 0 round.levels)) n s nest it.0 outer us keeps at are') are in
     record {
       nest = independent.0;
+      round = λ t. iterations_are_there no_loops round serial (λ j. pos 0) t entered (outside_is_a_turn (λ j. pos 0) t);
+      steps = λ loops' body' is.
+          let same : (nest.loops, nest.body) ≡ (loops', body') = same_Some (nest.loops, nest.body) (loops', body') (sym nest.is ∙ is) in
+          subst (λ (p : List Loop × Stmt). AreStepsRead p.0) same (steps_read round nest.loops nest.inner nest.entered);
       order = λ loop outer us is none turn are.
           let r = ready loop.loops loop.body is outer us turn are in
           independent_commute loop outer us none r.keeps r.differ r.turn (λ u v in_u in_v. independent.1 loop is outer us u v turn are in_u in_v);

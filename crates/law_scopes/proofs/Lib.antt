@@ -1,3 +1,4 @@
+pub mod Turning
 pub mod Shared
 pub mod Same
 pub mod Kept

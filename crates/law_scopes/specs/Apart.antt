@@ -1,10 +1,13 @@
--- Runs in which each parallel loop outside of serial ones leaves the locals as they were, as a team does. (C11 6.2.1 and 6.2.4; OpenMP 5.2, 11.5)
-use Rattle.std.specs.Prelude.{ℕ, ◌≡◌, if◌then◌else◌, List, [], ◌∷◌, flat_map, Option, Some, None}
-use Rattle.semantics.specs.Tree.{Variable, Stmt, If, IfElse, Block, Items, no_items, mark, local, stmt}
-use Rattle.semantics.specs.Meaning.State.{State, Write, Declared, Assigned, overwritten}
+-- Runs in which each parallel loop leaves the locals as they were, as a team does. (C11 6.2.1 and 6.2.4; OpenMP 5.2, 11.5)
+use Rattle.std.specs.Prelude.{ℕ, Bool, true, false, ◌≡◌, ◌==◌, ◌&&◌, if◌then◌else◌, List, [], ◌∷◌, ◌++◌, flat_map, Option, Some, None}
+use Rattle.std.specs.List.{list_any}
+use Rattle.semantics.specs.Tree.{Variable, Stmt, If, IfElse, For, Block, Items, no_items, mark, local, stmt}
+use Rattle.semantics.specs.Meaning.State.{State, Slot, Outside, Empty, Holds, Write, Declared, Assigned, overwritten}
 use Rattle.semantics.specs.Meaning.Value.{holds, by_test, map_option}
-use Rattle.semantics.specs.Meaning.Runs.{Effect, nothing, then_from, declared, run}
+use Rattle.semantics.specs.Meaning.Runs.{Effect, nothing, then_from, declared, incremented, turns, greatest_trip_count, run}
+use Rattle.semantics.specs.Loops.Nest.{Loop, Vector, iterations}
 use Rattle.semantics.specs.Loops.Piece.{is_outside}
+use Rattle.semantics.specs.Theorems.{IsTurn}
 
 -- an object is written with what it holds, if it is there
 abbrev pub written_as : Variable → List ℕ → Option ℕ → List Write
@@ -28,27 +31,55 @@ pub record SharesTheObjects (s : State) (e : Effect) : Type 0 where
 abbrev pub SharedEffectsLeaveTheObjects : Type 0
 SharedEffectsLeaveTheObjects = (s : State) (e : Effect) → SharesTheObjects s e
 
--- a parallel loop as a team runs it
-abbrev pub handed : Stmt → State → Option Effect
-handed a s = map_option (shared_effect s) (run a s)
+-- a local holds this number
+abbrev pub holds_number : Slot → ℕ → Bool
+holds_number Outside v = false
+holds_number Empty v = false
+holds_number (Holds n) v = n == v
+
+-- the variables of loops hold these values
+abbrev pub hold_values : List Loop → State → Vector → Bool
+hold_values [] s [] = true
+hold_values [] s (v ∷ vs) = false
+hold_values (l ∷ ls) s [] = false
+hold_values (l ∷ ls) s (v ∷ vs) = holds_number (s.locals l.variable) v && hold_values ls s vs
+
+-- those of one of these turns, if there are any
+abbrev pub hold_some : List Loop → State → Option (List Vector) → Bool
+hold_some ls s None = false
+hold_some ls s (Some us) = list_any (hold_values ls s) us
+
+-- a state is at a turn of loops inside each other
+abbrev pub is_at_turn : List Loop → State → Bool
+is_at_turn ls s = hold_some ls s (iterations ls s)
+
+abbrev pub StatesAtTurnsAreTurns : Type 0
+StatesAtTurnsAreTurns = (ls : List Loop) (s : State) → is_at_turn ls s ≡ true → IsTurn ls s
+
+-- a parallel loop inside serial ones as a team runs it: at a turn of these
+abbrev pub handed : List Loop → Stmt → State → Option Effect
+handed serial a s = if is_at_turn serial s then map_option (shared_effect s) (run a s) else None
 
 abbrev mutual
-  -- a statement, with the parallel loops in it that stand in no serial loop run so
-  pub apart : Stmt → State → Option Effect
-  apart (If c a) s = by_test (holds s c) (apart a s) (Some nothing)
-  apart (IfElse c a b) s = by_test (holds s c) (apart a s) (apart b s)
-  apart (Block items) s = apart_items items s
-  apart a s = run a s
+  -- a statement inside serial loops, with the parallel loops in it run so
+  pub apart : List Loop → Stmt → State → Option Effect
+  apart serial (If c a) s = by_test (holds s c) (apart serial a s) (Some nothing)
+  apart serial (IfElse c a b) s = by_test (holds s c) (apart serial a s) (apart serial b s)
+  apart serial (For x name start test step body) s =
+      then_from s (declared s x (Some start))
+      (turns greatest_trip_count (λ t. holds t test) (apart (serial ++ record { variable = x; start = start; test = test; step = step } ∷ []) body) (λ t. incremented t step))
+  apart serial (Block items) s = apart_items serial items s
+  apart serial a s = run a s
 
-  -- a block's items: behind a directive line stands a parallel loop
-  pub apart_items : Items → State → Option Effect
-  apart_items no_items s = Some nothing
-  apart_items (mark line rest) s = apart_behind rest s
-  apart_items (local x name start rest) s = then_from s (declared s x start) (apart_items rest)
-  apart_items (stmt a rest) s = then_from s (apart a s) (apart_items rest)
+  -- the items of a block: behind a directive line stands a parallel loop
+  pub apart_items : List Loop → Items → State → Option Effect
+  apart_items serial no_items s = Some nothing
+  apart_items serial (mark line rest) s = apart_behind serial rest s
+  apart_items serial (local x name start rest) s = then_from s (declared s x start) (apart_items serial rest)
+  apart_items serial (stmt a rest) s = then_from s (apart serial a s) (apart_items serial rest)
 
-  pub apart_behind : Items → State → Option Effect
-  apart_behind no_items s = Some nothing
-  apart_behind (mark line rest) s = apart_behind rest s
-  apart_behind (local x name start rest) s = then_from s (declared s x start) (apart_items rest)
-  apart_behind (stmt a rest) s = then_from s (handed a s) (apart_items rest)
+  pub apart_behind : List Loop → Items → State → Option Effect
+  apart_behind serial no_items s = Some nothing
+  apart_behind serial (mark line rest) s = apart_behind serial rest s
+  apart_behind serial (local x name start rest) s = then_from s (declared s x start) (apart_items serial rest)
+  apart_behind serial (stmt a rest) s = then_from s (handed serial a s) (apart_items serial rest)

@@ -25,4 +25,4 @@ pub record LeavesTheSame (s : State) (e : Effect) (o : Option Effect) : Type 0 w
 abbrev pub AcceptedKernelsRunApart : Type 0
 AcceptedKernelsRunApart =
     (text : List ℕ) (k : Kernel) (s : State) (e : Effect) → ReadsText text k → IsInRange k → IsDefinite no_privates k → ItemsHave text CommutesAsNest [] k.body
-    → NoObjectsFrom (length k.variables) s → run_items k.body s ≡ Some e → LeavesTheSame s e (apart_items k.body s)
+    → NoObjectsFrom (length k.variables) s → run_items k.body s ≡ Some e → LeavesTheSame s e (apart_items [] k.body s)
