@@ -1,5 +1,6 @@
-pub mod Arrays
 pub mod Blocks
-pub mod Fitted
+pub mod Found
 pub mod Lookups
-pub mod Shown
+pub mod Nested
+pub mod Shaped
+pub mod Whole

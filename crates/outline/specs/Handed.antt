@@ -1,11 +1,26 @@
--- Which statements are handed to a team.
-use Rattle.std.specs.Prelude.{◌≡◌, ◌≤◌, ◌^◌, ◌⊎◌, List, All, Contains}
-use Rattle.semantics.specs.Tree.{Name, Stmt}
+-- Which statements are handed to a team, and as what. (OpenMP 5.2, 4.4.3 and 11.5)
+use Rattle.std.specs.Prelude.{ℕ, ◌≡◌, ◌<◌, true, List, map, All, Contains, Some}
+use Rattle.semantics.specs.Tree.{Variable, Stmt}
+use Rattle.semantics.specs.Source.Text.{line_at}
+use Rattle.semantics.specs.Meaning.Runs.{run}
+use Rattle.semantics.specs.Meaning.Agrees.{declared_in}
+use Rattle.semantics.specs.Loops.Nest.{Loop, nest_of}
 use Rattle.ktree.specs.declared.place.Place.{Place}
-use Rattle.store.specs.Kept.{Kept}
-use Rattle.lower.specs.Loop.{Fits, statement_of}
-use Rattle.lower.specs.declared.lowered.LoweredLoop.{LoweredLoop}
+use Rattle.ktree.specs.declared.place.VarId.{VarId}
+use Rattle.ktree.specs.View.{stmt_of}
+use Rattle.affine.specs.declared.interval.Side.{Side}
+use Rattle.affine_expr.specs.Forms.{is_counter}
+use Rattle.pragma.specs.Clauses.{ReadsLoop}
+use Rattle.pragma.specs.Parallel.{associated}
+use Rattle.pragma.specs.Views.{scheduled}
+use Rattle.nest.specs.Perfect.{AreRectangular}
 use Rattle.flow.specs.declared.environment.ParallelLoop.{ParallelLoop}
+use Rattle.lower_code.specs.declared.term.Laid.{Laid}
+use Rattle.lower_code.specs.Meaning.{AreLocals}
+use Rattle.lower_block.specs.declared.op.Compiled.{Compiled}
+use Rattle.lower_run.specs.Walk.{Performs}
+use Rattle.lower_nest.specs.declared.lowered.LoweredLoop.{LoweredLoop}
+use Rattle.outline.specs.declared.shape.TeamLoop.{TeamLoop}
 
 -- one of these loops, which stands behind the directive line at this place
 abbrev pub StandsAt : List ParallelLoop → Place → ParallelLoop → Type 0
@@ -15,24 +30,38 @@ StandsAt loops line l = Contains loops l × (l.line ≡ line)
 abbrev pub NoneStandsAt : List ParallelLoop → Place → Type 0
 NoneStandsAt loops line = All (λ l. l.line ≡ line → ⊥) loops
 
--- a loop has an iteration, and 2^24 at most; each array that it names is there and reaches as far, and its counter is no file-scope variable
-pub record CanRun (l : LoweredLoop) (ks : List Kept) : Type 0 where
-  pub some : 1 ≤ l.bound
-  pub few : l.bound ≤ 2 ^ 24
-  pub fits : Fits l ks
+-- of each of some loops the directive line of the text says what is kept of it
+abbrev pub AreOfText : List ℕ → List ParallelLoop → Type 0
+AreOfText text loops = All (λ l. ReadsLoop (line_at text l.line.line) (scheduled l.directive) l.directive.collapse) loops
 
--- a statement behind the directive line at this place is this loop, with the schedule of that line (OpenMP 5.2, 11.5.3), and a team can run it
-pub record IsHanded (loops : List ParallelLoop) (line : Place) (s : Stmt) (ks : List Kept) (l : LoweredLoop) : Type 0 where
+-- the locals among the variables of a box stand in a list
+abbrev pub ListsLocals : ℕ → List Side → List VarId → Type 0
+ListsLocals mark box variables = (x : Variable) → x < mark → is_counter box x ≡ true → Contains (map (λ v. v.0) variables) x
+
+-- a statement is so many loops, one directly in the other, with this body
+abbrev pub IsBodyOf : ℕ → Stmt → Stmt → Type 0
+IsBodyOf n s body = (loops : List Loop) × (nest_of n s ≡ Some (loops, body))
+
+-- code does what its body does
+pub record IsBodyCode (layout : List Laid) (mark : ℕ) (n : ℕ) (s : Stmt) (code : Compiled) : Type 0 where
+  pub body : Stmt
+  pub is : IsBodyOf n s body
+  pub performs : AreLocals layout mark (declared_in body) → Performs layout mark (run body) code
+
+-- a lowered loop is this nest inside the loops of a box: its loops in their canonical form, and its body as code
+pub record IsLowered (layout : List Laid) (mark : ℕ) (box : List Side) (n : ℕ) (s : Stmt) (l : LoweredLoop) : Type 0 where
+  pub loops : List Loop
+  pub body : Stmt
+  pub nest : nest_of n s ≡ Some (loops, body)
+  pub around : ListsLocals mark box l.around.items
+  pub heads : AreRectangular box loops l.loops.items
+  pub code : AreLocals layout mark (declared_in body) → Performs layout mark (run body) l.body
+
+-- a statement behind the directive line at this place is handed over, as many loops of it as that line associates, with its schedule (OpenMP 5.2, 11.5.3)
+pub record IsHanded (layout : List Laid) (mark : ℕ) (box : List Side) (loops : List ParallelLoop) (line : Place) (s : Stmt) (l : TeamLoop) : Type 0 where
   pub parallel : ParallelLoop
   pub stands : StandsAt loops line parallel
-  pub schedule : l.schedule ≡ parallel.directive.schedule
-  pub name : Name
-  pub is : s ≡ statement_of name l
-  pub runs : CanRun l ks
-
--- it is not handed to a team: no parallel loop stands there, it is no loop of the form that is lowered, or it is one that no team can run
-abbrev pub IsRunByOne : List ParallelLoop → Place → Stmt → List Kept → Type 0
-IsRunByOne loops line s ks =
-    NoneStandsAt loops line
-    ⊎ (((name : Name) (l : LoweredLoop) → s ≡ statement_of name l → ⊥)
-    ⊎ ((name : Name) × (l : LoweredLoop) × (s ≡ statement_of name l) × (CanRun l ks → ⊥)))
+  pub statement : stmt_of l.statement.now ≡ s
+  pub depth : l.depth ≡ associated parallel.directive.collapse
+  pub schedule : l.lowered.schedule ≡ parallel.directive.schedule
+  pub lowered : IsLowered layout mark box l.depth s l.lowered

@@ -1,4 +1,6 @@
 pub mod Fit
-pub mod Fitting
+pub mod Given
 pub mod Handed
+pub mod Lines
+pub mod Made
 pub mod View

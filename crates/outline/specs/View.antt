@@ -1,42 +1,43 @@
--- What an outline stands for: the tree of its statements.
-use Rattle.std.specs.Prelude.{◌≡◌, List, [], ◌∷◌, Option, Some, None, string_bytes}
+-- What an outline does inside serial loops: each parallel loop in it is run by a team. (C11 6.8; OpenMP 5.2, 11.5)
+use Rattle.std.specs.Prelude.{List, [], ◌∷◌, ◌++◌, Option, Some, None}
 use Rattle.semantics.specs.Tree
-use Rattle.ktree.specs.View.{source_of, cond_of, increment_of, stmt_of, if_of, with_item}
-use Rattle.ktree.specs.declared.statement.Item.{Item}
-use Rattle.lower.specs.Loop.{statement_of}
+use Rattle.semantics.specs.Meaning.State.{State}
+use Rattle.semantics.specs.Meaning.Value.{holds, by_test}
+use Rattle.semantics.specs.Meaning.Runs.{Effect, nothing, then_from, declared, incremented, turns, greatest_trip_count, run, run_items}
+use Rattle.semantics.specs.Loops.Nest.{Loop}
+use Rattle.ktree.specs.View.{source_of, cond_of, increment_of, stmt_of, with_item}
+use Rattle.nest.specs.Heads.{head_of}
+use Rattle.law_scopes.specs.Apart.{handed}
 use Rattle.outline.specs.declared.shape.Outline.{Outline, Serial, Team, If', For', Block', Held-Outline-If-3, None', Some', Row_of-OutlineItem, end_of-OutlineItem, more_of-OutlineItem}
 use Rattle.outline.specs.declared.shape.OutlineItem.{OutlineItem, Plain, Statement'}
 
 abbrev mutual
   -- a statement
-  pub outlined : Outline → Tree.Stmt
-  outlined (Serial code s) = stmt_of s.now
-  outlined (Team l) = statement_of (string_bytes l.head.now.name) l.lowered
-  outlined (If' test c p a b) = if_of (cond_of c.now) (outlined a) (else_outlined b)
-  outlined (For' lowered head p body) =
-      Tree.For head.now.variable.0 (string_bytes head.now.name) (source_of head.now.start) (cond_of head.now.test) (increment_of head.now.step) (outlined body)
-  outlined (Block' shape items) = Tree.Block (row_outlined items)
+  pub performed : List Loop → Outline → State → Option Effect
+  performed serial (Serial code s) = run (stmt_of s.now)
+  performed serial (Team l) = handed serial (stmt_of l.statement.now)
+  performed serial (If' test c p a b) = λ s. by_test (holds s (cond_of c.now)) (performed serial a s) (else_performed serial b s)
+  performed serial (For' lowered head p body) =
+      λ s. then_from s (declared s head.now.variable.0 (Some (source_of head.now.start)))
+      (turns greatest_trip_count (λ t. holds t (cond_of head.now.test)) (performed (serial ++ head_of head.now ∷ []) body) (λ t. incremented t (increment_of head.now.step)))
+  performed serial (Block' shape items) = row_performed serial items
 
   -- what stands behind `else`
-  pub else_outlined : Held-Outline-If-3 → Option Tree.Stmt
-  else_outlined None' = None
-  else_outlined (Some' p b) = Some (outlined b)
+  pub else_performed : List Loop → Held-Outline-If-3 → State → Option Effect
+  else_performed serial None' = λ s. Some nothing
+  else_performed serial (Some' p b) = performed serial b
 
-  -- an item before others
-  pub with_outlined : OutlineItem → Tree.Items → Tree.Items
-  with_outlined (Plain code i) rest = with_item i.now rest
-  with_outlined (Statement' p s) rest = Tree.stmt (outlined s) rest
+  -- an item
+  pub item_performed : List Loop → OutlineItem → State → Option Effect
+  item_performed serial (Plain code i) = run_items (with_item i.now Tree.no_items)
+  item_performed serial (Statement' p a) = performed serial a
 
   -- the items of a block
-  pub row_outlined : {m : _} → Row_of-OutlineItem m → Tree.Items
-  row_outlined end_of-OutlineItem = Tree.no_items
-  row_outlined (more_of-OutlineItem i rest) = with_outlined i (row_outlined rest)
+  pub row_performed : List Loop → {m : _} → Row_of-OutlineItem m → State → Option Effect
+  row_performed serial end_of-OutlineItem = λ s. Some nothing
+  row_performed serial (more_of-OutlineItem i rest) = λ s. then_from s (item_performed serial i s) (row_performed serial rest)
 
 -- a block's items
-abbrev pub items_outlined : List OutlineItem → Tree.Items
-items_outlined [] = Tree.no_items
-items_outlined (i ∷ is) = with_outlined i (items_outlined is)
-
--- an item of an outline stands for this one, whatever follows
-abbrev pub IsSameItem : OutlineItem → Item → Type 0
-IsSameItem o item = (rest : Tree.Items) → with_outlined o rest ≡ with_item item rest
+abbrev pub items_performed : List Loop → List OutlineItem → State → Option Effect
+items_performed serial [] = λ s. Some nothing
+items_performed serial (i ∷ is) = λ s. then_from s (item_performed serial i s) (items_performed serial is)

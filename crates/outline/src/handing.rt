@@ -1,13 +1,21 @@
 //! Which statements are handed to a team.
 
-ghost use Rattle.std.specs.Prelude.{IsTrue, ◌↔◌, MatchOption};
+ghost use Rattle.std.specs.Prelude.{◌≡◌, IfOk, IfErr, IfSome, MatchOption};
+ghost use Rattle.nest.specs.Perfect.{NestHas, AreRectangular};
 ghost use Rattle.ktree.specs.View.{stmt_of};
-ghost use Rattle.outline.specs.Handed.{CanRun, StandsAt, NoneStandsAt, IsHanded, IsRunByOne};
+ghost use Rattle.ktree.specs.declared.refusal.Refusal.TheVariants.{OutOfMemory};
+ghost use Rattle.outline.specs.Handed.{StandsAt, NoneStandsAt, ListsLocals, IsBodyOf, IsBodyCode, IsLowered, IsHanded};
 
+use crate::compiling::{Target, compile_statement};
+use crate::shape::TeamLoop;
+use affine::VarBox;
 use flow::ParallelLoop;
-use ktree::{Place, Stmt};
-use lower::{LoweredLoop, fits, lowered_loop};
-use store::Store;
+use ktree::{Place, Refusal, Schedule, Stmt, VarId};
+use lower_block::Compiled;
+use lower_nest::LoweredLoop;
+use nest::{Nest, as_loop};
+use nest_loop::Canonical;
+use std::alloc::{AllocError, Global};
 
 // The parallel loop behind the directive line at this place.
 fn loop_at(loops: &[ParallelLoop], directive: Place) -> Option<&ParallelLoop>
@@ -22,29 +30,133 @@ fn loop_at(loops: &[ParallelLoop], directive: Place) -> Option<&ParallelLoop>
     None
 }
 
-// Whether a team can run a loop, and there is something to run.
-fn can_run(lowered: &LoweredLoop, store: &Store) -> bool
-    ensures { IsTrue result ↔ CanRun lowered.now store.now }
+// The body of so many loops, one directly in the other.
+fn body_of(depth: u64, stmt: &Stmt) -> Option<&Stmt>
+    ensures { IfSome result (λ body. IsBodyOf depth (stmt_of stmt.now) (stmt_of body.now)) }
 {
-    lowered.bound >= 1 && fits(lowered, store)
+    if depth == 0 {
+        return Some(stmt);
+    }
+    let level = as_loop(stmt)?;
+    body_of(depth - 1, level.body)
 }
 
-// The loop that a team runs for the statement behind the directive line at this place.
-pub(crate) fn loop_for_team(
+// The loops of a nest in their canonical form.
+fn canonical_loops(
+    alloc: Global,
+    depth: u64,
+    stmt: &Stmt,
+    bounds: &VarBox,
+    directive: Place,
+) -> Result<Vec<Canonical>, Refusal>
+    ensures ok { IfOk result (λ loops. NestHas
+        (λ hs. AreRectangular bounds.now hs loops.items) depth (stmt_of stmt.now)) }
+    ensures refusal { IfErr result (λ refusal. refusal ≡ OutOfMemory) }
+{
+    match Nest::new(alloc, depth, stmt, bounds, directive) {
+        Ok(nest) => Ok(nest.loops),
+        Err(_fault) => Err(Refusal::OutOfMemory),
+    }
+}
+
+// The variables of a box that have registers.
+fn variables_of(alloc: Global, bounds: &VarBox, registers: u32) -> Result<Vec<VarId>, AllocError>
+    ensures { IfOk result (λ variables. ListsLocals registers bounds.now variables.items) }
+{
+    let mut variables = Vec::new(alloc);
+    for number in 0..registers {
+        if bounds.has(VarId(number)) {
+            variables.push(VarId(number))?;
+        }
+    }
+    Ok(variables)
+}
+
+// The variables of the loops round a nest; there are no more than so many locals.
+fn variables_round(
+    alloc: Global,
+    bounds: &VarBox,
+    target: Target<'_>,
+) -> Result<Vec<VarId>, Refusal>
+    ensures ok { IfOk result
+        (λ variables. ListsLocals target.entry.registers bounds.now variables.items) }
+    ensures refusal { IfErr result (λ refusal. refusal ≡ OutOfMemory) }
+{
+    let Ok(registers) = u32::try_from(target.registers) else {
+        return Err(Refusal::OutOfMemory);
+    };
+    Ok(variables_of(alloc, bounds, registers)?)
+}
+
+// The code of a nest's body.
+fn compile_body(
+    alloc: Global,
+    depth: u64,
+    stmt: &Stmt,
+    target: Target<'_>,
+) -> Result<Compiled, Refusal>
+    ensures ok { IfOk result (λ code. IsBodyCode target.entry.layout.now target.entry.registers depth (stmt_of stmt.now) code) }
+    ensures refusal { IfErr result (λ refusal. refusal ≡ OutOfMemory) }
+{
+    match body_of(depth, stmt) {
+        Some(body) => compile_statement(alloc, body, target),
+        None => Err(Refusal::OutOfMemory),
+    }
+}
+
+// What a nest inside the loops of a box is lowered to.
+fn lower_nest(
+    alloc: Global,
+    depth: u64,
+    stmt: &Stmt,
+    schedule: Option<Schedule>,
+    target: Target<'_>,
+    bounds: &VarBox,
+    directive: Place,
+) -> Result<LoweredLoop, Refusal>
+    ensures lowered { IfOk result
+        (IsLowered target.entry.layout.now target.entry.registers bounds.now depth (stmt_of stmt.now)) }
+    ensures schedule { IfOk result (λ l. l.schedule ≡ schedule) }
+    ensures refusal { IfErr result (λ refusal. refusal ≡ OutOfMemory) }
+{
+    let loops = canonical_loops(alloc, depth, stmt, bounds, directive)?;
+    let body = compile_body(alloc, depth, stmt, target)?;
+    let around = variables_round(alloc, bounds, target)?;
+    Ok(LoweredLoop {
+        around,
+        loops,
+        body,
+        schedule,
+    })
+}
+
+// The loop that a team runs for the statement behind the directive line at this place, inside the loops of a box.
+//
+// # Errors
+//
+// `OutOfMemory` alone. It stands also for a statement that is no nest of as many loops as its line associates, or with no line of its
+// own among these: a kernel that is accepted has no such one.
+pub(crate) fn loop_for_team<'k>(
+    alloc: Global,
     loops: &[ParallelLoop],
     directive: Place,
-    stmt: &Stmt,
-    store: &Store,
-) -> Option<LoweredLoop>
-    ensures { MatchOption result
-        (IsRunByOne loops.now directive (stmt_of stmt.now) store.now)
-        (IsHanded loops.now directive (stmt_of stmt.now) store.now) }
+    stmt: &'k Stmt,
+    target: Target<'_>,
+    bounds: &VarBox,
+) -> Result<TeamLoop<'k>, Refusal>
+    ensures handed { IfOk result
+        (IsHanded target.entry.layout.now target.entry.registers bounds.now loops.now directive (stmt_of stmt.now)) }
+    ensures refusal { IfErr result (λ refusal. refusal ≡ OutOfMemory) }
 {
-    let parallel = loop_at(loops, directive)?;
-    let lowered = lowered_loop(stmt, parallel.directive.schedule)?;
-    if can_run(&lowered, store) {
-        Some(lowered)
-    } else {
-        None
-    }
+    let Some(parallel) = loop_at(loops, directive) else {
+        return Err(Refusal::OutOfMemory);
+    };
+    let depth = parallel.directive.associated_loops();
+    let schedule = parallel.directive.schedule;
+    let lowered = lower_nest(alloc, depth, stmt, schedule, target, bounds, directive)?;
+    Ok(TeamLoop {
+        statement: stmt,
+        depth,
+        lowered,
+    })
 }

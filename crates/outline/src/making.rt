@@ -1,157 +1,176 @@
 //! The outline of a kernel.
 
-ghost use Rattle.std.specs.Prelude.{◌≡◌, MatchOption, IfOk, IfErr};
-ghost use Rattle.semantics.specs.Tree.{no_items};
-ghost use Rattle.semantics.specs.Meaning.Agrees.{declared_in, declared_among};
-ghost use Rattle.ktree.specs.View.{stmt_of, items_of, with_item};
+ghost use Rattle.std.specs.Prelude.{◌≡◌, ℕ, false, List, [], Some, None, IfOk, IfErr, OnOk};
+ghost use Rattle.semantics.specs.Tree as tree;
+ghost use Rattle.semantics.specs.Meaning.Agrees.{declared_among};
+ghost use Rattle.ktree.specs.View.{stmt_of, items_of, cond_of, if_of};
 ghost use Rattle.ktree.specs.declared.refusal.Refusal.TheVariants.{OutOfMemory};
-ghost use Rattle.ktree.specs.declared.place.Place.{Place as Places};
-ghost use Rattle.ktree.specs.declared.statement.Item.TheVariants.{Directive};
-ghost use Rattle.outline.specs.Fitting.{shape_of, Stands, ItemStands, AllStand};
-ghost use Rattle.outline.specs.Handed.{IsHanded, IsRunByOne};
-ghost use Rattle.outline.specs.Fit.{Fits, ItemFits, AllFit, WithLocals};
-ghost use Rattle.outline.specs.View.{outlined, items_outlined, IsSameItem};
+ghost use Rattle.affine.specs.declared.interval.Side.{Side};
+ghost use Rattle.flow.specs.declared.environment.ParallelLoop.{ParallelLoop};
+ghost use Rattle.pragma.specs.Parallel.{ItemsHave};
+ghost use Rattle.law_independence.specs.OrderLaws.{CommutesAsNest};
+ghost use Rattle.law_scopes.specs.Apart.{apart_items};
+ghost use Rattle.outline.specs.Handed.{AreOfText};
+ghost use Rattle.outline.specs.Lines.{has_line};
+ghost use Rattle.outline.specs.Made.{line_of, loop_with, IsInside, IsMade, IsMadeItem, AreMade};
+ghost use Rattle.outline.specs.Fit.{AllFit, WithLocals};
+ghost use Rattle.outline.specs.View.{items_performed};
 
 use crate::compiling::{Target, compile_item, compile_statement, compile_test, lower_head};
 use crate::handing::loop_for_team;
-use crate::shape::{Outline, OutlineItem, TeamLoop};
+use crate::lines::has_line;
+use crate::shape::{Outline, OutlineItem};
+use affine::VarBox;
 use flow::ParallelLoop;
-use ktree::{Item, Place, Refusal, Stmt};
+use ktree::{Cond, Head, Item, Place, Refusal, Stmt};
+use nest_loop::enter;
 use std::alloc::Global;
-use store::Store;
 
-// The head of the statement behind the directive line at this place, and what that is lowered to, where a team runs it.
-fn team_loop<'k>(
-    loops: &[ParallelLoop],
-    directive: Place,
-    stmt: &'k Stmt,
-    store: &Store,
-) -> Option<TeamLoop<'k>>
-    ensures { MatchOption result
-        (IsRunByOne loops.now directive (stmt_of stmt.now) store.now)
-        (λ l. IsHanded loops.now directive (stmt_of stmt.now) store.now l.lowered
-        × (outlined (Outline.Team l) ≡ stmt_of stmt.now)
-        × Stands (shape_of store.now) (Outline.Team l)) }
-{
-    let lowered = loop_for_team(loops, directive, stmt, store)?;
-    match stmt {
-        Stmt::For(head, _body) => Some(TeamLoop { head, lowered }),
-        _ => None,
-    }
-}
-
-// Where a directive line stands.
+// Where the directive line stands that an item is.
 fn directive_place(item: &Item) -> Option<Place>
-    ensures { MatchOption result ((place : Places) → item.now ≡ Directive place → ⊥)
-        (λ place. item.now ≡ Directive place) }
+    ensures { result ≡ line_of item.now }
 {
     match item {
         Item::Directive(place) => Some(*place),
-        Item::Local(_) | Item::Statement(_) => None,
+        Item::Local(_) => None,
+        Item::Statement(_) => None,
     }
 }
 
-// Whether a directive line stands in a statement.
-#[cycle(line)]
-fn has_line(stmt: &Stmt) -> bool {
-    match stmt {
-        Stmt::If(_cond, then, other) => {
-            let first = has_line(then);
-            match other {
-                None => first,
-                Some(other) => first || has_line(other),
-            }
-        }
-        Stmt::For(_head, body) => has_line(body),
-        Stmt::Block(items) => has_line_among(items),
-        Stmt::Assign(_, _) | Stmt::Update(_, _, _) | Stmt::Print(_, _) => false,
-    }
-}
-
-// The same of a block's items.
-#[cycle(line)]
-fn has_line_among(items: &[Item]) -> bool {
-    let mut found = false;
-    for inner in items {
-        let here = item_has_line(inner);
-        found |= here;
-    }
-    found
-}
-
-// The same of an item.
-#[cycle(line)]
-fn item_has_line(item: &Item) -> bool {
-    match item {
-        Item::Directive(_place) => true,
-        Item::Local(_local) => false,
-        Item::Statement(stmt) => has_line(stmt),
-    }
-}
-
-// The outline of a statement as code alone.
+// The outline of a statement as code alone, where no directive line stands in it.
 fn outline_serial<'k>(
     alloc: Global,
     stmt: &'k Stmt,
+    loops: &[ParallelLoop],
     target: Target<'_>,
-    store: &Store,
+    bounds: &VarBox,
 ) -> Result<Box<Outline<'k>>, Refusal>
-    ensures is { IfOk result (λ o. outlined o.value ≡ stmt_of stmt.now) }
-    ensures stands { IfOk result (λ o. Stands (shape_of store.now) o.value) }
-    ensures fits { IfOk result
-        (λ o. WithLocals target.entry.layout.now target.entry.registers (declared_in (stmt_of stmt.now))
-        (Fits target.entry.layout.now target.entry.registers o.value)) }
+    requires { has_line (stmt_of stmt.now) ≡ false }
+    ensures made { IfOk result (λ o. IsMade target.entry.layout.now target.entry.registers loops.now
+        bounds.now None (stmt_of stmt.now) o.value) }
     ensures refusal { IfErr result (λ refusal. refusal ≡ OutOfMemory) }
 {
+    let _places = (loops.len(), bounds.len());
     let code = compile_statement(alloc, stmt, target)?;
     Ok(Box::new(alloc, Outline::Serial(code, stmt))?)
 }
 
-// The outline of a statement that is not handed to a team itself.
+// Goes into the loop of a head.
+fn go_into(
+    alloc: Global,
+    head: &Head,
+    body: &Stmt,
+    bounds: &mut VarBox,
+) -> Result<(), Refusal>
+    ensures ok { OnOk result (IsInside head.now bounds.old bounds.new) }
+    ensures refusal { IfErr result (λ refusal. refusal ≡ OutOfMemory) }
+{
+    match enter(alloc, head, body, bounds) {
+        Ok(_facts) => Ok(()),
+        Err(_fault) => Err(Refusal::OutOfMemory),
+    }
+}
+
+// The outline of an `if` without `else`.
+fn one_armed<'k>(
+    alloc: Global,
+    cond: &'k Cond,
+    then: Box<Outline<'k>>,
+    target: Target<'_>,
+) -> Result<Box<Outline<'k>>, Refusal>
+    ensures made { (loops : List ParallelLoop) (box : List Side) (a : tree.Stmt)
+        → IsMade target.entry.layout.now target.entry.registers loops box None a then.entry.value
+        → IfOk result (λ o. IsMade target.entry.layout.now target.entry.registers loops box None
+        (if_of (cond_of cond.now) a None) o.value) }
+    ensures refusal { IfErr result (λ refusal. refusal ≡ OutOfMemory) }
+{
+    let test = compile_test(alloc, cond, target)?;
+    Ok(Box::new(alloc, Outline::If(test, cond, then, None))?)
+}
+
+// The outline of an `if` with `else`.
+fn two_armed<'k>(
+    alloc: Global,
+    cond: &'k Cond,
+    then: Box<Outline<'k>>,
+    other: Box<Outline<'k>>,
+    target: Target<'_>,
+) -> Result<Box<Outline<'k>>, Refusal>
+    ensures made { (loops : List ParallelLoop) (box : List Side) (a b : tree.Stmt)
+        → IsMade target.entry.layout.now target.entry.registers loops box None a then.entry.value
+        → IsMade target.entry.layout.now target.entry.registers loops box None b other.entry.value
+        → IfOk result (λ o. IsMade target.entry.layout.now target.entry.registers loops box None
+        (if_of (cond_of cond.now) a (Some b)) o.value) }
+    ensures refusal { IfErr result (λ refusal. refusal ≡ OutOfMemory) }
+{
+    let test = compile_test(alloc, cond, target)?;
+    Ok(Box::new(alloc, Outline::If(test, cond, then, Some(other)))?)
+}
+
+// The outline of a loop that one thread runs.
+fn serial_loop<'k>(
+    alloc: Global,
+    head: &'k Head,
+    inner: Box<Outline<'k>>,
+    target: Target<'_>,
+) -> Result<Box<Outline<'k>>, Refusal>
+    ensures made { (loops : List ParallelLoop) (box within : List Side) (a : tree.Stmt)
+        → IsInside head.now box within
+        → IsMade target.entry.layout.now target.entry.registers loops within None a inner.entry.value
+        → IfOk result (λ o. IsMade target.entry.layout.now target.entry.registers loops box None
+        (loop_with head.now a) o.value) }
+    ensures refusal { IfErr result (λ refusal. refusal ≡ OutOfMemory) }
+{
+    let lowered = lower_head(alloc, head, target)?;
+    Ok(Box::new(alloc, Outline::For(lowered, head, inner))?)
+}
+
+// The outline of a statement that stands behind no directive line.
 #[cycle(making)]
 fn outline_inside<'k>(
     alloc: Global,
     stmt: &'k Stmt,
     loops: &[ParallelLoop],
     target: Target<'_>,
-    store: &Store,
+    bounds: &mut VarBox,
 ) -> Result<Box<Outline<'k>>, Refusal>
-    ensures is { IfOk result (λ o. outlined o.value ≡ stmt_of stmt.now) }
-    ensures stands { IfOk result (λ o. Stands (shape_of store.now) o.value) }
-    ensures fits { IfOk result
-        (λ o. WithLocals target.entry.layout.now target.entry.registers (declared_in (stmt_of stmt.now))
-        (Fits target.entry.layout.now target.entry.registers o.value)) }
+    ensures made { IfOk result (λ o. IsMade target.entry.layout.now target.entry.registers loops.now
+        bounds.old None (stmt_of stmt.now) o.value) }
+    ensures back { OnOk result (bounds.new ≡ bounds.old) }
     ensures refusal { IfErr result (λ refusal. refusal ≡ OutOfMemory) }
 {
     if !has_line(stmt) {
-        return outline_serial(alloc, stmt, target, store);
+        return outline_serial(alloc, stmt, loops, target, bounds);
     }
     match stmt {
-        Stmt::If(cond, then, other) => {
-            let then = outline_inside(alloc, then, loops, target, store)?;
-            let other = match other {
-                None => None,
-                Some(other) => Some(outline_inside(alloc, other, loops, target, store)?),
-            };
-            let test = compile_test(alloc, cond, target)?;
-            Ok(Box::new(alloc, Outline::If(test, cond, then, other))?)
-        }
+        Stmt::If(cond, then, other) => match other {
+            None => {
+                let then = outline_inside(alloc, then, loops, target, bounds)?;
+                one_armed(alloc, cond, then, target)
+            }
+            Some(other) => {
+                let then = outline_inside(alloc, then, loops, target, bounds)?;
+                let other = outline_inside(alloc, other, loops, target, bounds)?;
+                two_armed(alloc, cond, then, other, target)
+            }
+        },
         Stmt::For(head, body) => {
-            let body = outline_inside(alloc, body, loops, target, store)?;
-            let lowered = lower_head(alloc, head, target)?;
-            Ok(Box::new(alloc, Outline::For(lowered, head, body))?)
+            go_into(alloc, head, body, bounds)?;
+            let inner = outline_inside(alloc, body, loops, target, bounds)?;
+            bounds.unbind();
+            serial_loop(alloc, head, inner, target)
         }
         Stmt::Block(items) => {
-            let items = outline(alloc, items, loops, target, store)?;
-            Ok(Box::new(alloc, Outline::Block(items))?)
+            let outlines = outline_items(alloc, items, loops, target, bounds)?;
+            Ok(Box::new(alloc, Outline::Block(outlines))?)
         }
-        Stmt::Assign(_, _) | Stmt::Update(_, _, _) | Stmt::Print(_, _) => {
-            outline_serial(alloc, stmt, target, store)
-        }
+        Stmt::Assign(_, _) => Err(Refusal::OutOfMemory),
+        Stmt::Update(_, _, _) => Err(Refusal::OutOfMemory),
+        Stmt::Print(_, _) => Err(Refusal::OutOfMemory),
     }
 }
 
-// The outline of a statement that may stand behind the directive line at this place.
+// The outline of a statement, which may stand behind the directive line at this place.
 #[cycle(making)]
 fn outline_behind<'k>(
     alloc: Global,
@@ -159,21 +178,20 @@ fn outline_behind<'k>(
     directive: Option<Place>,
     loops: &[ParallelLoop],
     target: Target<'_>,
-    store: &Store,
+    bounds: &mut VarBox,
 ) -> Result<Box<Outline<'k>>, Refusal>
-    ensures is { IfOk result (λ o. outlined o.value ≡ stmt_of stmt.now) }
-    ensures stands { IfOk result (λ o. Stands (shape_of store.now) o.value) }
-    ensures fits { IfOk result
-        (λ o. WithLocals target.entry.layout.now target.entry.registers (declared_in (stmt_of stmt.now))
-        (Fits target.entry.layout.now target.entry.registers o.value)) }
+    ensures made { IfOk result (λ o. IsMade target.entry.layout.now target.entry.registers loops.now
+        bounds.old directive (stmt_of stmt.now) o.value) }
+    ensures back { OnOk result (bounds.new ≡ bounds.old) }
     ensures refusal { IfErr result (λ refusal. refusal ≡ OutOfMemory) }
 {
-    if let Some(place) = directive {
-        if let Some(construct) = team_loop(loops, place, stmt, store) {
-            return Ok(Box::new(alloc, Outline::Team(construct))?);
+    match directive {
+        None => outline_inside(alloc, stmt, loops, target, bounds),
+        Some(place) => {
+            let construct = loop_for_team(alloc, loops, place, stmt, target, bounds)?;
+            Ok(Box::new(alloc, Outline::Team(construct))?)
         }
     }
-    outline_inside(alloc, stmt, loops, target, store)
 }
 
 // The outline of a block's item, which may stand behind the directive line at this place.
@@ -184,52 +202,68 @@ fn outline_item<'k>(
     directive: Option<Place>,
     loops: &[ParallelLoop],
     target: Target<'_>,
-    store: &Store,
+    bounds: &mut VarBox,
 ) -> Result<OutlineItem<'k>, Refusal>
-    ensures is { IfOk result (λ o. IsSameItem o item.now) }
-    ensures stands { IfOk result (λ o. ItemStands (shape_of store.now) o) }
-    ensures fits { IfOk result
-        (λ o. WithLocals target.entry.layout.now target.entry.registers
-        (declared_among (with_item item.now no_items))
-        (ItemFits target.entry.layout.now target.entry.registers o)) }
+    ensures made { IfOk result (λ o. IsMadeItem target.entry.layout.now target.entry.registers
+        loops.now bounds.old directive item.now o) }
+    ensures back { OnOk result (bounds.new ≡ bounds.old) }
     ensures refusal { IfErr result (λ refusal. refusal ≡ OutOfMemory) }
 {
     let Item::Statement(stmt) = item else {
         let code = compile_item(alloc, item, target)?;
         return Ok(OutlineItem::Plain(code, item));
     };
-    let inner = outline_behind(alloc, stmt, directive, loops, target, store)?;
+    let inner = outline_behind(alloc, stmt, directive, loops, target, bounds)?;
     Ok(OutlineItem::Statement(inner))
 }
 
-/// The outline of a block's items, as of a kernel's body: each loop behind a directive line that a team can run over these
-/// arrays is lowered, whatever its schedule; all else is compiled for one thread, over registers below that number for the locals.
-///
-/// # Errors
-///
-/// `OutOfMemory` alone.
+// The outlines of a block's items, inside the loops of a box.
 #[cycle(making)]
-pub fn outline<'k>(
+fn outline_items<'k>(
     alloc: Global,
     items: &'k [Item],
     loops: &[ParallelLoop],
     target: Target<'_>,
-    store: &Store,
+    bounds: &mut VarBox,
 ) -> Result<Vec<OutlineItem<'k>>, Refusal>
-    ensures is { IfOk result (λ os. items_outlined os.items ≡ items_of items.now) }
-    ensures stands { IfOk result (λ os. AllStand (shape_of store.now) os.items) }
-    ensures fits { IfOk result
-        (λ os. WithLocals target.entry.layout.now target.entry.registers
-        (declared_among (items_of items.now))
-        (AllFit target.entry.layout.now target.entry.registers os.items)) }
+    ensures made { IfOk result (λ os. AreMade target.entry.layout.now target.entry.registers
+        loops.now bounds.old None items.now os.items) }
+    ensures back { OnOk result (bounds.new ≡ bounds.old) }
     ensures refusal { IfErr result (λ refusal. refusal ≡ OutOfMemory) }
 {
     let mut outlines = Vec::with_capacity(alloc, items.len())?;
     let mut directive = None;
     for item in items {
-        let outline = outline_item(alloc, item, directive, loops, target, store)?;
+        let outline = outline_item(alloc, item, directive, loops, target, bounds)?;
         directive = directive_place(item);
         outlines.push(outline)?;
     }
     Ok(outlines)
+}
+
+/// The outline of a kernel's body: each loop behind a directive line is lowered for a team, whatever its form and its schedule; all else
+/// is compiled for one thread, over registers below that number for the locals.
+///
+/// # Errors
+///
+/// `OutOfMemory` alone. It stands also for a directive line that is none of these loops', or with no nest behind it, and for a loop that is
+/// not canonical: a kernel that is accepted has no such one.
+pub fn outline<'k>(
+    alloc: Global,
+    items: &'k [Item],
+    loops: &[ParallelLoop],
+    target: Target<'_>,
+) -> Result<Vec<OutlineItem<'k>>, Refusal>
+    ensures is { IfOk result
+        (λ os. items_performed [] os.items ≡ apart_items [] (items_of items.now)) }
+    ensures fits { IfOk result
+        (λ os. (text : List ℕ) → AreOfText text loops.now
+        → ItemsHave text CommutesAsNest [] (items_of items.now)
+        → WithLocals target.entry.layout.now target.entry.registers
+        (declared_among (items_of items.now))
+        (AllFit target.entry.layout.now target.entry.registers [] os.items)) }
+    ensures refusal { IfErr result (λ refusal. refusal ≡ OutOfMemory) }
+{
+    let mut bounds = VarBox::new(alloc);
+    outline_items(alloc, items, loops, target, &mut bounds)
 }

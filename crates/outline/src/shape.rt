@@ -1,14 +1,15 @@
 //! What is made of a kernel before it is run.
 
 use ktree::{Cond, Head, Item, Stmt};
-use lower::LoweredLoop;
 use lower_block::Compiled;
 use lower_code::Test;
+use lower_nest::LoweredLoop;
 
-/// A loop that a team runs, with its head as it stands in the text.
-#[derive(Clone, Copy)]
+/// A loop that a team runs: the statement, how many loops of it are associated (OpenMP 5.2, 4.4.3), and what it is lowered to.
+#[derive(Drop)]
 pub struct TeamLoop<'k> {
-    pub head: &'k Head,
+    pub statement: &'k Stmt,
+    pub depth: u64,
     pub lowered: LoweredLoop,
 }
 

@@ -1,12 +1,7 @@
-use Rattle.std.proofs.Common.{take}
-use Rattle.semantics.specs.Meaning.Agrees.{declared_among}
-use Rattle.ktree.specs.View.{items_of}
-use Rattle.outline.specs.Fitting.{shape_of, AllStand}
-use Rattle.outline.specs.Fit.{AllFit, WithLocals}
-use Rattle.outline.proofs.Blocks.{AreSame}
+use Rattle.std.proofs.Common.{◌≡◌}
+use Rattle.outline.proofs.Shaped.{SoFar}
 use Rattle.outline.proofs.making.+making.Given as goal
 
 -- the items so far
-abbrev pub invariant-outline-loop-item : goal.invariant-outline-loop-item
-invariant-outline-loop-item l = AreSame l.outlines.items (take l.item-index l.items) × AllStand (shape_of l.store) l.outlines.items
-    × WithLocals l.target.layout.now l.target.registers (declared_among (items_of (take l.item-index l.items))) (AllFit l.target.layout.now l.target.registers l.outlines.items)
+abbrev pub invariant-outline_items-loop-item : goal.invariant-outline_items-loop-item
+invariant-outline_items-loop-item l = SoFar l.target.layout.now l.target.registers l.loops l.fn.bounds l.items l.item-index l.outlines.items l.directive × (l.bounds ≡ l.fn.bounds)

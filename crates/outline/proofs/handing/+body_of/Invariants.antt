@@ -1,0 +1,4 @@
+use Rattle.outline.proofs.handing.+body_of.Given as goal
+
+abbrev pub decreases-body_of : goal.decreases-body_of
+decreases-body_of l = l.depth

@@ -1,0 +1,79 @@
+-- Outlines that are made of statements inside the loops of a box. (C11 6.8; OpenMP 5.2, 11.5)
+use Rattle.std.specs.Prelude.{ℕ, ◌≡◌, List, [], ◌∷◌, Option, Some, None, string_bytes}
+use Rattle.semantics.specs.Tree
+use Rattle.semantics.specs.Tree.{Stmt}
+use Rattle.semantics.specs.Source.Text.{line_at}
+use Rattle.semantics.specs.Directives.Directive.{Schedule}
+use Rattle.semantics.specs.Meaning.State.{State}
+use Rattle.semantics.specs.Meaning.Agrees.{declared_in, declared_among}
+use Rattle.semantics.specs.Meaning.Runs.{Effect, then_from}
+use Rattle.semantics.specs.Loops.Nest.{Loop}
+use Rattle.ktree.specs.View.{source_of, cond_of, increment_of, stmt_of, with_item}
+use Rattle.ktree.specs.declared.place.Place.{Place}
+use Rattle.ktree.specs.declared.statement.Head.{Head}
+use Rattle.ktree.specs.declared.statement.Item.{Item, Directive, Local, Statement'}
+use Rattle.affine.specs.declared.interval.Interval.{Interval}
+use Rattle.affine.specs.declared.interval.Side.{Side}
+use Rattle.nest_loop.specs.Loops.{inside}
+use Rattle.pragma.specs.Clauses.{ReadsLoop}
+use Rattle.pragma.specs.Parallel.{associated, LoopsHave}
+use Rattle.flow.specs.declared.environment.ParallelLoop.{ParallelLoop}
+use Rattle.law_independence.specs.OrderLaws.{CommutesAsNest}
+use Rattle.law_scopes.specs.Apart.{handed, apart, apart_items, apart_behind}
+use Rattle.lower_code.specs.declared.term.Laid.{Laid}
+use Rattle.lower_code.specs.Meaning.{AreLocals}
+use Rattle.outline.specs.declared.shape.Outline.{Outline}
+use Rattle.outline.specs.declared.shape.OutlineItem.{OutlineItem}
+use Rattle.outline.specs.Given.{IsGiven}
+use Rattle.outline.specs.Fit.{Fits, ItemFits}
+use Rattle.outline.specs.View.{performed, item_performed}
+
+-- where the directive line stands that an item is
+abbrev pub line_of : Item → Option Place
+line_of (Directive place) = Some place
+line_of (Local l) = None
+line_of (Statement' p s) = None
+
+-- the loop with this head and body
+abbrev pub loop_with : Head → Stmt → Stmt
+loop_with head body = Tree.For head.variable.0 (string_bytes head.name) (source_of head.start) (cond_of head.test) (increment_of head.step) body
+
+-- the box inside this loop, whatever numbers its variable has
+abbrev pub IsInside : Head → List Side → List Side → Type 0
+IsInside head box within = (i : Interval) × (within ≡ inside box head.variable.0 i)
+
+-- what a statement does behind such a line or behind none, and what items do
+abbrev pub run_behind : Option Place → List Loop → Stmt → State → Option Effect
+run_behind None serial a = apart serial a
+run_behind (Some line) serial a = handed serial a
+
+abbrev pub items_behind : Option Place → List Loop → Tree.Items → State → Option Effect
+items_behind None serial items = apart_items serial items
+items_behind (Some line) serial items = apart_behind serial items
+
+-- the parallel loops of a statement commute, and behind a line that statement itself does, as many loops of it as the line associates
+abbrev pub CommutesBehind : List ℕ → List Loop → Option Place → Stmt → Type 0
+CommutesBehind text serial None a = LoopsHave text CommutesAsNest serial a
+CommutesBehind text serial (Some line) a = (k : Option Schedule) × (c : Option ℕ) × ReadsLoop (line_at text line.line) k c × CommutesAsNest serial (associated c) a
+
+abbrev pub ItemCommutes : List ℕ → List Loop → Option Place → Item → Type 0
+ItemCommutes text serial d (Directive place) = Unit {0}
+ItemCommutes text serial d (Local l) = Unit {0}
+ItemCommutes text serial d (Statement' p s) = CommutesBehind text serial d (stmt_of s)
+
+-- an outline does what its statement does behind such a line or behind none, and its code fits where the statement is one of an accepted kernel
+pub record IsMade (layout : List Laid) (mark : ℕ) (loops : List ParallelLoop) (box : List Side) (d : Option Place) (a : Stmt) (o : Outline) : Type 0 where
+  pub performs : (serial : List Loop) → performed serial o ≡ run_behind d serial a
+  pub fits : (text : List ℕ) (serial : List Loop) → IsGiven mark text loops serial box → CommutesBehind text serial d a → AreLocals layout mark (declared_in a) → Fits layout mark serial o
+
+-- one of an item does what the item does before others
+pub record IsMadeItem (layout : List Laid) (mark : ℕ) (loops : List ParallelLoop) (box : List Side) (d : Option Place) (item : Item) (o : OutlineItem) : Type 0 where
+  pub performs : (serial : List Loop) (rest : Tree.Items) → items_behind d serial (with_item item rest) ≡ (λ s. then_from s (item_performed serial o s) (items_behind (line_of item) serial rest))
+  pub fits : (text : List ℕ) (serial : List Loop) → IsGiven mark text loops serial box → ItemCommutes text serial d item → AreLocals layout mark (declared_among (with_item item Tree.no_items)) → ItemFits layout mark serial o
+
+-- those of items, the first of which stands behind such a line or behind none
+abbrev pub AreMade : List Laid → ℕ → List ParallelLoop → List Side → Option Place → List Item → List OutlineItem → Type 0
+AreMade layout mark loops box d [] [] = Unit {0}
+AreMade layout mark loops box d [] (o ∷ os) = ⊥
+AreMade layout mark loops box d (i ∷ is) [] = ⊥
+AreMade layout mark loops box d (i ∷ is) (o ∷ os) = IsMadeItem layout mark loops box d i o × AreMade layout mark loops box (line_of i) is os
