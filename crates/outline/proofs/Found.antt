@@ -1,5 +1,5 @@
 -- Directive lines among items, one after another.
-use Rattle.std.specs.Prelude.{ℕ, zero, suc, Bool, true, false, ◌≡◌, ◌+◌, ◌<◌, ◌≤◌, ◌||◌, List, [], ◌∷◌, length, drop}
+use Rattle.std.specs.Prelude.{ℕ, Bool, true, false, ◌≡◌, ◌+◌, ◌<◌, ◌≤◌, ◌||◌, List, length, drop}
 use Rattle.std.proofs.Common.{refl, sym, ap, ◌∙◌, get_or}
 use Rattle.std.proofs.lemmas.List.{drop_all}
 use Rattle.semantics.specs.Tree

@@ -19,21 +19,19 @@ use Rattle.ktree.specs.declared.expression.Cond as trees
 use Rattle.ktree.specs.declared.statement.Head.{Head}
 use Rattle.ktree.specs.declared.statement.Item.{Item, Directive, Local, Statement'}
 use Rattle.ktree.specs.declared.statement.Stmt as statements
-use Rattle.affine.specs.declared.interval.Interval.{Interval}
 use Rattle.affine.specs.declared.interval.Side.{Side}
 use Rattle.affine_expr.specs.Forms.{is_counter}
-use Rattle.nest_loop.specs.Loops.{inside}
 use Rattle.nest_loop.specs.declared.head.Canonical.{Canonical}
 use Rattle.nest_space.specs.Heads.{AreHeadsOf}
 use Rattle.nest.specs.Heads.{head_of}
 use Rattle.nest.specs.Perfect.{AreRectangular}
 use Rattle.pragma.specs.Clauses.{ReadsLoop}
-use Rattle.pragma.specs.Parallel.{associated, LoopsHave, ItemsHave, LineHas}
+use Rattle.pragma.specs.Parallel.{associated, ItemsHave, LineHas}
 use Rattle.pragma.specs.Views.{scheduled}
 use Rattle.pragma.proofs.LoopLaw.{read_once}
 use Rattle.flow.specs.declared.environment.ParallelLoop.{ParallelLoop}
 use Rattle.law_independence.specs.OrderLaws.{AreStepsRead, CommutesAsNest}
-use Rattle.law_scopes.specs.Apart.{apart, apart_items, apart_behind, handed}
+use Rattle.law_scopes.specs.Apart.{apart_items, apart_behind, handed}
 use Rattle.lower_code.specs.declared.term.Laid.{Laid}
 use Rattle.lower_code.specs.declared.term.Test.{Test}
 use Rattle.lower_code.specs.Meaning.{AreLocals, MeansTest}
@@ -44,9 +42,9 @@ use Rattle.outline.specs.declared.shape.LoweredHead.{LoweredHead}
 use Rattle.outline.specs.declared.shape.TeamLoop.{TeamLoop}
 use Rattle.outline.specs.declared.shape.Outline.{Outline, Serial, Team, If, For, Block}
 use Rattle.outline.specs.declared.shape.OutlineItem.{OutlineItem, Plain, Statement}
-use Rattle.outline.specs.Fit.{Fits, ItemFits, AllFit, HeadFits, TeamFits}
+use Rattle.outline.specs.Fit.{AllFit, HeadFits, TeamFits}
 use Rattle.outline.specs.Given.{IsRound, IsGiven}
-use Rattle.outline.specs.Handed.{StandsAt, AreOfText, IsLowered, IsHanded}
+use Rattle.outline.specs.Handed.{AreOfText, IsHanded}
 use Rattle.outline.specs.Lines.{has_line}
 use Rattle.outline.specs.Made.{line_of, loop_with, IsInside, run_behind, items_behind, CommutesBehind, ItemCommutes, IsMade, IsMadeItem, AreMade}
 use Rattle.outline.specs.View.{performed, item_performed, items_performed}

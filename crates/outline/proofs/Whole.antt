@@ -1,10 +1,9 @@
 -- A statement without directive lines is run as it stands.
-use Rattle.std.specs.Prelude.{Bool, true, false, ◌≡◌, ◌||◌, List, [], ◌∷◌, ◌++◌, Option, Some, None}
-use Rattle.std.proofs.Common.{refl, sym, ap, ◌∙◌}
+use Rattle.std.specs.Prelude.{Bool, true, false, ◌≡◌, ◌||◌, List, [], ◌∷◌, ◌++◌, Some}
+use Rattle.std.proofs.Common.{refl}
 use Rattle.semantics.specs.Tree.{Stmt, Assign, Update, If, IfElse, For, Block, Print, Items, no_items, mark, local, stmt}
-use Rattle.semantics.specs.Meaning.State.{State}
 use Rattle.semantics.specs.Meaning.Value.{holds, by_test}
-use Rattle.semantics.specs.Meaning.Runs.{Effect, nothing, then_from, declared, incremented, turns, greatest_trip_count, run, run_items}
+use Rattle.semantics.specs.Meaning.Runs.{nothing, then_from, declared, incremented, turns, greatest_trip_count, run, run_items}
 use Rattle.semantics.specs.Loops.Nest.{Loop}
 use Rattle.law_scopes.specs.Apart.{apart, apart_items}
 use Rattle.outline.specs.Lines.{has_line, has_line_among}

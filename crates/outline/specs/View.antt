@@ -1,5 +1,5 @@
 -- What an outline does inside serial loops: each parallel loop in it is run by a team. (C11 6.8; OpenMP 5.2, 11.5)
-use Rattle.std.specs.Prelude.{List, [], ◌∷◌, ◌++◌, Option, Some, None}
+use Rattle.std.specs.Prelude.{List, [], ◌∷◌, ◌++◌, Option, Some}
 use Rattle.semantics.specs.Tree
 use Rattle.semantics.specs.Meaning.State.{State}
 use Rattle.semantics.specs.Meaning.Value.{holds, by_test}

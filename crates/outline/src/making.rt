@@ -56,12 +56,7 @@ fn outline_serial<'k>(
 }
 
 // Goes into the loop of a head.
-fn go_into(
-    alloc: Global,
-    head: &Head,
-    body: &Stmt,
-    bounds: &mut VarBox,
-) -> Result<(), Refusal>
+fn go_into(alloc: Global, head: &Head, body: &Stmt, bounds: &mut VarBox) -> Result<(), Refusal>
     ensures ok { OnOk result (IsInside head.now bounds.old bounds.new) }
     ensures refusal { IfErr result (λ refusal. refusal ≡ OutOfMemory) }
 {

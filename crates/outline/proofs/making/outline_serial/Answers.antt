@@ -1,4 +1,4 @@
-use Rattle.std.proofs.Common.{◌∙◌, sym, ap, subst}
+use Rattle.std.proofs.Common.{sym, subst}
 use Rattle.std.specs.Prelude.{None}
 use Rattle.ktree.specs.View.{stmt_of}
 use Rattle.outline.specs.Made.{IsMade}
