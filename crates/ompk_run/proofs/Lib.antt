@@ -4,6 +4,9 @@ pub mod Starting
 pub mod Output
 pub mod Written
 pub mod Going
+pub mod Chunks
+pub mod Handing
+pub mod Listed
 pub mod Readied
 pub mod Steps
 pub mod Turns

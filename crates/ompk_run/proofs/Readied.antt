@@ -1,15 +1,14 @@
 -- What a body is made ready from.
-use Rattle.std.proofs.Common.{◌≡◌, ℕ, ◌^◌, ◌<◌, ◌≤◌, List, length, map, refl, sym, ap, ◌∙◌, subst}
-use Rattle.semantics.specs.Tree
+use Rattle.std.proofs.Common.{◌≡◌, ℕ, ◌^◌, ◌<◌, ◌≤◌, List, [], length, refl, sym, ap, ◌∙◌, subst}
 use Rattle.semantics.specs.Meaning.Agrees.{declared_among}
-use Rattle.semantics.specs.Meaning.Runs.{Effect, run_items}
+use Rattle.semantics.specs.Meaning.Runs.{Effect}
 use Rattle.semantics.specs.Meaning.State.{State}
-use Rattle.std.specs.Prelude.{Option, IsSome}
+use Rattle.std.specs.Prelude.{Option}
 use Rattle.ktree.specs.View.{kernel_of, items_of}
 use Rattle.store.specs.Kept.{Kept, state_of}
 use Rattle.store.specs.Flat.{AreFilled, values_of}
 use Rattle.seqrun_io.specs.Lines.{HasLengths}
-use Rattle.seqrun.specs.Ran.{Ran, lengths_of}
+use Rattle.seqrun.specs.Ran.{lengths_of}
 use Rattle.lower_code.specs.declared.term.Laid.{Laid}
 use Rattle.lower_code.specs.Machine.{Fits, machine}
 use Rattle.lower_code.specs.Layout.{IsLaid, shapes_of, shapes_in, cell_at}
@@ -20,7 +19,12 @@ use Rattle.lower_code.proofs.Marks.{locals_between}
 use Rattle.lower_run.specs.Walk.{StandFor, Arrives}
 use Rattle.lower_run.proofs.Numbered.{text_behind}
 use Rattle.outline.specs.declared.shape.OutlineItem.{OutlineItem}
-use Rattle.outline.specs.Fit.{AllFit}
+use Rattle.outline.specs.Fit.{AllFit, WithLocals}
+use Rattle.outline.specs.Handed.{AreOfText}
+use Rattle.pragma.specs.Parallel.{ItemsHave}
+use Rattle.flow.specs.declared.environment.ParallelLoop.{ParallelLoop}
+use Rattle.law_independence.specs.OrderLaws.{CommutesAsNest}
+use Rattle.ktree.specs.declared.statement.Item.{Item}
 use Rattle.deptest.specs.Accepted.{Program, tree_of, IsAccepted}
 use Rattle.ompk_run.specs.Ready.{AreReady}
 
@@ -46,8 +50,16 @@ locals_there : (a : Program) (layout : List Laid) (mark : ℕ) → IsAccepted a 
 locals_there a layout mark is shapes below =
     locals_between layout _ mark (declared_among (items_of a.kernel.body.items)) (as_many layout (tree_of a).variables shapes) (text_behind a.text (kernel_of a.kernel) is.passed.reads) below
 
+-- their code fits, since its parallel loops commute
+pub fitted : (a : Program) (items : List OutlineItem) (layout : List Laid) (mark : ℕ) → IsAccepted a → (body : List Item) (loops : List ParallelLoop) → body ≡ a.kernel.body.items → AreOfText a.text loops
+    → ((text : List ℕ) → AreOfText text loops → ItemsHave text CommutesAsNest [] (items_of body) → WithLocals layout mark (declared_among (items_of body)) (AllFit layout mark [] items))
+    → AreLocals layout mark (declared_among (items_of a.kernel.body.items)) → AllFit layout mark [] items
+fitted a items layout mark is body loops same listed fits =
+    subst (λ is. AreLocals layout mark (declared_among (items_of is)) → AllFit layout mark [] items) same
+    (fits a.text listed (subst (λ is. ItemsHave a.text CommutesAsNest [] (items_of is)) (sym same) is.independent.commute))
+
 pub ready : (a : Program) (items : List OutlineItem) (registers : List ℕ) (ks : List Kept) (layout : List Laid) (mark : ℕ) → IsAccepted a → IsLaid layout → shapes_of layout ≡ shapes_in (tree_of a).variables → HasLengths (tree_of a).variables ks
-    → AreBelow mark (declared_among (items_of a.kernel.body.items)) → (AreLocals layout mark (declared_among (items_of a.kernel.body.items)) → AllFit layout mark items)
+    → AreBelow mark (declared_among (items_of a.kernel.body.items)) → (AreLocals layout mark (declared_among (items_of a.kernel.body.items)) → AllFit layout mark [] items)
     → mark ≤ length registers → Fits (machine registers (values_of ks)) → length (values_of ks) < 2 ^ 64 → AreFilled ks → AreReady items registers ks
 ready a items registers ks layout mark is laid shapes lengths below fit wide fits room all = record {
   layout = layout;

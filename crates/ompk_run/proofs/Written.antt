@@ -1,12 +1,18 @@
 -- What a run leaves and writes.
-use Rattle.std.specs.Prelude.{ℕ, ◌≡◌, List, [], ◌++◌, Option, Some, None, IsSome}
-use Rattle.std.proofs.Common.{refl, sym, ap, ◌∙◌, subst, append-nil, append_assoc}
+use Rattle.std.specs.Prelude.{ℕ, ◌≡◌, List, [], ◌++◌, length, Option, Some, None, IsSome}
+use Rattle.std.proofs.Common.{refl, sym, ap, ◌∙◌, subst, append-nil, append_assoc, arith}
+use Rattle.std.proofs.lemmas.List.{length-map}
+use Rattle.std.proofs.lemmas.Option.{same_Some, slice_get_past}
+use Rattle.semantics.specs.Tree.{Declaration}
 use Rattle.semantics.specs.Meaning.State.{State, overwritten}
 use Rattle.semantics.specs.Meaning.Runs.{Effect, run_items}
 use Rattle.semantics.specs.Meaning.Output.{dump, output}
 use Rattle.semantics.specs.Theorems.{WritesABeginning, WritesAll}
-use Rattle.ktree.specs.View.{items_of}
-use Rattle.store.specs.Kept.{Kept, state_of}
+use Rattle.ktree.specs.View.{kernel_of, items_of}
+use Rattle.law_scopes.specs.Apart.{apart_items}
+use Rattle.law_scopes.specs.Laws.{NoObjectsFrom, LeavesTheSame}
+use Rattle.law_scopes.proofs.Accepted.{accepted_apart}
+use Rattle.store.specs.Kept.{Kept, cell_of, state_of}
 use Rattle.seqrun_value.specs.Standing.{standing}
 use Rattle.seqrun.specs.Ran.{Ran, text_of}
 use Rattle.seqrun_io.specs.Told.{AddsBeginning}
@@ -61,6 +67,55 @@ module _ (a : Program) (input : List ℕ) (ks : List Kept) (is : IsAccepted a) (
       go : (o : Option Effect) → run_items (items_of a.kernel.body.items) outset ≡ o → IsSome o → AddsBeginning before after (text_of o) → WritesABeginning (tree_of a) input before after
       go None q h w = absurd (cc h)
       go (Some e) q h w = begun e q before after (of_front before after e.text (dump (tree_of a).variables (overwritten outset e.writes)) w)
+
+  -- a run of it in which each parallel loop leaves the locals as they were
+  abbrev pub apart : Option Effect
+  apart = apart_items [] (items_of a.kernel.body.items) outset
+
+  none_behind : NoObjectsFrom (length (kernel_of a.kernel).variables) outset
+  none_behind x is le =
+      let count : length ks ≡ length (kernel_of a.kernel).variables =
+      sym (length-map ks (λ (k : Kept). k.lengths)) ∙ ap (λ (l : List (List ℕ)). length l) first.lengths ∙ length-map (kernel_of a.kernel).variables (λ (d : Declaration). d.lengths) in
+      ap (λ k. cell_of k is) (slice_get_past ks x (omega arith))
+
+  -- it leaves what the run leaves
+  same_apart : (e : Effect) → run_items (items_of a.kernel.body.items) outset ≡ Some e → LeavesTheSame outset e apart
+  same_apart e q = accepted_apart a.text (kernel_of a.kernel) outset e is.passed.reads is.passed.in_range is.passed.definite is.independent.commute none_behind q
+
+  pub runs_apart : IsSome apart
+  runs_apart = go (run_items (items_of a.kernel.body.items) outset) refl runs
+    where
+      go : (o : Option Effect) → run_items (items_of a.kernel.body.items) outset ≡ o → IsSome o → IsSome apart
+      go None q h = absurd (cc h)
+      go (Some e) q h = let r = same_apart e q in subst IsSome (sym r.is) refl
+
+  -- one that ends in the body
+  pub apart_written : (before after : List ℕ) → AddsBeginning before after (text_of apart) → WritesABeginning (tree_of a) input before after
+  apart_written before after w = body_written before after (subst (AddsBeginning before after) (go (run_items (items_of a.kernel.body.items) outset) refl runs) w)
+    where
+      go : (o : Option Effect) → run_items (items_of a.kernel.body.items) outset ≡ o → IsSome o → text_of apart ≡ text_of (run_items (items_of a.kernel.body.items) outset)
+      go None q h = absurd (cc h)
+      go (Some e) q h = let r = same_apart e q in ap text_of r.is ∙ r.text ∙ sym (ap text_of q)
+
+  -- and one that is over
+  pub record IsAsRun (s : State) (before middle : List ℕ) : Type 0 where
+    pub state : State
+    pub same : (x : ℕ) (is : List ℕ) → s.cells x is ≡ state.cells x is
+    pub ran : Ran (run_items (items_of a.kernel.body.items) outset) outset state before middle
+
+  pub as_run : (s : State) (before middle : List ℕ) → Ran apart outset s before middle → IsAsRun s before middle
+  as_run s before middle ran = go (run_items (items_of a.kernel.body.items) outset) refl runs
+    where
+      go : (o : Option Effect) → run_items (items_of a.kernel.body.items) outset ≡ o → IsSome o → IsAsRun s before middle
+      go None q h = absurd (cc h)
+      go (Some e) q h =
+          let r = same_apart e q in
+          let same : ran.effect ≡ r.effect = same_Some ran.effect r.effect (sym ran.is ∙ r.is) in
+          record {
+            state = overwritten outset e.writes;
+            same = λ x is. ap (λ (u : State). u.cells x is) (ran.left ∙ ap (λ (f : Effect). overwritten outset f.writes) same) ∙ r.cells x is;
+            ran = record { effect = e; is = q; left = refl; printed = ran.printed ∙ ap (λ (f : Effect). before ++ f.text) same ∙ ap (λ t. before ++ t) r.text };
+          }
 
   -- behind the body
   module _ (s : State) (ks' : List Kept) (same : (x : ℕ) (is : List ℕ) → (state_of ks').cells x is ≡ s.cells x is) (before middle : List ℕ) (ran : Ran (run_items (items_of a.kernel.body.items) outset) outset s before middle) where

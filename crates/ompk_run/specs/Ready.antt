@@ -1,5 +1,5 @@
 -- A body made ready to run from the variables of a store: its code, and registers for its locals.
-use Rattle.std.specs.Prelude.{ℕ, List}
+use Rattle.std.specs.Prelude.{ℕ, List, []}
 use Rattle.store.specs.Kept.{Kept, state_of}
 use Rattle.lower_code.specs.declared.term.Laid.{Laid}
 use Rattle.lower_run.specs.Walk.{StandFor}
@@ -10,5 +10,5 @@ use Rattle.outline.specs.Fit.{AllFit}
 pub record AreReady (items : List OutlineItem) (registers : List ℕ) (ks : List Kept) : Type 0 where
   pub layout : List Laid
   pub mark : ℕ
-  pub fit : AllFit layout mark items
+  pub fit : AllFit layout mark [] items
   pub stand : StandFor layout mark (state_of ks) registers ks

@@ -1,12 +1,12 @@
 //! A kernel's body made ready to run.
 
-ghost use Rattle.std.specs.Prelude.{◌≡◌, IfOk, IfErr};
+ghost use Rattle.std.specs.Prelude.{◌≡◌, [], IfOk, IfErr};
 ghost use Rattle.ktree.specs.View.{items_of};
 ghost use Rattle.ktree.specs.declared.refusal.Refusal.TheVariants.{OutOfMemory};
 ghost use Rattle.seqrun_io.specs.Lines.{HasLengths};
 ghost use Rattle.deptest.specs.Accepted.{tree_of};
-ghost use Rattle.outline.specs.Fitting.{shape_of, AllStand};
-ghost use Rattle.outline.specs.View.{items_outlined};
+ghost use Rattle.law_scopes.specs.Apart.{apart_items};
+ghost use Rattle.outline.specs.View.{items_performed};
 ghost use Rattle.ompk_run.specs.Ready.{AreReady};
 
 use deptest::Checked;
@@ -31,9 +31,8 @@ pub(crate) fn prepare<'k>(
     store: &Store,
 ) -> Result<Prepared<'k>, Refusal>
     requires { HasLengths (tree_of checked.now).variables store.now }
-    ensures is { IfOk result
-        (λ p. items_outlined p.outline.items ≡ items_of checked.now.kernel.body.items) }
-    ensures stands { IfOk result (λ p. AllStand (shape_of store.now) p.outline.items) }
+    ensures is { IfOk result (λ p. items_performed [] p.outline.items
+        ≡ apart_items [] (items_of checked.now.kernel.body.items)) }
     ensures ready { IfOk result (λ p. AreReady p.outline.items p.registers.items store.now) }
     ensures refusal { IfErr result (λ refusal. refusal ≡ OutOfMemory) }
 {
@@ -45,7 +44,7 @@ pub(crate) fn prepare<'k>(
         layout: layout.as_slice(),
         registers: mark,
     };
-    let outline = outline(alloc, body, checked.loops(), target, store)?;
+    let outline = outline(alloc, body, checked.loops(), target)?;
     let registers = zero_registers(alloc, mark, store)?;
     Ok(Prepared { outline, registers })
 }

@@ -20,8 +20,8 @@ use std::thread::Threads;
 use team::Gate;
 
 /// Runs an accepted kernel on an input by a team, and writes what the C program without the directive lines writes
-/// (C11 5.1.2.3, 6): what it prints, and a line for each file-scope variable as it leaves them. Loops behind directive lines
-/// that are handed to the team are run by it, all else by the thread that calls. `sched` stands for `schedule(runtime)` (OpenMP 5.2,
+/// (C11 5.1.2.3, 6): what it prints, and a line for each file-scope variable as it leaves them. Each loop behind a directive line
+/// is run by the team (OpenMP 5.2, 11.5), all else by the thread that calls. `sched` stands for `schedule(runtime)` (OpenMP 5.2,
 /// 11.5.3).
 ///
 /// # Errors

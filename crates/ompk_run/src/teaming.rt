@@ -1,12 +1,12 @@
 //! The loops that a team runs.
 
 ghost use Rattle.std.specs.Prelude.{◌≡◌, ℕ, ◌+◌, ◌<◌, ◌^◌, List, OnOk, IfErr};
-ghost use Rattle.semantics.specs.Tree.{no_items};
-ghost use Rattle.semantics.specs.Meaning.Runs.{run, run_items};
+ghost use Rattle.semantics.specs.Loops.Chunk.{IsSized};
+ghost use Rattle.semantics.specs.Loops.Nest.{Loop};
 ghost use Rattle.ktree.specs.declared.refusal.Refusal.TheVariants.{OutOfMemory};
-ghost use Rattle.outline.specs.Fitting.{Reaches, Stands, ItemStands, AllStand};
+ghost use Rattle.schedule.specs.Sched.{kind_of, kind_said};
 ghost use Rattle.outline.specs.Fit.{Fits, ItemFits, AllFit};
-ghost use Rattle.outline.specs.View.{outlined, with_outlined, items_outlined};
+ghost use Rattle.outline.specs.View.{performed, item_performed, items_performed};
 ghost use Rattle.outline.specs.declared.shape.Outline.TheVariants.{Team};
 ghost use Rattle.seqrun_io.specs.Told.{Refuses};
 ghost use Rattle.seqrun.specs.Ran.{lengths_of};
@@ -15,19 +15,20 @@ ghost use Rattle.lower_code.specs.declared.term.Laid.{Laid};
 ghost use Rattle.lower_code.specs.Machine.{machine, truth};
 ghost use Rattle.lower_run.specs.Walk.{Walks, Begins, stage};
 
-use ktree::{Refusal, Workers};
+use ktree::{Refusal, Schedule, Workers};
 use lower_code::{Test, truth};
-use lower_run::{perform, set_register};
-use outline::{Outline, OutlineItem, TeamLoop, confirm_fits};
-use schedule::Sched;
+use lower_run::{confirm_words, perform};
+use outline::{Outline, OutlineItem, TeamLoop};
+use schedule::{Sched, sched_of};
 use seqrun_io::Sink;
 use std::alloc::Global;
 use std::sync::Wait;
 use std::thread::Threads;
 use store::Store;
-use team::{Gate, run_loop};
+use team::Gate;
+use team_nest::run_loop;
 
-// A team of so many workers for each loop that is handed to it; the gate is told of the chunks that they take.
+// A team of so many workers for each parallel loop; the gate is told of the chunks that they take.
 #[derive(Drop)]
 pub(crate) struct Teaming<'r, R: Threads + Wait + Sync, G: Gate> {
     pub(crate) rt: &'r R,
@@ -44,38 +45,59 @@ fn holds(test: &Test, registers: &Vec<u64>, store: &Store) -> bool
     truth(test, registers.as_slice(), store.cells())
 }
 
-// Runs a loop by the team.
+// Chunks of this schedule hold iterations.
+fn are_sized(sched: &Sched)
+    ensures { IsSized (kind_of sched.now) }
+{
+    match sched {
+        Sched::PlainStatic => {}
+        Sched::Static(size) | Sched::Dynamic(size) | Sched::Guided(size) => {
+            let _iterations = size.get();
+        }
+    }
+}
+
+// So do those of a loop, and there are workers for them.
+fn confirm_cut(clause: Option<Schedule>, runtime: Sched, workers: Workers)
+    ensures sized { IsSized (kind_said clause runtime) }
+    ensures some { 0 < workers }
+{
+    let sched = sched_of(clause, runtime);
+    are_sized(&sched);
+    let _count = workers.get();
+}
+
+// Runs a loop by the team (OpenMP 5.2, 11.5).
 fn run_team_loop<R: Threads + Wait + Sync, G: Gate>(
     construct: &TeamLoop<'_>,
     team: &Teaming<'_, R, G>,
-    registers: &mut Vec<u64>,
+    registers: &Vec<u64>,
     store: &mut Store,
 ) -> Result<(), Refusal>
-    requires stands { Reaches construct.now.lowered (lengths_of store.old) }
-    ensures ran { OnOk result ((layout : List Laid) (mark : ℕ) (text : List ℕ)
-        → Fits layout mark (Team construct.now)
-        → Walks layout mark (run (outlined (Team construct.now)))
-        (stage registers.old.items store.old text) (stage registers.new.items store.new text)) }
+    ensures ran { OnOk result ((layout : List Laid) (mark : ℕ) (serial : List Loop) (text : List ℕ)
+        → Fits layout mark serial (Team construct.now)
+        → Walks layout mark (performed serial (Team construct.now))
+        (stage registers.now.items store.old text) (stage registers.now.items store.new text)) }
     ensures refusal { IfErr result (λ refusal. refusal ≡ OutOfMemory) }
     ensures shape { lengths_of store.new ≡ lengths_of store.old }
 {
-    let lowered = construct.lowered;
-    confirm_fits(&lowered, store);
-    let _cells = store.cells();
+    let lowered = &construct.lowered;
     run_loop(
         team.rt,
         team.alloc,
-        &lowered,
+        lowered,
+        registers.as_slice(),
         store,
         team.workers,
         team.sched,
         team.gate,
     )?;
-    set_register(registers, store, lowered.counter, lowered.bound);
+    confirm_words(registers.as_slice(), store);
+    confirm_cut(lowered.schedule, team.sched, team.workers);
     Ok(())
 }
 
-// Runs a statement, the loops in it that are handed to the team by it (C11 6.8; OpenMP 5.2, 11.5).
+// Runs a statement, each parallel loop in it by the team (C11 6.8; OpenMP 5.2, 11.5).
 #[cycle(teaming)]
 fn team_statement<R: Threads + Wait + Sync, G: Gate, S: Sink>(
     outline: &Outline<'_>,
@@ -85,13 +107,12 @@ fn team_statement<R: Threads + Wait + Sync, G: Gate, S: Sink>(
     sink: &mut S,
 ) -> Result<(), Refusal>
     requires room { S.failed sink.old + 1 < 2 ^ 64 }
-    requires stands { Stands (lengths_of store.old) outline.now }
-    ensures ran { OnOk result ((layout : List Laid) (mark : ℕ) → Fits layout mark outline.now
-        → Walks layout mark (run (outlined outline.now))
+    ensures ran { OnOk result ((layout : List Laid) (mark : ℕ) (serial : List Loop)
+        → Fits layout mark serial outline.now → Walks layout mark (performed serial outline.now)
         (stage registers.old.items store.old (S.told sink.old))
         (stage registers.new.items store.new (S.told sink.new))) }
-    ensures beginning { (layout : List Laid) (mark : ℕ) → Fits layout mark outline.now
-        → Begins layout mark (run (outlined outline.now))
+    ensures beginning { (layout : List Laid) (mark : ℕ) (serial : List Loop)
+        → Fits layout mark serial outline.now → Begins layout mark (performed serial outline.now)
         (stage registers.old.items store.old (S.told sink.old)) (S.told sink.new) }
     ensures sound { OnOk result (S.failed sink.new ≡ S.failed sink.old) }
     ensures refusal { IfErr result (Refuses (S.failed sink.old) (S.failed sink.new)) }
@@ -124,7 +145,7 @@ fn team_statement<R: Threads + Wait + Sync, G: Gate, S: Sink>(
     }
 }
 
-// Runs the items of a block in their order, the loops that are handed to the team by it (C11 6.8.2).
+// Runs the items of a block in their order (C11 6.8.2).
 #[cycle(teaming)]
 pub(crate) fn team_block<R: Threads + Wait + Sync, G: Gate, S: Sink>(
     items: &[OutlineItem<'_>],
@@ -134,13 +155,14 @@ pub(crate) fn team_block<R: Threads + Wait + Sync, G: Gate, S: Sink>(
     sink: &mut S,
 ) -> Result<(), Refusal>
     requires room { S.failed sink.old + 1 < 2 ^ 64 }
-    requires stands { AllStand (lengths_of store.old) items.now }
-    ensures ran { OnOk result ((layout : List Laid) (mark : ℕ) → AllFit layout mark items.now
-        → Walks layout mark (run_items (items_outlined items.now))
+    ensures ran { OnOk result ((layout : List Laid) (mark : ℕ) (serial : List Loop)
+        → AllFit layout mark serial items.now
+        → Walks layout mark (items_performed serial items.now)
         (stage registers.old.items store.old (S.told sink.old))
         (stage registers.new.items store.new (S.told sink.new))) }
-    ensures beginning { (layout : List Laid) (mark : ℕ) → AllFit layout mark items.now
-        → Begins layout mark (run_items (items_outlined items.now))
+    ensures beginning { (layout : List Laid) (mark : ℕ) (serial : List Loop)
+        → AllFit layout mark serial items.now
+        → Begins layout mark (items_performed serial items.now)
         (stage registers.old.items store.old (S.told sink.old)) (S.told sink.new) }
     ensures sound { OnOk result (S.failed sink.new ≡ S.failed sink.old) }
     ensures refusal { IfErr result (Refuses (S.failed sink.old) (S.failed sink.new)) }
@@ -162,13 +184,14 @@ fn team_item<R: Threads + Wait + Sync, G: Gate, S: Sink>(
     sink: &mut S,
 ) -> Result<(), Refusal>
     requires room { S.failed sink.old + 1 < 2 ^ 64 }
-    requires stands { ItemStands (lengths_of store.old) item.now }
-    ensures ran { OnOk result ((layout : List Laid) (mark : ℕ) → ItemFits layout mark item.now
-        → Walks layout mark (run_items (with_outlined item.now no_items))
+    ensures ran { OnOk result ((layout : List Laid) (mark : ℕ) (serial : List Loop)
+        → ItemFits layout mark serial item.now
+        → Walks layout mark (item_performed serial item.now)
         (stage registers.old.items store.old (S.told sink.old))
         (stage registers.new.items store.new (S.told sink.new))) }
-    ensures beginning { (layout : List Laid) (mark : ℕ) → ItemFits layout mark item.now
-        → Begins layout mark (run_items (with_outlined item.now no_items))
+    ensures beginning { (layout : List Laid) (mark : ℕ) (serial : List Loop)
+        → ItemFits layout mark serial item.now
+        → Begins layout mark (item_performed serial item.now)
         (stage registers.old.items store.old (S.told sink.old)) (S.told sink.new) }
     ensures sound { OnOk result (S.failed sink.new ≡ S.failed sink.old) }
     ensures refusal { IfErr result (Refuses (S.failed sink.old) (S.failed sink.new)) }

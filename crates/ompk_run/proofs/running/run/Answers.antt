@@ -1,17 +1,19 @@
-use Rattle.std.proofs.Common.{◌≡◌, ◌++◌, IsSome, sym, ap, ◌∙◌, subst}
+use Rattle.std.proofs.Common.{◌≡◌, ◌++◌, [], Option, IsSome, sym, ap, ◌∙◌, subst}
 use Rattle.std.proofs.lemmas.Result.{on_ok_weaker}
 use Rattle.semantics.specs.Meaning.Output.{dump}
-use Rattle.semantics.specs.Meaning.Runs.{run_items}
+use Rattle.semantics.specs.Meaning.State.{State}
+use Rattle.semantics.specs.Meaning.Runs.{Effect}
 use Rattle.ktree.specs.View.{items_of}
+use Rattle.law_scopes.specs.Apart.{apart_items}
 use Rattle.outline.specs.Fit.{AllFit}
-use Rattle.outline.specs.View.{items_outlined}
+use Rattle.outline.specs.View.{items_performed}
 use Rattle.store.specs.Kept.{state_of}
 use Rattle.seqrun.specs.Ran.{Ran, text_of}
 use Rattle.seqrun_io.specs.Told.{AddsBeginning}
 use Rattle.seqrun_io.specs.Reading.{AreVariables, IsStart}
 use Rattle.ompk_run.proofs.Output.{named}
 use Rattle.ompk_run.proofs.Readied.{cells_of_end}
-use Rattle.ompk_run.proofs.Written.{nothing_written, runs, body_written, dump_written, all_written}
+use Rattle.ompk_run.proofs.Written.{nothing_written, runs_apart, apart_written, as_run, dump_written, all_written}
 use Rattle.ompk_run.proofs.running.run.Goals as goal
 
 pub input-requires-clause-named : goal.input-requires-clause-named
@@ -35,11 +37,11 @@ returns-in_err-team_block-clause-beginning g c =
     let sound = c.declarations-declarations.ensures.sound in
     let first = subst (λ ds. IsStart ds c.args.input.now ks) c.declarations-declarations.ensures.variables c.in_ok-store.ensures.start in
     let ready = c.in_ok-outline.ensures.ready in
-    let body : items_outlined c.deref.result.now ≡ items_of a.kernel.body.items = ap items_outlined c.deref.ensures.value ∙ c.in_ok-outline.ensures.is in
-    let fit = subst (AllFit ready.layout ready.mark) (sym c.deref.ensures.value) ready.fit in
-    let some = subst (λ is. IsSome (run_items is (state_of ks))) (sym body) (runs a c.args.input.now ks sound first) in
-    body_written a c.args.input.now ks sound first (g.S.Sink.told c.args.sink.now) (g.S.Sink.told c.team_block.new.sink)
-    (subst (λ is. AddsBeginning (g.S.Sink.told c.args.sink.now) (g.S.Sink.told c.team_block.new.sink) (text_of (run_items is (state_of ks)))) body (c.in_err-team_block.ensures.beginning ready.layout ready.mark fit (state_of ks) ready.stand some))
+    let body : items_performed [] c.deref.result.now ≡ apart_items [] (items_of a.kernel.body.items) = ap (items_performed []) c.deref.ensures.value ∙ c.in_ok-outline.ensures.is in
+    let fit = subst (AllFit ready.layout ready.mark []) (sym c.deref.ensures.value) ready.fit in
+    let some = subst (λ (f : State → Option Effect). IsSome (f (state_of ks))) (sym body) (runs_apart a c.args.input.now ks sound first) in
+    apart_written a c.args.input.now ks sound first (g.S.Sink.told c.args.sink.now) (g.S.Sink.told c.team_block.new.sink)
+    (subst (λ (f : State → Option Effect). AddsBeginning (g.S.Sink.told c.args.sink.now) (g.S.Sink.told c.team_block.new.sink) (text_of (f (state_of ks)))) body (c.in_err-team_block.ensures.beginning ready.layout ready.mark [] fit (state_of ks) ready.stand some))
 
 pub returns-clause-all : goal.returns-clause-all
 returns-clause-all g c =
@@ -48,14 +50,15 @@ returns-clause-all g c =
     let sound = c.declarations-declarations.ensures.sound in
     let first = subst (λ ds. IsStart ds c.args.input.now ks) c.declarations-declarations.ensures.variables c.in_ok-store.ensures.start in
     let ready = c.in_ok-outline.ensures.ready in
-    let body : items_outlined c.deref.result.now ≡ items_of a.kernel.body.items = ap items_outlined c.deref.ensures.value ∙ c.in_ok-outline.ensures.is in
-    let fit = subst (AllFit ready.layout ready.mark) (sym c.deref.ensures.value) ready.fit in
-    let some = subst (λ is. IsSome (run_items is (state_of ks))) (sym body) (runs a c.args.input.now ks sound first) in
-    let walked = c.in_ok-team_block.ensures.ran ready.layout ready.mark fit (state_of ks) ready.stand some in
-    let ran = subst (λ is. Ran (run_items is (state_of ks)) (state_of ks) walked.state (g.S.Sink.told c.args.sink.now) (g.S.Sink.told c.team_block.new.sink)) body walked.ran in
-    let cells = cells_of_end ready.layout ready.mark (run_items (items_outlined c.deref.result.now) (state_of ks)) (state_of ks) c.team_block.new.registers.items c.team_block.new.store (g.S.Sink.told c.args.sink.now) (g.S.Sink.told c.team_block.new.sink) c.cells-cells.ensures.filled walked in
+    let body : items_performed [] c.deref.result.now ≡ apart_items [] (items_of a.kernel.body.items) = ap (items_performed []) c.deref.ensures.value ∙ c.in_ok-outline.ensures.is in
+    let fit = subst (AllFit ready.layout ready.mark []) (sym c.deref.ensures.value) ready.fit in
+    let some = subst (λ (f : State → Option Effect). IsSome (f (state_of ks))) (sym body) (runs_apart a c.args.input.now ks sound first) in
+    let walked = c.in_ok-team_block.ensures.ran ready.layout ready.mark [] fit (state_of ks) ready.stand some in
+    let ran = subst (λ (f : State → Option Effect). Ran (f (state_of ks)) (state_of ks) walked.state (g.S.Sink.told c.args.sink.now) (g.S.Sink.told c.team_block.new.sink)) body walked.ran in
+    let run = as_run a c.args.input.now ks sound first walked.state (g.S.Sink.told c.args.sink.now) (g.S.Sink.told c.team_block.new.sink) ran in
+    let cells = cells_of_end ready.layout ready.mark (items_performed [] c.deref.result.now (state_of ks)) (state_of ks) c.team_block.new.registers.items c.team_block.new.store (g.S.Sink.told c.args.sink.now) (g.S.Sink.told c.team_block.new.sink) c.cells-cells.ensures.filled walked in
     on_ok_weaker c.dump.result
-    (λ e. all_written a c.args.input.now ks sound first walked.state c.team_block.new.store cells (g.S.Sink.told c.args.sink.now) (g.S.Sink.told c.team_block.new.sink) ran (g.S.Sink.told c.dump.new.sink)
+    (λ e. all_written a c.args.input.now ks sound first run.state c.team_block.new.store (λ x is. cells x is ∙ run.same x is) (g.S.Sink.told c.args.sink.now) (g.S.Sink.told c.team_block.new.sink) run.ran (g.S.Sink.told c.dump.new.sink)
     (subst (λ ds. g.S.Sink.told c.dump.new.sink ≡ g.S.Sink.told c.team_block.new.sink ++ dump ds (state_of c.team_block.new.store)) c.declarations-declarations.ensures.variables e))
     c.dump.ensures.all
 
@@ -66,11 +69,12 @@ returns-clause-beginning g c =
     let sound = c.declarations-declarations.ensures.sound in
     let first = subst (λ ds. IsStart ds c.args.input.now ks) c.declarations-declarations.ensures.variables c.in_ok-store.ensures.start in
     let ready = c.in_ok-outline.ensures.ready in
-    let body : items_outlined c.deref.result.now ≡ items_of a.kernel.body.items = ap items_outlined c.deref.ensures.value ∙ c.in_ok-outline.ensures.is in
-    let fit = subst (AllFit ready.layout ready.mark) (sym c.deref.ensures.value) ready.fit in
-    let some = subst (λ is. IsSome (run_items is (state_of ks))) (sym body) (runs a c.args.input.now ks sound first) in
-    let walked = c.in_ok-team_block.ensures.ran ready.layout ready.mark fit (state_of ks) ready.stand some in
-    let ran = subst (λ is. Ran (run_items is (state_of ks)) (state_of ks) walked.state (g.S.Sink.told c.args.sink.now) (g.S.Sink.told c.team_block.new.sink)) body walked.ran in
-    let cells = cells_of_end ready.layout ready.mark (run_items (items_outlined c.deref.result.now) (state_of ks)) (state_of ks) c.team_block.new.registers.items c.team_block.new.store (g.S.Sink.told c.args.sink.now) (g.S.Sink.told c.team_block.new.sink) c.cells-cells.ensures.filled walked in
-    dump_written a c.args.input.now ks sound first walked.state c.team_block.new.store cells (g.S.Sink.told c.args.sink.now) (g.S.Sink.told c.team_block.new.sink) ran (g.S.Sink.told c.dump.new.sink)
+    let body : items_performed [] c.deref.result.now ≡ apart_items [] (items_of a.kernel.body.items) = ap (items_performed []) c.deref.ensures.value ∙ c.in_ok-outline.ensures.is in
+    let fit = subst (AllFit ready.layout ready.mark []) (sym c.deref.ensures.value) ready.fit in
+    let some = subst (λ (f : State → Option Effect). IsSome (f (state_of ks))) (sym body) (runs_apart a c.args.input.now ks sound first) in
+    let walked = c.in_ok-team_block.ensures.ran ready.layout ready.mark [] fit (state_of ks) ready.stand some in
+    let ran = subst (λ (f : State → Option Effect). Ran (f (state_of ks)) (state_of ks) walked.state (g.S.Sink.told c.args.sink.now) (g.S.Sink.told c.team_block.new.sink)) body walked.ran in
+    let run = as_run a c.args.input.now ks sound first walked.state (g.S.Sink.told c.args.sink.now) (g.S.Sink.told c.team_block.new.sink) ran in
+    let cells = cells_of_end ready.layout ready.mark (items_performed [] c.deref.result.now (state_of ks)) (state_of ks) c.team_block.new.registers.items c.team_block.new.store (g.S.Sink.told c.args.sink.now) (g.S.Sink.told c.team_block.new.sink) c.cells-cells.ensures.filled walked in
+    dump_written a c.args.input.now ks sound first run.state c.team_block.new.store (λ x is. cells x is ∙ run.same x is) (g.S.Sink.told c.args.sink.now) (g.S.Sink.told c.team_block.new.sink) run.ran (g.S.Sink.told c.dump.new.sink)
     (subst (λ ds. AddsBeginning (g.S.Sink.told c.team_block.new.sink) (g.S.Sink.told c.dump.new.sink) (dump ds (state_of c.team_block.new.store))) c.declarations-declarations.ensures.variables c.dump.ensures.beginning)

@@ -1,20 +1,14 @@
-use Rattle.std.proofs.Common.{◌+◌, drop, refl, ◌∙◌, sym, subst, arith}
+use Rattle.std.proofs.Common.{drop, refl, ◌∙◌, arith}
 use Rattle.std.proofs.lemmas.Result.{on_ok_weaker}
-use Rattle.semantics.specs.Meaning.Runs.{run, run_items}
-use Rattle.outline.specs.Fitting.{Stands, AllStand}
-use Rattle.outline.specs.View.{outlined, items_outlined}
-use Rattle.outline.proofs.Blocks.{items_stand}
-use Rattle.seqrun.specs.Ran.{lengths_of}
 use Rattle.lower_run.specs.Walk.{stage}
-use Rattle.ompk_run.proofs.Going.{item_stands}
 use Rattle.ompk_run.proofs.Steps.{comes, comes_stops}
-use Rattle.ompk_run.proofs.Turns.{OfItems, item_walked, item_begun, items_end, block_walked, block_begun, loop_entered, entry_begun, turns_stop, turns_end, turns_done, first_walked, first_begun, second_walked, second_begun, nothing_walked, statement_walked, body_walked, body_begun, step_walked, step_begun}
+use Rattle.ompk_run.proofs.Turns.{OfItems, items_step, item_walked, item_begun, items_end, block_walked, block_begun, loop_entered, entry_begun, turns_stop, turns_end, turns_done, first_walked, first_begun, second_walked, second_begun, nothing_walked, body_walked, body_begun, step_walked, step_begun}
 use Rattle.ompk_run.proofs.teaming.+teaming.Goals as goal
 
 pub team_block-loop-item-init : goal.team_block-loop-item-init
 team_block-loop-item-init g t c =
     let start = stage c.args.registers.now.items c.args.store.now (g.S.Sink.told c.args.sink.now) in
-    (comes (OfItems c.args.items.now) (run_items (items_outlined c.args.items.now)) start, refl, refl)
+    (comes (OfItems c.args.items.now) (items_step c.args.items.now) start, refl, refl)
 
 pub team_block-team_item-requires-clause-room : goal.team_block-team_item-requires-clause-room
 team_block-team_item-requires-clause-room g t c κs within = rw c.loop-item.invariant.1 c.requires.room
@@ -35,17 +29,6 @@ team_block-loop-item-preserved g t c =
       c.in_ok-team_item.ensures.shape ∙ c.loop-item.invariant.2,
     )
 
-pub team_block-team_item-requires-clause-stands : goal.team_block-team_item-requires-clause-stands
-team_block-team_item-requires-clause-stands g t c κs within =
-    item_stands (lengths_of c.loop-item.store) c.args.items.now c.loop-item.item-index c.item-item.result c.loop-item-test.true c.item-item.is
-    (subst (λ shape. AllStand shape c.args.items.now) (sym c.loop-item.invariant.2) c.requires.stands)
-
-pub team_statement-team_block-requires-clause-stands : goal.team_statement-team_block-requires-clause-stands
-team_statement-team_block-requires-clause-stands g t c κs within =
-    let shape = lengths_of c.args.store.now in
-    let h = subst (Stands shape) c.in-Block.is c.requires.stands in
-    rw c.deref-in-Block.ensures.value (items_stand shape c.in-Block.items h)
-
 pub team_block-returns-clause-ran : goal.team_block-returns-clause-ran
 team_block-returns-clause-ran g t c =
     let start = stage c.args.registers.now.items c.args.store.now (g.S.Sink.told c.args.sink.now) in
@@ -56,7 +39,7 @@ pub team_block-returns-clause-beginning : goal.team_block-returns-clause-beginni
 team_block-returns-clause-beginning g t c =
     let start = stage c.args.registers.now.items c.args.store.now (g.S.Sink.told c.args.sink.now) in
     let here = stage c.loop-item.registers.items c.loop-item.store (g.S.Sink.told c.loop-item.sink) in
-    comes_stops (OfItems c.args.items.now) (run_items (items_outlined c.args.items.now)) (run_items (items_outlined (drop c.loop-item.item-index c.args.items.now))) start here c.loop-item.invariant.0
+    comes_stops (OfItems c.args.items.now) (items_step c.args.items.now) (items_step (drop c.loop-item.item-index c.args.items.now)) start here c.loop-item.invariant.0
 
 pub team_statement-returns-in_err-perform-in-For-clause-beginning : goal.team_statement-returns-in_err-perform-in-For-clause-beginning
 team_statement-returns-in_err-perform-in-For-clause-beginning g t c =
@@ -159,26 +142,20 @@ team_statement-returns-in_default-clause-ran g t c =
 
 pub team_statement-returns-in-Serial-clause-ran : goal.team_statement-returns-in-Serial-clause-ran
 team_statement-returns-in-Serial-clause-ran g t c =
-    rw c.in-Serial.is (on_ok_weaker c.perform.result (λ walked layout mark fits. walked layout mark _ fits) c.perform.ensures.ran)
+    rw c.in-Serial.is (on_ok_weaker c.perform.result (λ walked layout mark serial fits. walked layout mark _ fits) c.perform.ensures.ran)
 
 pub team_statement-returns-in-Serial-clause-beginning : goal.team_statement-returns-in-Serial-clause-beginning
 team_statement-returns-in-Serial-clause-beginning g t c =
-    rw c.in-Serial.is (λ layout mark fits. c.perform.ensures.beginning layout mark _ fits)
+    rw c.in-Serial.is (λ layout mark serial fits. c.perform.ensures.beginning layout mark _ fits)
 
 pub team_statement-returns-in-Team-clause-ran : goal.team_statement-returns-in-Team-clause-ran
 team_statement-returns-in-Team-clause-ran g t c =
-    rw c.in-Team.is (on_ok_weaker c.run_team_loop.result (λ walked layout mark fits. walked layout mark (g.S.Sink.told c.args.sink.now) fits) c.run_team_loop.ensures.ran)
+    rw c.in-Team.is (on_ok_weaker c.run_team_loop.result (λ walked layout mark serial fits. walked layout mark serial (g.S.Sink.told c.args.sink.now) fits) c.run_team_loop.ensures.ran)
 
 pub team_item-returns-in-Plain-clause-ran : goal.team_item-returns-in-Plain-clause-ran
 team_item-returns-in-Plain-clause-ran g t c =
-    rw c.in-Plain.is (on_ok_weaker c.perform.result (λ walked layout mark fits. walked layout mark _ fits) c.perform.ensures.ran)
+    rw c.in-Plain.is (on_ok_weaker c.perform.result (λ walked layout mark serial fits. walked layout mark _ fits) c.perform.ensures.ran)
 
 pub team_item-returns-in-Plain-clause-beginning : goal.team_item-returns-in-Plain-clause-beginning
 team_item-returns-in-Plain-clause-beginning g t c =
-    rw c.in-Plain.is (λ layout mark fits. c.perform.ensures.beginning layout mark _ fits)
-
-pub team_item-returns-in-Statement-clause-ran : goal.team_item-returns-in-Statement-clause-ran
-team_item-returns-in-Statement-clause-ran g t c =
-    let start = stage c.args.registers.now.items c.args.store.now (g.S.Sink.told c.args.sink.now) in
-    let there = stage c.team_statement.new.registers.items c.team_statement.new.store (g.S.Sink.told c.team_statement.new.sink) in
-    rw c.in-Statement.is (on_ok_weaker c.team_statement.result (λ walked. statement_walked c.in-Statement.inner start there walked) (rw c.deref.ensures at c.team_statement.ensures.ran))
+    rw c.in-Plain.is (λ layout mark serial fits. c.perform.ensures.beginning layout mark _ fits)

@@ -1,22 +1,18 @@
-use Rattle.std.proofs.Common.{◌<◌, ◌≤◌, ◌^◌, IsSome, string_bytes, subst, arith}
-use Rattle.semantics.specs.Meaning.Runs.{run}
-use Rattle.outline.specs.View.{outlined}
-use Rattle.outline.specs.declared.shape.Outline.TheVariants.{Team}
-use Rattle.outline.proofs.Shown.{run_shows}
-use Rattle.store.specs.Kept.{state_with}
-use Rattle.lower_run.proofs.Looping.{state_is, loop_arrives}
+use Rattle.std.proofs.Common.{subst}
+use Rattle.schedule.specs.Sched.{kind_said}
+use Rattle.team_nest.specs.Together.{LeavesTogether}
+use Rattle.lower_code.specs.Machine.{Fits, machine}
+use Rattle.store.specs.Flat.{values_of}
+use Rattle.ompk_run.proofs.Handing.{loop_arrives}
 use Rattle.ompk_run.proofs.teaming.run_team_loop.Goals as goal
 
 pub returns-clause-ran : goal.returns-clause-ran
-returns-clause-ran g c layout mark text locals s stand some =
-    let l = c.args.construct.now.lowered in
-    let name = string_bytes c.args.construct.now.head.now.name in
+returns-clause-ran g c layout mark serial text fits s stand some =
+    let l = c.args.construct.now in
     let ks = c.args.store.now in
+    let ks' = c.run_loop.new.store in
     let rs = c.args.registers.now.items in
-    let all = c.cells-cells.ensures.filled in
-    let same = state_is layout mark s rs ks stand all in
-    let runs = subst (λ u. IsSome (run (outlined (Team c.args.construct.now)) u)) same some in
-    let done = c.in_ok-run_loop.ensures.ends name s.locals (run_shows l (state_with ks s.locals) name c.requires.stands.some runs) in
-    let few : l.bound ≤ 2 ^ 24 = c.requires.stands.few in
-    let small : l.bound < 2 ^ 64 = omega arith in
-    loop_arrives layout mark s rs ks stand all c.set_register.new.registers.items c.run_loop.new.store c.set_register.ensures.filled c.in_ok-run_loop.ensures.shape l.counter.0 l.bound locals small c.set_register.ensures.set c.set_register.ensures.words c.set_register.ensures.room (run (outlined (Team c.args.construct.now))) done.writes text done.runs done.left
+    let kind = kind_said l.lowered.schedule c.args.team.now.sched in
+    let leaves = subst (λ r. LeavesTogether l.lowered r ks ks' kind c.args.team.now.workers) c.as_slice.ensures.value c.in_ok-run_loop.ensures.leaves in
+    let words = subst (λ r. Fits (machine r (values_of ks'))) c.as_slice-2.ensures.value c.confirm_words.ensures.words in
+    loop_arrives layout mark s rs ks stand serial l fits kind c.args.team.now.workers c.confirm_cut.ensures.sized c.confirm_cut.ensures.some ks' leaves c.run_loop.ensures.shape words c.confirm_words.ensures.room text some
