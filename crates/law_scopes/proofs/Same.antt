@@ -127,7 +127,7 @@ module _ (V : Variable → Bool) (s t : State) (h : Agree V s t) where
         let two = holds_alike d (second_of (names_cond V c) (names_cond V d) k) in
         λ i. by_test (one i) (Some true) (two i)
 
-  source_alike : (e : Source) → names_source V e ≡ true → source_value s e ≡ source_value t e
+  pub source_alike : (e : Source) → names_source V e ≡ true → source_value s e ≡ source_value t e
   source_alike (Number e) k = value_alike e k
   source_alike (Truth c) k = ap (map_option (λ b. cond b 1 0)) (holds_alike c k)
 
@@ -168,7 +168,7 @@ module _ (V : Variable → Bool) (s t : State) (h : Agree V s t) where
       at true = both_some (Agree V) s t (one_write (Assigned x ks n)) (assigned_agree x ks n v)
       at false = both_none (Agree V) s t
 
-  declares_both : (x : Variable) (o : Option ℕ) → Both (Agree (also V x)) s t (declares x o) (declares x o)
+  pub declares_both : (x : Variable) (o : Option ℕ) → Both (Agree (also V x)) s t (declares x o) (declares x o)
   declares_both x None = both_none (Agree (also V x)) s t
   declares_both x (Some n) = both_some (Agree (also V x)) s t (one_write (Declared x (Some n))) (declared_agree x (Holds n))
 
@@ -186,7 +186,7 @@ module _ (V : Variable → Bool) (s t : State) (h : Agree V s t) where
       let two = value_alike e m in
       put_both x (values s is) (values t is) _ _ v places (λ i. both_then (operate op) (one i) (two i))
 
-  incremented_both : (step : Increment) → names_step V step ≡ true → Both (Agree V) s t (incremented s step) (incremented t step)
+  pub incremented_both : (step : Increment) → names_step V step ≡ true → Both (Agree V) s t (incremented s step) (incremented t step)
   incremented_both (Up x) k = updated_both x no_exprs Plus (Literal 1 Bare) k refl refl
   incremented_both (Down x) k = updated_both x no_exprs Minus (Literal 1 Bare) k refl refl
   incremented_both (Set x e) k = put_both x (Some []) (Some []) (source_value s e) (source_value t e) (first_of (V x) (names_source V e) k) refl (source_alike e (second_of (V x) (names_source V e) k))

@@ -1,16 +1,15 @@
 -- A state in which the variables of loops hold the values of a turn is at that turn.
-use Rattle.std.specs.Prelude.{ℕ, Bool, true, false, ◌≡◌, ◌==◌, ◌&&◌, ◌||◌, List, [], ◌∷◌, Option, Some, None, Contains}
+use Rattle.std.specs.Prelude.{ℕ, Bool, true, false, ◌≡◌, ◌==◌, ◌||◌, List, [], ◌∷◌, Option, Some, None}
 use Rattle.std.specs.List.{list_any}
-use Rattle.std.proofs.Common.{refl, sym, ap, ◌∙◌, subst, cond, inl, inr}
+use Rattle.std.proofs.Common.{refl, sym, ap, ◌∙◌, cond, inl, inr}
 use Rattle.std.proofs.lemmas.Bool.{eqb-true}
 use Rattle.semantics.specs.Tree.{Variable}
-use Rattle.semantics.specs.Meaning.State.{State, Slot, Outside, Empty, Holds, with_local}
+use Rattle.semantics.specs.Meaning.State.{State, Slot, Outside, Empty, Holds}
 use Rattle.semantics.specs.Loops.Nest.{Loop, Vector, at_value, at_vector, iterations}
 use Rattle.semantics.specs.Theorems.{IsTurn}
-use Rattle.law_commute.proofs.Framed.{true_not_false}
 use Rattle.law_commute.proofs.Lists.{Among, contains_among}
 use Rattle.law_commute.proofs.Values.{first_of, second_of}
-use Rattle.law_scopes.specs.Apart.{holds_number, hold_values, hold_some, is_at_turn, StatesAtTurnsAreTurns}
+use Rattle.law_scopes.specs.Apart.{holds_number, hold_values, hold_some, StatesAtTurnsAreTurns}
 
 held : (k : Slot) (v : ℕ) → holds_number k v ≡ true → k ≡ Holds v
 held Outside v h = absurd cc

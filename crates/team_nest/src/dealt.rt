@@ -34,8 +34,9 @@ fn run_own<G: Gate>(
         ≡ cut (static_kind size) (length (vectors job.space.now)) workers }
     requires size { IfSome size (λ k. (1 ≤ k) × (k ≤ 2 ^ 24)) }
     requires worker { worker < workers }
-    ensures { IfOk result (λ cs. IsDealt job.entry
+    ensures dealt { IfOk result (λ cs. IsDealt job.entry
         (own_numbers size (length job.entry.chunks.now) workers worker) cs.items) }
+    ensures refusal { IfErr result (λ refusal. refusal ≡ Refusal.OutOfMemory) }
 {
     let part = static_init(job.space.count(), workers, worker, size);
     let mut runner = Worker::new(alloc, job.store)?;

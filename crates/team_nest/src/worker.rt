@@ -95,8 +95,9 @@ pub fn work<G: Gate>(
     requires ready { IsReady job }
     requires count { drawing.now.count ≡ length job.chunks.now }
     requires seat { member.seat ≡ fresh drawing.now }
-    ensures { IfOk result (λ f. IsFinished job.entry.lowered.now job.entry.registers.now
+    ensures finished { IfOk result (λ f. IsFinished job.entry.lowered.now job.entry.registers.now
         job.entry.store.now job.entry.chunks.now drawing.now f) }
+    ensures refusal { IfErr result (λ refusal. refusal ≡ Refusal.OutOfMemory) }
 {
     let Member {
         number: worker,

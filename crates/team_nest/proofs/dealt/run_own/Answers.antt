@@ -61,8 +61,8 @@ loop-number-preserved g c =
       each = All-same P c.push.new.self.items (all ++ change ∷ []) pushed (All-push P all change was.each c.in_ok-run_taken.ensures.change);
     }
 
-pub returns : goal.returns
-returns g c =
+pub returns-clause-dealt : goal.returns-clause-dealt
+returns-clause-dealt g c =
     let n = length (vectors c.args.job.space.now) in
     let chunks = c.args.job.chunks.now in
     let own = own_numbers c.args.size (length chunks) c.args.workers c.args.worker in
