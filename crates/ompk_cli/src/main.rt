@@ -18,7 +18,7 @@ use std::rt::Files;
 use std::sync::Wait;
 use std::thread::{Builder, Threads};
 use std::{env, fs};
-use team::OpenGate;
+use team_nest::OpenGate;
 
 // The words of the command line.
 fn words_of(rt: &HostRuntime) -> Result<Vec<String>, Fault<'static>> {

@@ -17,7 +17,7 @@ use seqrun_value::Frame;
 use std::alloc::Global;
 use std::sync::Wait;
 use std::thread::Threads;
-use team::Gate;
+use team_nest::Gate;
 
 /// Runs an accepted kernel on an input by a team, and writes what the C program without the directive lines writes
 /// (C11 5.1.2.3, 6): what it prints, and a line for each file-scope variable as it leaves them. Each loop behind a directive line

@@ -10,7 +10,7 @@ use std::sync::Wait;
 use std::sync::atomic::{AtomicU64, Ordering};
 use std::thread;
 use std::thread::Threads;
-use team::{Gate, OpenGate, Taken};
+use team_nest::{Gate, OpenGate, Taken};
 
 const INCREMENT: &[u8] =
     b"#include <stdint.h>\nuint64_t A[8];\nvoid kernel(void)\n{\n#pragma omp parallel for schedule(dynamic, 3)\nfor (uint64_t i = 0; i < 8; i++) { A[i] = A[i] + i; }\n}\n";

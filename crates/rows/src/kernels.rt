@@ -9,7 +9,7 @@ use seqrun_io::Memory;
 use std::alloc::{AllocError, Global};
 use std::sync::Wait;
 use std::thread::Threads;
-use team::OpenGate;
+use team_nest::OpenGate;
 
 /// What comes of a kernel without input.
 #[derive(Clone, Copy)]

@@ -9,6 +9,7 @@ ghost use Rattle.team_nest.specs.declared.job.Job.{Job};
 ghost use Rattle.team_nest.specs.Ends.{IsReady, AreAllOf};
 ghost use Rattle.team_nest.specs.Dealt.{IsDealt, AreDealt, own_numbers};
 
+use crate::gate::{Gate, Taken};
 use crate::job::Job;
 use crate::worker::{ChunkChanges, run_taken};
 use ktree::{Refusal, Workers};
@@ -18,7 +19,6 @@ use std::alloc::Global;
 use std::sync::Wait;
 use std::thread;
 use std::thread::Threads;
-use team::{Gate, Taken};
 
 /// Runs a worker's own chunks, in their order: those of `static, k` for `Some(k)`, else those of plain `static`.
 fn run_own<G: Gate>(

@@ -5,6 +5,7 @@ ghost use Rattle.draw.specs.Tickets.{fresh};
 ghost use Rattle.team_nest.specs.declared.job.Job.{Job};
 ghost use Rattle.team_nest.specs.Ends.{IsReady, IsSplit, IsFinished, AreFinished, AreFinishedOf, CameFrom, AreBack, AreDrawn, AreAllOf};
 
+use crate::gate::Gate;
 use crate::job::Job;
 use crate::worker::{ChunkChanges, Draws, Finished, Member, work};
 use draw::{DrawSeat, Drawing};
@@ -13,7 +14,6 @@ use std::alloc::Global;
 use std::sync::Wait;
 use std::thread;
 use std::thread::Threads;
-use team::Gate;
 
 /// The members of a team, one for each seat, by their numbers.
 fn members(alloc: Global, drawing: &Drawing, seats: Vec<DrawSeat>) -> Result<Vec<Member>, Refusal>

@@ -4,8 +4,10 @@
 mod applied;
 mod dealt;
 mod drawn;
+mod gate;
 mod job;
 mod teamwork;
 mod worker;
 
+pub use gate::{Gate, OpenGate, Taken};
 pub use teamwork::run_loop;

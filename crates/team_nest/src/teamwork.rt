@@ -11,6 +11,7 @@ ghost use Rattle.team_nest.specs.Together.{LeavesTogether};
 use crate::applied::apply_all;
 use crate::dealt::dealt_changes;
 use crate::drawn::drawn_changes;
+use crate::gate::Gate;
 use crate::job::Job;
 use crate::worker::ChunkChanges;
 use ktree::{Refusal, Workers};
@@ -21,7 +22,6 @@ use std::alloc::Global;
 use std::sync::Wait;
 use std::thread::Threads;
 use store::Store;
-use team::Gate;
 
 /// What all chunks of a loop change: they are dealt to the workers where the schedule fixes who runs a chunk, and drawn by them
 /// where it does not (OpenMP 5.2, 11.5.3). For no chunk, no thread is started.

@@ -4,6 +4,7 @@ ghost use Rattle.std.specs.Prelude.{◌≡◌, ◌<◌, length, IfOk, IfErr};
 ghost use Rattle.draw.specs.Tickets.{fresh};
 ghost use Rattle.team_nest.specs.Ends.{IsReady, IsChangeOf, IsFinished};
 
+use crate::gate::{Gate, Taken};
 use crate::job::Job;
 use draw::{DrawSeat, Drawing};
 use ktree::{ChunkNo, Refusal};
@@ -14,7 +15,6 @@ use schedule::Chunks;
 use std::alloc::Global;
 use std::thread::Promise;
 use store::Store;
-use team::{Gate, Taken};
 
 /// What a chunk changes, without the store that it was run from.
 #[derive(Drop)]

@@ -6,8 +6,6 @@ mod affine_expr_rows;
 #[cfg(test)]
 mod flow_rows;
 #[cfg(test)]
-mod lower_rows;
-#[cfg(test)]
 mod nest_loop_rows;
 #[cfg(test)]
 mod nest_rows;

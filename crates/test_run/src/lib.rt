@@ -4,9 +4,7 @@
 #[cfg(test)]
 mod draw_rows;
 #[cfg(test)]
-mod lower_rows;
-#[cfg(test)]
-mod overlay_rows;
+mod lowering;
 #[cfg(test)]
 mod seqrun_io_rows;
 #[cfg(test)]
@@ -16,4 +14,6 @@ mod seqrun_value_rows;
 #[cfg(test)]
 mod stores;
 #[cfg(test)]
-mod team_rows;
+mod team_nest_chunks;
+#[cfg(test)]
+mod team_nest_rows;

@@ -1,3 +1,0 @@
-pub mod FitLaw
-pub mod PathLaw
-pub mod TreeLaw

@@ -1,4 +1,0 @@
-pub mod Cutting
-pub mod Ending
-pub mod Applying
-pub mod Dealing
