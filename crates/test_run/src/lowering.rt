@@ -90,20 +90,20 @@ fn inside_of(alloc: Global, kernel: &Kernel, stmt: &Stmt, depth: u64) -> Option<
     nest_of(alloc, kernel, body, depth, around, &bounds)
 }
 
+/// The nest with no loop round it.
+fn alone_of(alloc: Global, kernel: &Kernel, stmt: &Stmt, depth: u64) -> Option<LoweredLoop> {
+    let bounds = VarBox::new(alloc);
+    nest_of(alloc, kernel, stmt, depth, Vec::new(alloc), &bounds)
+}
+
 /// The nest at a kernel's end.
 fn lowered_of(alloc: Global, kernel: &Kernel, site: Site) -> Option<LoweredLoop> {
     let stmt = last_statement(&kernel.body)?;
     if site.turn.is_some() {
-        return inside_of(alloc, kernel, stmt, site.depth);
+        inside_of(alloc, kernel, stmt, site.depth)
+    } else {
+        alone_of(alloc, kernel, stmt, site.depth)
     }
-    nest_of(
-        alloc,
-        kernel,
-        stmt,
-        site.depth,
-        Vec::new(alloc),
-        &VarBox::new(alloc),
-    )
 }
 
 /// The nest at a text's end, behind such a clause.
