@@ -1,0 +1,190 @@
+#!/usr/bin/env python3
+"""Times teams: parallel loops by `ompk run` with 1, 2 and 4 workers, beside the same loops by one thread and by `gcc -O2 -fopenmp`.
+
+    python3 bench/team.py [PROGRAM]     the program as it is proved here, or another one
+
+A line for each kernel: seconds from start to end (the median of five rounds, in each of which all programs run in turn), of its parallel
+loops by so many workers, of the same text without its directive lines, and of gcc with as many threads. Then chunks of one iteration:
+nanoseconds for each, and bytes of memory for each beside the store. Then a loop of 8 iterations inside 10,000 turns of a serial loop:
+microseconds a turn. Every program has to leave the same digest of all variables. The machine should be idle. The status is 1 where a
+target is missed that the machine can show: a chunk of one iteration below 500 ns, and on four processors at least 2.5 times the speed by 4 workers.
+"""
+import os
+import pathlib
+import re
+import resource
+import statistics
+import subprocess
+import sys
+import tempfile
+import time
+
+TOP = pathlib.Path(__file__).resolve().parent.parent
+PROGRAM = TOP / "crates/ompk_cli/out/ompk_cli"
+ROUNDS = 5
+TEAMS = (1, 2, 4)
+CHUNK = 500
+FASTER = 2.5
+
+HASH = """uint64_t A[1000000];
+
+void kernel(void)
+{
+    #pragma omp parallel for schedule(static)
+    for (uint64_t i = 0; i < 1000000; i++) {
+        uint64_t x = i + 88172645;
+        for (uint64_t r = 0; r < 64; r++) {
+            x ^= x << 13;
+            x ^= x >> 7;
+            x ^= x << 17;
+        }
+        A[i] = x;
+    }
+}
+"""
+PRODUCT = """uint64_t A[256][256];
+uint64_t B[256][256];
+uint64_t C[256][256];
+
+void kernel(void)
+{
+    #pragma omp parallel for collapse(2)
+    for (uint64_t i = 0; i < 256; i++) {
+        for (uint64_t j = 0; j < 256; j++) {
+            A[i][j] = i + j;
+            B[i][j] = 3 * i + j;
+        }
+    }
+    #pragma omp parallel for schedule(dynamic, 4)
+    for (uint64_t i = 0; i < 256; i++) {
+        for (uint64_t k = 0; k < 256; k++) {
+            for (uint64_t j = 0; j < 256; j++) {
+                C[i][j] += A[i][k] * B[k][j];
+            }
+        }
+    }
+}
+"""
+MAP = """uint64_t A[4000000];
+
+void kernel(void)
+{
+    #pragma omp parallel for schedule(static)
+    for (uint64_t i = 0; i < 4000000; i++) {
+        A[i] = A[i] * 3 + i;
+    }
+}
+"""
+ONES = """uint64_t A[1000000];
+
+void kernel(void)
+{
+    #pragma omp parallel for schedule(dynamic, 1)
+    for (uint64_t i = 0; i < 1000000; i++) {
+        A[i] = A[i] * 3 + i;
+    }
+}
+"""
+TURNS = """uint64_t A[8];
+
+void kernel(void)
+{
+    for (uint64_t t = 0; t < 10000; t++) {
+        #pragma omp parallel for
+        for (uint64_t i = 0; i < 8; i++) {
+            A[i] = A[i] * 3 + i + t;
+        }
+    }
+}
+"""
+KERNELS = {"hash": HASH, "product": PRODUCT, "map": MAP}
+
+
+class Runner:
+    """Runs a kernel's programs in a folder, and keeps what they print."""
+
+    def __init__(self, program, folder):
+        self.program, self.folder = program, folder
+
+    def source(self, name, text):
+        """The file of a kernel, made once."""
+        path = self.folder / f"{name}.c"
+        path.write_text("#include <stdint.h>\n\n" + text)
+        return path
+
+    def compiled(self, name, text):
+        """The program of gcc, which prints what ours does."""
+        dump = "".join(
+            f'printf("{array} ="); for (long i = 0; i < (long)(sizeof {array} / 8); i++) printf(" %lu", ((uint64_t *){array})[i]); printf("\\n");\n'
+            for array in re.findall(r"^uint64_t (\w+)", text, re.M)
+        )
+        path = self.folder / f"{name}_main.c"
+        path.write_text(f"#include <stdint.h>\n#include <stdio.h>\n{text}int main(void)\n{{\nkernel();\n{dump}return 0;\n}}\n")
+        subprocess.run(["gcc", "-O2", "-fopenmp", "-o", self.folder / name, path], check=True)
+        return self.folder / name
+
+    def seconds(self, words, threads=None):
+        """How long a program takes, the most memory that it has, and what it prints."""
+        begun = time.perf_counter()
+        env = dict(os.environ, OMP_NUM_THREADS=str(threads)) if threads else None
+        with open(self.folder / "out", "wb") as out, subprocess.Popen(words, stdout=out, env=env) as it:
+            _, status, used = os.wait4(it.pid, 0)
+        took = time.perf_counter() - begun
+        if status:
+            sys.exit(f"bench: {words} ended with status {status}")
+        return took, used.ru_maxrss, (self.folder / "out").read_bytes()
+
+    def by_team(self, path, workers):
+        """The same of our program with so many workers."""
+        return self.seconds([self.program, "run", path, "--workers", str(workers)])
+
+
+def medians(runner, name, text):
+    """The median times of a kernel's programs; each has to print the same."""
+    path, serial = runner.source(name, text), runner.source(f"{name}_serial", re.sub(r" *#pragma.*\n", "", text))
+    gcc = runner.compiled(name, text)
+    programs = {f"{workers} workers": lambda workers=workers: runner.by_team(path, workers) for workers in TEAMS}
+    programs["serial"] = lambda: runner.by_team(serial, 1)
+    for workers in TEAMS:
+        programs[f"gcc {workers}"] = lambda workers=workers: runner.seconds([gcc], workers)
+    times = {it: [] for it in programs}
+    printed = None
+    for _round in range(ROUNDS):
+        for it, run in programs.items():
+            took, _memory, text_out = run()
+            times[it].append(took)
+            printed = printed or text_out
+            if text_out != printed:
+                sys.exit(f"bench: {name}: {it} prints something else")
+    return {it: statistics.median(all_of) for it, all_of in times.items()}
+
+
+def main(program):
+    missed = []
+    with tempfile.TemporaryDirectory() as name:
+        runner = Runner(program, pathlib.Path(name))
+        print(f"{'seconds':10}" + "".join(f"{it:>11}" for it in [*(f"{w} workers" for w in TEAMS), "serial", *(f"gcc {w}" for w in TEAMS)]))
+        for kernel, text in KERNELS.items():
+            found = medians(runner, kernel, text)
+            print(f"{kernel:10}" + "".join(f"{it:11.3f}" for it in found.values()), flush=True)
+            if kernel != "map" and os.cpu_count() >= 4 and found["1 workers"] < FASTER * found["4 workers"]:
+                missed.append(f"{kernel}: 4 workers are {found['1 workers'] / found['4 workers']:.1f} times as fast as one")
+        ones, empty = runner.source("ones", ONES), runner.source("none", ONES.replace("i < 1000000", "i < 0"))
+        for workers in TEAMS:
+            took, memory, _ = runner.by_team(ones, workers)
+            start, store, _ = runner.by_team(empty, workers)
+            each, held = (took - start) * 1e3, (memory - store) * 1024 / 1e6
+            print(f"chunks of 1, {workers} workers: {each:.0f} ns and {held:.0f} bytes each")
+            if each >= CHUNK:
+                missed.append(f"chunks of 1, {workers} workers: {each:.0f} ns each")
+        turns = runner.source("turns", TURNS)
+        for workers in TEAMS:
+            print(f"8 iterations inside a turn, {workers} workers: {runner.by_team(turns, workers)[0] * 1e6 / 10000:.1f} us a turn", flush=True)
+    for it in missed:
+        print(f"missed: {it}")
+    return 1 if missed else 0
+
+
+if __name__ == "__main__":
+    resource.setrlimit(resource.RLIMIT_CORE, (0, 0))
+    sys.exit(main(pathlib.Path(sys.argv[1]) if len(sys.argv) > 1 else PROGRAM))
