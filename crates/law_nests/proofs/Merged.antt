@@ -343,10 +343,15 @@ pub chunks_merge : IndependentChunksMerge
 chunks_merge n s loops body outer us chunks e nest keeps own locals_alone are different turning independent whole ran =
     let join = nests_join n s loops body outer us chunks e nest keeps own locals_alone are different turning independent whole ran in
     let known : Known n s loops body outer us = record {
-      nest = nest; keeps = keeps; own = own; locals_alone = locals_alone;
+      nest = nest;
+      keeps = keeps;
+      own = own;
+      locals_alone = locals_alone;
       body_locals = λ x h. locals_alone x (hidden n s loops body nest x h);
       long = λ u h. contained (All-from_recursion (HasValues loops) us (lengths loops outer us are)) u h;
-      turning = turning; independent = independent } in
+      turning = turning;
+      independent = independent;
+    } in
     let found = apart n s loops body outer us known chunks join.pieces (subst (AllPairs (λ u v. u ≢ v)) (sym whole) different) (λ u h. subst (λ l. Contains l u) whole h) join.each in
     record { effects = found.effects; each = found.each; merge = merged n s loops body outer us known chunks e join found.effects found.alike; locals = locals_kept s loops body outer chunks e join; quiet = join.text }
   where

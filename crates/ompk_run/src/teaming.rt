@@ -25,8 +25,7 @@ use std::alloc::Global;
 use std::sync::Wait;
 use std::thread::Threads;
 use store::Store;
-use team_nest::Gate;
-use team_nest::run_loop;
+use team_nest::{Gate, run_loop};
 
 // A team of so many workers for each parallel loop; the gate is told of the chunks that they take.
 #[derive(Drop)]
