@@ -43,6 +43,9 @@ printf 'accepted\n' >"$work/accepted"
 refuse_each "$work/accepted" check examples/increment.c
 refuse_each examples/increment.out run examples/increment.c --input examples/increment.in --workers 1
 refuse_each examples/increment.out run examples/increment.c --input examples/increment.in --workers 3
+refuse_each examples/powers.out run examples/powers.c --workers 3
+"$program" lower examples/powers.c >"$work/listed" || fault 'no listing'
+refuse_each "$work/listed" lower examples/powers.c
 
 # A run that ends well.
 succeed() { "$program" "$@" >"$work/out" 2>"$work/err" || fault "$*: status $?: $(cat "$work/err")"; }
