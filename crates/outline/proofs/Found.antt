@@ -6,7 +6,7 @@ use Rattle.semantics.specs.Tree
 use Rattle.ktree.specs.View.{stmt_of, items_of, with_item}
 use Rattle.ktree.specs.declared.statement.Item.{Item, Directive, Local, Statement'}
 use Rattle.ktree.proofs.Trees.{next_item}
-use Rattle.outline.specs.Lines.{has_line, has_line_among}
+use Rattle.pragma.specs.Plain.{has_line, has_line_among}
 
 or_false : (b : Bool) → (b || false) ≡ b
 or_false true = refl

@@ -45,7 +45,7 @@ use Rattle.outline.specs.declared.shape.OutlineItem.{OutlineItem, Plain, Stateme
 use Rattle.outline.specs.Fit.{AllFit, HeadFits, TeamFits}
 use Rattle.outline.specs.Given.{IsRound, IsGiven}
 use Rattle.outline.specs.Handed.{AreOfText, IsHanded}
-use Rattle.outline.specs.Lines.{has_line}
+use Rattle.pragma.specs.Plain.{has_line}
 use Rattle.outline.specs.Made.{line_of, loop_with, IsInside, run_behind, items_behind, CommutesBehind, ItemCommutes, IsMade, IsMadeItem, AreMade}
 use Rattle.outline.specs.View.{performed, item_performed, items_performed}
 use Rattle.outline.proofs.Blocks.{block_performed, block_fits}

@@ -6,7 +6,7 @@ use Rattle.semantics.specs.Meaning.Value.{holds, by_test}
 use Rattle.semantics.specs.Meaning.Runs.{nothing, then_from, declared, incremented, turns, greatest_trip_count, run, run_items}
 use Rattle.semantics.specs.Loops.Nest.{Loop}
 use Rattle.law_scopes.specs.Apart.{apart, apart_items}
-use Rattle.outline.specs.Lines.{has_line, has_line_among}
+use Rattle.pragma.specs.Plain.{has_line, has_line_among}
 
 left : (a b : Bool) → (a || b) ≡ false → a ≡ false
 left true b e = absurd cc

@@ -1,6 +1,5 @@
 pub mod Fit
 pub mod Given
 pub mod Handed
-pub mod Lines
 pub mod Made
 pub mod View

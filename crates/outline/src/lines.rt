@@ -3,7 +3,7 @@
 ghost use Rattle.std.specs.Prelude.{◌≡◌};
 ghost use Rattle.semantics.specs.Tree.{no_items};
 ghost use Rattle.ktree.specs.View.{stmt_of, items_of, with_item};
-ghost use Rattle.outline.specs.Lines.{has_line, has_line_among};
+ghost use Rattle.pragma.specs.Plain.{has_line, has_line_among};
 
 use ktree::{Item, Stmt};
 

@@ -11,7 +11,7 @@ ghost use Rattle.pragma.specs.Parallel.{ItemsHave};
 ghost use Rattle.law_independence.specs.OrderLaws.{CommutesAsNest};
 ghost use Rattle.law_scopes.specs.Apart.{apart_items};
 ghost use Rattle.outline.specs.Handed.{AreOfText};
-ghost use Rattle.outline.specs.Lines.{has_line};
+ghost use Rattle.pragma.specs.Plain.{has_line};
 ghost use Rattle.outline.specs.Made.{line_of, loop_with, IsInside, IsMade, IsMadeItem, AreMade};
 ghost use Rattle.outline.specs.Fit.{AllFit, WithLocals};
 ghost use Rattle.outline.specs.View.{items_performed};

@@ -1,6 +1,6 @@
 use Rattle.std.proofs.Common.{refl, sym, ap, ◌∙◌}
 use Rattle.ktree.proofs.Trees.{block_is}
-use Rattle.outline.specs.Lines.{has_line}
+use Rattle.pragma.specs.Plain.{has_line}
 use Rattle.outline.proofs.Found.{line_on, line_over}
 use Rattle.outline.proofs.lines.+line.Goals as goal
 
