@@ -1,15 +1,20 @@
 -- Kernels whose parallel loops are shown to be independent, and what is kept of an accepted text. (OpenMP 5.2, 1.4.1 and 11.5; C11 5.1.2.4)
-use Rattle.std.specs.Prelude.{ℕ, List, []}
+use Rattle.std.specs.Prelude.{ℕ, ◌≡◌, true, List, [], Some}
 use Rattle.semantics.specs.Tree.{Kernel, strip}
 use Rattle.semantics.specs.Source.Grammar.{ReadsText}
-use Rattle.semantics.specs.Meaning.Definite.{IsDefinite, no_privates}
+use Rattle.semantics.specs.Meaning.Definite.{IsDefinite}
+use Rattle.semantics.specs.Directives.Annotated.{Directives, clauses_at}
+use Rattle.semantics.specs.Directives.Clauses.{privates_of}
+use Rattle.semantics.specs.Directives.Naming.{IsAttached}
 use Rattle.ktree.specs.View.{kernel_of}
 use Rattle.ktree.specs.declared.statement.Kernel as code
 use Rattle.pragma.specs.Plain.{IsDirected}
 use Rattle.pragma.specs.Parallel.{ItemsHave}
 use Rattle.nest.specs.Nests.{IsInRange}
 use Rattle.nest.specs.Perfect.{AreRightNests}
-use Rattle.flow.specs.Private.{IsPrivate}
+use Rattle.pragma_named.specs.Known.{Lines, known_clauses}
+use Rattle.flow.specs.Private.{ItemsPrivate}
+use Rattle.flow_clauses.specs.Fitting.{fit_clauses}
 use Rattle.flow.specs.Parallel.{AreParallelLoops}
 use Rattle.flow.specs.declared.environment.ParallelLoop.{ParallelLoop}
 use Rattle.law_independence.specs.IndependenceLaws.{IsIndependentNest}
@@ -24,14 +29,21 @@ pub record Program : Type 0 where
 abbrev pub tree_of : Program → Kernel
 tree_of p = strip (kernel_of p.kernel)
 
--- what is known before the dependence test: the text reads as the tree, whose loops are canonical and never wrap, no subscript leaves its array, each directive line is a `parallel for` before a loop that holds no other, with a right nest, that writes no shared scalar and prints nothing, and no local is read before it is assigned
+-- the clauses of each line over variables, none where it has none
+abbrev pub clauses_said : Kernel → Directives → Lines
+clauses_said k ds line = known_clauses (Some (clauses_at k ds line))
+
+-- what is known before the dependence test: the text reads as the tree, whose loops are canonical and never wrap, no subscript leaves its array, each directive line is a `parallel for` before a loop that holds no other, with a right nest, that writes no scalar but its own and the private ones, which it assigns before it reads them, and prints nothing, and no local is read before it is assigned; its directives are attached to it, the private ones are those of their clauses, and these name what they may
 pub record HasPassed (text : List ℕ) (k : Kernel) : Type 0 where
   pub reads : ReadsText text k
+  pub directives : Directives
+  pub attached : IsAttached text k directives
   pub in_range : IsInRange k
   pub directed : IsDirected text k
   pub nested : AreRightNests text k
-  pub definite : IsDefinite no_privates k
-  pub private : ItemsHave text IsPrivate [] k.body
+  pub definite : IsDefinite (privates_of k directives) k
+  pub private : ItemsPrivate text (privates_of k directives) [] k.body
+  pub fit : fit_clauses (clauses_said k directives) k ≡ true
 
 -- at each turn of the serial loops round a parallel loop no two of its iterations conflict, and in any order they leave the same elements
 pub record AreIndependent (text : List ℕ) (k : Kernel) : Type 0 where

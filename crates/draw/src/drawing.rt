@@ -33,8 +33,8 @@ impl Model for Drawing {
 #[must_use]
 #[derive(Drop)]
 pub struct DrawSeat {
-    seat: Seat<(), View>,
-    ended: bool,
+    pub(crate) seat: Seat<(), View>,
+    pub(crate) ended: bool,
 }
 
 impl Model for DrawSeat {

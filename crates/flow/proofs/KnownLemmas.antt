@@ -6,55 +6,44 @@ use Rattle.std.proofs.lemmas.Bool.{eqb-true, eqb-false, ltb-true, ltb-false, lt-
 use Rattle.semantics.specs.Meaning.Definite.{DefinitelyAssigned, known_with}
 use Rattle.flow.specs.Judged.{known_of}
 
-pushed_at : (bs : List Bool) (x : ℕ) → known_of (bs ++ false ∷ []) x ≡ known_of bs x
-pushed_at [] zero = refl
-pushed_at [] (suc x) = refl
-pushed_at (b ∷ bs) zero = refl
-pushed_at (b ∷ bs) (suc x) = pushed_at bs x
+pushed_at : (others : Bool) (bs : List Bool) (x : ℕ) → known_of (bs ++ others ∷ [], others) x ≡ known_of (bs, others) x
+pushed_at others [] zero = refl
+pushed_at others [] (suc x) = refl
+pushed_at others (b ∷ bs) zero = refl
+pushed_at others (b ∷ bs) (suc x) = pushed_at others bs x
 
--- one more that is not known changes nothing
-pub pushed : (bs : List Bool) → known_of (bs ++ false ∷ []) ≡ known_of bs
-pushed bs = fun_ext (pushed_at bs)
+-- one more that is known as those behind the last changes nothing
+pub pushed : (others : Bool) (bs : List Bool) → known_of (bs ++ others ∷ [], others) ≡ known_of (bs, others)
+pushed others bs = fun_ext (pushed_at others bs)
 
--- nothing is known behind the last
-pub past : (bs : List Bool) (x : ℕ) → length bs ≤ x → known_of bs x ≡ false
-past [] x le = refl
-past (b ∷ bs) zero le = absurd (omega arith)
-past (b ∷ bs) (suc x) le = past bs x (omega arith)
+-- behind the last all are known alike
+pub past : (others : Bool) (bs : List Bool) (x : ℕ) → length bs ≤ x → known_of (bs, others) x ≡ others
+past others [] x le = refl
+past others (b ∷ bs) zero le = absurd (omega arith)
+past others (b ∷ bs) (suc x) le = past others bs x (omega arith)
 
-set_same : (bs : List Bool) (i : ℕ) (b : Bool) → i < length bs → known_of (slice_set bs i b) i ≡ b
-set_same [] i b lt = absurd (omega arith)
-set_same (c ∷ bs) zero b lt = refl
-set_same (c ∷ bs) (suc i) b lt = set_same bs i b (omega arith)
+set_same : (others : Bool) (bs : List Bool) (i : ℕ) (b : Bool) → i < length bs → known_of (slice_set bs i b, others) i ≡ b
+set_same others [] i b lt = absurd (omega arith)
+set_same others (c ∷ bs) zero b lt = refl
+set_same others (c ∷ bs) (suc i) b lt = set_same others bs i b (omega arith)
 
-set_other : (bs : List Bool) (i j : ℕ) (b : Bool) → j ≢ i → known_of (slice_set bs i b) j ≡ known_of bs j
-set_other [] i j b ne = refl
-set_other (c ∷ bs) zero zero b ne = absurd (ne refl)
-set_other (c ∷ bs) zero (suc j) b ne = refl
-set_other (c ∷ bs) (suc i) zero b ne = refl
-set_other (c ∷ bs) (suc i) (suc j) b ne = set_other bs i j b (λ e. ne (ap suc e))
+set_other : (others : Bool) (bs : List Bool) (i j : ℕ) (b : Bool) → j ≢ i → known_of (slice_set bs i b, others) j ≡ known_of (bs, others) j
+set_other others [] i j b ne = refl
+set_other others (c ∷ bs) zero zero b ne = absurd (ne refl)
+set_other others (c ∷ bs) zero (suc j) b ne = refl
+set_other others (c ∷ bs) (suc i) zero b ne = refl
+set_other others (c ∷ bs) (suc i) (suc j) b ne = set_other others bs i j b (λ e. ne (ap suc e))
 
-set_at : (bs : List Bool) (i : ℕ) (b : Bool) → i < length bs → (j : ℕ) → known_of (slice_set bs i b) j ≡ known_with (known_of bs) i b j
-set_at bs i b lt j = go (j == i) refl
+set_at : (others : Bool) (bs : List Bool) (i : ℕ) (b : Bool) → i < length bs → (j : ℕ) → known_of (slice_set bs i b, others) j ≡ known_with (known_of (bs, others)) i b j
+set_at others bs i b lt j = go (j == i) refl
   where
-    go : (t : Bool) → (j == i) ≡ t → known_of (slice_set bs i b) j ≡ cond t b (known_of bs j)
-    go true e = ap (λ k. known_of (slice_set bs i b) k) (eqb-true j i e) ∙ set_same bs i b lt
-    go false e = set_other bs i j b (eqb-false j i e)
+    go : (t : Bool) → (j == i) ≡ t → known_of (slice_set bs i b, others) j ≡ cond t b (known_of (bs, others) j)
+    go true e = ap (λ k. known_of (slice_set bs i b, others) k) (eqb-true j i e) ∙ set_same others bs i b lt
+    go false e = set_other others bs i j b (eqb-false j i e)
 
 -- one that is set is the one that changes
-pub set : (bs : List Bool) (i : ℕ) (b : Bool) → i < length bs → known_of (slice_set bs i b) ≡ known_with (known_of bs) i b
-set bs i b lt = fun_ext (set_at bs i b lt)
-
-past_at : (bs : List Bool) (i : ℕ) → length bs ≤ i → (j : ℕ) → known_of bs j ≡ known_with (known_of bs) i false j
-past_at bs i le j = go (j == i) refl
-  where
-    go : (t : Bool) → (j == i) ≡ t → known_of bs j ≡ cond t false (known_of bs j)
-    go true e = ap (known_of bs) (eqb-true j i e) ∙ past bs i le
-    go false e = refl
-
--- one behind the last need not be forgotten
-pub past_forgotten : (bs : List Bool) (i : ℕ) → length bs ≤ i → known_of bs ≡ known_with (known_of bs) i false
-past_forgotten bs i le = fun_ext (past_at bs i le)
+pub set : (others : Bool) (bs : List Bool) (i : ℕ) (b : Bool) → i < length bs → known_of (slice_set bs i b, others) ≡ known_with (known_of (bs, others)) i b
+set others bs i b lt = fun_ext (set_at others bs i b lt)
 
 -- the first of these are known only where those are
 abbrev pub met_below : DefinitelyAssigned → DefinitelyAssigned → ℕ → DefinitelyAssigned
@@ -90,29 +79,38 @@ met_on a b i = fun_ext (λ y. go y (nat_lt y i) (y == i) refl refl)
     go y t true e f = ap (λ v. cond v (met_below a b i i && b i) (met_below a b i y)) f ∙ ap (λ v. v && b i) here ∙ sym (met_at a b i y t true e f)
     go y t false e f = ap (λ v. cond v (met_below a b i i && b i) (met_below a b i y)) f ∙ ap (λ v. cond v (a y && b y) (a y)) e ∙ sym (met_at a b i y t false e f)
 
-held : (bs : List Bool) (i : ℕ) (v : Bool) → i < length bs → v ≡ get_or bs i v → known_of bs i ≡ v
-held [] i v lt is = absurd (omega arith)
-held (b ∷ bs) zero v lt is = sym is
-held (b ∷ bs) (suc i) v lt is = held bs i v (omega arith) is
+held : (others : Bool) (bs : List Bool) (i : ℕ) (v : Bool) → i < length bs → v ≡ get_or bs i v → known_of (bs, others) i ≡ v
+held others [] i v lt is = absurd (omega arith)
+held others (b ∷ bs) zero v lt is = sym is
+held others (b ∷ bs) (suc i) v lt is = held others bs i v (omega arith) is
 
 -- a slot that is set to what is known here and there
-pub met_set : (bs : List Bool) (a b : DefinitelyAssigned) (i : ℕ) (v w : Bool) → i < length bs → v ≡ get_or bs i v → w ≡ b i → known_of bs ≡ met_below a b i → known_of (slice_set bs i (v && w)) ≡ met_below a b (i + 1)
-met_set bs a b i v w lt is known so_far =
-    let at : v ≡ met_below a b i i = sym (held bs i v lt is) ∙ ap (λ k. k i) so_far in
-    set bs i (v && w) lt ∙ ap (λ k. known_with k i (v && w)) so_far ∙ ap (λ x. known_with (met_below a b i) i (x && w)) at ∙ ap (λ x. known_with (met_below a b i) i (met_below a b i i && x)) known ∙ met_on a b i
+pub met_set : (others : Bool) (bs : List Bool) (a b : DefinitelyAssigned) (i : ℕ) (v w : Bool) → i < length bs → v ≡ get_or bs i v → w ≡ b i → known_of (bs, others) ≡ met_below a b i
+    → known_of (slice_set bs i (v && w), others) ≡ met_below a b (i + 1)
+met_set others bs a b i v w lt is known so_far =
+    let at : v ≡ met_below a b i i = sym (held others bs i v lt is) ∙ ap (λ k. k i) so_far in
+    set others bs i (v && w) lt ∙ ap (λ k. known_with k i (v && w)) so_far ∙ ap (λ x. known_with (met_below a b i) i (x && w)) at ∙ ap (λ x. known_with (met_below a b i) i (met_below a b i i && x)) known ∙ met_on a b i
 
--- all of them
-pub met_all : (bs : List Bool) (b : DefinitelyAssigned) (n : ℕ) → length bs ≤ n → met_below (known_of bs) b n ≡ (λ y. known_of bs y && b y)
-met_all bs b n le = fun_ext (λ y. go y (nat_lt y n) refl)
+-- all of them, where both know those behind so many alike
+pub met_all : (others theirs : Bool) (bs cs : List Bool) (a : DefinitelyAssigned) (n : ℕ) → length bs ≡ n → length cs ≤ n → known_of (bs, others) ≡ met_below a (known_of (cs, theirs)) n
+    → known_of (bs, others && theirs) ≡ (λ y. a y && known_of (cs, theirs) y)
+met_all others theirs bs cs a n all less met = fun_ext (λ y. go y (nat_lt y n) refl)
   where
-    go : (y : ℕ) (t : Bool) → nat_lt y n ≡ t → met_below (known_of bs) b n y ≡ (known_of bs y && b y)
-    go y true e = ap (λ v. cond v (known_of bs y && b y) (known_of bs y)) e
-    go y false e =
-        let le' : n ≤ y = ltb-false y n e in
-        let none : known_of bs y ≡ false = past bs y (omega arith) in
-        ap (λ v. cond v (known_of bs y && b y) (known_of bs y)) e ∙ none ∙ ap (λ v. v && b y) (sym none)
+    front : (ds : List Bool) (o p : Bool) (y : ℕ) → y < length ds → known_of (ds, o) y ≡ known_of (ds, p) y
+    front [] o p y lt = absurd (omega arith)
+    front (d ∷ ds) o p zero lt = refl
+    front (d ∷ ds) o p (suc y) lt = front ds o p y (omega arith)
 
-first_at : (n x : ℕ) → known_of (replicate n true) x ≡ nat_lt x n
+    go : (y : ℕ) (t : Bool) → nat_lt y n ≡ t → known_of (bs, others && theirs) y ≡ (a y && known_of (cs, theirs) y)
+    go y true e =
+        let lt : y < n = ltb-true y n e in
+        front bs (others && theirs) others y (omega arith) ∙ ap (λ k. k y) met ∙ ap (λ v. cond v (a y && known_of (cs, theirs) y) (a y)) e
+    go y false e =
+        let le : n ≤ y = ltb-false y n e in
+        let mine : a y ≡ others = sym (ap (λ k. k y) met ∙ ap (λ v. cond v (a y && known_of (cs, theirs) y) (a y)) e) ∙ past others bs y (omega arith) in
+        past (others && theirs) bs y (omega arith) ∙ ap (λ v. v && theirs) (sym mine) ∙ ap (λ v. a y && v) (sym (past theirs cs y (omega arith)))
+
+first_at : (n x : ℕ) → known_of (replicate n true, false) x ≡ nat_lt x n
 first_at zero x = sym (le-ltb x 0 (omega arith))
 first_at (suc n) zero = sym (lt-ltb 0 (suc n) (omega arith))
 first_at (suc n) (suc x) = first_at n x ∙ shifted (nat_lt x n) refl
@@ -126,5 +124,5 @@ first_at (suc n) (suc x) = first_at n x ∙ shifted (nat_lt x n) refl
         sym (le-ltb (suc x) (suc n) (omega arith))
 
 -- the first variables
-pub first : (n : ℕ) → known_of (replicate n true) ≡ (λ y. nat_lt y n)
+pub first : (n : ℕ) → known_of (replicate n true, false) ≡ (λ y. nat_lt y n)
 first n = fun_ext (first_at n)

@@ -4,3 +4,4 @@ pub mod JudgeLemmas
 pub mod PrivateLemmas
 pub mod FaultLemmas
 pub mod ParallelLemmas
+mod PrivatesLemmas

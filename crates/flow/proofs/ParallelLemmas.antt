@@ -6,6 +6,7 @@ use Rattle.semantics.specs.Tree
 use Rattle.semantics.specs.Tree.{Variable}
 use Rattle.semantics.specs.Source.Text.{line_at}
 use Rattle.semantics.specs.Meaning.Agrees.{declared_in, declared_among}
+use Rattle.semantics.specs.Meaning.Definite.{Privates}
 use Rattle.semantics.specs.Meaning.Value.{map_option}
 use Rattle.semantics.specs.Loops.Nest.{Loop, as_loop, only_loop, nest_of}
 use Rattle.ktree.specs.View.{stmt_of, items_of, with_item}
@@ -15,12 +16,12 @@ use Rattle.ktree.specs.declared.statement.Stmt.{Stmt, For}
 use Rattle.ktree.specs.declared.statement.Head.{Head}
 use Rattle.ktree.specs.declared.statement.Item.{Item, Directive, Local, Statement'}
 use Rattle.pragma.specs.Clauses.{ReadsLoop}
-use Rattle.pragma.specs.Parallel.{associated, LineHas, LoopsHave, ItemsHave}
+use Rattle.pragma.specs.Parallel.{associated, LineHas}
 use Rattle.pragma.specs.Views.{scheduled}
 use Rattle.pragma.specs.declared.combined.ParallelFor.{ParallelFor}
 use Rattle.ktree.proofs.Trees.{next_item}
 use Rattle.pragma.proofs.PlainLaw.{all_behind}
-use Rattle.flow.specs.Private.{IsPrivate, first_stmt_of, FirstLineIsPrivate, FirstLoopsArePrivate}
+use Rattle.flow.specs.Private.{IsPrivate, LoopsPrivate, ItemsPrivate, first_stmt_of, FirstLineIsPrivate, FirstLoopsArePrivate}
 use Rattle.flow.specs.Parallel.{numbers, IsParallelLoop, LoopsAre, ItemsAre, FirstLineIs, FirstLoopsAre, Adds}
 use Rattle.flow.specs.declared.environment.ParallelLoop.{ParallelLoop}
 use Rattle.flow.proofs.PrivateLemmas.{asked, same_round, loop_of, item_cut}
@@ -91,29 +92,29 @@ nest_declares (suc n) s loops body f = go (as_loop s) refl f (nest_declares n)
 
 -- the parallel loop of a line
 pub loop_listed : (text : List ℕ) (place : Place) (rest : Tree.Items) (said : ParallelFor) → ReadsLoop (line_at text place.line) (scheduled said) said.collapse
-    → (s : Tree.Stmt) → Some s ≡ first_stmt_of rest → (private : Vec VarId Global) → numbers private.items ≡ declared_in s → LineHas text IsPrivate [] place.line rest
+    → (s : Tree.Stmt) → Some s ≡ first_stmt_of rest → (private : Vec VarId Global) → numbers private.items ≡ declared_in s → (ps : List Variable) → LineHas text (IsPrivate ps) [] place.line rest
     → IsParallelLoop text place.line rest (record { line = place; directive = said; private = private })
-loop_listed text place rest said reads s first private declares h =
-    let found = asked text place.line rest (scheduled said) said.collapse reads s first IsPrivate h in
+loop_listed text place rest said reads s first private declares ps h =
+    let found = asked text place.line rest (scheduled said) said.collapse reads s first (IsPrivate ps) h in
     record {
       at_line = refl;
       reads = reads;
       statement = s;
-      loops = found.0;
-      body = found.1;
+      loops = found.loops;
+      body = found.body;
       stands = sym first;
-      nest = found.2;
-      privates = declares ∙ nest_declares (associated said.collapse) s found.0 found.1 found.2;
+      nest = found.nest;
+      privates = declares ∙ nest_declares (associated said.collapse) s found.loops found.body found.nest;
     }
 
 -- a loop's are those of its body
 pub body_listed : (text : List ℕ) (before after : List ParallelLoop) (s : Stmt) (head : Head) (body : Box Stmt Global) (inner : Stmt) → s ≡ For head body → inner ≡ body.value
-    → (LoopsHave text IsPrivate [] (stmt_of inner) → Adds (LoopsAre text (stmt_of inner)) before after)
-    → LoopsHave text IsPrivate [] (stmt_of s) → Adds (LoopsAre text (stmt_of s)) before after
-body_listed text before after s head body inner e f listed =
+    → ((P : Privates) → LoopsPrivate text P [] (stmt_of inner) → Adds (LoopsAre text (stmt_of inner)) before after)
+    → (P : Privates) → LoopsPrivate text P [] (stmt_of s) → Adds (LoopsAre text (stmt_of s)) before after
+body_listed text before after s head body inner e f listed P =
     let is : loop_of head (stmt_of inner) ≡ stmt_of s = ap (λ b. loop_of head (stmt_of b)) f ∙ sym (ap stmt_of e) in
-    let here : LoopsHave text IsPrivate [] (loop_of head (stmt_of inner)) → Adds (LoopsAre text (loop_of head (stmt_of inner))) before after = λ h. listed (same_round text _ [] (stmt_of inner) h) in
-    subst (λ t. LoopsHave text IsPrivate [] t → Adds (LoopsAre text t) before after) is here
+    let here : LoopsPrivate text P [] (loop_of head (stmt_of inner)) → Adds (LoopsAre text (loop_of head (stmt_of inner))) before after = λ h. listed P (same_round text P _ [] (stmt_of inner) h) in
+    subst (λ t. LoopsPrivate text P [] t → Adds (LoopsAre text t) before after) is here
 
 -- an item's, and those of the others
 joined_item : (text : List ℕ) (i : Item) (rest : Tree.Items) (a b c : List ParallelLoop) → FirstLineIs text (with_item i Tree.no_items) rest a → FirstLoopsAre text (with_item i Tree.no_items) b
@@ -125,32 +126,32 @@ joined_item text (Statement' at s) rest a b c p q r = (b, c, ap (λ xs. xs ++ (b
 -- those of the first items are listed; with those that are left they are all
 abbrev pub Listed : List ℕ → List Item → ℕ → List ParallelLoop → List ParallelLoop → Type 0
 Listed text is i before now =
-    ItemsHave text IsPrivate [] (items_of is)
-    → ItemsHave text IsPrivate [] (items_of (drop i is)) × Adds (λ added. (rest : List ParallelLoop) → ItemsAre text (items_of (drop i is)) rest → ItemsAre text (items_of is) (added ++ rest)) before now
+    (P : Privates) → ItemsPrivate text P [] (items_of is)
+    → ItemsPrivate text P [] (items_of (drop i is)) × Adds (λ added. (rest : List ParallelLoop) → ItemsAre text (items_of (drop i is)) rest → ItemsAre text (items_of is) (added ++ rest)) before now
 
 -- all in the end
 pub all_listed : (text : List ℕ) (is : List Item) (i : ℕ) (before now : List ParallelLoop) → length is ≤ i → Listed text is i before now
-    → ItemsHave text IsPrivate [] (items_of is) → Adds (ItemsAre text (items_of is)) before now
-all_listed text is i before now far left h =
-    let found = (left h).1 in
+    → (P : Privates) → ItemsPrivate text P [] (items_of is) → Adds (ItemsAre text (items_of is)) before now
+all_listed text is i before now far left P h =
+    let found = (left P h).1 in
     let none : ItemsAre text (items_of (drop i is)) [] = subst (λ xs. ItemsAre text (items_of xs) []) (sym (drop_all i is far)) refl in
     (found.0, found.1, subst (ItemsAre text (items_of is)) (append-nil found.0) (found.2 [] none))
 
 -- one item more
 pub item_listed : (text : List ℕ) (is : List Item) (i : ℕ) (e : Item) → i < length is → e ≡ get_or is i e → (before now mid after : List ParallelLoop) → Listed text is i before now
-    → (FirstLineIsPrivate text (with_item e Tree.no_items) (items_of (take (length is - (i + 1)) (drop (i + 1) is)))
+    → ((P : Privates) → FirstLineIsPrivate text P (with_item e Tree.no_items) (items_of (take (length is - (i + 1)) (drop (i + 1) is)))
     → Adds (FirstLineIs text (with_item e Tree.no_items) (items_of (take (length is - (i + 1)) (drop (i + 1) is)))) now mid)
-    → (FirstLoopsArePrivate text (with_item e Tree.no_items) → Adds (FirstLoopsAre text (with_item e Tree.no_items)) mid after)
+    → ((P : Privates) → FirstLoopsArePrivate text P (with_item e Tree.no_items) → Adds (FirstLoopsAre text (with_item e Tree.no_items)) mid after)
     → Listed text is (i + 1) before after
-item_listed text is i e lt at before now mid after left line loops h =
+item_listed text is i e lt at before now mid after left line loops P h =
     let first = with_item e Tree.no_items in
     let behind = items_of (drop (i + 1) is) in
     let next = next_item is i e lt at in
-    let so_far = left h in
-    let parts = (item_cut text e behind).0 (subst (ItemsHave text IsPrivate []) next so_far.0) in
+    let so_far = left P h in
+    let parts = (item_cut text P e behind).0 (subst (ItemsPrivate text P []) next so_far.0) in
     let of_line : Adds (FirstLineIs text first behind) now mid =
-    subst (λ xs. FirstLineIsPrivate text first (items_of xs) → Adds (FirstLineIs text first (items_of xs)) now mid) (all_behind is (i + 1)) line parts.0 in
-    let of_loops : Adds (FirstLoopsAre text first) mid after = loops parts.1 in
+    subst (λ xs. FirstLineIsPrivate text P first (items_of xs) → Adds (FirstLineIs text first (items_of xs)) now mid) (all_behind is (i + 1)) (line P) parts.0 in
+    let of_loops : Adds (FirstLoopsAre text first) mid after = loops P parts.1 in
     let a = so_far.1.0 in
     let b = of_line.0 in
     let c = of_loops.0 in

@@ -1,22 +1,37 @@
 -- How the judgement on a text's names ends.
-use Rattle.std.specs.Prelude.{◌≡◌, ◌⊎◌, Bool, true, false, List, Option, Some, None, slice_get}
+use Rattle.std.specs.Prelude.{ℕ, ◌≡◌, ◌⊎◌, Bool, true, false, not, nat_lt, List, [], filter, flat_map, Option, Some, None, slice_get}
 use Rattle.semantics.specs.Tree
-use Rattle.semantics.specs.Tree.{Variable}
-use Rattle.semantics.specs.Meaning.Definite.{DefinitelyAssigned, may_read, no_privates, IsDefinite}
+use Rattle.semantics.specs.Tree.{Variable, Items}
+use Rattle.semantics.specs.Directives.Clauses.{private_of}
+use Rattle.semantics.specs.Meaning.Definite.{DefinitelyAssigned, Privates, may_read, IsDefinite}
+use Rattle.pragma_named.specs.Known.{Known, lines_known}
 use Rattle.ktree.specs.Numbers.{number_of}
 use Rattle.ktree.specs.View.{kernel_of}
 use Rattle.ktree.specs.declared.refusal.Refusal.{Refusal}
 use Rattle.ktree.specs.declared.refusal.Refusal.TheVariants.{OutOfMemory}
 use Rattle.ktree.specs.declared.statement.Kernel.{Kernel}
 
--- nothing is known behind the last
-abbrev pub known_at : Option Bool → Bool
-known_at None = false
-known_at (Some b) = b
+-- what is known of a variable, or of each behind the last
+abbrev pub known_at : Bool → Option Bool → Bool
+known_at others None = others
+known_at others (Some b) = b
 
--- what is known, by the numbers of variables
-abbrev pub known_of : List Bool → DefinitelyAssigned
-known_of bs x = known_at (slice_get bs x)
+-- what is known, by the numbers of the first variables, and of all others
+abbrev pub known_of : List Bool × Bool → DefinitelyAssigned
+known_of k x = known_at k.1 (slice_get k.0 x)
+
+-- a local, where so many variables stand at file scope: these have the first numbers
+abbrev pub is_local : ℕ → Variable → Bool
+is_local files x = not (nat_lt x files)
+
+-- the locals in the private lists of a line, by its clauses (OpenMP 5.2, 5.4.3)
+abbrev pub private_locals : Known → ℕ → Privates
+private_locals known files line = filter (is_local files) (flat_map private_of (lines_known known line))
+
+-- what is to be unassigned behind the statement that comes next
+abbrev pub pending : Privates → Option ℕ → List Variable
+pending P None = []
+pending P (Some line) = P line
 
 -- something is read that may not be
 abbrev pub Unread : {E : Type 0} → Bool → E → Type 0
@@ -26,9 +41,13 @@ Unread ok name = ok ≡ false
 abbrev pub Refuses : Option DefinitelyAssigned → Refusal → Type 0
 Refuses after refusal = (refusal ≡ OutOfMemory) ⊎ ((number_of refusal ≡ 10) × (after ≡ None))
 
+-- want of memory, or K10 where nothing is known after an item, whatever comes behind it
+abbrev pub RefusesAnyhow : (Items → Option DefinitelyAssigned) → Refusal → Type 0
+RefusesAnyhow after refusal = (refusal ≡ OutOfMemory) ⊎ ((number_of refusal ≡ 10) × ((rest : Items) → after rest ≡ None))
+
 -- want of memory, or K10 where a local of the text may be read before it is assigned
-abbrev pub MayBeUnassigned : Kernel → Refusal → Type 0
-MayBeUnassigned kernel refusal = (refusal ≡ OutOfMemory) ⊎ ((number_of refusal ≡ 10) × (IsDefinite no_privates (kernel_of kernel) → ⊥))
+abbrev pub MayBeUnassigned : Privates → Kernel → Refusal → Type 0
+MayBeUnassigned P kernel refusal = (refusal ≡ OutOfMemory) ⊎ ((number_of refusal ≡ 10) × (IsDefinite P (kernel_of kernel) → ⊥))
 
 -- of one part of what printf writes
 abbrev pub may_part : DefinitelyAssigned → Tree.PrintPart → Bool

@@ -1,29 +1,40 @@
 //! The data of the parallel loops of a kernel.
 
-ghost use Rattle.std.specs.Prelude.{◌≡◌, ◌⊎◌, ℕ, [], Option, option_map, IfSome, OnOk, IfOk, IfErr};
+ghost use Rattle.std.specs.Prelude.{◌≡◌, ◌⊎◌, [], length, IfSome, OnOk, IfOk, IfErr};
 ghost use Rattle.semantics.specs.Tree.{no_items};
 ghost use Rattle.ktree.specs.View.{stmt_of, with_item, items_of, kernel_of};
-ghost use Rattle.pragma.specs.Parallel.{LineHas, LoopsHave, ItemsHave};
-ghost use Rattle.pragma.specs.Plain.{Judges};
-ghost use Rattle.flow.specs.Private.{IsPrivate, FirstLineIsPrivate, FirstLoopsArePrivate, TellsOfLine, TellsOfLoops, TellsOfItems, TellsOfFirstLine, TellsOfFirstLoops};
+ghost use Rattle.pragma.specs.Parallel.{LineHas};
+ghost use Rattle.pragma_named.specs.Known.{kept};
+ghost use Rattle.flow.specs.Judged.{private_locals};
+ghost use Rattle.flow.specs.Private.{IsPrivate, LoopsPrivate, ItemsPrivate, Finds, FirstLineIsPrivate, FirstLoopsArePrivate, TellsOfLine, TellsOfLoops, TellsOfItems, TellsOfFirstLine, TellsOfFirstLoops};
 ghost use Rattle.flow.specs.Parallel.{AreParallelLoops};
 ghost use Rattle.flow.specs.declared.fault.DataFault.TheVariants.{OutOfMemory};
 
 use crate::bodies::{first_statement, nest_body};
 use crate::environment::ParallelLoop;
-use crate::fault::DataFault;
+use crate::fault::{DataFault, earlier};
+use crate::firsts::unassigned_fault;
 use crate::listing::add_items;
 use crate::sharing::body_fault;
 use ktree::{Item, Kernel, Place, Stmt};
 use pragma::Directives;
+use pragma_named::LineClauses;
 use std::alloc::Global;
 
 /// What is wrong with the parallel loop of the directive line at a place, before these items.
-fn loop_fault(directives: &Directives, place: Place, rest: &[Item]) -> Option<DataFault>
-    ensures judged { Judges result
-        (LineHas directives.now IsPrivate [] place.line (items_of rest.now)) }
+fn loop_fault(
+    alloc: Global,
+    directives: &Directives,
+    lines: &LineClauses,
+    files: usize,
+    place: Place,
+    rest: &[Item],
+) -> Option<DataFault>
+    ensures judged { Finds result
+        (LineHas directives.now (IsPrivate (private_locals (kept lines.now) files place.line)) []
+        place.line (items_of rest.now)) }
     ensures cause { IfSome result
-        (λ f. TellsOfLine f directives.now place.line (items_of rest.now)) }
+        (λ f. TellsOfLine f directives.now (private_locals (kept lines.now) files) place.line (items_of rest.now)) }
 {
     let Ok(said) = directives.at(place) else {
         return Some(DataFault::Directive(place));
@@ -34,18 +45,30 @@ fn loop_fault(directives: &Directives, place: Place, rest: &[Item]) -> Option<Da
     let Some(body) = nest_body(statement, said.associated_loops()) else {
         return Some(DataFault::Directive(place));
     };
-    body_fault(body)
+    earlier(
+        body_fault(body, place.line, lines, files),
+        unassigned_fault(alloc, statement, place.line, lines, files),
+    )
 }
 
 /// What is wrong with an item that is a directive line, before these items.
-fn line_fault(directives: &Directives, item: &Item, rest: &[Item]) -> Option<DataFault>
-    ensures judged { Judges result
-        (FirstLineIsPrivate directives.now (with_item item.now no_items) (items_of rest.now)) }
+fn line_fault(
+    alloc: Global,
+    directives: &Directives,
+    lines: &LineClauses,
+    files: usize,
+    item: &Item,
+    rest: &[Item],
+) -> Option<DataFault>
+    ensures judged { Finds result
+        (FirstLineIsPrivate directives.now (private_locals (kept lines.now) files)
+        (with_item item.now no_items) (items_of rest.now)) }
     ensures cause { IfSome result
-        (λ f. TellsOfFirstLine f directives.now (with_item item.now no_items) (items_of rest.now)) }
+        (λ f. TellsOfFirstLine f directives.now (private_locals (kept lines.now) files)
+        (with_item item.now no_items) (items_of rest.now)) }
 {
     match item {
-        Item::Directive(place) => loop_fault(directives, *place, rest),
+        Item::Directive(place) => loop_fault(alloc, directives, lines, files, *place, rest),
         Item::Local(_) => None,
         Item::Statement(_) => None,
     }
@@ -53,39 +76,51 @@ fn line_fault(directives: &Directives, item: &Item, rest: &[Item]) -> Option<Dat
 
 /// What is wrong with the parallel loops in a statement.
 #[cycle(classifying)]
-fn statement_fault(directives: &Directives, statement: &Stmt) -> Option<DataFault>
-    ensures judged { Judges result (LoopsHave directives.now IsPrivate [] (stmt_of statement.now)) }
-    ensures cause { IfSome result (λ f. TellsOfLoops f directives.now (stmt_of statement.now)) }
+fn statement_fault(
+    alloc: Global,
+    directives: &Directives,
+    lines: &LineClauses,
+    files: usize,
+    statement: &Stmt,
+) -> Option<DataFault>
+    ensures judged { Finds result (LoopsPrivate directives.now (private_locals (kept lines.now) files) [] (stmt_of statement.now)) }
+    ensures cause { IfSome result (λ f. TellsOfLoops f directives.now (private_locals (kept lines.now) files) (stmt_of statement.now)) }
 {
     match statement {
         Stmt::Assign(_, _) => None,
         Stmt::Update(_, _, _) => None,
         Stmt::If(_, then, other) => {
-            if let Some(fault) = statement_fault(directives, then) {
+            if let Some(fault) = statement_fault(alloc, directives, lines, files, then) {
                 return Some(fault);
             }
             match other {
                 None => None,
-                Some(other) => statement_fault(directives, other),
+                Some(other) => statement_fault(alloc, directives, lines, files, other),
             }
         }
-        Stmt::For(_, body) => statement_fault(directives, body),
-        Stmt::Block(items) => items_fault(directives, items),
+        Stmt::For(_, body) => statement_fault(alloc, directives, lines, files, body),
+        Stmt::Block(items) => items_fault(alloc, directives, lines, files, items),
         Stmt::Print(_, _) => None,
     }
 }
 
 /// What is wrong with those among a block's items.
 #[cycle(classifying)]
-fn items_fault(directives: &Directives, items: &[Item]) -> Option<DataFault>
-    ensures judged { Judges result (ItemsHave directives.now IsPrivate [] (items_of items.now)) }
-    ensures cause { IfSome result (λ f. TellsOfItems f directives.now (items_of items.now)) }
+fn items_fault(
+    alloc: Global,
+    directives: &Directives,
+    lines: &LineClauses,
+    files: usize,
+    items: &[Item],
+) -> Option<DataFault>
+    ensures judged { Finds result (ItemsPrivate directives.now (private_locals (kept lines.now) files) [] (items_of items.now)) }
+    ensures cause { IfSome result (λ f. TellsOfItems f directives.now (private_locals (kept lines.now) files) (items_of items.now)) }
 {
     for (i, item) in items.iter().enumerate() {
-        if let Some(fault) = line_fault(directives, item, &items[i + 1..]) {
+        if let Some(fault) = line_fault(alloc, directives, lines, files, item, &items[i + 1..]) {
             return Some(fault);
         }
-        if let Some(fault) = item_fault(directives, item) {
+        if let Some(fault) = item_fault(alloc, directives, lines, files, item) {
             return Some(fault);
         }
     }
@@ -94,22 +129,30 @@ fn items_fault(directives: &Directives, items: &[Item]) -> Option<DataFault>
 
 /// What is wrong with those in an item.
 #[cycle(classifying)]
-fn item_fault(directives: &Directives, item: &Item) -> Option<DataFault>
-    ensures judged { Judges result
-        (FirstLoopsArePrivate directives.now (with_item item.now no_items)) }
+fn item_fault(
+    alloc: Global,
+    directives: &Directives,
+    lines: &LineClauses,
+    files: usize,
+    item: &Item,
+) -> Option<DataFault>
+    ensures judged { Finds result
+        (FirstLoopsArePrivate directives.now (private_locals (kept lines.now) files)
+        (with_item item.now no_items)) }
     ensures cause { IfSome result
-        (λ f. TellsOfFirstLoops f directives.now (with_item item.now no_items)) }
+        (λ f. TellsOfFirstLoops f directives.now (private_locals (kept lines.now) files)
+        (with_item item.now no_items)) }
 {
     match item {
         Item::Directive(_) => None,
         Item::Local(_) => None,
-        Item::Statement(statement) => statement_fault(directives, statement),
+        Item::Statement(statement) => statement_fault(alloc, directives, lines, files, statement),
     }
 }
 
-/// The parallel loops of a kernel, in the order of the text, each with its data environment: the variables of its
-/// associated loops and those that it declares are private, all others are shared. The iterations of each keep to data
-/// of their own: its body writes no shared scalar, and prints nothing (OpenMP 5.2, 5.1.1, 5.4, 11.5 and 15.10).
+/// The parallel loops of a kernel, in the order of the text. The iterations of each keep to data of their own: its body writes no
+/// shared scalar, prints nothing, and assigns each private scalar of its line before it reads it (OpenMP 5.2, 5.1.1, 5.4.3, 11.5 and
+/// 15.10). `lines` has the clauses of the directive lines.
 ///
 /// # Errors
 ///
@@ -118,21 +161,25 @@ pub fn classify(
     alloc: Global,
     kernel: &Kernel,
     directives: &Directives,
+    lines: &LineClauses,
 ) -> Result<Vec<ParallelLoop>, DataFault>
     ensures ok { IfOk result (λ loops. AreParallelLoops directives.now (kernel_of kernel.now)
         loops.items) }
-    ensures private { OnOk result (ItemsHave directives.now IsPrivate []
-        (kernel_of kernel.now).body) }
-    ensures err { IfErr result
-        (λ f. (f ≡ OutOfMemory) ⊎ (ItemsHave directives.now IsPrivate [] (kernel_of kernel.now).body
-        → ⊥)) }
-    ensures cause { IfErr result
-        (λ f. (f ≡ OutOfMemory) ⊎ TellsOfItems f directives.now (kernel_of kernel.now).body) }
+    ensures private { OnOk result (ItemsPrivate directives.now (private_locals (kept lines.now)
+        (length (kernel_of kernel.now).variables)) [] (kernel_of kernel.now).body) }
+    ensures err { IfErr result (λ f. (f ≡ OutOfMemory)
+        ⊎ (ItemsPrivate directives.now (private_locals (kept lines.now)
+        (length (kernel_of kernel.now).variables)) [] (kernel_of kernel.now).body → ⊥)) }
+    ensures cause { IfErr result (λ f. (f ≡ OutOfMemory)
+        ⊎ TellsOfItems f directives.now (private_locals (kept lines.now)
+        (length (kernel_of kernel.now).variables)) (kernel_of kernel.now).body) }
 {
-    if let Some(fault) = items_fault(directives, kernel.body.as_slice()) {
+    let files = kernel.variables.len();
+    let items = kernel.body.as_slice();
+    if let Some(fault) = items_fault(alloc, directives, lines, files, items) {
         return Err(fault);
     }
     let mut loops = Vec::new(alloc);
-    add_items(alloc, directives, kernel.body.as_slice(), &mut loops)?;
+    add_items(alloc, directives, items, &mut loops)?;
     Ok(loops)
 }

@@ -10,8 +10,8 @@ use ktree::{Item, Place, Stmt, VarId};
 use pragma::ParallelFor;
 use std::alloc::{AllocError, Global};
 
-/// A parallel loop of a kernel: where its directive line stands, what that says, and its data environment: these
-/// variables are private, every other one that its body names is shared (OpenMP 5.2, 5.1.1 and 11.5).
+/// A parallel loop of a kernel: where its directive line stands, what that says of its iterations, and the variables that are
+/// private without a clause: those of its associated loops and those that its body declares (OpenMP 5.2, 5.1.1 and 11.5).
 #[derive(Drop)]
 pub struct ParallelLoop {
     pub line: Place,

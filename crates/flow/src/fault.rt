@@ -1,6 +1,6 @@
 //! What keeps the data of a parallel loop from being private.
 
-ghost use Rattle.std.specs.Prelude.{◌≡◌};
+ghost use Rattle.std.specs.Prelude.{◌≡◌, ◌⊎◌, ◌&&◌, Some, is_none, IfSome};
 ghost use Rattle.flow.specs.Private.{data_refusal_of};
 
 use ktree::{Place, Refusal};
@@ -11,6 +11,10 @@ use std::alloc::AllocError;
 pub enum DataFault {
     /// A shared scalar is written: the place of its name.
     Written(Place),
+    /// A `firstprivate` scalar is written, whose copies no clause brings back: the place of its name.
+    Copied(Place),
+    /// A private scalar may be read before the iteration assigns it: the place of its name.
+    Unassigned(Place),
     /// A parallel loop prints: the place of the word `printf`.
     Printed(Place),
     /// A directive line that is no `parallel for`, or has no nest of its depth behind it: the place of its `#`.
@@ -26,9 +30,35 @@ impl DataFault {
     {
         match self {
             DataFault::Written(place) => Refusal::SharedScalarWritten(place),
+            DataFault::Copied(place) => Refusal::PrivateVariable(place),
+            DataFault::Unassigned(place) => Refusal::PrivateVariable(place),
             DataFault::Printed(place) => Refusal::Ordered(place),
             DataFault::Directive(place) => Refusal::Directive(place),
             DataFault::OutOfMemory => Refusal::OutOfMemory,
+        }
+    }
+}
+
+impl DataFault {
+    /// The place that it tells; none of want of memory.
+    fn place(self) -> Option<Place> {
+        match self {
+            DataFault::Written(place) => Some(place),
+            DataFault::Copied(place) => Some(place),
+            DataFault::Unassigned(place) => Some(place),
+            DataFault::Printed(place) => Some(place),
+            DataFault::Directive(place) => Some(place),
+            DataFault::OutOfMemory => None,
+        }
+    }
+
+    /// Whether it is told before what stands at a place, by the order of the text; want of memory is told before all else.
+    pub fn stands_before(self, place: Place) -> bool {
+        match self.place() {
+            None => true,
+            Some(own) => {
+                own.line < place.line || (own.line == place.line && own.column < place.column)
+            }
         }
     }
 }
@@ -40,5 +70,20 @@ impl From<AllocError> for DataFault {
 
     fn from(_error: AllocError) -> DataFault {
         DataFault::OutOfMemory
+    }
+}
+
+/// The first of two faults, by the order of the text.
+pub(crate) fn earlier(one: Option<DataFault>, other: Option<DataFault>) -> Option<DataFault>
+    ensures none { is_none result ≡ (is_none one && is_none other) }
+    ensures one { IfSome result (λ f. (one ≡ Some f) ⊎ (other ≡ Some f)) }
+{
+    match (one, other) {
+        (None, other) => other,
+        (one, None) => one,
+        (Some(one), Some(other)) => match one.place() {
+            Some(place) if other.stands_before(place) => Some(other),
+            _ => Some(one),
+        },
     }
 }

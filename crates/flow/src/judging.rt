@@ -1,27 +1,36 @@
 //! What may be read after each statement.
 
-ghost use Rattle.std.specs.Prelude.{◌≡◌, ◌&&◌, true, [], Some, OnOk, IfErr, IfOk, if◌then◌else◌, None};
-ghost use Rattle.semantics.specs.Tree.{no_items};
-ghost use Rattle.semantics.specs.Meaning.Definite.{IsDefinite, no_privates, definite, definite_items, declared_known, known_with, where_ok, may_take, may_test, may_read, may_read_all};
+ghost use Rattle.std.specs.Prelude.{◌≡◌, ◌&&◌, true, [], Some, OnOk, IfErr, IfOk, if◌then◌else◌, None, length};
+ghost use Rattle.semantics.specs.Tree.{Items};
+ghost use Rattle.semantics.specs.Meaning.Definite.{IsDefinite, definite, definite_items, declared_known, known_with, without, privates_in, where_ok, may_take, may_test, may_read, may_read_all};
 ghost use Rattle.ktree.specs.View.{kernel_of, stmt_of, items_of, with_item, start_of, source_of, cond_of, expr_of, exprs_of};
-ghost use Rattle.flow.specs.Judged.{MayBeUnassigned, Refuses, known_of};
+ghost use Rattle.pragma_named.specs.Known.{kept};
+ghost use Rattle.pragma_named.specs.Lines.{line_in};
+ghost use Rattle.flow.specs.Judged.{MayBeUnassigned, Refuses, RefusesAnyhow, private_locals, pending, known_of};
 
 use crate::known::DefinitelyAssigned;
+use crate::privates::{forget_inside, forget_line};
 use crate::reading::{read, read_all, read_parts, read_source, read_step, read_test};
 use ktree::{Expr, Head, Item, Kernel, Local, Refusal, Source, Stmt, Target};
+use pragma_named::{LineClauses, line_of};
 use std::alloc::Global;
 
-/// Whether each local is assigned before it is read, on every path (C11 6.7.9, 10: an unassigned one is indeterminate).
+/// Whether each local is assigned before it is read, on every path (C11 6.7.9, 10: an unassigned one is indeterminate); one in a
+/// private list counts as unassigned behind its construct, from the start of the body of each serial loop round it, and behind
+/// that loop (OpenMP 5.2, 5.4.3). `lines` has the clauses of the kernel's directive lines.
 ///
 /// # Errors
 ///
 /// `MayBeUnassigned` at the first name in the text that may be read unassigned; `OutOfMemory` where memory is refused.
-pub fn definite(alloc: Global, kernel: &Kernel) -> Result<(), Refusal>
-    ensures ok { OnOk result (IsDefinite no_privates (kernel_of kernel.now)) }
-    ensures err { IfErr result (MayBeUnassigned kernel.now) }
+pub fn definite(alloc: Global, kernel: &Kernel, lines: &LineClauses) -> Result<(), Refusal>
+    ensures ok { OnOk result (IsDefinite (private_locals (kept lines.now)
+        (length (kernel_of kernel.now).variables)) (kernel_of kernel.now)) }
+    ensures err { IfErr result (MayBeUnassigned (private_locals (kept lines.now)
+        (length (kernel_of kernel.now).variables)) kernel.now) }
 {
-    let mut known = DefinitelyAssigned::first(alloc, kernel.variables.len())?;
-    block(&kernel.body, &mut known)
+    let files = kernel.variables.len();
+    let mut known = DefinitelyAssigned::first(alloc, files)?;
+    block(&kernel.body, lines, files, &mut known)
 }
 
 /// Judges a statement, and leaves what may be read behind it (C11 6.8).
@@ -30,11 +39,16 @@ pub fn definite(alloc: Global, kernel: &Kernel) -> Result<(), Refusal>
 ///
 /// `MayBeUnassigned` at the first name that may not be read, and `OutOfMemory`; so for all below.
 #[cycle(judging)]
-fn statement(stmt: &Stmt, known: &mut DefinitelyAssigned) -> Result<(), Refusal>
-    ensures after { OnOk result (definite no_privates (stmt_of stmt.now) (known_of known.old)
-        ≡ Some (known_of known.new)) }
-    ensures refused { IfErr result
-        (Refuses (definite no_privates (stmt_of stmt.now) (known_of known.old))) }
+pub(crate) fn statement(
+    stmt: &Stmt,
+    lines: &LineClauses,
+    files: usize,
+    known: &mut DefinitelyAssigned,
+) -> Result<(), Refusal>
+    ensures after { OnOk result (definite (private_locals (kept lines.now) files)
+        (stmt_of stmt.now) (known_of known.old) ≡ Some (known_of known.new)) }
+    ensures refused { IfErr result (Refuses (definite (private_locals (kept lines.now) files)
+        (stmt_of stmt.now) (known_of known.old))) }
 {
     match stmt {
         Stmt::Assign(target, source) => assign(target, source, known),
@@ -42,20 +56,21 @@ fn statement(stmt: &Stmt, known: &mut DefinitelyAssigned) -> Result<(), Refusal>
         Stmt::If(cond, then, other) => {
             read_test(cond, known)?;
             let mut beside = known.copy()?;
-            statement(then, known)?;
+            statement(then, lines, files, known)?;
             if let Some(other) = other {
-                statement(other, &mut beside)?;
+                statement(other, lines, files, &mut beside)?;
             }
-            known.meet(&beside);
+            known.meet(&beside)?;
             Ok(())
         }
         Stmt::For(head, body) => {
-            let mut inside = enter(head, known)?;
-            statement(body, &mut inside)?;
+            let mut inside = enter(head, body, lines, files, known)?;
+            statement(body, lines, files, &mut inside)?;
             read_step(&head.step, head.place, &inside)?;
+            forget_inside(body, lines, files, known)?;
             Ok(())
         }
-        Stmt::Block(items) => block(items, known),
+        Stmt::Block(items) => block(items, lines, files, known),
         Stmt::Print(parts, _place) => {
             read_parts(parts, known)?;
             Ok(())
@@ -65,31 +80,55 @@ fn statement(stmt: &Stmt, known: &mut DefinitelyAssigned) -> Result<(), Refusal>
 
 /// Judges the items of a block in their order (C11 6.8.2).
 #[cycle(judging)]
-fn block(items: &[Item], known: &mut DefinitelyAssigned) -> Result<(), Refusal>
-    ensures after { OnOk result (definite_items no_privates [] (items_of items.now)
-        (known_of known.old) ≡ Some (known_of known.new)) }
-    ensures refused { IfErr result
-        (Refuses (definite_items no_privates [] (items_of items.now) (known_of known.old))) }
+fn block(
+    items: &[Item],
+    lines: &LineClauses,
+    files: usize,
+    known: &mut DefinitelyAssigned,
+) -> Result<(), Refusal>
+    ensures after { OnOk result (definite_items (private_locals (kept lines.now) files) []
+        (items_of items.now) (known_of known.old) ≡ Some (known_of known.new)) }
+    ensures refused { IfErr result (Refuses (definite_items (private_locals (kept lines.now) files)
+        [] (items_of items.now) (known_of known.old))) }
 {
+    let mut before = None;
     for item in items {
-        judge_item(item, known)?;
+        judge_item(item, before, lines, files, known)?;
+        before = line_of(item);
     }
     Ok(())
 }
 
-/// Judges one item of a block; a directive line reads nothing.
+/// Judges one item of a block, behind the item that is the directive line of this number, if it is one; a directive line reads nothing.
 #[cycle(judging)]
-fn judge_item(item: &Item, known: &mut DefinitelyAssigned) -> Result<(), Refusal>
-    ensures after { OnOk result (definite_items no_privates [] (with_item item.now no_items)
-        (known_of known.old) ≡ Some (known_of known.new)) }
-    ensures refused { IfErr result
-        (Refuses (definite_items no_privates [] (with_item item.now no_items)
+fn judge_item(
+    item: &Item,
+    before: Option<u32>,
+    lines: &LineClauses,
+    files: usize,
+    known: &mut DefinitelyAssigned,
+) -> Result<(), Refusal>
+    ensures after { OnOk result ((rest : Items)
+        → definite_items (private_locals (kept lines.now) files)
+        (pending (private_locals (kept lines.now) files) before) (with_item item.now rest)
+        (known_of known.old) ≡ definite_items (private_locals (kept lines.now) files)
+        (pending (private_locals (kept lines.now) files) (line_in item.now)) rest
+        (known_of known.new)) }
+    ensures refused { IfErr result (RefusesAnyhow (λ rest.
+        definite_items (private_locals (kept lines.now) files)
+        (pending (private_locals (kept lines.now) files) before) (with_item item.now rest)
         (known_of known.old))) }
 {
     match item {
         Item::Directive(_place) => Ok(()),
         Item::Local(local) => declare(local, known),
-        Item::Statement(stmt) => statement(stmt, known),
+        Item::Statement(stmt) => {
+            statement(stmt, lines, files, known)?;
+            if let Some(line) = before {
+                forget_line(line, lines, files, known)?;
+            }
+            Ok(())
+        }
     }
 }
 
@@ -103,7 +142,7 @@ fn declare(local: &Local, known: &mut DefinitelyAssigned) -> Result<(), Refusal>
 {
     match &local.start {
         None => {
-            known.forget(local.variable);
+            known.forget(local.variable)?;
             Ok(())
         }
         Some(source) => {
@@ -150,20 +189,30 @@ fn update(target: &Target, expr: &Expr, known: &DefinitelyAssigned) -> Result<()
 }
 
 /// Judges a loop's start and its test, and answers what may be read in its body (C11 6.8.5.3).
-fn enter(head: &Head, known: &DefinitelyAssigned) -> Result<DefinitelyAssigned, Refusal>
+fn enter(
+    head: &Head,
+    body: &Stmt,
+    lines: &LineClauses,
+    files: usize,
+    known: &DefinitelyAssigned,
+) -> Result<DefinitelyAssigned, Refusal>
     ensures inside { IfOk result (λ inside. known_of inside
-        ≡ known_with (known_of known.now) head.now.variable.0 true) }
+        ≡ without (known_with (known_of known.now) head.now.variable.0 true)
+        (privates_in (private_locals (kept lines.now) files) (stmt_of body.now))) }
     ensures read { OnOk result ((may_take (known_of known.now) (source_of head.now.start)
-        && may_test (known_with (known_of known.now) head.now.variable.0 true)
+        && may_test (without (known_with (known_of known.now) head.now.variable.0 true)
+        (privates_in (private_locals (kept lines.now) files) (stmt_of body.now)))
         (cond_of head.now.test)) ≡ true) }
     ensures refused { IfErr result
         (Refuses (if (may_take (known_of known.now) (source_of head.now.start)
-        && may_test (known_with (known_of known.now) head.now.variable.0 true)
+        && may_test (without (known_with (known_of known.now) head.now.variable.0 true)
+        (privates_in (private_locals (kept lines.now) files) (stmt_of body.now)))
         (cond_of head.now.test)) then Some (known_of known.now) else None)) }
 {
     read_source(&head.start, known)?;
     let mut inside = known.copy()?;
     inside.learn(head.variable)?;
+    forget_inside(body, lines, files, &mut inside)?;
     read_test(&head.test, &inside)?;
     Ok(inside)
 }

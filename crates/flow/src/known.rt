@@ -1,6 +1,6 @@
 //! What may be read at a place in a text.
 
-ghost use Rattle.std.specs.Prelude.{◌≡◌, ◌&&◌, List, Bool, true, false, OnOk, IfOk, IfErr, replicate};
+ghost use Rattle.std.specs.Prelude.{◌≡◌, ◌≤◌, ◌&&◌, [], true, false, OnOk, IfOk, IfErr, replicate, vec_len};
 ghost use Rattle.semantics.specs.Meaning.Definite.{known_with};
 ghost use Rattle.ktree.specs.Numbers.{number_of};
 ghost use Rattle.flow.specs.Judged.{known_of, Unread};
@@ -23,18 +23,50 @@ impl From<Unassigned> for Refusal {
     }
 }
 
-/// The variables that may be read, by their numbers; none behind the last.
+/// The variables that may be read, by their numbers: the first ones one by one, and all others.
 #[derive(Drop)]
 pub(crate) struct DefinitelyAssigned {
     slots: Vec<bool>,
+    others: bool,
 }
 
 impl Model for DefinitelyAssigned {
     ghost use Rattle.std.specs.Prelude.{List, Bool};
 
-    ghost Value = { List Bool };
+    ghost Value = { List Bool × Bool };
 
-    ghost view = { λ k. k.slots.items };
+    ghost view = { λ k. (k.slots.items, k.others) };
+}
+
+/// Adds slots up to a count, which say what is known of those behind the last.
+///
+/// # Errors
+///
+/// Where memory runs out.
+fn reach(slots: &mut Vec<bool>, others: bool, count: usize) -> Result<(), AllocError>
+    ensures known { OnOk result (known_of (slots.new.items, others)
+        ≡ known_of (slots.old.items, others)) }
+    ensures reached { OnOk result (count ≤ vec_len slots.new) }
+{
+    while slots.len() < count {
+        slots.push(others)?;
+    }
+    Ok(())
+}
+
+/// Sets what is known of one variable.
+///
+/// # Errors
+///
+/// Where memory runs out.
+fn put(slots: &mut Vec<bool>, others: bool, variable: VarId, known: bool) -> Result<(), AllocError>
+    ensures { OnOk result (known_of (slots.new.items, others)
+        ≡ known_with (known_of (slots.old.items, others)) variable.0 known) }
+{
+    let index = variable.0 as usize;
+    reach(slots, others, index + 1)?;
+    slots[index] = known;
+    Ok(())
 }
 
 impl DefinitelyAssigned {
@@ -44,10 +76,23 @@ impl DefinitelyAssigned {
     ///
     /// Where memory runs out.
     pub(crate) fn first(alloc: Global, count: usize) -> Result<DefinitelyAssigned, AllocError>
-        ensures { IfOk result (λ known. known ≡ replicate count true) }
+        ensures { IfOk result (λ known. known ≡ (replicate count true, false)) }
     {
         let slots = vec![in alloc; true; count]?;
-        Ok(DefinitelyAssigned { slots })
+        Ok(DefinitelyAssigned {
+            slots,
+            others: false,
+        })
+    }
+
+    /// All variables.
+    pub(crate) fn all(alloc: Global) -> DefinitelyAssigned
+        ensures { result ≡ ([], true) }
+    {
+        DefinitelyAssigned {
+            slots: Vec::new(alloc),
+            others: true,
+        }
     }
 
     /// The same once more.
@@ -59,7 +104,10 @@ impl DefinitelyAssigned {
         ensures { IfOk result (λ known. known ≡ self.now) }
     {
         let slots = self.slots.clone()?;
-        Ok(DefinitelyAssigned { slots })
+        Ok(DefinitelyAssigned {
+            slots,
+            others: self.others,
+        })
     }
 
     /// Whether the variable of a number may be read.
@@ -68,7 +116,7 @@ impl DefinitelyAssigned {
     {
         match self.slots.get(index) {
             Some(known) => *known,
-            None => false,
+            None => self.others,
         }
     }
 
@@ -96,34 +144,37 @@ impl DefinitelyAssigned {
     pub(crate) fn learn(&mut self, variable: VarId) -> Result<(), AllocError>
         ensures { OnOk result (known_of self.new ≡ known_with (known_of self.old) variable.0 true) }
     {
-        let slots = &mut self.slots;
-        let index = variable.0 as usize;
-        while slots.len() <= index {
-            slots.push(false)?;
-        }
-        slots[index] = true;
-        Ok(())
+        put(&mut self.slots, self.others, variable, true)
     }
 
     /// From here on a variable may not be read.
-    pub(crate) fn forget(&mut self, variable: VarId)
-        ensures { known_of self.new ≡ known_with (known_of self.old) variable.0 false }
+    ///
+    /// # Errors
+    ///
+    /// Where memory runs out.
+    pub(crate) fn forget(&mut self, variable: VarId) -> Result<(), AllocError>
+        ensures { OnOk result (known_of self.new
+            ≡ known_with (known_of self.old) variable.0 false) }
     {
-        let slots = &mut self.slots;
-        let index = variable.0 as usize;
-        if index < slots.len() {
-            slots[index] = false;
-        }
+        put(&mut self.slots, self.others, variable, false)
     }
 
     /// Leaves what may be read here and there.
-    pub(crate) fn meet(&mut self, other: &DefinitelyAssigned)
-        ensures { known_of self.new ≡ (λ y. known_of self.old y && known_of other.now y) }
+    ///
+    /// # Errors
+    ///
+    /// Where memory runs out.
+    pub(crate) fn meet(&mut self, other: &DefinitelyAssigned) -> Result<(), AllocError>
+        ensures { OnOk result (known_of self.new
+            ≡ (λ y. known_of self.old y && known_of other.now y)) }
     {
+        reach(&mut self.slots, self.others, other.slots.len())?;
         let slots = &mut self.slots;
         let count = slots.len();
         for i in 0..count {
             slots[i] &= other.knows(i);
         }
+        self.others &= other.others;
+        Ok(())
     }
 }

@@ -5,9 +5,11 @@ mod bodies;
 mod classifying;
 mod environment;
 mod fault;
+mod firsts;
 mod judging;
 mod known;
 mod listing;
+mod privates;
 mod reading;
 mod sharing;
 

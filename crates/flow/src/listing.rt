@@ -3,8 +3,9 @@
 ghost use Rattle.std.specs.Prelude.{[], OnOk};
 ghost use Rattle.semantics.specs.Tree.{no_items};
 ghost use Rattle.ktree.specs.View.{stmt_of, with_item, items_of};
-ghost use Rattle.pragma.specs.Parallel.{LineHas, LoopsHave, ItemsHave};
-ghost use Rattle.flow.specs.Private.{IsPrivate, FirstLineIsPrivate, FirstLoopsArePrivate};
+ghost use Rattle.semantics.specs.Meaning.Definite.{Privates};
+ghost use Rattle.pragma.specs.Parallel.{LineHas};
+ghost use Rattle.flow.specs.Private.{IsPrivate, LoopsPrivate, ItemsPrivate, FirstLineIsPrivate, FirstLoopsArePrivate};
 ghost use Rattle.flow.specs.Parallel.{Adds, IsOfLine, LoopsAre, ItemsAre, FirstLineIs, FirstLoopsAre};
 
 use crate::bodies::first_statement;
@@ -26,7 +27,8 @@ fn add_loop(
     rest: &[Item],
     loops: &mut Vec<ParallelLoop>,
 ) -> Result<(), AllocError>
-    ensures { OnOk result (LineHas directives.now IsPrivate [] place.line (items_of rest.now)
+    ensures { OnOk result ((P : Privates) → LineHas directives.now (IsPrivate (P place.line)) [] place.line
+        (items_of rest.now)
         → Adds (IsOfLine directives.now place.line (items_of rest.now)) loops.old.items
         loops.new.items) }
 {
@@ -53,7 +55,7 @@ fn add_line(
     rest: &[Item],
     loops: &mut Vec<ParallelLoop>,
 ) -> Result<(), AllocError>
-    ensures { OnOk result (FirstLineIsPrivate directives.now (with_item item.now no_items)
+    ensures { OnOk result ((P : Privates) → FirstLineIsPrivate directives.now P (with_item item.now no_items)
         (items_of rest.now) → Adds (FirstLineIs directives.now (with_item item.now no_items)
         (items_of rest.now)) loops.old.items loops.new.items) }
 {
@@ -72,7 +74,7 @@ fn add_statement(
     statement: &Stmt,
     loops: &mut Vec<ParallelLoop>,
 ) -> Result<(), AllocError>
-    ensures { OnOk result (LoopsHave directives.now IsPrivate [] (stmt_of statement.now)
+    ensures { OnOk result ((P : Privates) → LoopsPrivate directives.now P [] (stmt_of statement.now)
         → Adds (LoopsAre directives.now (stmt_of statement.now)) loops.old.items loops.new.items) }
 {
     match statement {
@@ -99,7 +101,7 @@ pub(crate) fn add_items(
     items: &[Item],
     loops: &mut Vec<ParallelLoop>,
 ) -> Result<(), AllocError>
-    ensures { OnOk result (ItemsHave directives.now IsPrivate [] (items_of items.now)
+    ensures { OnOk result ((P : Privates) → ItemsPrivate directives.now P [] (items_of items.now)
         → Adds (ItemsAre directives.now (items_of items.now)) loops.old.items loops.new.items) }
 {
     for (i, item) in items.iter().enumerate() {
@@ -117,7 +119,7 @@ fn add_item(
     item: &Item,
     loops: &mut Vec<ParallelLoop>,
 ) -> Result<(), AllocError>
-    ensures { OnOk result (FirstLoopsArePrivate directives.now (with_item item.now no_items)
+    ensures { OnOk result ((P : Privates) → FirstLoopsArePrivate directives.now P (with_item item.now no_items)
         → Adds (FirstLoopsAre directives.now (with_item item.now no_items)) loops.old.items
         loops.new.items) }
 {

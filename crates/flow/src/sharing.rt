@@ -1,13 +1,17 @@
 //! What the body of a parallel loop declares, and what it assigns.
 
-ghost use Rattle.std.specs.Prelude.{◌≡◌, is_none, IfSome};
-ghost use Rattle.semantics.specs.Tree.{no_items};
+ghost use Rattle.std.specs.Prelude.{◌≡◌, ◌++◌, Bool, false, is_none, IfSome};
+ghost use Rattle.semantics.specs.Tree.{Variable, Exprs, no_items};
 ghost use Rattle.semantics.specs.Meaning.Agrees.{is_among, declared_in, declared_among};
 ghost use Rattle.ktree.specs.View.{stmt_of, with_item, items_of, exprs_of};
+ghost use Rattle.pragma_named.specs.Known.{kept};
+ghost use Rattle.flow.specs.Judged.{private_locals};
 ghost use Rattle.flow.specs.Private.{is_own, keeps, keeps_all, is_private_body, TellsOfWrite, TellsOf, TellsOfAny, TellsOfBody};
 
 use crate::fault::DataFault;
+use crate::privates::{is_copied, is_private};
 use ktree::{Item, Stmt, Target, VarId};
+use pragma_named::LineClauses;
 
 /// Whether a statement declares a variable, as that of a loop or as a block's local.
 #[cycle(declaring)]
@@ -55,13 +59,34 @@ fn item_declares(item: &Item, variable: VarId) -> bool
     }
 }
 
-/// What is wrong with an assignment in a body: of scalars it may write those alone that the body declares.
-fn target_fault(target: &Target, body: &Stmt) -> Option<DataFault>
+/// Tells of a scalar that is written: one that stands in a `firstprivate` list of the line is its copy (OpenMP 5.2, 5.4.4).
+fn written(target: &Target, line: u32, lines: &LineClauses) -> DataFault
+    ensures { (own : Variable → Bool) (is : Exprs) → is_own own target.now.variable.0 is ≡ false
+        → TellsOfWrite result own target.now.variable.0 is }
+{
+    if is_copied(target.variable, line, lines) {
+        DataFault::Copied(target.mention.name)
+    } else {
+        DataFault::Written(target.mention.name)
+    }
+}
+
+/// What is wrong with an assignment in a body behind a directive line: of scalars it may write those alone that the body declares,
+/// and the private ones of the line.
+fn target_fault(
+    target: &Target,
+    body: &Stmt,
+    line: u32,
+    lines: &LineClauses,
+    files: usize,
+) -> Option<DataFault>
     ensures judged { is_none result
-        ≡ is_own (is_among (declared_in (stmt_of body.now))) target.now.variable.0
+        ≡ is_own (is_among (declared_in (stmt_of body.now)
+        ++ private_locals (kept lines.now) files line)) target.now.variable.0
         (exprs_of target.now.subscripts.items) }
     ensures cause { IfSome result
-        (λ f. TellsOfWrite f (is_among (declared_in (stmt_of body.now))) target.now.variable.0
+        (λ f. TellsOfWrite f (is_among (declared_in (stmt_of body.now)
+        ++ private_locals (kept lines.now) files line)) target.now.variable.0
         (exprs_of target.now.subscripts.items)) }
 {
     if !target.subscripts.is_empty() {
@@ -70,45 +95,64 @@ fn target_fault(target: &Target, body: &Stmt) -> Option<DataFault>
     if declares(body, target.variable) {
         return None;
     }
-    Some(DataFault::Written(target.mention.name))
+    if is_private(target.variable, line, lines, files) {
+        return None;
+    }
+    Some(written(target, line, lines))
 }
 
 /// The first fault of a statement in a body.
 #[cycle(keeping)]
-fn statement_fault(statement: &Stmt, body: &Stmt) -> Option<DataFault>
+fn statement_fault(
+    statement: &Stmt,
+    body: &Stmt,
+    line: u32,
+    lines: &LineClauses,
+    files: usize,
+) -> Option<DataFault>
     ensures judged { is_none result
-        ≡ keeps (is_among (declared_in (stmt_of body.now))) (stmt_of statement.now) }
+        ≡ keeps (is_among (declared_in (stmt_of body.now)
+        ++ private_locals (kept lines.now) files line)) (stmt_of statement.now) }
     ensures cause { IfSome result
-        (λ f. TellsOf f (is_among (declared_in (stmt_of body.now))) (stmt_of statement.now)) }
+        (λ f. TellsOf f (is_among (declared_in (stmt_of body.now)
+        ++ private_locals (kept lines.now) files line)) (stmt_of statement.now)) }
 {
     match statement {
-        Stmt::Assign(target, _) => target_fault(target, body),
-        Stmt::Update(target, _, _) => target_fault(target, body),
+        Stmt::Assign(target, _) => target_fault(target, body, line, lines, files),
+        Stmt::Update(target, _, _) => target_fault(target, body, line, lines, files),
         Stmt::If(_, then, other) => {
-            if let Some(fault) = statement_fault(then, body) {
+            if let Some(fault) = statement_fault(then, body, line, lines, files) {
                 return Some(fault);
             }
             match other {
                 None => None,
-                Some(other) => statement_fault(other, body),
+                Some(other) => statement_fault(other, body, line, lines, files),
             }
         }
-        Stmt::For(_, inner) => statement_fault(inner, body),
-        Stmt::Block(items) => block_fault(items, body),
+        Stmt::For(_, inner) => statement_fault(inner, body, line, lines, files),
+        Stmt::Block(items) => block_fault(items, body, line, lines, files),
         Stmt::Print(_, place) => Some(DataFault::Printed(*place)),
     }
 }
 
 /// The first of a block's items.
 #[cycle(keeping)]
-fn block_fault(items: &[Item], body: &Stmt) -> Option<DataFault>
+fn block_fault(
+    items: &[Item],
+    body: &Stmt,
+    line: u32,
+    lines: &LineClauses,
+    files: usize,
+) -> Option<DataFault>
     ensures judged { is_none result
-        ≡ keeps_all (is_among (declared_in (stmt_of body.now))) (items_of items.now) }
+        ≡ keeps_all (is_among (declared_in (stmt_of body.now)
+        ++ private_locals (kept lines.now) files line)) (items_of items.now) }
     ensures cause { IfSome result
-        (λ f. TellsOfAny f (is_among (declared_in (stmt_of body.now))) (items_of items.now)) }
+        (λ f. TellsOfAny f (is_among (declared_in (stmt_of body.now)
+        ++ private_locals (kept lines.now) files line)) (items_of items.now)) }
 {
     for item in items {
-        if let Some(fault) = item_fault(item, body) {
+        if let Some(fault) = item_fault(item, body, line, lines, files) {
             return Some(fault);
         }
     }
@@ -117,24 +161,39 @@ fn block_fault(items: &[Item], body: &Stmt) -> Option<DataFault>
 
 /// The first of an item.
 #[cycle(keeping)]
-fn item_fault(item: &Item, body: &Stmt) -> Option<DataFault>
+fn item_fault(
+    item: &Item,
+    body: &Stmt,
+    line: u32,
+    lines: &LineClauses,
+    files: usize,
+) -> Option<DataFault>
     ensures judged { is_none result
-        ≡ keeps_all (is_among (declared_in (stmt_of body.now))) (with_item item.now no_items) }
+        ≡ keeps_all (is_among (declared_in (stmt_of body.now)
+        ++ private_locals (kept lines.now) files line)) (with_item item.now no_items) }
     ensures cause { IfSome result
-        (λ f. TellsOfAny f (is_among (declared_in (stmt_of body.now)))
+        (λ f. TellsOfAny f (is_among (declared_in (stmt_of body.now)
+        ++ private_locals (kept lines.now) files line))
         (with_item item.now no_items)) }
 {
     match item {
         Item::Directive(_) => None,
         Item::Local(_) => None,
-        Item::Statement(statement) => statement_fault(statement, body),
+        Item::Statement(statement) => statement_fault(statement, body, line, lines, files),
     }
 }
 
-/// The first fault of a parallel loop's body: printf, or a scalar that is assigned and declared outside.
-pub(crate) fn body_fault(body: &Stmt) -> Option<DataFault>
-    ensures judged { is_none result ≡ is_private_body (stmt_of body.now) }
-    ensures cause { IfSome result (λ f. TellsOfBody f (stmt_of body.now)) }
+/// The first fault of a parallel loop's body behind a directive line: printf, or a scalar that is assigned, declared outside and not private.
+pub(crate) fn body_fault(
+    body: &Stmt,
+    line: u32,
+    lines: &LineClauses,
+    files: usize,
+) -> Option<DataFault>
+    ensures judged { is_none result ≡ is_private_body (private_locals (kept lines.now) files line)
+        (stmt_of body.now) }
+    ensures cause { IfSome result (λ f. TellsOfBody f (private_locals (kept lines.now) files line)
+        (stmt_of body.now)) }
 {
-    statement_fault(body, body)
+    statement_fault(body, body, line, lines, files)
 }

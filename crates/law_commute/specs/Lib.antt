@@ -1,3 +1,4 @@
 pub mod Steady
+pub mod Targets
 pub mod Commuting
 pub mod Joining

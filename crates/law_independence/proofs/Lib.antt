@@ -1,3 +1,4 @@
+pub mod Targeted
 pub mod Sums
 pub mod Links
 pub mod Counted

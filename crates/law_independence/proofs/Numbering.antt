@@ -1,7 +1,7 @@
 -- A statement declares variables with numbers from the next one on, so that no visible one is declared anew.
 use Rattle.std.specs.Prelude.{ℕ, suc, Bool, true, false, ◌≡◌, ◌<◌, ◌≤◌, ◌==◌, ◌||◌, ◌++◌, List, ◌∷◌, length}
 use Rattle.std.proofs.Common.{refl, sym, ◌∙◌, cond, arith, ⊎_elim}
-use Rattle.std.proofs.lemmas.Bool.{eqb-true, or_cases}
+use Rattle.std.proofs.lemmas.Bool.{eqb-true, or_cases, false_from_ne_true}
 use Rattle.semantics.specs.Tree.{Name, Variable, Stmt, Items, Declaration}
 use Rattle.semantics.specs.Source.Token.{Token}
 use Rattle.semantics.specs.Source.Scope.{Scope, AVariable}
@@ -48,6 +48,10 @@ mutual
   declared_among_from (statement {next = next} {s = a} {items = items} ra r) y h =
       let up = rises ra in
       either_list next y (declared_in a) (declared_among items) h (declared_from ra y) (λ q. let le = declared_among_from r y q in omega arith)
+
+-- so it declares none with a number before
+pub undeclared : {scope : Scope} {o next next' : ℕ} {ts : List Token} {a : Stmt} → ReadsStmt scope o next ts a next' → (y : Variable) → y < next → is_among (declared_in a) y ≡ false
+undeclared {a = a} r y lt = false_from_ne_true (is_among (declared_in a) y) (λ h. let le = declared_from r y h in absurd (omega arith))
 
 -- ---- places
 

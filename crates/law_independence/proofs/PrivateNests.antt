@@ -1,13 +1,24 @@
--- A nest whose body keeps to its own scalars keeps to its own.
-use Rattle.std.specs.Prelude.{ℕ, zero, suc, Bool, true, false, ◌≡◌, ◌&&◌, List, [], Some}
-use Rattle.std.proofs.Common.{refl, ap, ◌∙◌}
+-- A nest whose body keeps to its own scalars and its private ones does so itself, and assigns first what the nest assigns first.
+use Rattle.std.specs.Prelude.{ℕ, zero, suc, Bool, true, false, ◌≡◌, ◌==◌, ◌&&◌, ◌||◌, not, List, [], ◌++◌, Some, IsSome, is_some}
+use Rattle.std.proofs.Common.{refl, sym, ap, ◌∙◌, subst, cond}
+use Rattle.std.proofs.lemmas.Bool.{or_left, or_right, not_from_true, true≢false}
 use Rattle.std.proofs.lemmas.Option.{same_Some, none-some}
 use Rattle.semantics.specs.Tree.{Variable, Exprs, no_exprs, more_exprs, Stmt, Assign, Update, If, IfElse, For, Block, Print, Items, no_items, mark, local, stmt}
-use Rattle.semantics.specs.Meaning.Agrees.{is_among, declared_in}
+use Rattle.semantics.specs.Meaning.Agrees.{is_among, declared_in, visible_behind}
+use Rattle.semantics.specs.Meaning.Definite.{DefinitelyAssigned, known_with, without, no_privates, definite, definite_items}
 use Rattle.semantics.specs.Loops.Nest.{Loop, as_loop, nest_of}
 use Rattle.flow.specs.Private.{is_own, keeps, keeps_all, is_private_body}
+use Rattle.flow.proofs.PrivateLemmas.{among_both}
+use Rattle.law_runs.proofs.Assigning.{swapped}
+use Rattle.law_runs.proofs.Points.{and_then}
+use Rattle.law_runs.proofs.Nested.{some_there}
+use Rattle.law_runs.proofs.Growing.{loop_known_is}
+use Rattle.law_commute.specs.Targets.{targets_outside, AssignsFirst}
 use Rattle.law_commute.proofs.Values.{first_of, second_of}
 use Rattle.law_nests.proofs.Joined.{first_loop, nest_declares}
+use Rattle.law_private.specs.Known.{IsWithin}
+use Rattle.law_private.proofs.More.{more_known}
+use Rattle.law_independence.proofs.Targeted.{in_either, own_target, outside_visible, outside_target, loop_visible}
 
 both_true : (a b : Bool) → a ≡ true → b ≡ true → (a && b) ≡ true
 both_true true b e f = f
@@ -58,6 +69,83 @@ nest_keeps own (suc n) s loops body h k =
     let first = first_loop n s loops body h in
     loop_keeps own s first.loop first.inside first.is (nest_keeps own n first.inside first.loops body first.rest k)
 
-pub private_nest : (n : ℕ) (s : Stmt) (loops : List Loop) (body : Stmt) → nest_of n s ≡ Some (loops, body) → is_private_body body ≡ true → is_private_body s ≡ true
-private_nest n s loops body h k =
-    nest_keeps (is_among (declared_in s)) n s loops body h (keeps_more (is_among (declared_in body)) (is_among (declared_in s)) (nest_declares n s loops body h) body k)
+pub private_nest : (ps : List Variable) (n : ℕ) (s : Stmt) (loops : List Loop) (body : Stmt) → nest_of n s ≡ Some (loops, body) → is_private_body ps body ≡ true → is_private_body ps s ≡ true
+private_nest ps n s loops body h k = nest_keeps (is_among (declared_in s ++ ps)) n s loops body h (keeps_more (is_among (declared_in body ++ ps)) (is_among (declared_in s ++ ps)) wider body k)
+  where
+    wider : (x : Variable) → is_among (declared_in body ++ ps) x ≡ true → is_among (declared_in s ++ ps) x ≡ true
+    wider x q =
+        among_both (declared_in s) ps x
+        ∙ in_either x (declared_in body) ps q (λ d. or_left (is_among (declared_in s) x) (is_among ps x) (nest_declares n s loops body h x d)) (λ p. or_right (is_among (declared_in s) x) (is_among ps x) p)
+
+-- what it assigns of the scalars from outside are private ones
+pub private_target : (ps : List Variable) (a : Stmt) → is_private_body ps a ≡ true → (x : Variable) → is_among (targets_outside a) x ≡ true → is_among ps x ≡ true
+private_target ps a h x t =
+    in_either x (declared_in a) ps (own_target (is_among (declared_in a ++ ps)) x a h (outside_target a x t))
+    (λ d. absurd (true≢false (sym (outside_visible a x t) ∙ not_from_true (is_among (declared_in a) x) d))) (λ p. p)
+
+-- ---- what is assigned first
+
+-- a statement is entered with something known, from which it reads nothing that is not; of what is visible round it that was known before
+record IsEntered (s a : Stmt) (k : DefinitelyAssigned) : Type 0 where
+  known : DefinitelyAssigned
+  there : IsSome (definite no_privates a known)
+  from : (x : Variable) → visible_behind s x ≡ true → known x ≡ true → k x ≡ true
+
+loop_entered : (s : Stmt) (l : Loop) (b : Stmt) (k : DefinitelyAssigned) → as_loop s ≡ Some (l, b) → IsSome (definite no_privates s k) → IsSome (definite no_privates b (known_with k l.variable true))
+loop_entered (Assign x is e) l b k h d = absurd (none-some (l, b) h)
+loop_entered (Update x is op e) l b k h d = absurd (none-some (l, b) h)
+loop_entered (If c a) l b k h d = absurd (none-some (l, b) h)
+loop_entered (IfElse c a e) l b k h d = absurd (none-some (l, b) h)
+loop_entered (Print parts) l b k h d = absurd (none-some (l, b) h)
+loop_entered (For x name start test step inner) l b k h d =
+    let there = some_there (definite no_privates (For x name start test step inner) k) d in
+    subst (λ (p : Loop × Stmt). IsSome (definite no_privates p.1 (known_with k p.0.variable true))) (same_Some (record { variable = x; start = start; test = test; step = step }, inner) (l, b) h)
+    (ap is_some (loop_known_is x name start test step inner k there.0 there.1).inside)
+loop_entered (Block no_items) l b k h d = absurd (none-some (l, b) h)
+loop_entered (Block (mark line rest)) l b k h d = absurd (none-some (l, b) h)
+loop_entered (Block (local x name start rest)) l b k h d = absurd (none-some (l, b) h)
+loop_entered (Block (stmt a (mark line rest))) l b k h d = absurd (none-some (l, b) h)
+loop_entered (Block (stmt a (local x name start rest))) l b k h d = absurd (none-some (l, b) h)
+loop_entered (Block (stmt a (stmt c rest))) l b k h d = absurd (none-some (l, b) h)
+loop_entered (Block (stmt a no_items)) l b k h d =
+    let there = some_there (definite no_privates (Block (stmt a no_items)) k) d in
+    loop_entered a l b k h (ap is_some (and_then (λ after. definite_items no_privates [] no_items (without after [])) (definite no_privates a k) there.0 there.1).1)
+
+nest_entered : (n : ℕ) (s : Stmt) (loops : List Loop) (body : Stmt) (k : DefinitelyAssigned) → nest_of n s ≡ Some (loops, body) → IsSome (definite no_privates s k) → IsEntered s body k
+nest_entered zero s loops body k h d =
+    subst (λ b. IsEntered s b k) (ap (λ (p : List Loop × Stmt). p.1) (same_Some ([], s) (loops, body) h)) (record { known = k; there = d; from = λ x v q. q })
+nest_entered (suc n) s loops body k h d =
+    let first = first_loop n s loops body h in
+    let rest = nest_entered n first.inside first.loops body (known_with k first.loop.variable true) first.rest (loop_entered s first.loop first.inside k first.is d) in
+    record { known = rest.known; there = rest.there; from = λ x v q. at first.loop first.inside x (first.loop.variable == x) refl (sym (loop_visible s first.loop first.inside first.is x) ∙ v) (λ w. rest.from x w q) }
+  where
+    at : (l : Loop) (b : Stmt) (x : Variable) (c : Bool) → (l.variable == x) ≡ c → not (c || is_among (declared_in b) x) ≡ true → (visible_behind b x ≡ true → known_with k l.variable true x ≡ true) → k x ≡ true
+    at l b x true e v goes = absurd (cc v)
+    at l b x false e v goes = sym (ap (λ c. cond c true (k x)) (swapped l.variable x e)) ∙ goes v
+
+-- so of these scalars, where none of them is among the others
+more_first : (a : Stmt) (xs : List Variable) (k : DefinitelyAssigned) → IsSome (definite no_privates a k) → ((x : Variable) → is_among xs x ≡ true → k x ≡ false) → AssignsFirst xs a
+more_first a xs k d none =
+    let there = some_there (definite no_privates a k) d in
+    ap is_some (more_known.statements no_privates no_privates a k there.0 (λ x. not (is_among xs x)) (λ line x h. h) within there.1).is
+  where
+    within : IsWithin k (λ x. not (is_among xs x))
+    within x h = at (is_among xs x) refl
+      where
+        at : (b : Bool) → is_among xs x ≡ b → not b ≡ true
+        at true e = absurd (true≢false (sym h ∙ none x e))
+        at false e = refl
+
+-- a nest's targets, and its body's
+pub nest_first : (ps : List Variable) (s : Stmt) → is_private_body ps s ≡ true → IsSome (definite no_privates s (λ x. not (is_among ps x))) → AssignsFirst (targets_outside s) s
+nest_first ps s h d = more_first s (targets_outside s) (λ x. not (is_among ps x)) d (λ x t. not_from_true (is_among ps x) (private_target ps s h x t))
+
+pub body_first : (ps : List Variable) (n : ℕ) (s : Stmt) (loops : List Loop) (body : Stmt) → nest_of n s ≡ Some (loops, body) → is_private_body ps s ≡ true
+    → ((x : Variable) → is_among (targets_outside body) x ≡ true → is_among (targets_outside s) x ≡ true) → IsSome (definite no_privates s (λ x. not (is_among ps x))) → AssignsFirst (targets_outside body) body
+body_first ps n s loops body is h more d =
+    let inside = nest_entered n s loops body (λ x. not (is_among ps x)) is d in
+    more_first body (targets_outside body) inside.known inside.there (λ x t. at inside x (more x t) (inside.known x) refl)
+  where
+    at : (inside : IsEntered s body (λ x. not (is_among ps x))) (x : Variable) → is_among (targets_outside s) x ≡ true → (b : Bool) → inside.known x ≡ b → inside.known x ≡ false
+    at inside x t true e = absurd (true≢false (sym (inside.from x (outside_visible s x t) e) ∙ not_from_true (is_among ps x) (private_target ps s h x t)))
+    at inside x t false e = e

@@ -7,14 +7,13 @@ use Rattle.semantics.specs.Source.Token.{Token}
 use Rattle.semantics.specs.Source.Scope.{Scope, AVariable}
 use Rattle.semantics.specs.Source.Statements.{ReadsStmt, assign, update, if_only, if_else, for_loop, block, print, ReadsItems, no_more, line, empty_local, first_local, statement}
 use Rattle.semantics.specs.Source.Text.{line_at}
-use Rattle.semantics.specs.Meaning.Definite.{no_privates, definite_items, known_at_start}
+use Rattle.semantics.specs.Meaning.Definite.{Privates, no_privates, definite_items, known_at_start}
 use Rattle.semantics.specs.Loops.Nest.{Loop}
 use Rattle.nest_loop.specs.Loops.{inside}
 use Rattle.pairtest_counter.specs.Levels.{Nesting}
 use Rattle.pragma.specs.Parallel.{associated, FirstHas, LineHas, LoopsHave, ItemsHave}
 use Rattle.pragma.proofs.LoopLaw.{read_once}
 use Rattle.nest.specs.Nests.{Has, Have, StaysInside}
-use Rattle.flow.specs.Private.{IsPrivate}
 use Rattle.deptest_verdict.specs.Shown.{ShownFirst, LineShown, LoopsShown, ItemsShown, no_loops}
 use Rattle.law_runs.proofs.Points.{rises}
 use Rattle.law_runs.proofs.Nested.{decls_below, some_there}
@@ -24,78 +23,83 @@ use Rattle.law_independence.specs.Inside.{LoopsAreRead, ItemsAreRead, HaveShort}
 use Rattle.law_independence.proofs.Links.{one_entered}
 use Rattle.law_independence.proofs.IndependentNests.{body_there}
 use Rattle.law_independence.proofs.Grammar.{decls_small, decls_short, items_read}
+use Rattle.law_commute.specs.Targets.{targets, targets_among}
+use Rattle.law_private.proofs.More.{more_known}
+use Rattle.flow.specs.Private.{IsPrivate, LoopsPrivate, ItemsPrivate}
 use Rattle.law_independence.specs.OrderLaws.{CommutesAsNest, AcceptedLoopsCommute}
+use Rattle.law_independence.proofs.Targeted.{Spares, spares_left, spares_right, spares_inside}
 use Rattle.law_independence.proofs.Numbering.{IsPlace, place_later, place_behind, place_inside}
 use Rattle.law_independence.proofs.Starts.{StartsNameOthers, AllNameOthers, all_start}
-use Rattle.law_independence.proofs.ReorderedNests.{loop_commutes}
+use Rattle.law_independence.proofs.ReorderedNests.{AreBehind, loop_commutes}
 
 -- ---- the walk
 
-module _ (text : List ℕ) (ds : List Declaration) (short : HaveShort ds) where
+module _ (text : List ℕ) (ds : List Declaration) (short : HaveShort ds) (P : Privates) (behind : (line : ℕ) → AreBehind ds (P line)) where
   first_commutes : {scope : Scope} {o next next' : ℕ} {ts : List Token} {items : Items} → ReadsItems scope o next ts items next' → (round : Nesting) (serial : List Loop) (n : ℕ) → AreEntered no_loops serial round
-      → IsPlace ds round.box scope next → AllNameOthers items → ShownFirst round n items → FirstHas IsPrivate serial n items → ItemsAreRead round.box items → Have (StaysInside ds) round.box items
+      → IsPlace ds round.box scope next → AllNameOthers items → Spares round.box (targets_among items) → (line : ℕ) → ShownFirst round n items → FirstHas (IsPrivate (P line)) serial n items → ItemsAreRead round.box items → Have (StaysInside ds) round.box items
       → FirstHas CommutesAsNest serial n items
-  first_commutes no_more round serial n entered at starts shown private read has = shown
-  first_commutes (line r) round serial n entered at starts shown private read has = shown
-  first_commutes (empty_local free r) round serial n entered at starts shown private read has = shown
-  first_commutes (first_local free e r) round serial n entered at starts shown private read has = shown
-  first_commutes {scope} (statement {open' = open'} {next = next} {next' = middle} {s = s} {ts = ts} ra r) round serial n entered at starts shown private read has =
+  first_commutes no_more round serial n entered at starts spares line' shown private read has = shown
+  first_commutes (line r) round serial n entered at starts spares line' shown private read has = shown
+  first_commutes (empty_local free r) round serial n entered at starts spares line' shown private read has = shown
+  first_commutes (first_local free e r) round serial n entered at starts spares line' shown private read has = shown
+  first_commutes {scope} (statement {open' = open'} {next = next} {next' = middle} {s = s} {items = rest} {ts = ts} ra r) round serial n entered at starts spares line' shown private read has =
       loop_commutes ds serial round n s short entered read.0 has.0
-      (record { scope = scope; order = open'; next = next; after = middle; tokens = ts; reads = ra; place = at; starts = starts.0 }) private shown
+      (record { scope = scope; order = open'; next = next; after = middle; tokens = ts; reads = ra; place = at; starts = starts.0; spares = spares_left round.box (targets s) (targets_among rest) spares }) (P line') (behind line') private shown
 
   line_commutes : {scope : Scope} {o next next' : ℕ} {ts : List Token} {items : Items} → ReadsItems scope o next ts items next' → (round : Nesting) (serial : List Loop) (n : ℕ) → AreEntered no_loops serial round
-      → IsPlace ds round.box scope next → AllNameOthers items → LineShown text round n items → LineHas text IsPrivate serial n items → ItemsAreRead round.box items → Have (StaysInside ds) round.box items
+      → IsPlace ds round.box scope next → AllNameOthers items → Spares round.box (targets_among items) → LineShown text round n items → LineHas text (IsPrivate (P n)) serial n items → ItemsAreRead round.box items → Have (StaysInside ds) round.box items
       → LineHas text CommutesAsNest serial n items
-  line_commutes {items = items} r round serial n entered at starts (k, c, reads, first) (k', c', reads', private) read has =
+  line_commutes {items = items} r round serial n entered at starts spares (k, c, reads, first) (k', c', reads', private) read has =
       let same = (read_once (line_at text n) k' c' k c reads' reads).1 in
-      (k, c, reads, first_commutes r round serial (associated c) entered at starts first (subst (λ d. FirstHas IsPrivate serial (associated d) items) same private) read has)
+      (k, c, reads, first_commutes r round serial (associated c) entered at starts spares n first (subst (λ d. FirstHas (IsPrivate (P n)) serial (associated d) items) same private) read has)
 
   mutual
     stmt_commutes : {scope : Scope} {o next next' : ℕ} {ts : List Token} {s : Stmt} → ReadsStmt scope o next ts s next' → (round : Nesting) (serial : List Loop) → AreEntered no_loops serial round
-        → IsPlace ds round.box scope next → StartsNameOthers s → LoopsShown text round s → LoopsHave text IsPrivate serial s → LoopsAreRead round.box s → Has (StaysInside ds) round.box s
+        → IsPlace ds round.box scope next → StartsNameOthers s → Spares round.box (targets s) → LoopsShown text round s → LoopsPrivate text P serial s → LoopsAreRead round.box s → Has (StaysInside ds) round.box s
         → LoopsHave text CommutesAsNest serial s
-    stmt_commutes (assign t e) round serial entered at starts shown private read has = tt
-    stmt_commutes (update t u e) round serial entered at starts shown private read has = tt
-    stmt_commutes (if_only less rc ra) round serial entered at starts shown private read has = stmt_commutes ra round serial entered at starts shown private read has.1
-    stmt_commutes {scope} (if_else {next = next} {next' = middle} less rc closed ra rb) round serial entered at starts shown private read has = (
-      stmt_commutes ra round serial entered at starts.0 shown.0 private.0 read.0 has.1,
-      stmt_commutes rb round serial entered (place_later ds round.box scope next middle (rises ra) at) starts.1 shown.1 private.1 read.1 has.2,
+    stmt_commutes (assign t e) round serial entered at starts spares shown private read has = tt
+    stmt_commutes (update t u e) round serial entered at starts spares shown private read has = tt
+    stmt_commutes (if_only less rc ra) round serial entered at starts spares shown private read has = stmt_commutes ra round serial entered at starts spares shown private read has.1
+    stmt_commutes {scope} (if_else {next = next} {next' = middle} {a = a} {b = b} less rc closed ra rb) round serial entered at starts spares shown private read has = (
+      stmt_commutes ra round serial entered at starts.0 (spares_left round.box (targets a) (targets b) spares) shown.0 private.0 read.0 has.1,
+      stmt_commutes rb round serial entered (place_later ds round.box scope next middle (rises ra) at) starts.1 (spares_right round.box (targets a) (targets b) spares) shown.1 private.1 read.1 has.2,
     )
-    stmt_commutes {scope} (for_loop {next = next} {name = name} {start = start} {test = test} {step = step} {body = body} less free rs rt ru r) round serial entered at starts (inner, into, shown) private read has =
+    stmt_commutes {scope} (for_loop {next = next} {name = name} {start = start} {test = test} {step = step} {body = body} less free rs rt ru r) round serial entered at starts spares (inner, into, shown) private read has =
         let h : Loop = record { variable = next; start = start; test = test; step = step } in
         let there = body_there ds round inner h body into (record { read = read.0; each = read.1; loop = has.0; numbers = has.1; is = has.2; stays = has.3 }) in
         let box : inside round.box next into.numbers ≡ inner.box = ap (λ (m : Nesting). m.box) (sym into.now) in
         stmt_commutes r inner (serial ++ (h ∷ []))
         (entered_join no_loops round inner serial (h ∷ []) entered (one_entered round inner next start test step body into read.0))
         (subst (λ b. IsPlace ds b ((name, AVariable next 0) ∷ scope) (suc next)) box (place_inside ds round.box scope name next into.numbers at))
-        starts shown private there.read there.stays
-    stmt_commutes (block less items) round serial entered at starts shown private read has = items_commute items round serial entered at starts shown private read has
-    stmt_commutes (print less f r fill) round serial entered at starts shown private read has = tt
+        starts (subst (λ b. Spares b (targets body)) box (spares_inside round.box next into.numbers body spares has.2.kept)) shown private there.read there.stays
+    stmt_commutes (block less items) round serial entered at starts spares shown private read has = items_commute items round serial entered at starts spares shown private read has
+    stmt_commutes (print less f r fill) round serial entered at starts spares shown private read has = tt
 
     items_commute : {scope : Scope} {o next next' : ℕ} {ts : List Token} {items : Items} → ReadsItems scope o next ts items next' → (round : Nesting) (serial : List Loop) → AreEntered no_loops serial round
-        → IsPlace ds round.box scope next → AllNameOthers items → ItemsShown text round items → ItemsHave text IsPrivate serial items → ItemsAreRead round.box items → Have (StaysInside ds) round.box items
+        → IsPlace ds round.box scope next → AllNameOthers items → Spares round.box (targets_among items) → ItemsShown text round items → ItemsPrivate text P serial items → ItemsAreRead round.box items → Have (StaysInside ds) round.box items
         → ItemsHave text CommutesAsNest serial items
-    items_commute no_more round serial entered at starts shown private read has = tt
-    items_commute (line {n = n} r) round serial entered at starts shown private read has =
-        (line_commutes r round serial n entered at starts shown.0 private.0 read has, items_commute r round serial entered at starts shown.1 private.1 read has)
-    items_commute {scope} (empty_local {next = next} {name = name} free r) round serial entered at starts shown private read has =
-        items_commute r round serial entered (place_behind ds round.box scope name next at) starts.1 shown private read has.1
-    items_commute {scope} (first_local {next = next} {name = name} free e r) round serial entered at starts shown private read has =
-        items_commute r round serial entered (place_behind ds round.box scope name next at) starts.1 shown private read has.1
-    items_commute {scope} (statement {next = next} {next' = middle} ra r) round serial entered at starts shown private read has = (
-      stmt_commutes ra round serial entered at starts.0 shown.0 private.0 read.0 has.0,
-      items_commute r round serial entered (place_later ds round.box scope next middle (rises ra) at) starts.1 shown.1 private.1 read.1 has.1,
+    items_commute no_more round serial entered at starts spares shown private read has = tt
+    items_commute (line {n = n} r) round serial entered at starts spares shown private read has =
+        (line_commutes r round serial n entered at starts spares shown.0 private.0 read has, items_commute r round serial entered at starts spares shown.1 private.1 read has)
+    items_commute {scope} (empty_local {next = next} {name = name} free r) round serial entered at starts spares shown private read has =
+        items_commute r round serial entered (place_behind ds round.box scope name next at) starts.1 spares shown private read has.1
+    items_commute {scope} (first_local {next = next} {name = name} free e r) round serial entered at starts spares shown private read has =
+        items_commute r round serial entered (place_behind ds round.box scope name next at) starts.1 spares shown private read has.1
+    items_commute {scope} (statement {next = next} {next' = middle} {s = a} {items = items} ra r) round serial entered at starts spares shown private read has = (
+      stmt_commutes ra round serial entered at starts.0 (spares_left round.box (targets a) (targets_among items) spares) shown.0 private.0 read.0 has.0,
+      items_commute r round serial entered (place_later ds round.box scope next middle (rises ra) at) starts.1 (spares_right round.box (targets a) (targets_among items) spares) shown.1 private.1 read.1 has.1,
     )
 
 -- ---- a kernel
 
 pub accepted_loops_commute : AcceptedLoopsCommute
-accepted_loops_commute text k reads in_range definite private shown =
+accepted_loops_commute text k P reads in_range definite locals private shown =
     let ds = k.variables in
     let read = reads.reads in
-    let left = some_there (definite_items no_privates [] k.body (known_at_start ds)) definite in
+    let left = some_there (definite_items P [] k.body (known_at_start ds)) definite in
+    let plain = more_known.items P no_privates [] [] k.body (known_at_start ds) left.0 (known_at_start ds) (λ line x h. absurd (cc h)) (λ x h. h) (λ x h. h) left.1 in
     let below = decls_below (length ds) read.declared (omega arith) tt in
-    items_commute text ds (decls_short read.declared tt) read.items no_loops [] refl
+    items_commute text ds (decls_short read.declared tt) P locals read.items no_loops [] refl
     (record { visible = below; counters = λ y c. absurd cc; room = omega arith })
-    (all_start read.items (known_at_start ds) left.0 below (λ y e. ltb-true y (length ds) e) left.1) shown private
+    (all_start read.items (known_at_start ds) plain.known below (λ y e. ltb-true y (length ds) e) plain.is) (λ y c. absurd (cc c)) shown private
     (items_read [] read.items (decls_small read.declared tt) (λ y c. absurd cc)) in_range

@@ -38,17 +38,17 @@ abbrev mutual
 abbrev pub AreBelow : DefinitelyAssigned → ℕ → Type 0
 AreBelow k next = (y : Variable) → k y ≡ true → y < next
 
-below_later : (k : DefinitelyAssigned) (next next' : ℕ) → next ≤ next' → AreBelow k next → AreBelow k next'
+pub below_later : (k : DefinitelyAssigned) (next next' : ℕ) → next ≤ next' → AreBelow k next → AreBelow k next'
 below_later k next next' up below y h = let less = below y h in omega arith
 
-below_with : (k : DefinitelyAssigned) (next : ℕ) (b : Bool) → AreBelow k next → AreBelow (known_with k next b) (suc next)
+pub below_with : (k : DefinitelyAssigned) (next : ℕ) (b : Bool) → AreBelow k next → AreBelow (known_with k next b) (suc next)
 below_with k next b below y h = go (y == next) refl h
   where
     go : (t : Bool) → (y == next) ≡ t → cond t b (k y) ≡ true → y < suc next
     go true e q = let same = eqb-true y next e in omega arith
     go false e q = let less = below y q in omega arith
 
-next_unknown : (k : DefinitelyAssigned) (next : ℕ) → AreBelow k next → k next ≡ false
+pub next_unknown : (k : DefinitelyAssigned) (next : ℕ) → AreBelow k next → k next ≡ false
 next_unknown k next below = go (k next) refl
   where
     go : (b : Bool) → k next ≡ b → b ≡ false

@@ -1,5 +1,5 @@
--- Subscripts and inner loops of a body are fixed by the variables of the loops round them, and what it assigns is its own. (OpenMP 5.2, 4.4.1 and 5.1.1)
-use Rattle.std.specs.Prelude.{ℕ, suc, Bool, true, false, ◌≡◌, ◌<◌, ◌≤◌, ◌==◌, ◌||◌, List, [], ◌∷◌, ◌++◌, length, Option, Some, None, slice_get}
+-- Subscripts and inner loops of a body are fixed by the variables of the loops round them, and it assigns none of the variables that are fixed. (OpenMP 5.2, 4.4.1 and 5.1.1)
+use Rattle.std.specs.Prelude.{ℕ, suc, Bool, true, false, ◌≡◌, ◌<◌, ◌≤◌, ◌==◌, List, [], ◌∷◌, ◌++◌, length, Option, Some, None, slice_get}
 use Rattle.std.proofs.Common.{refl, sym, ap, ◌∙◌, subst, arith}
 use Rattle.std.proofs.lemmas.Bool.{eqb-true, eq-eqb, or_left, or_right, or_from, true≢false}
 use Rattle.std.proofs.lemmas.Option.{slice_get_within}
@@ -13,16 +13,17 @@ use Rattle.affine.specs.declared.interval.Interval.{Interval}
 use Rattle.affine.specs.declared.interval.Side.{Side}
 use Rattle.affine.specs.Affine.{Affine}
 use Rattle.affine_expr.specs.Forms.{form_of}
-use Rattle.nest_loop.specs.Canonical.{stepped, assigns, assigns_among}
 use Rattle.nest_loop.specs.Loops.{inside}
 use Rattle.nest_loop.proofs.Heads.{head_of}
 use Rattle.nest.specs.Nests.{ExprHas, CondHas, SourceHas, StartHas, Has, Have, StaysBelow, AllStay, lengths_of, StaysInside}
-use Rattle.flow.specs.Private.{is_own, keeps, keeps_all}
+use Rattle.flow.specs.Private.{keeps, keeps_all}
 use Rattle.flow.proofs.PrivateLemmas.{among_both}
+use Rattle.law_commute.specs.Targets.{scalar, targets, targets_among}
 use Rattle.law_commute.specs.Steady.{IsFixedExpr, IsFixedCond, IsFixedSource, AreFixed, IsSteadyExpr, IsSteadyCond, IsSteadySource, IsSteadyStart, IsSteadyTarget, IsSteady, AreSteady}
 use Rattle.law_independence.proofs.Numbering.{declared_from}
 use Rattle.law_independence.proofs.Fixed.{form_fixed, own_fixed, step_fixed}
 use Rattle.law_independence.proofs.Naming.{NamesCounters, counters_inside}
+use Rattle.law_independence.proofs.Targeted.{no_target}
 
 -- an array of the file
 array_below : (ds : List Declaration) (box : List Side) (x : ℕ) (i : Expr) (is : Exprs) → StaysInside ds box x (more_exprs i is) → x < length ds
@@ -77,61 +78,56 @@ module _ (ds : List Declaration) (box : List Side) (fixed : Variable → Bool) (
 
 -- ---- statements
 
--- what is fixed in a statement: the variables of the loops round it and of the file, and none that it declares or may assign
-pub record IsFixing (ds : List Declaration) (own : Variable → Bool) (box : List Side) (fixed : Variable → Bool) (declared : List Variable) (assigned : Variable → Bool) : Type 0 where
+-- what is fixed in a statement: the variables of the loops round it and of the file, and none that it declares or assigns
+pub record IsFixing (ds : List Declaration) (box : List Side) (fixed : Variable → Bool) (declared assigned : List Variable) : Type 0 where
   pub counters : NamesCounters fixed box
   pub file : (y : Variable) → y < length ds → fixed y ≡ true
   pub fresh : (y : Variable) → is_among declared y ≡ true → fixed y ≡ false
-  pub scalars : (y : Variable) → own y ≡ true → assigned y ≡ true → fixed y ≡ false
+  pub scalars : (y : Variable) → is_among assigned y ≡ true → fixed y ≡ false
 
 module _ (ds : List Declaration) (own : Variable → Bool) where
   abbrev Fixing : List Side → (Variable → Bool) → Stmt → Type 0
-  Fixing box fixed a = IsFixing ds own box fixed (declared_in a) (λ y. assigns y a)
+  Fixing box fixed a = IsFixing ds box fixed (declared_in a) (targets a)
 
   abbrev AllFixing : List Side → (Variable → Bool) → Items → Type 0
-  AllFixing box fixed items = IsFixing ds own box fixed (declared_among items) (λ y. assigns_among y items)
+  AllFixing box fixed items = IsFixing ds box fixed (declared_among items) (targets_among items)
 
   -- the first of two lists, and the second
-  left_fixing : (box : List Side) (fixed : Variable → Bool) (xs ys : List Variable) (f g : Variable → Bool) → IsFixing ds own box fixed (xs ++ ys) (λ y. f y || g y) → IsFixing ds own box fixed xs f
-  left_fixing box fixed xs ys f g is =
+  left_fixing : (box : List Side) (fixed : Variable → Bool) (xs ys zs ws : List Variable) → IsFixing ds box fixed (xs ++ ys) (zs ++ ws) → IsFixing ds box fixed xs zs
+  left_fixing box fixed xs ys zs ws is =
       record {
         counters = is.counters;
         file = is.file;
         fresh = λ y h. is.fresh y (among_both xs ys y ∙ or_left (is_among xs y) (is_among ys y) h);
-        scalars = λ y o h. is.scalars y o (or_left (f y) (g y) h);
+        scalars = λ y h. is.scalars y (among_both zs ws y ∙ or_left (is_among zs y) (is_among ws y) h);
       }
 
-  right_fixing : (box : List Side) (fixed : Variable → Bool) (xs ys : List Variable) (f g : Variable → Bool) → IsFixing ds own box fixed (xs ++ ys) (λ y. f y || g y) → IsFixing ds own box fixed ys g
-  right_fixing box fixed xs ys f g is =
+  right_fixing : (box : List Side) (fixed : Variable → Bool) (xs ys zs ws : List Variable) → IsFixing ds box fixed (xs ++ ys) (zs ++ ws) → IsFixing ds box fixed ys ws
+  right_fixing box fixed xs ys zs ws is =
       record {
         counters = is.counters;
         file = is.file;
         fresh = λ y h. is.fresh y (among_both xs ys y ∙ or_right (is_among xs y) (is_among ys y) h);
-        scalars = λ y o h. is.scalars y o (or_right (f y) (g y) h);
+        scalars = λ y h. is.scalars y (among_both zs ws y ∙ or_right (is_among zs y) (is_among ws y) h);
       }
 
-  -- a loop's body, before what the loop itself fixes
-  body_fixing : (box : List Side) (fixed : Variable → Bool) (xs : List Variable) (f g : Variable → Bool) → IsFixing ds own box fixed xs (λ y. f y || g y) → IsFixing ds own box fixed xs g
-  body_fixing box fixed xs f g is =
-      record { counters = is.counters; file = is.file; fresh = is.fresh; scalars = λ y o h. is.scalars y o (or_right (f y) (g y) h) }
-
   -- the others behind a local
-  later_fixing : (box : List Side) (fixed : Variable → Bool) (x : Variable) (xs : List Variable) (f : Variable → Bool) → IsFixing ds own box fixed (x ∷ xs) f → IsFixing ds own box fixed xs f
-  later_fixing box fixed x xs f is =
+  later_fixing : (box : List Side) (fixed : Variable → Bool) (x : Variable) (xs zs : List Variable) → IsFixing ds box fixed (x ∷ xs) zs → IsFixing ds box fixed xs zs
+  later_fixing box fixed x xs zs is =
       record { counters = is.counters; file = is.file; fresh = λ y h. is.fresh y (or_right (x == y) (is_among xs y) h); scalars = is.scalars }
 
-  first_fresh : (box : List Side) (fixed : Variable → Bool) (x : Variable) (xs : List Variable) (f : Variable → Bool) → IsFixing ds own box fixed (x ∷ xs) f → fixed x ≡ false
-  first_fresh box fixed x xs f is = is.fresh x (or_left (x == x) (is_among xs x) (eq-eqb x x refl))
+  first_fresh : (box : List Side) (fixed : Variable → Bool) (x : Variable) (xs zs : List Variable) → IsFixing ds box fixed (x ∷ xs) zs → fixed x ≡ false
+  first_fresh box fixed x xs zs is = is.fresh x (or_left (x == x) (is_among xs x) (eq-eqb x x refl))
 
   -- a loop's body, where the loop's variable is fixed too
-  inner_fixing : (box : List Side) (fixed : Variable → Bool) (x : Variable) (xs : List Variable) (f : Variable → Bool) (i : Interval) → IsFixing ds own box fixed (x ∷ xs) f
-      → ((y : Variable) → is_among xs y ≡ true → suc x ≤ y) → f x ≡ false → IsFixing ds own (inside box x i) (also fixed x) xs f
-  inner_fixing box fixed x xs f i is above kept =
+  inner_fixing : (box : List Side) (fixed : Variable → Bool) (x : Variable) (xs zs : List Variable) (i : Interval) → IsFixing ds box fixed (x ∷ xs) zs
+      → ((y : Variable) → is_among xs y ≡ true → suc x ≤ y) → is_among zs x ≡ false → IsFixing ds (inside box x i) (also fixed x) xs zs
+  inner_fixing box fixed x xs zs i is above kept =
       record {
         counters = counters_inside fixed box x i is.counters;
         file = λ y less. or_right (y == x) (fixed y) (is.file y less);
         fresh = λ y h. or_from (y == x) (fixed y) (apart y (λ e. let le = above y h in omega arith)) (is.fresh y (or_right (x == y) (is_among xs y) h));
-        scalars = λ y o h. or_from (y == x) (fixed y) (apart y (λ e. true≢false (sym h ∙ ap f e ∙ kept))) (is.scalars y o h);
+        scalars = λ y h. or_from (y == x) (fixed y) (apart y (λ e. true≢false (sym h ∙ ap (is_among zs) e ∙ kept))) (is.scalars y h);
       }
     where
       apart : (y : Variable) → (y ≡ x → ⊥) → (y == x) ≡ false
@@ -141,32 +137,29 @@ module _ (ds : List Declaration) (own : Variable → Bool) where
           go true e = absurd (other (eqb-true y x e))
           go false e = refl
 
-  target_steady : (box : List Side) (fixed : Variable → Bool) (x : Variable) (is : Exprs) (xs : List Variable) (f : Variable → Bool) → IsFixing ds own box fixed xs f → f x ≡ true → is_own own x is ≡ true
-      → StaysInside ds box x is → IsSteadyTarget fixed x is
-  target_steady box fixed x no_exprs xs f fixing written o h = fixing.scalars x o written
-  target_steady box fixed x (more_exprs i is) xs f fixing written o h =
-      (fixing.file x (array_below ds box x i is h), object_fixed ds box fixed fixing.counters x (more_exprs i is) h)
+  target_steady : (box : List Side) (fixed : Variable → Bool) (x : Variable) (is : Exprs) → IsFixing ds box fixed [] (scalar x is) → StaysInside ds box x is → IsSteadyTarget fixed x is
+  target_steady box fixed x no_exprs fixing h = fixing.scalars x (or_left (x == x) false (eq-eqb x x refl))
+  target_steady box fixed x (more_exprs i is) fixing h = (fixing.file x (array_below ds box x i is h), object_fixed ds box fixed fixing.counters x (more_exprs i is) h)
 
   mutual
     pub stmt_steady : {scope : Scope} {o next next' : ℕ} {ts : List Token} {a : Stmt} → ReadsStmt scope o next ts a next' → (box : List Side) (fixed : Variable → Bool) → Fixing box fixed a
         → Has (StaysInside ds) box a → keeps own a ≡ true → IsSteady fixed a
     stmt_steady (assign {x = x} {is = is} {e = e} t r) box fixed fixing h kept =
-        (target_steady box fixed x is [] (λ y. x == y) fixing (eq-eqb x x refl) kept h.0, source_steady ds box fixed fixing.counters e h.1)
+        (target_steady box fixed x is fixing h.0, source_steady ds box fixed fixing.counters e h.1)
     stmt_steady (update {x = x} {is = is} {e = e} t sign r) box fixed fixing h kept =
-        (target_steady box fixed x is [] (λ y. x == y) fixing (eq-eqb x x refl) kept h.0, expr_steady ds box fixed fixing.counters e h.1)
+        (target_steady box fixed x is fixing h.0, expr_steady ds box fixed fixing.counters e h.1)
     stmt_steady (if_only {c = c} {a = a} less rc ra) box fixed fixing h kept =
         (cond_steady ds box fixed fixing.counters c h.0, stmt_steady ra box fixed fixing h.1 kept)
     stmt_steady (if_else {c = c} {a = a} {b = b} less rc closed ra rb) box fixed fixing h kept = (
       cond_steady ds box fixed fixing.counters c h.0,
-      stmt_steady ra box fixed (left_fixing box fixed (declared_in a) (declared_in b) (λ y. assigns y a) (λ y. assigns y b) fixing) h.1 (first_of (keeps own a) (keeps own b) kept),
-      stmt_steady rb box fixed (right_fixing box fixed (declared_in a) (declared_in b) (λ y. assigns y a) (λ y. assigns y b) fixing) h.2 (second_of (keeps own a) (keeps own b) kept),
+      stmt_steady ra box fixed (left_fixing box fixed (declared_in a) (declared_in b) (targets a) (targets b) fixing) h.1 (first_of (keeps own a) (keeps own b) kept),
+      stmt_steady rb box fixed (right_fixing box fixed (declared_in a) (declared_in b) (targets a) (targets b) fixing) h.2 (second_of (keeps own a) (keeps own b) kept),
     )
     stmt_steady (for_loop {next = next} {start = start} {test = test} {step = step} {body = body} less free rs rt ru r) box fixed fixing h kept =
         let head = head_of box next start test step h.0 h.2.form in
-        let inner = body_fixing box fixed (next ∷ declared_in body) (λ y. stepped step == y) (λ y. assigns y body) fixing in
-        let within = inner_fixing box fixed next (declared_in body) (λ y. assigns y body) h.1 inner (declared_from r) h.2.kept in
+        let within = inner_fixing box fixed next (declared_in body) (targets body) h.1 fixing (declared_from r) (no_target next body h.2.kept) in
         let wider : NamesCounters (also fixed next) box = λ y c. or_right (y == next) (fixed y) (fixing.counters y c) in (
-          first_fresh box fixed next (declared_in body) (λ y. assigns y body) inner,
+          first_fresh box fixed next (declared_in body) (targets body) fixing,
           subst (IsFixedSource fixed) (sym head.start_is) (form_fixed box fixed fixing.counters head.from h.0.start head.first),
           subst (IsFixedCond (also fixed next)) (sym head.test_is) (own_fixed fixed next, form_fixed box (also fixed next) wider head.to h.0.limit head.last),
           step_fixed fixed next step h.0.stride head.stride,
@@ -180,16 +173,16 @@ module _ (ds : List Declaration) (own : Variable → Bool) where
     items_steady no_more box fixed fixing h kept = tt
     items_steady (line r) box fixed fixing h kept = items_steady r box fixed fixing h kept
     items_steady (empty_local {next = next} {items = items} free r) box fixed fixing h kept = (
-      first_fresh box fixed next (declared_among items) (λ y. assigns_among y items) fixing,
+      first_fresh box fixed next (declared_among items) (targets_among items) fixing,
       tt,
-      items_steady r box fixed (later_fixing box fixed next (declared_among items) (λ y. assigns_among y items) fixing) h.1 kept,
+      items_steady r box fixed (later_fixing box fixed next (declared_among items) (targets_among items) fixing) h.1 kept,
     )
     items_steady (first_local {next = next} {e = e} {items = items} free re r) box fixed fixing h kept = (
-      first_fresh box fixed next (declared_among items) (λ y. assigns_among y items) fixing,
+      first_fresh box fixed next (declared_among items) (targets_among items) fixing,
       source_steady ds box fixed fixing.counters e h.0,
-      items_steady r box fixed (later_fixing box fixed next (declared_among items) (λ y. assigns_among y items) fixing) h.1 kept,
+      items_steady r box fixed (later_fixing box fixed next (declared_among items) (targets_among items) fixing) h.1 kept,
     )
     items_steady (statement {s = a} {items = items} ra r) box fixed fixing h kept = (
-      stmt_steady ra box fixed (left_fixing box fixed (declared_in a) (declared_among items) (λ y. assigns y a) (λ y. assigns_among y items) fixing) h.0 (first_of (keeps own a) (keeps_all own items) kept),
-      items_steady r box fixed (right_fixing box fixed (declared_in a) (declared_among items) (λ y. assigns y a) (λ y. assigns_among y items) fixing) h.1 (second_of (keeps own a) (keeps_all own items) kept),
+      stmt_steady ra box fixed (left_fixing box fixed (declared_in a) (declared_among items) (targets a) (targets_among items) fixing) h.0 (first_of (keeps own a) (keeps_all own items) kept),
+      items_steady r box fixed (right_fixing box fixed (declared_in a) (declared_among items) (targets a) (targets_among items) fixing) h.1 (second_of (keeps own a) (keeps_all own items) kept),
     )

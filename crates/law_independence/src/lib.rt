@@ -24,8 +24,8 @@ pub fn shown_kernels_are_independent()
 {}
 
 /// The iterations of each parallel loop of a kernel leave the same elements in any order as in sequence, where no subscript leaves its
-/// dimension, no local is read before it is assigned, parallel loops keep to their own scalars and print nothing, and the test of pairs
-/// shows all of them to be independent (OpenMP 5.2, 1.4.1 and 11.5).
+/// dimension, no local is read before it is assigned, parallel loops keep to their own scalars and their private ones, assign each of these
+/// before they read it and print nothing, and the test of pairs shows all of them to be independent (OpenMP 5.2, 1.4.1, 5.4.3 and 11.5).
 pub fn accepted_loops_commute()
     ensures { AcceptedLoopsCommute }
 {}

@@ -353,7 +353,7 @@ chunks_merge n s loops body outer us chunks e nest keeps own locals_alone are di
       independent = independent;
     } in
     let found = apart n s loops body outer us known chunks join.pieces (subst (AllPairs (λ u v. u ≢ v)) (sym whole) different) (λ u h. subst (λ l. Contains l u) whole h) join.each in
-    record { effects = found.effects; each = found.each; merge = merged n s loops body outer us known chunks e join found.effects found.alike; locals = locals_kept s loops body outer chunks e join; quiet = join.text }
+    record { effects = found.effects; each = found.each; merge = merged n s loops body outer us known chunks e join found.effects found.alike; locals = λ x h other. locals_kept s loops body outer chunks e join x h; quiet = join.text }
   where
     contained : All (λ (u : Vector). length u ≡ length loops) us → (u : Vector) → Contains us u → length u ≡ length loops
     contained h u k = ap (λ l. length l) (sym k.2) ∙ h k.0 u k.1

@@ -1,7 +1,7 @@
 -- Loops whose heads nothing changes that stands in them.
-use Rattle.std.specs.Prelude.{ℕ, zero, suc, Bool, true, false, ◌≡◌, ◌==◌, ◌||◌, List, [], ◌∷◌, ◌++◌, map, Option, Some, None, option_and_then, Contains}
+use Rattle.std.specs.Prelude.{ℕ, zero, suc, Bool, true, false, ◌≡◌, ◌==◌, ◌||◌, List, [], ◌∷◌, ◌++◌, map, filter, Option, Some, None, option_and_then, Contains}
 use Rattle.std.specs.List.{AllByRecursion as Each}
-use Rattle.std.proofs.Common.{refl, sym, ap, ◌∙◌, subst}
+use Rattle.std.proofs.Common.{refl, sym, ap, ◌∙◌, subst, cond}
 use Rattle.std.proofs.lemmas.Bool.{eqb-true}
 use Rattle.std.proofs.lemmas.List.{append_assoc, append-nil}
 use Rattle.std.proofs.lemmas.List.Elements.{All-contains, All-from_recursion}
@@ -9,11 +9,13 @@ use Rattle.semantics.specs.Tree.{Variable, Expr, Literal, Constant, Object, Unar
 use Rattle.semantics.specs.Meaning.State.{State, Holds, Assigned, assign_at, with_local, overwritten, look, look_in}
 use Rattle.semantics.specs.Meaning.Value.{by_test, both, map_option}
 use Rattle.semantics.specs.Meaning.Runs.{Effect, incremented, greatest_trip_count}
-use Rattle.semantics.specs.Meaning.Agrees.{also, declared_in, declared_among, is_among}
+use Rattle.semantics.specs.Meaning.Agrees.{also, declared_in, declared_among, is_among, visible_behind}
 use Rattle.semantics.specs.Loops.Nest.{Loop, at_value, values_from, loop_values, iterations, concat_options}
 use Rattle.semantics.specs.Loops.Access.{Access, Mode, Writes, accesses, items_accesses, named, expr_accesses, cond_accesses, source_accesses, start_accesses}
 use Rattle.semantics.proofs.NestLaw.{local_same}
-use Rattle.law_commute.specs.Steady.{IsFixedSource, IsFixedCond, IsFixedStep, IsSteady, AreSteady}
+use Rattle.law_commute.specs.Steady.{IsFixedSource, IsFixedCond, IsFixedStep, IsSteadyTarget, IsSteady, AreSteady}
+use Rattle.law_commute.specs.Targets.{scalar, targets, targets_among, targets_outside}
+use Rattle.law_commute.specs.Commuting.{KeepsToItself}
 use Rattle.law_commute.proofs.Same.{SameVariable, same_set, also_other, also_more}
 use Rattle.law_commute.proofs.Lists.{each_join}
 use Rattle.law_commute.proofs.Values.{fixed_source, fixed_holds}
@@ -194,3 +196,51 @@ mutual
   items_free (mark line rest) F x h k = items_free rest F x h k
   items_free (local y name start rest) F x h k = one_of_two F x y (is_among (declared_among rest) x) h.0 k (λ j. items_free rest F x h.2 j)
   items_free (stmt a rest) F x h k = among_either (F x ≡ false) (declared_in a) (declared_among rest) x k (declared_free a F x h.0) (items_free rest F x h.1)
+
+scalar_free : (y : Variable) (is : Exprs) (F : Variable → Bool) (x : Variable) → IsSteadyTarget F y is → is_among (scalar y is) x ≡ true → F x ≡ false
+scalar_free y no_exprs F x h k = one_of_two F x y false h k (λ j. absurd (let q : false ≡ true = j in cc))
+scalar_free y (more_exprs i is) F x h k = absurd (let q : false ≡ true = k in cc)
+
+mutual
+  -- so is a scalar that it assigns
+  pub target_free : (a : Stmt) (F : Variable → Bool) (x : Variable) → IsSteady F a → is_among (targets a) x ≡ true → F x ≡ false
+  target_free (Assign y is e) F x h k = scalar_free y is F x h.0 k
+  target_free (Update y is op e) F x h k = scalar_free y is F x h.0 k
+  target_free (If c a) F x h k = target_free a F x h.1 k
+  target_free (IfElse c a b) F x h k = among_either (F x ≡ false) (targets a) (targets b) x k (target_free a F x h.1) (target_free b F x h.2)
+  target_free (For y name start test step body) F x h k = less_fixed F x y (target_free body (also F y) x h.4 k)
+  target_free (Block items) F x h k = item_targets_free items F x h k
+  target_free (Print parts) F x h k = absurd h
+
+  item_targets_free : (items : Items) (F : Variable → Bool) (x : Variable) → AreSteady F items → is_among (targets_among items) x ≡ true → F x ≡ false
+  item_targets_free no_items F x h k = absurd (let q : false ≡ true = k in cc)
+  item_targets_free (mark line rest) F x h k = item_targets_free rest F x h k
+  item_targets_free (local y name start rest) F x h k = item_targets_free rest F x h.2 k
+  item_targets_free (stmt a rest) F x h k = among_either (F x ≡ false) (targets a) (targets_among rest) x k (target_free a F x h.0) (item_targets_free rest F x h.1)
+
+-- what is left of a list by a test passes it, and stands in the list
+pub among_filter : (f : Variable → Bool) (xs : List Variable) (x : Variable) → is_among (filter f xs) x ≡ true → (f x ≡ true) × (is_among xs x ≡ true)
+among_filter f [] x h = absurd (let q : false ≡ true = h in cc)
+among_filter f (y ∷ xs) x h = at (f y) refl h (λ k. among_filter f xs x k)
+  where
+    later : (c : Bool) → (f x ≡ true) × (is_among xs x ≡ true) → (f x ≡ true) × ((c || is_among xs x) ≡ true)
+    later true r = (r.0, refl)
+    later false r = r
+
+    here : (c : Bool) → (y == x) ≡ c → f y ≡ true → (c || is_among (filter f xs) x) ≡ true → (is_among (filter f xs) x ≡ true → (f x ≡ true) × (is_among xs x ≡ true)) → (f x ≡ true) × ((c || is_among xs x) ≡ true)
+    here true e p k rest = (ap f (sym (eqb-true y x e)) ∙ p, refl)
+    here false e p k rest = rest k
+
+    at : (b : Bool) → f y ≡ b → is_among (cond b (y ∷ filter f xs) (filter f xs)) x ≡ true → (is_among (filter f xs) x ≡ true → (f x ≡ true) × (is_among xs x ≡ true)) → (f x ≡ true) × (((y == x) || is_among xs x) ≡ true)
+    at true p k rest = here (y == x) refl p k rest
+    at false p k rest = later (y == x) (rest k)
+
+-- a statement that keeps to itself assigns no scalar from outside
+pub no_targets : (s : Stmt) (x : Variable) → KeepsToItself s → is_among (targets_outside s) x ≡ false
+no_targets s x keeps = at (is_among (targets_outside s) x) refl
+  where
+    at : (b : Bool) → is_among (targets_outside s) x ≡ b → is_among (targets_outside s) x ≡ false
+    at true e =
+        let found = among_filter (visible_behind s) (targets s) x e in
+        absurd (true_not_false (visible_behind s x) found.0 (target_free s (visible_behind s) x keeps.steady found.1))
+    at false e = e

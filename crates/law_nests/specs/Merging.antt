@@ -1,12 +1,13 @@
 -- Chunks put together by what each of them changed. (OpenMP 5.2, 11.5.3)
-use Rattle.std.specs.Prelude.{ℕ, true, ◌≡◌, ◌≢◌, ◌⊎◌, List, [], map, flat_map, Option, Some, Contains, slice_get}
+use Rattle.std.specs.Prelude.{ℕ, true, false, ◌≡◌, ◌≢◌, ◌⊎◌, List, [], map, flat_map, Option, Some, Contains, slice_get}
 use Rattle.std.specs.List.{AllPairs}
 use Rattle.semantics.specs.Tree.{Variable, Stmt}
 use Rattle.semantics.specs.Meaning.State.{State, overwritten}
 use Rattle.semantics.specs.Meaning.Runs.{Effect, run}
-use Rattle.semantics.specs.Meaning.Agrees.{visible_behind}
+use Rattle.semantics.specs.Meaning.Agrees.{is_among, visible_behind}
 use Rattle.semantics.specs.Loops.Nest.{Loop, Vector, nest_of, iterations}
 use Rattle.semantics.specs.Loops.Access.{Conflict}
+use Rattle.law_commute.specs.Targets.{targets_outside}
 use Rattle.law_commute.specs.Commuting.{KeepsToItself, InnerLoopsTurn}
 use Rattle.law_commute.specs.Joining.{DeclaresLocals}
 use Rattle.law_nests.specs.Walks.{walk}
@@ -36,12 +37,13 @@ abbrev pub Merges : State → List Effect → Cells → Type 0
 Merges outer es after =
     (x : Variable) (is : List ℕ) → (NoneChanges outer es x is × (after x is ≡ outer.cells x is)) ⊎ OneChanges outer es after x is
 
--- chunks of a nest's iterations, each from the state before the nest, have a run each, and what they change, put together, is what the nest leaves; it prints nothing and leaves what is visible round it as it was
+-- chunks of a nest's iterations, each from the state before the nest, have a run each, and what they change, put together, is what the nest leaves; it prints nothing and leaves what is visible round it as it was, but for the scalars that it assigns there
 pub record WalkApart (s : Stmt) (loops : List Loop) (body : Stmt) (chunks : List (List Vector)) (outer : State) (e : Effect) : Type 0 where
   pub effects : List Effect
   pub each : map (λ us. walk loops body us outer) chunks ≡ map Some effects
   pub merge : (after : Cells) → Merges outer effects after → (x : Variable) (is : List ℕ) → after x is ≡ left_by outer e x is
-  pub locals : (x : Variable) → visible_behind s x ≡ true → (overwritten outer e.writes).locals x ≡ outer.locals x
+  pub locals : (x : Variable) → visible_behind s x ≡ true → is_among (targets_outside s) x ≡ false
+      → (overwritten outer e.writes).locals x ≡ outer.locals x
   pub quiet : e.text ≡ []
 
 -- so do chunks of iterations that are all different and of which no two conflict: which of them comes last is of no matter

@@ -1,6 +1,8 @@
 pub mod Turning
 pub mod Shared
-pub mod Same
+pub mod Staying
+pub mod Named
+pub mod Associated
 pub mod Spots
 pub mod Kept
 pub mod Accepted

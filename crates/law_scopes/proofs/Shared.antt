@@ -62,16 +62,25 @@ set_inside : (b : Bool) (k j : Slot) → is_outside k ≡ false → is_outside j
 set_inside true k j e f = e
 set_inside false k j e f = f
 
+-- a local stays one
+pub still_inside : (ws : List Write) (s : State) (y : Variable) → is_outside (s.locals y) ≡ false → is_outside ((overwritten s ws).locals y) ≡ false
+still_inside [] s y h = h
+still_inside (w ∷ ws) s y h = still_inside ws (written s w) y (one w)
+  where
+    one : (w : Write) → is_outside ((written s w).locals y) ≡ false
+    one (Declared x v) = set_inside (y == x) (slot_of v) (s.locals y) (slot_inside v) h
+    one (Assigned x is v) = at (s.locals x)
+      where
+        at : (k : Slot) → is_outside ((assign_at k s x is v).locals y) ≡ false
+        at Outside = h
+        at Empty = set_inside (y == x) (Holds v) (s.locals y) refl h
+        at (Holds n) = set_inside (y == x) (Holds v) (s.locals y) refl h
+
 hidden : (ws : List Write) (s : State) (y : Variable) (js : List ℕ) → is_outside (s.locals y) ≡ false → (overwritten s ws).cells y js ≡ s.cells y js
 hidden [] s y js h = refl
-hidden (Declared x v ∷ ws) s y js h = hidden ws (with_local s x (slot_of v)) y js (set_inside (y == x) (slot_of v) (s.locals y) (slot_inside v) h)
-hidden (Assigned x is v ∷ ws) s y js h = hidden ws (assign_at (s.locals x) s x is v) y js (stands (s.locals x)) ∙ at (s.locals x) refl
+hidden (Declared x v ∷ ws) s y js h = hidden ws (with_local s x (slot_of v)) y js (still_inside (Declared x v ∷ []) s y h)
+hidden (Assigned x is v ∷ ws) s y js h = hidden ws (assign_at (s.locals x) s x is v) y js (still_inside (Assigned x is v ∷ []) s y h) ∙ at (s.locals x) refl
   where
-    stands : (k : Slot) → is_outside ((assign_at k s x is v).locals y) ≡ false
-    stands Outside = h
-    stands Empty = set_inside (y == x) (Holds v) (s.locals y) refl h
-    stands (Holds n) = set_inside (y == x) (Holds v) (s.locals y) refl h
-
     apart : s.locals x ≡ Outside → ((y == x) && same_indexes js is) ≡ false
     apart e = go (y == x) refl
       where

@@ -1,6 +1,6 @@
 -- Runs in which each parallel loop leaves the locals as they were, as a team does. (C11 6.2.1 and 6.2.4; OpenMP 5.2, 11.5)
 use Rattle.std.specs.Prelude.{ℕ, Bool, true, false, ◌≡◌, ◌==◌, ◌&&◌, if◌then◌else◌, List, [], ◌∷◌, ◌++◌, flat_map, Option, Some, None}
-use Rattle.std.specs.List.{list_any}
+use Rattle.std.specs.List.{list_any, list_all}
 use Rattle.semantics.specs.Tree.{Variable, Stmt, If, IfElse, For, Block, Items, no_items, mark, local, stmt}
 use Rattle.semantics.specs.Meaning.State.{State, Slot, Outside, Empty, Holds, Write, Declared, Assigned, overwritten}
 use Rattle.semantics.specs.Meaning.Value.{holds, by_test, map_option}
@@ -8,6 +8,7 @@ use Rattle.semantics.specs.Meaning.Runs.{Effect, nothing, then_from, declared, i
 use Rattle.semantics.specs.Loops.Nest.{Loop, Vector, iterations}
 use Rattle.semantics.specs.Loops.Piece.{is_outside}
 use Rattle.semantics.specs.Theorems.{IsTurn}
+use Rattle.law_commute.specs.Targets.{targets_outside, is_local}
 
 -- an object is written with what it holds, if it is there
 abbrev pub written_as : Variable → List ℕ → Option ℕ → List Write
@@ -56,9 +57,10 @@ is_at_turn ls s = hold_some ls s (iterations ls s)
 abbrev pub StatesAtTurnsAreTurns : Type 0
 StatesAtTurnsAreTurns = (ls : List Loop) (s : State) → is_at_turn ls s ≡ true → IsTurn ls s
 
--- a parallel loop inside serial ones as a team runs it: at a turn of these
+-- a parallel loop inside serial ones as a team runs it: at a turn of these, where the scalars that it assigns from outside are locals
 abbrev pub handed : List Loop → Stmt → State → Option Effect
-handed serial a s = if is_at_turn serial s then map_option (shared_effect s) (run a s) else None
+handed serial a s =
+    if is_at_turn serial s && list_all (is_local s) (targets_outside a) then map_option (shared_effect s) (run a s) else None
 
 abbrev mutual
   -- a statement inside serial loops, with the parallel loops in it run so

@@ -3,11 +3,12 @@ use Rattle.std.specs.Prelude.{ℕ, ◌≡◌, ◌≤◌, List, [], length, Optio
 use Rattle.semantics.specs.Tree.{Variable, Kernel}
 use Rattle.semantics.specs.Source.Grammar.{ReadsText}
 use Rattle.semantics.specs.Meaning.State.{State, overwritten}
-use Rattle.semantics.specs.Meaning.Definite.{IsDefinite, no_privates}
+use Rattle.semantics.specs.Meaning.Definite.{Privates, IsDefinite}
 use Rattle.semantics.specs.Meaning.Runs.{Effect, run_items}
 use Rattle.pragma.specs.Parallel.{ItemsHave}
 use Rattle.nest.specs.Nests.{IsInRange}
-use Rattle.law_independence.specs.OrderLaws.{CommutesAsNest}
+use Rattle.flow.specs.Private.{ItemsPrivate}
+use Rattle.law_independence.specs.OrderLaws.{CommutesAsNest, ArePrivateLocals}
 use Rattle.law_scopes.specs.Apart.{apart_items}
 
 -- no object at file scope has a number from n on
@@ -21,8 +22,9 @@ pub record LeavesTheSame (s : State) (e : Effect) (o : Option Effect) : Type 0 w
   pub text : effect.text ≡ e.text
   pub cells : (x : Variable) (is : List ℕ) → (overwritten s effect.writes).cells x is ≡ (overwritten s e.writes).cells x is
 
--- so it is of each kernel of the grammar with subscripts in range, in which no local is read before it is assigned and whose parallel loops commute
+-- so it is of each kernel of the grammar with subscripts in range, in which no local is read before it is assigned, and whose parallel loops commute and assign of scalars their own and their private ones alone
 abbrev pub AcceptedKernelsRunApart : Type 0
 AcceptedKernelsRunApart =
-    (text : List ℕ) (k : Kernel) (s : State) (e : Effect) → ReadsText text k → IsInRange k → IsDefinite no_privates k → ItemsHave text CommutesAsNest [] k.body
-    → NoObjectsFrom (length k.variables) s → run_items k.body s ≡ Some e → LeavesTheSame s e (apart_items [] k.body s)
+    (text : List ℕ) (k : Kernel) (P : Privates) (s : State) (e : Effect) → ReadsText text k → IsInRange k → IsDefinite P k → ArePrivateLocals k P
+    → ItemsPrivate text P [] k.body → ItemsHave text CommutesAsNest [] k.body → NoObjectsFrom (length k.variables) s → run_items k.body s ≡ Some e
+    → LeavesTheSame s e (apart_items [] k.body s)

@@ -15,8 +15,8 @@ pub fn states_at_turns_are_turns()
     ensures { StatesAtTurnsAreTurns }
 {}
 
-/// Where a kernel has a run, it has one in which each parallel loop leaves its own variables as they were, with the same text and the same
-/// objects at file scope in the end (C11 6.2.1 and 6.2.4; OpenMP 5.2, 11.5).
+/// Where a kernel has a run, it has one in which each parallel loop leaves its own variables and its private ones as they were, with the same
+/// text and the same objects at file scope in the end (C11 6.2.1 and 6.2.4; OpenMP 5.2, 5.4.3 and 11.5).
 pub fn accepted_kernels_run_apart()
     ensures { AcceptedKernelsRunApart }
 {}

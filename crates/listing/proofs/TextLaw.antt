@@ -9,7 +9,7 @@ use Rattle.semantics.specs.Source.Text.{line_at}
 use Rattle.semantics.specs.Source.Scope.{Scope, AVariable}
 use Rattle.semantics.specs.Meaning.Value.{map_option}
 use Rattle.semantics.specs.Loops.Nest.{Loop, as_loop, only_loop, holds_none, nest_of}
-use Rattle.semantics.specs.Directives.Directive.{Schedule, StaticPlain, Clause, ScheduledBy, Collapse, ParallelFor}
+use Rattle.semantics.specs.Directives.Directive.{Schedule, StaticPlain, Clause, DefaultShared, DefaultNone, Shared, Private, Firstprivate, ScheduledBy, Collapse, ParallelFor}
 use Rattle.semantics.specs.Directives.Annotated.{Directives, directive_at, file_scope, lines_in, lines_among, lines_of, ReadsDirectives}
 use Rattle.semantics.specs.Directives.Clauses.{depth_of, schedule_of, doacross_of, reduction_of, is_scan}
 use Rattle.semantics.specs.Directives.Regions.{sinks_among, sinks_in, region_by, regions_in, regions_among, listing_of}
@@ -55,6 +55,36 @@ one_more (Collapse n) cs j None k e p f = record {
   scan = p.scan;
 }
 one_more (Collapse n) cs j (Some m) k e p f = absurd (cc f)
+one_more DefaultShared cs j d k e p f = record {
+  schedule = p.schedule ∙ ap (λ o. unwrap_or o StaticPlain) (first_said f);
+  doacross = p.doacross;
+  reductions = p.reductions;
+  scan = p.scan;
+}
+one_more DefaultNone cs j d k e p f = record {
+  schedule = p.schedule ∙ ap (λ o. unwrap_or o StaticPlain) (first_said f);
+  doacross = p.doacross;
+  reductions = p.reductions;
+  scan = p.scan;
+}
+one_more (Shared xs) cs j d k e p f = record {
+  schedule = p.schedule ∙ ap (λ o. unwrap_or o StaticPlain) (first_said f);
+  doacross = p.doacross;
+  reductions = p.reductions;
+  scan = p.scan;
+}
+one_more (Private xs) cs j d k e p f = record {
+  schedule = p.schedule ∙ ap (λ o. unwrap_or o StaticPlain) (first_said f);
+  doacross = p.doacross;
+  reductions = p.reductions;
+  scan = p.scan;
+}
+one_more (Firstprivate xs) cs j d k e p f = record {
+  schedule = p.schedule ∙ ap (λ o. unwrap_or o StaticPlain) (first_said f);
+  doacross = p.doacross;
+  reductions = p.reductions;
+  scan = p.scan;
+}
 one_more c cs j d k e p f = absurd (cc f)
 
 are_plain : (cs : List (Clause Name)) (k : Option Schedule) (c : Option ℕ) → said_by cs ≡ Some (k, c) → IsPlain cs k

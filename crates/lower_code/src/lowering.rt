@@ -22,7 +22,7 @@ use store::Store;
 /// # Errors
 ///
 /// Where memory runs out.
-pub fn lower(
+pub fn lower_items(
     alloc: Global,
     declarations: &[Declaration],
     list: &[Item],

@@ -1,14 +1,15 @@
 -- Why a text is not accepted.
-use Rattle.std.specs.Prelude.{ℕ, ◌≡◌, ◌⊎◌, List, []}
+use Rattle.std.specs.Prelude.{ℕ, ◌≡◌, ◌⊎◌, true, false, List, []}
 use Rattle.semantics.specs.Tree.{Kernel}
 use Rattle.semantics.specs.Source.Grammar.{ReadsText}
-use Rattle.semantics.specs.Meaning.Definite.{IsDefinite, no_privates}
+use Rattle.semantics.specs.Meaning.Definite.{Privates, IsDefinite}
 use Rattle.ktree.specs.Numbers.{number_of}
 use Rattle.ktree.specs.declared.place.Place.{Place}
 use Rattle.ktree.specs.declared.refusal.Refusal.{Refusal}
 use Rattle.ktree.specs.declared.refusal.Refusal.TheVariants.{OutOfMemory, SubscriptOutOfRange}
 use Rattle.cparse.specs.Parsed.{RefusesTree}
 use Rattle.semantics.specs.Directives.Annotated.{Directives}
+use Rattle.semantics.specs.Directives.Clauses.{privates_of}
 use Rattle.semantics.specs.Directives.Naming.{IsAttached}
 use Rattle.pragma.specs.Plain.{IsDirected}
 use Rattle.pragma_attach.specs.Faults.{IsOfDirectives}
@@ -19,10 +20,11 @@ use Rattle.affine_expr.specs.declared.faults.Fault as loop_faults
 use Rattle.nest.specs.Nests.{IsNested}
 use Rattle.nest.specs.Leaves.{LeavesSomewhere}
 use Rattle.nest.specs.Perfect.{AreRightNests}
-use Rattle.pragma.specs.Parallel.{ItemsHave}
-use Rattle.flow.specs.Private.{IsPrivate, TellsOfItems, data_refusal_of}
+use Rattle.flow.specs.Private.{ItemsPrivate, TellsOfItems, data_refusal_of}
 use Rattle.flow.specs.declared.fault.DataFault.{DataFault}
-use Rattle.deptest.specs.Accepted.{HasPassed}
+use Rattle.pragma_named.specs.Known.{Lines}
+use Rattle.flow_clauses.specs.Fitting.{fit_clauses}
+use Rattle.deptest.specs.Accepted.{clauses_said, HasPassed}
 use Rattle.deptest.specs.Refused.{RefusesLoops}
 
 -- memory was refused, or a loop is not canonical or may wrap, or a subscript is not affine, or a parallel loop has no right nest
@@ -41,17 +43,30 @@ RefusesDirectives text tree r = IsOfDirectives r × ((ds : Directives) → IsAtt
 abbrev pub RefusesLines : List ℕ → Kernel → Refusal → Type 0
 RefusesLines text tree r = (r ≡ OutOfMemory) ⊎ (RefusesDirectives text tree r ⊎ ((f : line_faults.Fault) × (r ≡ lines.refusal_of f) × (IsDirected text tree → ⊥)))
 
--- a local may be read before it is assigned; or a parallel loop writes a shared scalar, or prints, or a line has no nest, whichever is told
-abbrev pub RefusesData : List ℕ → Kernel → Refusal → Type 0
-RefusesData text tree r =
-    ((number_of r ≡ 10) × (IsDefinite no_privates tree → ⊥)) ⊎ ((f : DataFault) × (r ≡ data_refusal_of f) × TellsOfItems f text tree.body)
+-- memory was refused, or a local may be read before it is assigned; or a parallel loop writes a shared scalar, or reads a private one that it has not assigned, or prints, or a line has no nest, whichever is told
+abbrev pub RefusesScalars : List ℕ → Kernel → Privates → Refusal → Type 0
+RefusesScalars text tree P r =
+    (r ≡ OutOfMemory) ⊎ (((number_of r ≡ 10) × (IsDefinite P tree → ⊥)) ⊎ ((f : DataFault) × (r ≡ data_refusal_of f) × TellsOfItems f text P tree.body))
+
+-- memory was refused, or a clause names what it may not
+abbrev pub RefusesClauses : Lines → Kernel → Refusal → Type 0
+RefusesClauses lines tree r = (r ≡ OutOfMemory) ⊎ ((number_of r ≡ 15) × (fit_clauses lines tree ≡ false))
+
+-- one of both
+abbrev pub RefusesData : List ℕ → Kernel → Directives → Refusal → Type 0
+RefusesData text tree ds r = RefusesScalars text tree (privates_of tree ds) r ⊎ RefusesClauses (clauses_said tree ds) tree r
 
 -- the passes before that of the data find nothing wrong, nor does that of the data
-abbrev pub IsNestedRightly : List ℕ → Kernel → Type 0
-IsNestedRightly text tree = IsDirected text tree × AreRightNests text tree
+abbrev pub IsNestedRightly : List ℕ → Kernel → Directives → Type 0
+IsNestedRightly text tree ds = IsAttached text tree ds × IsDirected text tree × AreRightNests text tree
 
-abbrev pub HasRightData : List ℕ → Kernel → Type 0
-HasRightData text tree = IsDefinite no_privates tree × ItemsHave text IsPrivate [] tree.body
+abbrev pub HasRightData : List ℕ → Kernel → Directives → Type 0
+HasRightData text tree ds =
+    IsDefinite (privates_of tree ds) tree × ItemsPrivate text (privates_of tree ds) [] tree.body × (fit_clauses (clauses_said tree ds) tree ≡ true)
+
+-- the data are wrong, or they are right and a subscript leaves its array
+abbrev pub RefusesDataOrRanges : List ℕ → Kernel → Directives → Refusal → Type 0
+RefusesDataOrRanges text tree ds r = RefusesData text tree ds r ⊎ (HasRightData text tree ds × RefusesRanges tree r)
 
 -- memory was refused, or the first pass that finds something wrong tells it: lines, then nests, then data, then ranges
 abbrev pub RefusesPasses : List ℕ → Kernel → Refusal → Type 0
@@ -59,8 +74,7 @@ RefusesPasses text tree r =
     (r ≡ OutOfMemory)
     ⊎ (RefusesLines text tree r
     ⊎ ((IsDirected text tree × RefusesNests text tree r)
-    ⊎ ((IsNestedRightly text tree × RefusesData text tree r)
-    ⊎ ((IsNestedRightly text tree × HasRightData text tree) × RefusesRanges tree r))))
+    ⊎ ((ds : Directives) × IsNestedRightly text tree ds × RefusesDataOrRanges text tree ds r)))
 
 -- all of that is well, and the dependence test refuses the tree, or memory was refused
 abbrev pub RefusesPairs : List ℕ → Kernel → Refusal → Type 0

@@ -1,39 +1,56 @@
 //! Which texts are accepted.
 
-ghost use Rattle.std.specs.Prelude.{◌≡◌, ◌⊎◌, [], map, IfOk, IfErr};
-ghost use Rattle.ktree.specs.declared.refusal.Refusal.TheVariants.{OutOfMemory};
-ghost use Rattle.pragma.specs.Parallel.{ItemsHave};
-ghost use Rattle.flow.specs.Private.{IsPrivate};
+ghost use Rattle.std.specs.Prelude.{◌≡◌, ◌⊎◌, [], true, length, map, OnOk, IfOk, IfErr};
+ghost use Rattle.flow.specs.Private.{ItemsPrivate};
+ghost use Rattle.flow_clauses.specs.Fitting.{fit_clauses};
+ghost use Rattle.flow.specs.Judged.{private_locals};
+ghost use Rattle.pragma_named.specs.Known.{kept, lines_known};
+ghost use Rattle.pragma_attach.specs.Attached.{directives_of};
+ghost use Rattle.semantics.specs.Directives.Clauses.{privates_of};
+ghost use Rattle.semantics.specs.Directives.Naming.{IsAttached};
 ghost use Rattle.flow.specs.Parallel.{AreParallelLoops};
 ghost use Rattle.ktree.specs.View.{kernel_of};
 ghost use Rattle.semantics.specs.Source.Grammar.{ReadsText};
 ghost use Rattle.semantics.specs.Theorems.{StandsFor};
-ghost use Rattle.semantics.specs.Meaning.Definite.{IsDefinite, no_privates};
+ghost use Rattle.semantics.specs.Meaning.Definite.{IsDefinite};
 ghost use Rattle.pragma.specs.Plain.{IsDirected};
 ghost use Rattle.nest.specs.Nests.{IsInRange};
 ghost use Rattle.nest.specs.Perfect.{AreRightNests};
 ghost use Rattle.nest.specs.Judged.{IsTableOf};
-ghost use Rattle.deptest.specs.Accepted.{tree_of, HasPassed, IsAccepted};
-ghost use Rattle.ompk.specs.Refused.{RefusesLines, RefusesNests, RefusesRanges, RefusesData, RefusesPasses, RefusesKernel, RefusesText};
+ghost use Rattle.deptest.specs.Accepted.{tree_of, clauses_said, HasPassed, IsAccepted};
+ghost use Rattle.ompk.specs.Refused.{RefusesLines, RefusesNests, RefusesRanges, RefusesScalars, RefusesClauses, RefusesPasses, RefusesKernel, RefusesText};
 
 use cparse::parse;
 use deptest::{Checked, accept};
 use flow::{DataFault, ParallelLoop, classify, definite};
-use ktree::{Kernel, Place, Refusal};
+use flow_clauses::first_misuse;
+use ktree::{Kernel, Refusal};
 use nest::{LoopTable, nests};
 use pragma::{Directives, first_fault};
 use pragma_attach::attach;
+use pragma_named::LineClauses;
 use std::alloc::Global;
 
 // Refuses a kernel with a directive line that is none, does not stand where it may, names what is no variable or has one in the wrong
-// clauses, and one with a line that is no `parallel for` of the known clauses before a loop.
-fn judge_lines(alloc: Global, kernel: &Kernel, directives: &Directives) -> Result<(), Refusal>
+// clauses, and one with a line that is no `parallel for` of the known clauses before a loop; gives the clauses of each line.
+fn judge_lines(
+    alloc: Global,
+    kernel: &Kernel,
+    directives: &Directives,
+) -> Result<LineClauses, Refusal>
     ensures ok { IfOk result (λ _. IsDirected directives.now (kernel_of kernel.now)) }
+    ensures attached { IfOk result (λ _. IsAttached directives.now (kernel_of kernel.now)
+        (directives_of directives.now (kernel_of kernel.now))) }
+    ensures clauses { IfOk result (λ lines. clauses_said (kernel_of kernel.now)
+        (directives_of directives.now (kernel_of kernel.now)) ≡ lines_known (kept lines)) }
+    ensures privates { IfOk result (λ lines. privates_of (kernel_of kernel.now)
+        (directives_of directives.now (kernel_of kernel.now))
+        ≡ private_locals (kept lines) (length (kernel_of kernel.now).variables)) }
     ensures refusal { IfErr result (RefusesLines directives.now (kernel_of kernel.now)) }
 {
-    attach(alloc, kernel, directives)?;
+    let lines = attach(alloc, kernel, directives)?;
     match first_fault(kernel, directives) {
-        None => Ok(()),
+        None => Ok(lines),
         Some(fault) => Err(fault.refusal()),
     }
 }
@@ -62,41 +79,103 @@ fn judge_ranges(kernel: &Kernel, table: &LoopTable) -> Result<(), Refusal>
     ranges::check(kernel, table)
 }
 
-// Whether one place of the text is before another.
-fn precedes(first: Place, second: Place) -> bool {
-    first.line < second.line || (first.line == second.line && first.column < second.column)
-}
-
 // Whether a fault of the data stands before a local that may be read before it is assigned.
 fn stands_before(fault: DataFault, refusal: &Refusal) -> bool {
-    match (fault, refusal) {
-        (DataFault::Written(first), Refusal::MayBeUnassigned(second)) => precedes(first, *second),
-        (DataFault::Printed(first), Refusal::MayBeUnassigned(second)) => precedes(first, *second),
-        (_, _) => false,
+    match refusal {
+        Refusal::MayBeUnassigned(place) => fault.stands_before(*place),
+        _ => false,
     }
 }
 
-// Refuses a kernel in which a parallel loop writes a shared scalar or prints, or a local may be read before it is assigned.
-fn judge_data(
+// What refuses a kernel in which a parallel loop writes a shared scalar, reads a private one that it has not assigned, or prints, or a
+// local may be read before it is assigned.
+fn judge_scalars(
     alloc: Global,
     kernel: &Kernel,
     directives: &Directives,
+    lines: &LineClauses,
 ) -> Result<Vec<ParallelLoop>, Refusal>
     ensures listed { IfOk result (λ loops. AreParallelLoops directives.now (kernel_of kernel.now)
         loops.items) }
-    ensures definite { IfOk result (λ _. IsDefinite no_privates (kernel_of kernel.now)) }
-    ensures private { IfOk result (λ _. ItemsHave directives.now IsPrivate []
+    ensures definite { IfOk result (λ _. IsDefinite (private_locals (kept lines.now)
+        (length (kernel_of kernel.now).variables)) (kernel_of kernel.now)) }
+    ensures private { IfOk result (λ _. ItemsPrivate directives.now
+        (private_locals (kept lines.now) (length (kernel_of kernel.now).variables)) []
         (kernel_of kernel.now).body) }
-    ensures refusal { IfErr result
-        (λ r. (r ≡ OutOfMemory) ⊎ RefusesData directives.now (kernel_of kernel.now) r) }
+    ensures refusal { IfErr result (RefusesScalars directives.now (kernel_of kernel.now)
+        (private_locals (kept lines.now) (length (kernel_of kernel.now).variables))) }
 {
-    match (definite(alloc, kernel), classify(alloc, kernel, directives)) {
+    match (
+        definite(alloc, kernel, lines),
+        classify(alloc, kernel, directives, lines),
+    ) {
         (Ok(()), Ok(loops)) => Ok(loops),
         (Ok(()), Err(fault)) => Err(fault.refusal()),
         (Err(refusal), Ok(_loops)) => Err(refusal),
         (Err(refusal), Err(fault)) => {
             if stands_before(fault, &refusal) {
                 Err(fault.refusal())
+            } else {
+                Err(refusal)
+            }
+        }
+    }
+}
+
+// Refuses a kernel with a clause that names what it may not.
+fn judge_clauses(alloc: Global, kernel: &Kernel, lines: &LineClauses) -> Result<(), Refusal>
+    ensures ok { OnOk result (fit_clauses (lines_known (kept lines.now)) (kernel_of kernel.now)
+        ≡ true) }
+    ensures refusal { IfErr result (RefusesClauses (lines_known (kept lines.now))
+        (kernel_of kernel.now)) }
+{
+    match first_misuse(alloc, kernel, lines)? {
+        None => Ok(()),
+        Some(place) => Err(Refusal::PrivateVariable(place)),
+    }
+}
+
+// Whether one refusal is told before another: by the order of the text, and want of memory before all else.
+fn comes_before(one: &Refusal, other: &Refusal) -> bool {
+    match (one.place(), other.place()) {
+        (None, _) => true,
+        (_, None) => false,
+        (Some(one), Some(other)) => {
+            one.line < other.line || (one.line == other.line && one.column < other.column)
+        }
+    }
+}
+
+// Refuses a kernel by its data, or by a clause that names what it may not, whichever comes first in the text.
+fn judge_data(
+    alloc: Global,
+    kernel: &Kernel,
+    directives: &Directives,
+    lines: &LineClauses,
+) -> Result<Vec<ParallelLoop>, Refusal>
+    ensures listed { IfOk result (λ loops. AreParallelLoops directives.now (kernel_of kernel.now)
+        loops.items) }
+    ensures definite { IfOk result (λ _. IsDefinite (private_locals (kept lines.now)
+        (length (kernel_of kernel.now).variables)) (kernel_of kernel.now)) }
+    ensures private { IfOk result (λ _. ItemsPrivate directives.now
+        (private_locals (kept lines.now) (length (kernel_of kernel.now).variables)) []
+        (kernel_of kernel.now).body) }
+    ensures fit { IfOk result (λ _. fit_clauses (lines_known (kept lines.now))
+        (kernel_of kernel.now) ≡ true) }
+    ensures refusal { IfErr result (λ r. RefusesScalars directives.now (kernel_of kernel.now)
+        (private_locals (kept lines.now) (length (kernel_of kernel.now).variables)) r
+        ⊎ RefusesClauses (lines_known (kept lines.now)) (kernel_of kernel.now) r) }
+{
+    match (
+        judge_clauses(alloc, kernel, lines),
+        judge_scalars(alloc, kernel, directives, lines),
+    ) {
+        (Ok(()), Ok(loops)) => Ok(loops),
+        (Ok(()), Err(refusal)) => Err(refusal),
+        (Err(refusal), Ok(_loops)) => Err(refusal),
+        (Err(misuse), Err(refusal)) => {
+            if comes_before(&misuse, &refusal) {
+                Err(misuse)
             } else {
                 Err(refusal)
             }
@@ -120,9 +199,9 @@ fn judge(alloc: Global, kernel: &Kernel, directives: &Directives) -> Result<Know
         known.parallel.items) }
     ensures refusal { IfErr result (RefusesPasses directives.now (kernel_of kernel.now)) }
 {
-    judge_lines(alloc, kernel, directives)?;
+    let lines = judge_lines(alloc, kernel, directives)?;
     let table = judge_nests(alloc, kernel, directives)?;
-    let parallel = judge_data(alloc, kernel, directives)?;
+    let parallel = judge_data(alloc, kernel, directives, &lines)?;
     judge_ranges(kernel, &table)?;
     Ok(KnownLoops { table, parallel })
 }

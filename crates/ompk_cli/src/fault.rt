@@ -12,7 +12,7 @@ pub enum Fault<'a> {
     Refused(Refusal),
     /// The file of this name is not read.
     Unread(&'a str),
-    /// The words of the command line are no task, or ask for help.
+    /// The words of the command line are no order, or ask for help.
     Usage(Error),
     /// The command line is no text.
     NoText,

@@ -10,7 +10,7 @@ use fault::Fault;
 use ktree::{Refusal, Workers};
 use listing::add_listing;
 use ompk::{Checked, Sched, check, run, seq, status, tell};
-use ompk_command::{Task, read_task};
+use ompk_command::{Order, order_of};
 use seqrun_io::{Sink, Writer, put_all};
 use std::io::ErrorKind;
 use std::process::ExitCode;
@@ -18,7 +18,7 @@ use std::rt::Files;
 use std::sync::Wait;
 use std::thread::{Builder, Threads};
 use std::{env, fs};
-use team_nest::OpenGate;
+use team::OpenGate;
 
 // The words of the command line.
 fn words_of(rt: &HostRuntime) -> Result<Vec<String>, Fault<'static>> {
@@ -130,22 +130,22 @@ where
 }
 
 // Does what is asked for, and writes to this sink.
-fn perform<'a, R, S>(rt: &R, task: &Task<'a>, sink: &mut S) -> Result<(), Fault<'a>>
+fn perform<'a, R, S>(rt: &R, order: &Order<'a>, sink: &mut S) -> Result<(), Fault<'a>>
 where
     R: Files + AllocGlobal + Threads + Wait + Sync,
     S: Sink,
     requires { S.failed sink.old + 1 < 2 ^ 64 }
 {
-    match task {
-        Task::Check { file } => check_file(rt, file, sink),
-        Task::Lower { file } => lower_file(rt, file, sink),
-        Task::Run {
+    match order {
+        Order::Check { file } => check_file(rt, file, sink),
+        Order::Lower { file } => lower_file(rt, file, sink),
+        Order::Run {
             file,
             input,
             workers,
             sched,
         } => run_file(rt, file, *input, *workers, *sched, sink),
-        Task::Seq { file, input } => seq_file(rt, file, *input, sink),
+        Order::Seq { file, input } => seq_file(rt, file, *input, sink),
     }
 }
 
@@ -191,8 +191,8 @@ fn main(rt: HostRuntime) -> ExitCode {
             Ok(words) => words,
             Err(fault) => return report(&rt, fault),
         };
-        let done = match read_task(rt.alloc(), words.as_slice()) {
-            Ok(task) => perform(&rt, &task, &mut Writer::new(rt.stdout())),
+        let done = match order_of(rt.alloc(), words.as_slice()) {
+            Ok(order) => perform(&rt, &order, &mut Writer::new(rt.stdout())),
             Err(usage) => Err(Fault::from(usage)),
         };
         match done {

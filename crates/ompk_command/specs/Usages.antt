@@ -1,4 +1,4 @@
--- Why the words of a command line are no task.
+-- Why the words of a command line are no order.
 use Rattle.std.specs.Prelude.{◌≡◌}
 use Rattle.clap.specs.Values.{kind_of}
 use Rattle.clap.specs.declared.error.kind.ErrorKind.TheVariants as kind

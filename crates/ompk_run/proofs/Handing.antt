@@ -1,6 +1,6 @@
 -- A loop that a team ran leaves the locals as they were, and the file-scope objects as the loop's run does.
 use Rattle.std.specs.Prelude.{ℕ, Bool, true, false, ◌≡◌, ◌==◌, ◌<◌, ◌≤◌, ◌^◌, ◌||◌, ◌&&◌, not, if◌then◌else◌, List, [], ◌∷◌, ◌++◌, length, map, Contains, Option, Some, None, IsSome, slice_get, option_and_then}
-use Rattle.std.specs.List.{list_any, AllByRecursion}
+use Rattle.std.specs.List.{list_any, list_all, AllByRecursion}
 use Rattle.std.proofs.Common.{refl, sym, ap, ◌∙◌, subst, append-nil}
 use Rattle.std.proofs.lemmas.Bool.{eqb-true}
 use Rattle.std.proofs.lemmas.List.{length-map}
@@ -16,6 +16,8 @@ use Rattle.semantics.specs.Loops.Joined.{chunked}
 use Rattle.semantics.specs.Loops.Nest.{Loop, Vector, iterations}
 use Rattle.ktree.specs.View.{stmt_of}
 use Rattle.law_commute.specs.Joining.{DeclaresLocals}
+use Rattle.law_commute.specs.Targets.{targets_outside, is_local}
+use Rattle.law_commute.proofs.Values as both
 use Rattle.law_nests.specs.Merging.{left_by}
 use Rattle.law_scopes.specs.Apart.{shared_effect, holds_number, hold_values, hold_some, is_at_turn, handed}
 use Rattle.law_scopes.proofs.Shared.{shares}
@@ -31,7 +33,7 @@ use Rattle.lower_code.specs.Meaning.{AreLocals}
 use Rattle.lower_run.specs.Walk.{StandFor, Arrives}
 use Rattle.outline.specs.declared.shape.TeamLoop.{TeamLoop}
 use Rattle.outline.specs.Fit.{TeamFits}
-use Rattle.team_nest.specs.Together.{LeavesTogether}
+use Rattle.team.specs.Together.{LeavesTogether}
 use Rattle.ompk_run.proofs.Chunks.{cover}
 
 -- a local holds some number
@@ -99,11 +101,13 @@ module _ (layout : List Laid) (mark : ℕ) (s : State) (rs : List ℕ) (ks : Lis
     loop = stmt_of l.statement.now
 
     -- registers as before, and the new store
-    behind : is_at_turn serial s ≡ true → (e : Effect) → run loop s ≡ Some e → Arrives layout mark (Some (shared_effect s e)) s rs ks' text text
-    behind here e ran =
+    behind : (is_at_turn serial s && list_all (is_local s) (targets_outside loop)) ≡ true → (e : Effect) → run loop s ≡ Some e → Arrives layout mark (Some (shared_effect s e)) s rs ks' text text
+    behind guard e ran =
+        let here = both.first_of (is_at_turn serial s) (list_all (is_local s) (targets_outside loop)) guard in
+        let own = both.second_of (is_at_turn serial s) (list_all (is_local s) (targets_outside loop)) guard in
         let turn = at_turns serial s here in
         let us = some_of (iterations fits.loops s) (fits.commutes.there fits.loops fits.body s fits.nest turn) in
-        let apart = fits.commutes.chunks fits.loops fits.body s us.0 (chunked us.0 (cut kind (length us.0) workers)) e fits.nest turn (declares loop fits.locals) us.1 (cover us.0 kind workers sized some) ran in
+        let apart = fits.commutes.chunks fits.loops fits.body s us.0 (chunked us.0 (cut kind (length us.0) workers)) e fits.nest turn (declares loop fits.locals) own us.1 (cover us.0 kind workers sized some) ran in
         let merged = leaves layout mark fits.loops fits.body s us.0 apart.effects
         (record { box = fits.box; lowered = fits.lowered; stand = stand; counters = λ x counter. at_turn s serial here x (fits.known x counter); are = us.1 }) apart.each in
         let cells : (x : ℕ) (is : List ℕ) → cell_at (shapes_of layout) (values_of ks') x is ≡ left_by s e x is = apart.merge (λ x is. cell_at (shapes_of layout) (values_of ks') x is) merged in
@@ -127,9 +131,9 @@ module _ (layout : List Laid) (mark : ℕ) (s : State) (rs : List ℕ) (ks : Lis
         }
 
     pub loop_arrives : IsSome (handed serial loop s) → Arrives layout mark (handed serial loop s) s rs ks' text text
-    loop_arrives there = go (is_at_turn serial s) refl (run loop s) refl there
+    loop_arrives there = go (is_at_turn serial s && list_all (is_local s) (targets_outside loop)) refl (run loop s) refl there
       where
-        go : (b : Bool) → is_at_turn serial s ≡ b → (o : Option Effect) → run loop s ≡ o → IsSome (if b then map_option (shared_effect s) o else None)
+        go : (b : Bool) → (is_at_turn serial s && list_all (is_local s) (targets_outside loop)) ≡ b → (o : Option Effect) → run loop s ≡ o → IsSome (if b then map_option (shared_effect s) o else None)
             → Arrives layout mark (if b then map_option (shared_effect s) o else None) s rs ks' text text
         go false q o r h = absurd cc
         go true q None r h = absurd cc

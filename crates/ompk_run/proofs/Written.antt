@@ -6,6 +6,7 @@ use Rattle.std.proofs.lemmas.Option.{same_Some, slice_get_past}
 use Rattle.semantics.specs.Tree.{Declaration}
 use Rattle.semantics.specs.Meaning.State.{State, overwritten}
 use Rattle.semantics.specs.Meaning.Runs.{Effect, run_items}
+use Rattle.semantics.specs.Directives.Clauses.{privates_of}
 use Rattle.semantics.specs.Meaning.Output.{dump, output}
 use Rattle.semantics.specs.Theorems.{WritesABeginning, WritesAll}
 use Rattle.ktree.specs.View.{kernel_of, items_of}
@@ -19,6 +20,7 @@ use Rattle.seqrun_io.specs.Told.{AddsBeginning}
 use Rattle.seqrun_io.specs.Reading.{IsStart}
 use Rattle.seqrun_io.proofs.Beginnings.{of_front, of_rest}
 use Rattle.deptest.specs.Accepted.{Program, tree_of, IsAccepted}
+use Rattle.deptest.proofs.Locals.{private_locals}
 use Rattle.ompk_run.proofs.Output.{body_run, first_state, named, body_runs, output_is, output_there, same_dump}
 use Rattle.ompk_run.proofs.Unique.{one_given}
 
@@ -80,7 +82,9 @@ module _ (a : Program) (input : List ℕ) (ks : List Kept) (is : IsAccepted a) (
 
   -- it leaves what the run leaves
   same_apart : (e : Effect) → run_items (items_of a.kernel.body.items) outset ≡ Some e → LeavesTheSame outset e apart
-  same_apart e q = accepted_apart a.text (kernel_of a.kernel) outset e is.passed.reads is.passed.in_range is.passed.definite is.independent.commute none_behind q
+  same_apart e q =
+      accepted_apart a.text (kernel_of a.kernel) (privates_of (kernel_of a.kernel) is.passed.directives) outset e is.passed.reads is.passed.in_range is.passed.definite
+      (private_locals (kernel_of a.kernel) is.passed.directives) is.passed.private is.independent.commute none_behind q
 
   pub runs_apart : IsSome apart
   runs_apart = go (run_items (items_of a.kernel.body.items) outset) refl runs

@@ -1,6 +1,7 @@
 //! Runs of accepted kernels, on a team of workers or by one thread.
 #![tactic(auto)]
 
+mod leading;
 mod preparing;
 mod running;
 mod teaming;

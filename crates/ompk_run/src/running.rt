@@ -6,8 +6,8 @@ ghost use Rattle.ktree.specs.Numbers.{number_of};
 ghost use Rattle.deptest.specs.Accepted.{tree_of};
 ghost use Rattle.ompk_run.specs.Outcome.{NamesTheFault, NamesTheOutput, RunsOfAccepted};
 
+use crate::leading::run_body;
 use crate::preparing::{Prepared, prepare};
-use crate::teaming::{Teaming, team_block};
 use deptest::Checked;
 use ktree::{Refusal, Workers};
 use schedule::Sched;
@@ -17,18 +17,27 @@ use seqrun_value::Frame;
 use std::alloc::Global;
 use std::sync::Wait;
 use std::thread::Threads;
-use team_nest::Gate;
+use team::Gate;
+
+/// How many threads a run starts: where there is a parallel loop, one for each worker beside the first.
+fn others(checked: &Checked, workers: Workers) -> u64 {
+    if checked.loops().is_empty() {
+        0
+    } else {
+        workers.get() - 1
+    }
+}
 
 /// Runs an accepted kernel on an input by a team, and writes what the C program without the directive lines writes
 /// (C11 5.1.2.3, 6): what it prints, and a line for each file-scope variable as it leaves them. Each loop behind a directive line
-/// is run by the team (OpenMP 5.2, 11.5), all else by the thread that calls. `sched` stands for `schedule(runtime)` (OpenMP 5.2,
+/// is run by the team (OpenMP 5.2, 11.5), whose threads stand by for the whole run, all else by the thread that calls. `sched` stands for `schedule(runtime)` (OpenMP 5.2,
 /// 11.5.3).
 ///
 /// # Errors
 ///
-/// `Input` names the first faulty line of an input, and nothing is written then. `OutOfMemory` comes where memory is refused or
-/// a thread does not start, `OutputFailed` where the sink fails; a beginning of the output may be written then.
-pub fn run<R: Threads + Wait + Sync, G: Gate, S: Sink>(
+/// `Input` names the first faulty line of an input, and nothing is written then. `OutOfMemory` comes where memory is refused,
+/// `OutputFailed` where the sink fails; a beginning of the output may be written then. Of threads that do not start the others do the work.
+pub fn run<R: Threads + Wait + Sync, G: Gate + Sync, S: Sink>(
     rt: &R,
     alloc: Global,
     checked: &Checked,
@@ -55,14 +64,19 @@ pub fn run<R: Threads + Wait + Sync, G: Gate, S: Sink>(
         outline,
         mut registers,
     } = prepare(alloc, checked, &store)?;
-    let team = Teaming {
+    let others = others(checked, workers);
+    run_body(
         rt,
         alloc,
+        &outline,
+        others,
         workers,
         sched,
         gate,
-    };
-    team_block(&outline, &team, &mut registers, &mut store, sink)?;
+        &mut registers,
+        &mut store,
+        sink,
+    )?;
     let _cells = store.cells();
     dump(alloc, declarations, &store, sink)
 }

@@ -15,6 +15,7 @@ ghost use Rattle.lower_code.specs.declared.term.Laid.{Laid};
 ghost use Rattle.lower_code.specs.Machine.{machine, truth};
 ghost use Rattle.lower_run.specs.Walk.{Walks, Begins, stage};
 
+use crew::Crew;
 use ktree::{Refusal, Schedule, Workers};
 use lower_code::{Test, truth};
 use lower_run::{confirm_words, perform};
@@ -25,16 +26,17 @@ use std::alloc::Global;
 use std::sync::Wait;
 use std::thread::Threads;
 use store::Store;
-use team_nest::{Gate, run_loop};
+use team::{Gate, LentLoop, share_loop};
 
-// A team of so many workers for each parallel loop; the gate is told of the chunks that they take.
+// A team of so many workers for each parallel loop, in the threads of a crew; the gate is told of the chunks that they take.
 #[derive(Drop)]
-pub(crate) struct Teaming<'r, R: Threads + Wait + Sync, G: Gate> {
+pub(crate) struct Teaming<'r, 'g, 'c, 'l, R: Threads + Wait + Sync, G: Gate> {
     pub(crate) rt: &'r R,
     pub(crate) alloc: Global,
+    pub(crate) crew: &'c Crew<LentLoop<'l>>,
     pub(crate) workers: Workers,
     pub(crate) sched: Sched,
-    pub(crate) gate: &'r G,
+    pub(crate) gate: &'g G,
 }
 
 // Whether a test holds over registers and a store.
@@ -67,9 +69,9 @@ fn confirm_cut(clause: Option<Schedule>, runtime: Sched, workers: Workers)
 }
 
 // Runs a loop by the team (OpenMP 5.2, 11.5).
-fn run_team_loop<R: Threads + Wait + Sync, G: Gate>(
-    construct: &TeamLoop<'_>,
-    team: &Teaming<'_, R, G>,
+fn run_team_loop<'l, R: Threads + Wait + Sync, G: Gate>(
+    construct: &'l TeamLoop<'_>,
+    team: &Teaming<'_, '_, '_, 'l, R, G>,
     registers: &Vec<u64>,
     store: &mut Store,
 ) -> Result<(), Refusal>
@@ -81,9 +83,10 @@ fn run_team_loop<R: Threads + Wait + Sync, G: Gate>(
     ensures shape { lengths_of store.new ≡ lengths_of store.old }
 {
     let lowered = &construct.lowered;
-    run_loop(
+    share_loop(
         team.rt,
         team.alloc,
+        team.crew,
         lowered,
         registers.as_slice(),
         store,
@@ -98,9 +101,9 @@ fn run_team_loop<R: Threads + Wait + Sync, G: Gate>(
 
 // Runs a statement, each parallel loop in it by the team (C11 6.8; OpenMP 5.2, 11.5).
 #[cycle(teaming)]
-fn team_statement<R: Threads + Wait + Sync, G: Gate, S: Sink>(
-    outline: &Outline<'_>,
-    team: &Teaming<'_, R, G>,
+fn team_statement<'l, R: Threads + Wait + Sync, G: Gate, S: Sink>(
+    outline: &'l Outline<'_>,
+    team: &Teaming<'_, '_, '_, 'l, R, G>,
     registers: &mut Vec<u64>,
     store: &mut Store,
     sink: &mut S,
@@ -146,9 +149,9 @@ fn team_statement<R: Threads + Wait + Sync, G: Gate, S: Sink>(
 
 // Runs the items of a block in their order (C11 6.8.2).
 #[cycle(teaming)]
-pub(crate) fn team_block<R: Threads + Wait + Sync, G: Gate, S: Sink>(
-    items: &[OutlineItem<'_>],
-    team: &Teaming<'_, R, G>,
+pub(crate) fn team_block<'l, R: Threads + Wait + Sync, G: Gate, S: Sink>(
+    items: &'l [OutlineItem<'_>],
+    team: &Teaming<'_, '_, '_, 'l, R, G>,
     registers: &mut Vec<u64>,
     store: &mut Store,
     sink: &mut S,
@@ -175,9 +178,9 @@ pub(crate) fn team_block<R: Threads + Wait + Sync, G: Gate, S: Sink>(
 
 // Runs one item of a block.
 #[cycle(teaming)]
-fn team_item<R: Threads + Wait + Sync, G: Gate, S: Sink>(
-    item: &OutlineItem<'_>,
-    team: &Teaming<'_, R, G>,
+fn team_item<'l, R: Threads + Wait + Sync, G: Gate, S: Sink>(
+    item: &'l OutlineItem<'_>,
+    team: &Teaming<'_, '_, '_, 'l, R, G>,
     registers: &mut Vec<u64>,
     store: &mut Store,
     sink: &mut S,

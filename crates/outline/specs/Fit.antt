@@ -15,7 +15,7 @@ use Rattle.lower_code.specs.declared.term.Laid.{Laid}
 use Rattle.lower_code.specs.Meaning.{MeansTest, AreLocals}
 use Rattle.lower_block.specs.declared.op.Compiled.{Compiled}
 use Rattle.lower_run.specs.Walk.{Performs}
-use Rattle.lower_nest.specs.Lowered.{IsLoweredFrom}
+use Rattle.lower.specs.Lowered.{IsLoweredFrom}
 use Rattle.outline.specs.declared.shape.LoweredHead.{LoweredHead}
 use Rattle.outline.specs.declared.shape.TeamLoop.{TeamLoop}
 use Rattle.outline.specs.declared.shape.Outline.{Outline, Serial, Team, If', For', Block', Held-Outline-If-3, None', Some', Row_of-OutlineItem, end_of-OutlineItem, more_of-OutlineItem}

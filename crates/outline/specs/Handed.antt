@@ -19,7 +19,7 @@ use Rattle.lower_code.specs.declared.term.Laid.{Laid}
 use Rattle.lower_code.specs.Meaning.{AreLocals}
 use Rattle.lower_block.specs.declared.op.Compiled.{Compiled}
 use Rattle.lower_run.specs.Walk.{Performs}
-use Rattle.lower_nest.specs.declared.lowered.LoweredLoop.{LoweredLoop}
+use Rattle.lower.specs.declared.lowered.LoweredLoop.{LoweredLoop}
 use Rattle.outline.specs.declared.shape.TeamLoop.{TeamLoop}
 
 -- one of these loops, which stands behind the directive line at this place

@@ -11,8 +11,8 @@ use crate::shape::TeamLoop;
 use affine::VarBox;
 use flow::ParallelLoop;
 use ktree::{Place, Refusal, Schedule, Stmt, VarId};
+use lower::LoweredLoop;
 use lower_block::Compiled;
-use lower_nest::LoweredLoop;
 use nest::{Nest, as_loop};
 use nest_loop::Canonical;
 use std::alloc::{AllocError, Global};
@@ -105,7 +105,7 @@ fn compile_body(
 }
 
 // What a nest inside the loops of a box is lowered to.
-fn lower_nest(
+fn lower(
     alloc: Global,
     depth: u64,
     stmt: &Stmt,
@@ -153,7 +153,7 @@ pub(crate) fn loop_for_team<'k>(
     };
     let depth = parallel.directive.associated_loops();
     let schedule = parallel.directive.schedule;
-    let lowered = lower_nest(alloc, depth, stmt, schedule, target, bounds, directive)?;
+    let lowered = lower(alloc, depth, stmt, schedule, target, bounds, directive)?;
     Ok(TeamLoop {
         statement: stmt,
         depth,

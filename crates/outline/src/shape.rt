@@ -1,9 +1,9 @@
 //! What is made of a kernel before it is run.
 
 use ktree::{Cond, Head, Item, Stmt};
+use lower::LoweredLoop;
 use lower_block::Compiled;
 use lower_code::Test;
-use lower_nest::LoweredLoop;
 
 /// A loop that a team runs: the statement, how many loops of it are associated (OpenMP 5.2, 4.4.3), and what it is lowered to.
 #[derive(Drop)]

@@ -1,7 +1,7 @@
 -- What a `parallel for` says, of the clauses that are known so far. (OpenMP 5.2, 4.4.3 and 11.5.3)
 use Rattle.std.specs.Prelude.{ℕ, ◌≡◌, List, [], ◌∷◌, Option, Some, None}
 use Rattle.semantics.specs.Tree.{Name}
-use Rattle.semantics.specs.Directives.Directive.{Schedule, Clause, ScheduledBy, Collapse, Directive, ParallelFor}
+use Rattle.semantics.specs.Directives.Directive.{Schedule, Clause, DefaultShared, DefaultNone, Shared, Private, Firstprivate, ScheduledBy, Collapse, Directive, ParallelFor}
 use Rattle.semantics.specs.Directives.DirectiveGrammar.{ReadsLine}
 use Rattle.cparse_grammar.specs.Reading.{◌>>=◌}
 
@@ -9,10 +9,15 @@ use Rattle.cparse_grammar.specs.Reading.{◌>>=◌}
 abbrev pub Said : Type 0
 Said = Option Schedule × Option ℕ
 
--- one more clause, where it is known and none of its kind is there
+-- one more clause, where it is known and none of its kind is there; a clause about variables says nothing of these two
 abbrev pub with_clause : Clause Name → Said → Option Said
 with_clause (ScheduledBy k) (None, c) = Some (Some k, c)
 with_clause (Collapse c) (k, None) = Some (k, Some c)
+with_clause DefaultShared said = Some said
+with_clause DefaultNone said = Some said
+with_clause (Shared xs) said = Some said
+with_clause (Private xs) said = Some said
+with_clause (Firstprivate xs) said = Some said
 with_clause _ said = None
 
 -- all of a directive's clauses

@@ -42,6 +42,11 @@ fn with_clause(clause: &Clause<Written>, said: ParallelFor) -> Option<ParallelFo
             schedule: said.schedule,
             collapse: Some(*loops),
         }),
+        Clause::DefaultShared
+        | Clause::DefaultNone
+        | Clause::Shared(_)
+        | Clause::Private(_)
+        | Clause::Firstprivate(_) => Some(said),
         _ => None,
     }
 }

@@ -11,9 +11,11 @@ use Rattle.pragma_attach.specs.declared.stop.Stop.{Stop}
 use Rattle.pragma_attach.specs.declared.stop.Stop.TheVariants.{Memory, UnknownName, NamedTwice}
 use Rattle.pragma_attach.specs.Faults.{IsOfDirectives}
 use Rattle.pragma_attach.specs.Standing.{is_standing}
-use Rattle.pragma_attach.specs.declared.names.Clauses.{Clauses}
-use Rattle.pragma_attach.specs.Told.{told, kept, Blames}
-use Rattle.pragma_attach.specs.Rightly.{lines_known, name_rightly}
+use Rattle.pragma_named.specs.declared.table.Clauses.{Clauses}
+use Rattle.pragma_named.specs.Known.{kept}
+use Rattle.pragma_attach.specs.Told.{told, Blames}
+use Rattle.pragma_named.specs.Known.{lines_known}
+use Rattle.pragma_attach.specs.Rightly.{name_rightly}
 use Rattle.pragma_attach.proofs.ResolvedLaw.{attached_stands, attached_named, not_missed}
 
 -- nothing is attached

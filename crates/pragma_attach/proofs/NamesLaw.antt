@@ -16,11 +16,13 @@ use Rattle.ktree.specs.declared.expression.Cond.{Cond}
 use Rattle.ktree.specs.declared.statement.Head.{Head}
 use Rattle.ktree.specs.declared.statement.Stmt.{Stmt, If, For}
 use Rattle.ktree.specs.declared.statement.Item.{Item, Directive, Statement}
-use Rattle.pragma_attach.specs.declared.names.Clauses.{Clauses}
+use Rattle.pragma_named.specs.declared.table.Clauses.{Clauses}
 use Rattle.pragma_attach.specs.declared.stop.Stop.{Stop}
 use Rattle.pragma_attach.specs.declared.stop.Stop.TheVariants.{Memory, UnknownName, NamedTwice}
-use Rattle.pragma_attach.specs.Resolved.{resolved_clauses, Fails}
-use Rattle.pragma_attach.specs.Told.{Known, or, told, unless_twice, clauses_by, kept, Carries, Misses, Blames}
+use Rattle.pragma_named.specs.Views.{resolved_clauses}
+use Rattle.pragma_attach.specs.Resolved.{Fails}
+use Rattle.pragma_named.specs.Known.{Known, kept}
+use Rattle.pragma_attach.specs.Told.{or, told, unless_twice, clauses_by, Carries, Misses, Blames}
 
 -- a line of which nothing is kept
 pub not_kept : {S : Type 0} (table : HashMap ℕ Clauses S) (n : ℕ) → is_some (get nat_eq table n) ≡ false → kept table n ≡ None

@@ -8,15 +8,17 @@ use Rattle.std.proofs.lemmas.List.Elements.{recursion_from_All, All-nil, All-con
 use Rattle.semantics.specs.Tree.{Name, Variable, Kernel}
 use Rattle.semantics.specs.Source.Scope.{Scope}
 use Rattle.semantics.specs.Directives.Directive.{Clause, Directive}
-use Rattle.semantics.specs.Directives.Annotated.{Directives, clauses_there, resolve_clauses, scope_at, lines_of, clauses_at, IsResolved}
+use Rattle.semantics.specs.Directives.Annotated.{Directives, directive_at, clauses_there, resolve_clauses, scope_at, lines_of, clauses_at, IsResolved}
 use Rattle.semantics.specs.Directives.Naming.{variables_in, are_distinct, constructs_among, NamesRightly, NameRightly, IsAttached}
 use Rattle.semantics.specs.Directives.Placed.{is_well_placed}
-use Rattle.pragma_attach.specs.declared.names.Clauses.{Clauses}
+use Rattle.pragma_named.specs.declared.table.Clauses.{Clauses}
 use Rattle.pragma_attach.specs.Standing.{directive_on, is_standing}
 use Rattle.pragma_attach.specs.Attached.{with_directive, directives_on, directives_of}
-use Rattle.pragma_attach.specs.Resolved.{resolved_clauses}
-use Rattle.pragma_attach.specs.Told.{unless_twice, clauses_by, told, kept}
-use Rattle.pragma_attach.specs.Rightly.{Lines, known_clauses, lines_known, name_rightly}
+use Rattle.pragma_named.specs.Views.{resolved_clauses}
+use Rattle.pragma_named.specs.Known.{kept}
+use Rattle.pragma_attach.specs.Told.{unless_twice, clauses_by, told}
+use Rattle.pragma_named.specs.Known.{Lines, known_clauses, lines_known}
+use Rattle.pragma_attach.specs.Rightly.{name_rightly}
 use Rattle.pragma_attach.proofs.LinesLaw.{AllLines, AllRead, Found, AllFound, all_found, the_same}
 use Rattle.pragma_attach.proofs.NamedOnceLaw.{Once, once_among}
 use Rattle.pragma_attach.proofs.PlacingLaw.{all_placed, read_among}
@@ -61,6 +63,20 @@ at_line text P (l ∷ ls) h n r e = go (nat_eq l.0 n) refl e (λ f. at_line text
     go : (b : Bool) → nat_eq l.0 n ≡ b → (if b then Some (clauses_by text l.1 n) else told text ls n) ≡ Some r → (told text ls n ≡ Some r → P n) → P n
     go true t e later = subst P (eqb-true l.0 n t) h.0
     go false t e later = later e
+
+-- a line that is not told has no directive
+no_directive : (text : List ℕ) (ls : List (ℕ × Scope)) (n : ℕ) → told text ls n ≡ None → directive_at (directives_on text ls) n ≡ None
+no_directive text [] n e = refl
+no_directive text (l ∷ ls) n e = go (nat_eq l.0 n) refl e (λ h. no_directive text ls n h)
+  where
+    other : (o : Option (Directive Name)) (ds : Directives) → nat_eq l.0 n ≡ false → directive_at ds n ≡ None → directive_at (with_directive l.0 o ds) n ≡ None
+    other None ds t h = h
+    other (Some d) ds t h = ap (λ (b : Bool). if b then Some d else directive_at ds n) t ∙ h
+
+    go : (b : Bool) → nat_eq l.0 n ≡ b → (if b then Some (clauses_by text l.1 n) else told text ls n) ≡ None → (told text ls n ≡ None → directive_at (directives_on text ls) n ≡ None)
+        → directive_at (directives_on text (l ∷ ls)) n ≡ None
+    go true t e later = absurd (cc e)
+    go false t e later = other (directive_on text l.0) (directives_on text ls) t (later e)
 
 -- ---- of directives, and of lines
 
@@ -126,6 +142,16 @@ module _ (text : List ℕ) (tree : Kernel) where
     -- of the lines of directives that are found it knows the clauses
     pub all_known : (ds : Directives) → AllFound text ds (lines_of tree) → AllLines (Knows tree ds table_lines) (lines_of tree)
     all_known ds f = both_told ds (lines_of tree) f (all_told text (lines_of tree))
+
+    -- and of every other line there are none
+    pub clauses_are : AllRead text (lines_of tree) → (n : ℕ) → clauses_at tree (directives_of text tree) n ≡ Some (table_lines n)
+    clauses_are r n = go (told text (lines_of tree) n) refl
+      where
+        go : (o : Option (Option (List (Clause Variable)))) → told text (lines_of tree) n ≡ o → clauses_at tree (directives_of text tree) n ≡ Some (table_lines n)
+        go None e =
+            ap (λ d. resolve_clauses (scope_at (lines_of tree) n) (clauses_there d)) (no_directive text (lines_of tree) n e) ∙ ap (λ o. Some (known_clauses o)) (sym (k n ∙ e))
+        go (Some o) e =
+            (at_line text (Knows tree (directives_of text tree) table_lines) (lines_of tree) (all_known (directives_of text tree) (all_found text (lines_of tree) r)) n o e).0
 
     has_clauses : (ds : Directives) (ls : List (ℕ × Scope)) → AllLines (Knows tree ds table_lines) ls → AllLines (HasClauses tree ds) ls
     has_clauses ds [] h = tt

@@ -14,7 +14,9 @@ use Rattle.semantics.specs.Directives.Naming.{named_in, outside_of, variables_in
 use Rattle.ktree.specs.View.{stmt_of, with_item}
 use Rattle.ktree.specs.declared.statement.Stmt.{Stmt as Code}
 use Rattle.ktree.specs.declared.statement.Item.{Item, Statement}
-use Rattle.pragma_attach.specs.Rightly.{Lines, line_in, Question, asked, each_construct, each_among, is_wanted, are_wanted, line_wanted, names_inside, are_shared, is_covered, names_rightly, name_rightly}
+use Rattle.pragma_named.specs.Known.{Lines}
+use Rattle.pragma_named.specs.Lines.{line_in, Question, asked, each_construct, each_among}
+use Rattle.pragma_attach.specs.Rightly.{is_wanted, are_wanted, line_wanted, names_inside, are_shared, is_covered, names_rightly, name_rightly}
 use Rattle.pragma_attach.proofs.LinesLaw.{AllLines}
 
 pub and_same : {a b c d : Bool} → a ≡ b → c ≡ d → (a && c) ≡ (b && d)

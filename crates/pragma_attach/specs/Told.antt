@@ -1,20 +1,14 @@
 -- What is kept of a text's directive lines: the clauses of each, their names resolved where the line stands first.
-use Rattle.std.specs.Prelude.{ℕ, nat_eq, if◌then◌else◌, ◌≡◌, List, [], ◌∷◌, flat_map, Option, Some, None, option_map}
-use Rattle.std.specs.HashMap.{HashMap, get}
+use Rattle.std.specs.Prelude.{ℕ, nat_eq, if◌then◌else◌, ◌≡◌, List, [], ◌∷◌, flat_map, Option, Some, None}
 use Rattle.semantics.specs.Tree.{Variable}
 use Rattle.semantics.specs.Source.Scope.{Scope}
 use Rattle.semantics.specs.Directives.Directive.{Clause}
 use Rattle.semantics.specs.Directives.Annotated.{clauses_there, resolve_clauses}
 use Rattle.semantics.specs.Directives.Naming.{variables_in, are_distinct}
-use Rattle.pragma_attach.specs.declared.names.Clauses.{Clauses}
 use Rattle.pragma_attach.specs.declared.stop.Stop.{Stop}
 use Rattle.pragma_attach.specs.declared.stop.Stop.TheVariants.{Memory, UnknownName, NamedTwice}
 use Rattle.pragma_attach.specs.Standing.{directive_on}
-use Rattle.pragma_attach.specs.Resolved.{resolved_clauses}
-
--- of each line: whether it is there, and its clauses, if their names are resolved and none of them stands twice
-abbrev pub Known : Type 0
-Known = ℕ → Option (Option (List (Clause Variable)))
+use Rattle.pragma_named.specs.Known.{Known}
 
 -- the first of two that is there
 abbrev pub or : {A : Type 0} → Option A → Option A → Option A
@@ -34,10 +28,6 @@ clauses_by text scope n = unless_twice (resolve_clauses scope (clauses_there (di
 abbrev pub told : List ℕ → List (ℕ × Scope) → Known
 told text [] n = None
 told text (l ∷ ls) n = if nat_eq l.0 n then Some (clauses_by text l.1 n) else told text ls n
-
--- what a table knows
-abbrev pub kept : {S : Type 0} → HashMap ℕ Clauses S → Known
-kept table n = option_map (λ c. Some (resolved_clauses c.clauses)) (get nat_eq table n)
 
 -- what was known, and is told by these lines, is now known, and told by those that are left
 abbrev pub Carries : List ℕ → Known → Known → List (ℕ × Scope) → List (ℕ × Scope) → Type 0

@@ -1,30 +1,25 @@
 //! A kernel's directives, each at its place.
 
-ghost use Rattle.std.specs.Prelude.{◌≡◌, ◌⊎◌, ◌&&◌, ℕ, is_none, IfOk, IfErr};
-ghost use Rattle.semantics.specs.Directives.Annotated.{Directives as Those, lines_of};
+ghost use Rattle.std.specs.Prelude.{◌≡◌, ◌⊎◌, ◌&&◌, ℕ, Some, is_none, IfOk, IfErr};
+ghost use Rattle.semantics.specs.Directives.Annotated.{Directives as Those, clauses_at};
 ghost use Rattle.semantics.specs.Directives.Naming.{IsAttached};
 ghost use Rattle.ktree.specs.View.{kernel_of};
 ghost use Rattle.ktree.specs.declared.refusal.Refusal.TheVariants.{OutOfMemory};
 ghost use Rattle.pragma_attach.specs.declared.stop.Stop.TheVariants.{Memory};
 ghost use Rattle.pragma_attach.specs.Faults.{IsOfDirectives};
 ghost use Rattle.pragma_attach.specs.Attached.{directives_of};
-ghost use Rattle.pragma_attach.specs.Told.{told, kept};
+ghost use Rattle.pragma_named.specs.Known.{kept, lines_known};
 
 use crate::fault::{Fault, Flaw, first};
-use crate::names::{Table, kernel_names};
+use crate::names::kernel_names;
 use crate::naming::naming_fault;
 use crate::placed::placing_fault;
 use crate::stop::Stop;
 use ktree::{Kernel, Place, Refusal};
 use pragma::Directives;
+use pragma_named::LineClauses;
 use std::alloc::Global;
 use std::collections::HashMap;
-
-/// The clauses of a kernel's directive lines, their names resolved.
-#[derive(Drop)]
-pub struct Attached {
-    lines: Table,
-}
 
 /// What is told of a flaw at a place and of what is wrong elsewhere.
 fn told(place: Place, flaw: Flaw, placing: Option<Fault>) -> Refusal
@@ -61,7 +56,7 @@ fn first_fault(placing: Option<Fault>, naming: Option<Place>) -> Option<Fault>
     }
 }
 
-/// Attaches the directives of a text to its kernel, exactly where that can be: each line is read, each construct stands where it may, each name in a
+/// Attaches the directives of a text to its kernel, and gives the clauses of each line over variables, exactly where that can be: each line is read, each construct stands where it may, each name in a
 /// clause is that of a visible variable, none stands twice in a directive's clauses, a `for` inside a `parallel` names only what is shared there, and under
 /// `default(none)` each variable from outside stands in a clause (OpenMP 5.2, 3.1, 5.1, 5.4, 10.1, 11.5 and 17; C11 6.2.1).
 ///
@@ -69,11 +64,15 @@ fn first_fault(placing: Option<Fault>, naming: Option<Place>) -> Option<Fault>
 ///
 /// [`Refusal::OutOfMemory`], and of several faults the first in the text, by its place, and at one place that of the lower number:
 /// [`Refusal::UnknownName`] and [`Refusal::ClauseForVariable`] at a name, [`Refusal::Directive`] and [`Refusal::Limit`] at a line's `#`.
-pub fn attach(alloc: Global, kernel: &Kernel, directives: &Directives) -> Result<Attached, Refusal>
-    ensures attached { IfOk result (λ attached. IsAttached directives.now (kernel_of kernel.now)
+pub fn attach(
+    alloc: Global,
+    kernel: &Kernel,
+    directives: &Directives,
+) -> Result<LineClauses, Refusal>
+    ensures attached { IfOk result (λ _. IsAttached directives.now (kernel_of kernel.now)
         (directives_of directives.now (kernel_of kernel.now))) }
-    ensures known { IfOk result (λ attached. (n : ℕ) → kept attached.lines n
-        ≡ told directives.now (lines_of (kernel_of kernel.now)) n) }
+    ensures clauses { IfOk result (λ lines. (n : ℕ) → clauses_at (kernel_of kernel.now)
+        (directives_of directives.now (kernel_of kernel.now)) n ≡ Some (lines_known (kept lines) n)) }
     ensures err { IfErr result (λ refusal. (refusal ≡ OutOfMemory)
         ⊎ (IsOfDirectives refusal
         × ((ds : Those) → IsAttached directives.now (kernel_of kernel.now) ds → ⊥))) }
@@ -86,7 +85,7 @@ pub fn attach(alloc: Global, kernel: &Kernel, directives: &Directives) -> Result
     match names {
         Err(stop) => Err(stopped(stop, fault)),
         Ok(()) => match fault {
-            None => Ok(Attached { lines }),
+            None => Ok(lines),
             Some(fault) => Err(fault.refusal()),
         },
     }

@@ -13,6 +13,4 @@ mod stop;
 mod visible;
 mod wanted;
 
-pub use attaching::{Attached, attach};
-pub use names::Clauses;
-pub use resolved::Named;
+pub use attaching::attach;

@@ -5,11 +5,11 @@ ghost use Rattle.std.specs.List.{list_any};
 ghost use Rattle.semantics.specs.Meaning.Agrees.{is_among};
 ghost use Rattle.semantics.specs.Directives.Naming.{variables_in, kept_private, is_none as forbids_default};
 ghost use Rattle.pragma_mention.specs.Sets.{holds};
-ghost use Rattle.pragma_attach.specs.Resolved.{variable_named, resolved_clause};
+ghost use Rattle.pragma_named.specs.Views.{variable_named, resolved_clause};
 
-use crate::resolved::Named;
 use ktree::Clause;
 use pragma_mention::note;
+use pragma_named::Named;
 use std::alloc::{AllocError, Global};
 use std::collections::HashSet;
 use std::slice::from_ref;

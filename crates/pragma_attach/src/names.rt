@@ -9,29 +9,20 @@ ghost use Rattle.ktree.specs.View.{stmt_of, with_item, items_of, kernel_of};
 ghost use Rattle.cparse_cursor.specs.Names.{names_of};
 ghost use Rattle.pragma_clause.specs.Views.{written_clause};
 ghost use Rattle.pragma_attach.specs.Standing.{directive_on};
-ghost use Rattle.pragma_attach.specs.Resolved.{resolved_clauses};
-ghost use Rattle.pragma_attach.specs.Told.{kept, told, Carries, Misses, Blames};
+ghost use Rattle.pragma_named.specs.Views.{resolved_clauses};
+ghost use Rattle.pragma_named.specs.Known.{kept};
+ghost use Rattle.pragma_attach.specs.Told.{told, Carries, Misses, Blames};
 ghost use Rattle.pragma_attach.specs.declared.stop.Stop.TheVariants.{Memory};
 
 use crate::once::line_clauses;
 use crate::placed::directive_on;
-use crate::resolved::Named;
 use crate::stop::Stop;
 use crate::visible::file_scope;
 use cparse_cursor::scope::{Entity, Scope, add, close, count};
 use ktree::{Clause, Directive, Head, Item, Kernel, Local, Place, Stmt, Written};
 use pragma::Directives;
+use pragma_named::{Clauses, LineClauses, Named};
 use std::alloc::Global;
-use std::collections::HashMap;
-
-/// The clauses of a directive line, their names resolved.
-#[derive(Drop)]
-pub struct Clauses {
-    pub clauses: Vec<Clause<Named>>,
-}
-
-/// Those of directive lines, by the lines' numbers.
-pub(crate) type Table = HashMap<u32, Clauses>;
 
 /// The clauses of a directive.
 fn clauses_of(directive: &Directive<Written>) -> &[Clause<Written>]
@@ -57,7 +48,7 @@ fn clauses_on<'d>(directives: &'d Directives, place: Place) -> &'d [Clause<Writt
 }
 
 /// Keeps the clauses of a line.
-fn put(table: &mut Table, line: u32, clauses: Vec<Clause<Named>>) -> Result<(), Stop>
+fn put(table: &mut LineClauses, line: u32, clauses: Vec<Clause<Named>>) -> Result<(), Stop>
     ensures ok { OnOk result ((n : ℕ) → kept table.new n
         ≡ cond (nat_eq line n) (Some (Some (resolved_clauses clauses))) (kept table.old n)) }
     ensures err { IfErr result (λ stop. stop ≡ Memory) }
@@ -70,7 +61,7 @@ fn put(table: &mut Table, line: u32, clauses: Vec<Clause<Named>>) -> Result<(), 
 fn line_names(
     alloc: Global,
     directives: &Directives,
-    table: &mut Table,
+    table: &mut LineClauses,
     scope: &Scope,
     place: Place,
 ) -> Result<(), Stop>
@@ -109,7 +100,7 @@ fn local_name<'k>(scope: &mut Scope<'k>, local: &'k Local) -> Result<(), Stop>
 fn statement_names<'k>(
     alloc: Global,
     directives: &Directives,
-    table: &mut Table,
+    table: &mut LineClauses,
     scope: &mut Scope<'k>,
     statement: &'k Stmt,
 ) -> Result<(), Stop>
@@ -145,7 +136,7 @@ fn statement_names<'k>(
 fn loop_names<'k>(
     alloc: Global,
     directives: &Directives,
-    table: &mut Table,
+    table: &mut LineClauses,
     scope: &mut Scope<'k>,
     head: &'k Head,
     body: &'k Stmt,
@@ -179,7 +170,7 @@ fn loop_names<'k>(
 fn block_names<'k>(
     alloc: Global,
     directives: &Directives,
-    table: &mut Table,
+    table: &mut LineClauses,
     scope: &mut Scope<'k>,
     items: &'k [Item],
 ) -> Result<(), Stop>
@@ -205,7 +196,7 @@ fn block_names<'k>(
 fn items_names<'k>(
     alloc: Global,
     directives: &Directives,
-    table: &mut Table,
+    table: &mut LineClauses,
     scope: &mut Scope<'k>,
     items: &'k [Item],
 ) -> Result<(), Stop>
@@ -231,7 +222,7 @@ fn items_names<'k>(
 fn item_names<'k>(
     alloc: Global,
     directives: &Directives,
-    table: &mut Table,
+    table: &mut LineClauses,
     scope: &mut Scope<'k>,
     item: &'k Item,
 ) -> Result<(), Stop>
@@ -256,7 +247,7 @@ pub(crate) fn kernel_names(
     alloc: Global,
     kernel: &Kernel,
     directives: &Directives,
-    table: &mut Table,
+    table: &mut LineClauses,
 ) -> Result<(), Stop>
     requires { (n : ℕ) → kept table.old n ≡ None }
     ensures ok { OnOk result ((n : ℕ) → kept table.new n

@@ -3,16 +3,17 @@
 ghost use Rattle.std.specs.Prelude.{◌≡◌, ◌&&◌, None, map, is_none, IfOk};
 ghost use Rattle.semantics.specs.Tree.{Items};
 ghost use Rattle.ktree.specs.View.{stmt_of, with_item, items_of, kernel_of};
-ghost use Rattle.pragma_attach.specs.Resolved.{resolved_clause};
-ghost use Rattle.pragma_attach.specs.Told.{kept};
-ghost use Rattle.pragma_attach.specs.Rightly.{lines_known, asked, each_construct, each_among, line_in, are_shared, is_covered, names_rightly, name_rightly};
+ghost use Rattle.pragma_named.specs.Views.{resolved_clause};
+ghost use Rattle.pragma_named.specs.Known.{kept};
+ghost use Rattle.pragma_named.specs.Known.{lines_known};
+ghost use Rattle.pragma_named.specs.Lines.{asked, each_construct, each_among, line_in};
+ghost use Rattle.pragma_attach.specs.Rightly.{are_shared, is_covered, names_rightly, name_rightly};
 
 use crate::listed::{has_default_none, listed, private_in};
-use crate::names::Table;
-use crate::resolved::Named;
-use crate::wanted::{clauses_known, inner_fault, line_of};
+use crate::wanted::inner_fault;
 use ktree::{Clause, Item, Kernel, Place, Stmt};
 use pragma_mention::{add_declared, first_unknown};
+use pragma_named::{LineClauses, Named, clauses_known, line_of};
 use std::alloc::{AllocError, Global};
 
 /// Of two places the earlier one.
@@ -35,7 +36,7 @@ fn earlier(one: Option<Place>, other: Option<Place>) -> Option<Place>
 /// Where a clause inside a construct first names what the construct makes private itself.
 fn unshared(
     alloc: Global,
-    table: &Table,
+    table: &LineClauses,
     clauses: &[Clause<Named>],
     statement: &Stmt,
 ) -> Result<Option<Place>, AllocError>
@@ -50,7 +51,7 @@ fn unshared(
 /// Where a construct with `default(none)` first names what stands in none of its clauses.
 fn uncovered(
     alloc: Global,
-    table: &Table,
+    table: &LineClauses,
     clauses: &[Clause<Named>],
     statement: &Stmt,
 ) -> Result<Option<Place>, AllocError>
@@ -70,7 +71,7 @@ fn uncovered(
 /// What is wrong with the names of a construct, the line before a statement.
 fn construct_fault(
     alloc: Global,
-    table: &Table,
+    table: &LineClauses,
     line: u32,
     statement: &Stmt,
 ) -> Result<Option<Place>, AllocError>
@@ -86,7 +87,7 @@ fn construct_fault(
 /// Of the line before a statement, if there is one.
 fn line_fault(
     alloc: Global,
-    table: &Table,
+    table: &LineClauses,
     before: Option<u32>,
     statement: &Stmt,
 ) -> Result<Option<Place>, AllocError>
@@ -103,7 +104,7 @@ fn line_fault(
 #[cycle(naming)]
 fn statement_fault(
     alloc: Global,
-    table: &Table,
+    table: &LineClauses,
     statement: &Stmt,
 ) -> Result<Option<Place>, AllocError>
     ensures { IfOk result (λ found. is_none found
@@ -130,7 +131,11 @@ fn statement_fault(
 
 /// Of those in a block.
 #[cycle(naming)]
-fn items_fault(alloc: Global, table: &Table, items: &[Item]) -> Result<Option<Place>, AllocError>
+fn items_fault(
+    alloc: Global,
+    table: &LineClauses,
+    items: &[Item],
+) -> Result<Option<Place>, AllocError>
     ensures { IfOk result (λ found. is_none found
         ≡ each_among (names_rightly (lines_known (kept table.now))) None (items_of items.now)) }
 {
@@ -149,7 +154,7 @@ fn items_fault(alloc: Global, table: &Table, items: &[Item]) -> Result<Option<Pl
 #[cycle(naming)]
 fn item_fault(
     alloc: Global,
-    table: &Table,
+    table: &LineClauses,
     before: Option<u32>,
     item: &Item,
 ) -> Result<Option<Place>, AllocError>
@@ -174,7 +179,7 @@ fn item_fault(
 pub(crate) fn naming_fault(
     alloc: Global,
     kernel: &Kernel,
-    table: &Table,
+    table: &LineClauses,
 ) -> Result<Option<Place>, AllocError>
     ensures { IfOk result (λ found. is_none found
         ≡ name_rightly (lines_known (kept table.now)) (kernel_of kernel.now)) }

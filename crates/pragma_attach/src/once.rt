@@ -6,15 +6,17 @@ ghost use Rattle.pragma_attach.specs.declared.stop.Stop.TheVariants.{Memory};
 ghost use Rattle.semantics.specs.Directives.Annotated.{resolve_clauses};
 ghost use Rattle.cparse_cursor.specs.Names.{names_of};
 ghost use Rattle.pragma_clause.specs.Views.{written_clause};
-ghost use Rattle.pragma_attach.specs.Resolved.{variable_named, resolved_clause, resolved_clauses, Gives};
+ghost use Rattle.pragma_named.specs.Views.{variable_named, resolved_clause, resolved_clauses};
+ghost use Rattle.pragma_attach.specs.Resolved.{Gives};
 ghost use Rattle.pragma_attach.specs.Told.{unless_twice};
 
 use crate::listed::names_in;
-use crate::resolved::{Named, resolve_clauses};
+use crate::resolved::resolve_clauses;
 use crate::stop::Stop;
 use cparse_cursor::scope::Scope;
 use ktree::{Clause, Place, Written};
 use pragma_mention::note;
+use pragma_named::Named;
 use std::alloc::Global;
 use std::collections::HashSet;
 

@@ -5,19 +5,14 @@ ghost use Rattle.semantics.specs.Directives.Annotated.{resolve, resolve_all, res
 ghost use Rattle.ktree.specs.DirectiveView.{name_of};
 ghost use Rattle.cparse_cursor.specs.Names.{names_of};
 ghost use Rattle.pragma_clause.specs.Views.{written_clause};
-ghost use Rattle.pragma_attach.specs.Resolved.{variable_named, variables_named, resolved_clause, resolved_clauses, Gives};
+ghost use Rattle.pragma_named.specs.Views.{variable_named, variables_named, resolved_clause, resolved_clauses};
+ghost use Rattle.pragma_attach.specs.Resolved.{Gives};
 
 use crate::stop::Stop;
 use cparse_cursor::scope::{Entity, Scope, find};
-use ktree::{Clause, Place, VarId, Written};
+use ktree::{Clause, Written};
+use pragma_named::Named;
 use std::alloc::Global;
-
-/// A variable that a clause names, and where it does.
-#[derive(Clone, Copy)]
-pub struct Named {
-    pub variable: VarId,
-    pub place: Place,
-}
 
 /// The variable that a name in a clause stands for.
 fn resolve_name(scope: &Scope, written: &Written) -> Result<Named, Stop>

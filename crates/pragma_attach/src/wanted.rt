@@ -5,35 +5,16 @@ ghost use Rattle.semantics.specs.Tree.{Stmt as Tree, Items};
 ghost use Rattle.semantics.specs.Directives.Naming.{variables_in};
 ghost use Rattle.ktree.specs.View.{stmt_of, with_item, items_of};
 ghost use Rattle.pragma_mention.specs.Sets.{holds};
-ghost use Rattle.pragma_attach.specs.Resolved.{variable_named, resolved_clause};
-ghost use Rattle.pragma_attach.specs.Told.{kept};
-ghost use Rattle.pragma_attach.specs.Rightly.{known_clauses, lines_known, is_wanted, are_wanted, line_wanted, asked, each_construct, each_among, line_in};
+ghost use Rattle.pragma_named.specs.Views.{variable_named, resolved_clause};
+ghost use Rattle.pragma_named.specs.Known.{kept};
+ghost use Rattle.pragma_named.specs.Known.{lines_known};
+ghost use Rattle.pragma_named.specs.Lines.{asked, each_construct, each_among, line_in};
+ghost use Rattle.pragma_attach.specs.Rightly.{is_wanted, are_wanted, line_wanted};
 
 use crate::listed::names_in;
-use crate::names::Table;
-use crate::resolved::Named;
 use ktree::{Clause, Item, Place, Stmt};
+use pragma_named::{LineClauses, Named, clauses_known, line_of};
 use std::collections::HashSet;
-
-/// The clauses that are known of a line.
-pub(crate) fn clauses_known(table: &Table, line: u32) -> &[Clause<Named>]
-    ensures { map resolved_clause result.now ≡ known_clauses (kept table.now line) }
-{
-    match table.get(&line) {
-        None => &[],
-        Some(entry) => entry.clauses.as_slice(),
-    }
-}
-
-/// The line that an item is.
-pub(crate) fn line_of(item: &Item) -> Option<u32>
-    ensures { result ≡ line_in item.now }
-{
-    match item {
-        Item::Directive(place) => Some(place.line),
-        _ => None,
-    }
-}
 
 /// Whether a variable is in a set, or is not, as it is wanted.
 fn is_wanted(set: &HashSet<u32>, wanted: bool, named: &Named) -> bool
@@ -68,7 +49,12 @@ fn clause_fault(set: &HashSet<u32>, wanted: bool, clauses: &[Clause<Named>]) -> 
 }
 
 /// Where the line before a statement does.
-fn line_fault(table: &Table, set: &HashSet<u32>, wanted: bool, before: Option<u32>) -> Option<Place>
+fn line_fault(
+    table: &LineClauses,
+    set: &HashSet<u32>,
+    wanted: bool,
+    before: Option<u32>,
+) -> Option<Place>
     ensures { (s : Tree) → is_none result
         ≡ asked (line_wanted wanted (holds set.now) (lines_known (kept table.now))) before s }
 {
@@ -81,7 +67,7 @@ fn line_fault(table: &Table, set: &HashSet<u32>, wanted: bool, before: Option<u3
 /// Where the clauses of the constructs inside a statement first name a variable that is not in a set, or is in it, as it is wanted.
 #[cycle(wanted)]
 pub(crate) fn inner_fault(
-    table: &Table,
+    table: &LineClauses,
     set: &HashSet<u32>,
     wanted: bool,
     statement: &Stmt,
@@ -108,7 +94,12 @@ pub(crate) fn inner_fault(
 
 /// Where those in a block do.
 #[cycle(wanted)]
-fn items_fault(table: &Table, set: &HashSet<u32>, wanted: bool, items: &[Item]) -> Option<Place>
+fn items_fault(
+    table: &LineClauses,
+    set: &HashSet<u32>,
+    wanted: bool,
+    items: &[Item],
+) -> Option<Place>
     ensures { is_none result
         ≡ each_among (line_wanted wanted (holds set.now) (lines_known (kept table.now))) None
         (items_of items.now) }
@@ -126,7 +117,7 @@ fn items_fault(table: &Table, set: &HashSet<u32>, wanted: bool, items: &[Item]) 
 /// Where the line before an item does, or those inside the item.
 #[cycle(wanted)]
 fn item_fault(
-    table: &Table,
+    table: &LineClauses,
     set: &HashSet<u32>,
     wanted: bool,
     before: Option<u32>,

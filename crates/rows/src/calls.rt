@@ -10,7 +10,7 @@ use std::sync::Wait;
 use std::sync::atomic::{AtomicU64, Ordering};
 use std::thread;
 use std::thread::Threads;
-use team_nest::{Gate, OpenGate, Taken};
+use team::{Gate, OpenGate, Taken};
 
 const INCREMENT: &[u8] =
     b"#include <stdint.h>\nuint64_t A[8];\nvoid kernel(void)\n{\n#pragma omp parallel for schedule(dynamic, 3)\nfor (uint64_t i = 0; i < 8; i++) { A[i] = A[i] + i; }\n}\n";
@@ -274,7 +274,7 @@ struct Task {
 }
 
 /// How a task ends.
-fn ended<R: Threads + Wait + Sync, G: Gate, S: Sink>(
+fn ended<R: Threads + Wait + Sync, G: Gate + Sync, S: Sink>(
     rt: &R,
     alloc: Global,
     task: Task,
@@ -296,7 +296,7 @@ fn ended<R: Threads + Wait + Sync, G: Gate, S: Sink>(
 }
 
 /// Whether a task ends so, having written these bytes.
-fn ends<R: Threads + Wait + Sync, G: Gate>(
+fn ends<R: Threads + Wait + Sync, G: Gate + Sync>(
     rt: &R,
     alloc: Global,
     task: Task,

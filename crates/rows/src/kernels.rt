@@ -9,7 +9,7 @@ use seqrun_io::Memory;
 use std::alloc::{AllocError, Global};
 use std::sync::Wait;
 use std::thread::Threads;
-use team_nest::OpenGate;
+use team::OpenGate;
 
 /// What comes of a kernel without input.
 #[derive(Clone, Copy)]
@@ -200,6 +200,37 @@ fn loops_run_as_those_of_c(rt: HostRuntime) {
     assert_eq!(rt; first_other(&rt, rt.alloc(), &rows), None);
 }
 
+#[test]
+fn private_scalars_run_as_those_of_c(rt: HostRuntime) {
+    let rows = [
+        (
+            "uint64_t x;\n#pragma omp parallel for private(x)\nfor (uint64_t i = 0; i < 3; i++) { x = i * 2ull; d[i] = x + 1ull; }",
+            "s = 0\nd = 1 3 5\n",
+        ),
+        (
+            "uint64_t x = 7; s = x;\n#pragma omp parallel for schedule(dynamic, 1) private(x)\nfor (uint64_t i = 0; i < 3; i++) { if (i < 1) x = 4; else x = i; d[i] = x; }\nx = 9; s = s * 10 + x;",
+            "s = 79\nd = 4 1 2\n",
+        ),
+        (
+            "uint64_t f = 4;\n#pragma omp parallel for firstprivate(f)\nfor (uint64_t i = 0; i < 3; i++) { d[i] = f; }\ns = f;",
+            "s = 4\nd = 4 4 4\n",
+        ),
+        (
+            "uint64_t x;\nfor (uint64_t t = 0; t < 3; t++) {\n#pragma omp parallel for private(x), firstprivate(t)\nfor (uint64_t i = 0; i < 3; i++) { x = t + i; d[i] += x; } }",
+            "s = 0\nd = 3 6 9\n",
+        ),
+        (
+            "uint64_t x; uint64_t y;\n#pragma omp parallel for default(none) shared(d) private(x, y) schedule(guided)\nfor (uint64_t i = 0; i < 3; i++) { x = i; for (uint64_t j = 0; j < 2; j++) { y = x + j; x = y; } d[i] = x; }",
+            "s = 0\nd = 1 2 3\n",
+        ),
+        (
+            "uint64_t x;\n#pragma omp parallel for private(x)\nfor (uint64_t i = 0; i < 0; i++) { x = i; d[i] = x; }",
+            "s = 0\nd = 0 0 0\n",
+        ),
+    ];
+    assert_eq!(rt; first_other(&rt, rt.alloc(), &rows), None);
+}
+
 /// The number of the refusal of the kernel of a body, or 0; 23 too where there is no memory for its text.
 fn number_of(alloc: Global, body: &str) -> u8 {
     match kernel(alloc, body) {
@@ -333,6 +364,42 @@ fn bodies_are_refused(rt: HostRuntime) {
         (
             "\n#pragma omp parallel for collapse(2)\nfor (uint64_t i = 0; i < 3; i++) { d[i] = i; }",
             12,
+        ),
+        (
+            "uint64_t x;\n#pragma omp parallel for default(none) shared(d)\nfor (uint64_t i = 0; i < 3; i++) { x = i; d[i] = x; }",
+            13,
+        ),
+        (
+            "uint64_t x;\n#pragma omp parallel for private(x)\nfor (uint64_t i = 0; i < 3; i++) { x = i; d[i] = x; }\ns = x;",
+            10,
+        ),
+        (
+            "uint64_t x;\n#pragma omp parallel for shared(x)\nfor (uint64_t i = 0; i < 3; i++) { x = i; d[i] = x; }",
+            14,
+        ),
+        (
+            "\n#pragma omp parallel for private(s)\nfor (uint64_t i = 0; i < 3; i++) { s = i; d[i] = s; }",
+            15,
+        ),
+        (
+            "\n#pragma omp parallel for private(d)\nfor (uint64_t i = 0; i < 3; i++) { d[i] = i; }",
+            15,
+        ),
+        (
+            "\n#pragma omp parallel for firstprivate(d)\nfor (uint64_t i = 0; i < 3; i++) { uint64_t y = d[i]; }",
+            15,
+        ),
+        (
+            "uint64_t x = 1;\n#pragma omp parallel for firstprivate(x)\nfor (uint64_t i = 0; i < 3; i++) { x = i; d[i] = x; }",
+            15,
+        ),
+        (
+            "uint64_t x = 1;\n#pragma omp parallel for private(x)\nfor (uint64_t i = 0; i < 3; i++) { d[i] = x; x = i; }",
+            15,
+        ),
+        (
+            "uint64_t x;\n#pragma omp parallel for lastprivate(x)\nfor (uint64_t i = 0; i < 3; i++) { x = i; d[i] = x; }",
+            11,
         ),
         (
             "\n#pragma omp parallel for\nfor (uint64_t i = 0; i < 16777217; i++) { d[0] = 1; }",
@@ -480,4 +547,38 @@ fn beginnings_and_changes_of_texts_are_answered(rt: HostRuntime) {
     assert_eq!(rt; is_answered_throughout(&rt, heap, CHOOSING), Ok(true));
     assert_eq!(rt; is_answered_throughout(&rt, heap, TEAMED), Ok(true));
     assert_eq!(rt; is_answered_throughout(&rt, heap, WORDS), Ok(true));
+}
+
+/// A loop that is run at each of 500 turns of another: its chunks dealt to workers, and drawn by them.
+const DEALT_IN_TURNS: &str =
+    "uint64_t A[8];\nvoid kernel(void) {\nfor (uint64_t t = 0; t < 500; t++) {\n#pragma omp parallel for\nfor (uint64_t i = 0; i < 8; i++) A[i] = A[i] * 3 + i + t;\n}\n}\n";
+
+const DRAWN_IN_TURNS: &str =
+    "uint64_t A[8];\nvoid kernel(void) {\nfor (uint64_t t = 0; t < 500; t++) {\n#pragma omp parallel for schedule(dynamic)\nfor (uint64_t i = 0; i < 8; i++) A[i] = A[i] * 3 + i + t;\n}\n}\n";
+
+/// What it leaves, as another program counts it.
+const AFTER_TURNS: &str =
+    "A = 17565125374494799434 15801887976065295570 14038650577635791706 12275413179206287842 10512175780776783978 8748938382347280114 6985700983917776250 5222463585488272386\n";
+
+/// Whether a team of so many workers leaves that of a text.
+fn turns_by<R: Threads + Wait + Sync>(rt: &R, alloc: Global, text: &str, count: u64) -> bool {
+    match check(alloc, text.as_bytes()) {
+        Ok(checked) => is_written_by(rt, alloc, &checked, count, AFTER_TURNS.as_bytes()),
+        Err(_refusal) => false,
+    }
+}
+
+#[test]
+fn a_team_runs_many_loops_one_after_another(rt: HostRuntime) {
+    let heap = rt.alloc();
+    for count in [2, 4, 64] {
+        assert!(rt;
+            turns_by(&rt, heap, DEALT_IN_TURNS, count),
+            "{count} workers"
+        );
+        assert!(rt;
+            turns_by(&rt, heap, DRAWN_IN_TURNS, count),
+            "{count} workers"
+        );
+    }
 }

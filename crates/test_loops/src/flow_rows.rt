@@ -4,22 +4,46 @@ use crate::texts::{I, J, OUT_OF_MEMORY, S, at, kernel, kernel_with, name, parsed
 use flow::*;
 use ktree::{AssociatedLoops, Expr, Kernel, Place, Refusal, Schedule, Source, Stmt, Target, VarId};
 use pragma::{Directives, ParallelFor};
+use pragma_attach::attach;
+use pragma_named::LineClauses;
 use std::alloc::Global;
+use std::collections::HashMap;
 
 /// What is told of a kernel's locals: the place of the first that may be read unassigned, or the number of another refusal.
-fn unassigned_in(alloc: Global, kernel: &Kernel) -> Result<Option<Place>, u8> {
-    match definite(alloc, kernel) {
+fn unassigned_by(alloc: Global, kernel: &Kernel, lines: &LineClauses) -> Result<Option<Place>, u8> {
+    match definite(alloc, kernel, lines) {
         Ok(()) => Ok(None),
         Err(Refusal::MayBeUnassigned(place)) => Ok(Some(place)),
         Err(refusal) => Err(refusal.number()),
     }
 }
 
+/// The same of a kernel whose directive lines have no clauses.
+fn unassigned_in(alloc: Global, kernel: &Kernel) -> Result<Option<Place>, u8> {
+    let none = HashMap::new(alloc);
+    unassigned_by(alloc, kernel, &none)
+}
+
+/// The clauses of the directive lines of a text with this kernel.
+fn clauses_of(alloc: Global, kernel: &Kernel, text: &str) -> Result<LineClauses, u8> {
+    match Directives::read(alloc, text.as_bytes()) {
+        Ok(directives) => { attach(alloc, kernel, &directives).map_err(|refusal| refusal.number()) }
+        Err(_error) => Err(OUT_OF_MEMORY),
+    }
+}
+
+/// What is told of the locals of a text.
+fn unassigned_text(alloc: Global, text: &str) -> Result<Option<Place>, u8> {
+    let kernel = parsed(alloc, text)?;
+    let lines = clauses_of(alloc, &kernel, text)?;
+    unassigned_by(alloc, &kernel, &lines)
+}
+
 /// The same of the text with these lines.
 fn unassigned(alloc: Global, lines: &str) -> Result<Option<Place>, u8> {
-    match kernel(alloc, lines) {
-        Ok(kernel) => unassigned_in(alloc, &kernel),
-        Err(number) => Err(number),
+    match text(alloc, lines) {
+        Ok(text) => unassigned_text(alloc, text.as_str()),
+        Err(_error) => Err(OUT_OF_MEMORY),
     }
 }
 
@@ -132,7 +156,8 @@ fn names_are_read_whatever_guards_them(rt: HostRuntime) {
 
 #[test]
 fn blocks_hand_on_what_is_known(rt: HostRuntime) {
-    let lines = "{\n#pragma omp parallel for\nx = 1; }\ns = x;";
+    let lines =
+        "{\n#pragma omp parallel for\nfor (uint64_t i = 0; i < 8; i++) A[i] = 1;\nx = 1; }\ns = x;";
     let rows = [(lines, None)];
     assert_eq!(rt; first_other(rt.alloc(), &rows), None);
 }
@@ -187,8 +212,8 @@ fn two_lines(loops: &[ParallelLoop]) -> Option<[u32; 2]> {
 }
 
 /// What is told of the parallel loops of a kernel.
-fn data_of(alloc: Global, kernel: &Kernel, directives: &Directives) -> Loops {
-    match classify(alloc, kernel, directives) {
+fn data_of(alloc: Global, kernel: &Kernel, directives: &Directives, lines: &LineClauses) -> Loops {
+    match classify(alloc, kernel, directives, lines) {
         Ok(loops) => Loops {
             fault: None,
             only: only(loops.as_slice()),
@@ -204,8 +229,9 @@ fn data_of(alloc: Global, kernel: &Kernel, directives: &Directives) -> Loops {
 
 /// The same with the directive lines of its text.
 fn data_under(alloc: Global, kernel: &Kernel, text: &str) -> Result<Loops, u8> {
+    let lines = clauses_of(alloc, kernel, text)?;
     match Directives::read(alloc, text.as_bytes()) {
-        Ok(directives) => Ok(data_of(alloc, kernel, &directives)),
+        Ok(directives) => Ok(data_of(alloc, kernel, &directives, &lines)),
         Err(_error) => Err(OUT_OF_MEMORY),
     }
 }
@@ -257,6 +283,86 @@ fn scalars_from_outside_are_shared(rt: HostRuntime) {
         ),
     ];
     assert_eq!(rt; first_other_data(rt.alloc(), &rows), None);
+}
+
+#[test]
+fn private_scalars_may_be_written(rt: HostRuntime) {
+    let rows = [
+        (
+            "#pragma omp parallel for private(x)\nfor (uint64_t i = 0; i < 8; i++) { x = i; A[i] = x; }",
+            None,
+        ),
+        (
+            "#pragma omp parallel for private(x)\nfor (uint64_t i = 0; i < 8; i++) { if (i < 3) x = i; else x = 1; A[i] = x; }",
+            None,
+        ),
+        (
+            "#pragma omp parallel for private(s)\nfor (uint64_t i = 0; i < 8; i++) s = i;",
+            Some(DataFault::Written(at(3, 34))),
+        ),
+    ];
+    assert_eq!(rt; first_other_data(rt.alloc(), &rows), None);
+}
+
+#[test]
+fn private_scalars_are_assigned_before_they_are_read(rt: HostRuntime) {
+    let rows = [
+        (
+            "#pragma omp parallel for private(x)\nfor (uint64_t i = 0; i < 8; i++) { A[i] = x; x = i; }",
+            Some(DataFault::Unassigned(at(3, 43))),
+        ),
+        (
+            "#pragma omp parallel for private(x)\nfor (uint64_t i = 0; i < 8; i++) { if (i < 3) x = i; A[i] = x; }",
+            Some(DataFault::Unassigned(at(3, 61))),
+        ),
+        (
+            "#pragma omp parallel for private(x)\nfor (uint64_t i = 0; i < 8; i++) { s = 1; A[i] = x; }",
+            Some(DataFault::Written(at(3, 36))),
+        ),
+    ];
+    assert_eq!(rt; first_other_data(rt.alloc(), &rows), None);
+}
+
+#[test]
+fn copies_are_not_written(rt: HostRuntime) {
+    let rows = [
+        (
+            "#pragma omp parallel for firstprivate(s)\nfor (uint64_t i = 0; i < 8; i++) A[i] = s;",
+            None,
+        ),
+        (
+            "#pragma omp parallel for firstprivate(s)\nfor (uint64_t i = 0; i < 8; i++) s = i;",
+            Some(DataFault::Copied(at(3, 34))),
+        ),
+    ];
+    assert_eq!(rt; first_other_data(rt.alloc(), &rows), None);
+}
+
+#[test]
+fn private_locals_are_unassigned_behind_their_construct(rt: HostRuntime) {
+    let rows = [
+        (
+            "x = 1;\n#pragma omp parallel for private(x)\nfor (uint64_t i = 0; i < 8; i++) { x = i; A[i] = x; }\ns = x;",
+            Some(at(5, 5)),
+        ),
+        (
+            "x = 1;\n#pragma omp parallel for private(x)\nfor (uint64_t i = 0; i < 8; i++) { x = i; A[i] = x; }\nx = 2; s = x;",
+            None,
+        ),
+        (
+            "x = 1;\nfor (uint64_t t = 0; t < 2; t++) { s = x;\n#pragma omp parallel for private(x)\nfor (uint64_t i = 0; i < 8; i++) { x = i; A[i] = x; } }",
+            Some(at(3, 40)),
+        ),
+        (
+            "x = 1;\nfor (uint64_t t = 0; t < 2; t++) {\n#pragma omp parallel for private(x)\nfor (uint64_t i = 0; i < 8; i++) { x = i; A[i] = x; } }\ns = x;",
+            Some(at(6, 5)),
+        ),
+        (
+            "x = 1;\n#pragma omp parallel for firstprivate(x)\nfor (uint64_t i = 0; i < 8; i++) A[i] = x;\ns = x;",
+            None,
+        ),
+    ];
+    assert_eq!(rt; first_other(rt.alloc(), &rows), None);
 }
 
 #[test]
@@ -380,6 +486,8 @@ fn number(fault: DataFault) -> u8 {
 #[test]
 fn faults_have_their_refusals(rt: HostRuntime) {
     assert!(rt; number(DataFault::Written(at(1, 9))) == 14);
+    assert!(rt; number(DataFault::Copied(at(1, 9))) == 15);
+    assert!(rt; number(DataFault::Unassigned(at(1, 9))) == 15);
     assert!(rt; number(DataFault::Printed(at(1, 1))) == 18);
     assert!(rt; number(DataFault::OutOfMemory) == 23);
 }

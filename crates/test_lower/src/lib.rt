@@ -6,6 +6,6 @@ mod lower_block_rows;
 #[cfg(test)]
 mod lower_code_rows;
 #[cfg(test)]
-mod overlay_chunk_rows;
-#[cfg(test)]
 mod overlay_pages_rows;
+#[cfg(test)]
+mod overlay_rows;

@@ -3,7 +3,7 @@
 use cparse::parse;
 use ktree::Kernel;
 use lower_block::{Cells, Compiled, FlatCells, compile, run};
-use lower_code::lower;
+use lower_code::lower_items;
 use seqrun_io::Memory;
 use std::alloc::Global;
 
@@ -23,7 +23,7 @@ fn block_prints(alloc: Global, compiled: &Compiled, expected: &str) -> bool {
 
 /// Whether a kernel prints this.
 fn kernel_prints(alloc: Global, kernel: &Kernel, expected: &str) -> bool {
-    let Ok(lowered) = lower(alloc, &kernel.variables, &kernel.body) else {
+    let Ok(lowered) = lower_items(alloc, &kernel.variables, &kernel.body) else {
         return false;
     };
     match compile(alloc, &lowered.code, lowered.registers) {

@@ -34,7 +34,7 @@ fn kernel_prints(alloc: Global, kernel: &Kernel, expected: &str) -> bool {
     let Ok(mut store) = empty(alloc) else {
         return false;
     };
-    let Ok(lowered) = lower(alloc, &kernel.variables, &kernel.body) else {
+    let Ok(lowered) = lower_items(alloc, &kernel.variables, &kernel.body) else {
         return false;
     };
     let mut sink = Memory::new(alloc);

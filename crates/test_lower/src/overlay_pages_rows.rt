@@ -6,7 +6,7 @@ ghost use Rattle.store.specs.Flat.{values_of};
 use cparse::parse;
 use ktree::Kernel;
 use lower_block::{Cells, Compiled, FlatCells, compile, run};
-use lower_code::lower;
+use lower_code::lower_items;
 use overlay_pages::{Change, Changes, Chunk, Own};
 use seqrun_io::Memory;
 use std::alloc::{AllocError, Global};
@@ -14,7 +14,7 @@ use store::{Shape, Store};
 
 /// The code of a kernel.
 fn code_of(alloc: Global, kernel: &Kernel) -> Option<Compiled> {
-    let Ok(lowered) = lower(alloc, &kernel.variables, &kernel.body) else {
+    let Ok(lowered) = lower_items(alloc, &kernel.variables, &kernel.body) else {
         return None;
     };
     compile(alloc, &lowered.code, lowered.registers).ok()

@@ -14,6 +14,6 @@ mod seqrun_value_rows;
 #[cfg(test)]
 mod stores;
 #[cfg(test)]
-mod team_nest_chunks;
+mod team_chunks;
 #[cfg(test)]
-mod team_nest_rows;
+mod team_rows;

@@ -3,16 +3,16 @@
 use affine::VarBox;
 use cparse::parse;
 use ktree::{Item, Kernel, Place, Schedule, Stmt, VarId, Workers};
+use lower::LoweredLoop;
 use lower_block::{Compiled, compile};
 use lower_code::{layout_of, mark_among, statement};
-use lower_nest::LoweredLoop;
 use nest::{Nest, as_loop};
 use schedule::Sched;
 use std::alloc::{AllocError, Global};
 use std::sync::Wait;
 use std::thread::Threads;
 use store::{Shape, Store};
-use team_nest::{Gate, run_loop};
+use team::{Gate, run_loop};
 
 /// A text's last statement as a team gets it: how many elements `A` has, the text's lines, how many loops the nest has, and at which
 /// turn the loop round it is, if there is one.
@@ -153,7 +153,7 @@ fn variables(alloc: Global, length: u64) -> Result<Store, AllocError> {
 }
 
 /// What a loop leaves of these variables, run by so many workers, where this schedule stands for `runtime`.
-pub(crate) fn left_by<R: Threads + Wait + Sync, G: Gate>(
+pub(crate) fn left_by<R: Threads + Wait + Sync, G: Gate + Sync>(
     rt: &R,
     alloc: Global,
     lowered: &LoweredLoop,

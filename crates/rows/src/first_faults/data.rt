@@ -84,6 +84,56 @@ x += i;
         },
         Row {
             text: "
+uint64_t x = 1;
+#pragma omp parallel for private(s) firstprivate(x)
+for (uint64_t i = 0; i < 8; i++) {
+x = i;
+s = x;
+}",
+            number: 15,
+            line: 3,
+            column: 34,
+        },
+        Row {
+            text: "
+uint64_t x = 1;
+#pragma omp parallel for private(x)
+for (uint64_t i = 0; i < 8; i++) {
+A[i] = x;
+s = 1;
+x = i;
+}",
+            number: 15,
+            line: 5,
+            column: 8,
+        },
+        Row {
+            text: "
+uint64_t x;
+#pragma omp parallel for private(x)
+for (uint64_t i = 0; i < 8; i++) {
+A[i] = x;
+x = i;
+}",
+            number: 10,
+            line: 5,
+            column: 8,
+        },
+        Row {
+            text: "
+uint64_t x = 1;
+#pragma omp parallel for private(x)
+for (uint64_t i = 0; i < 8; i++) {
+s = i;
+x = i;
+}
+s = x;",
+            number: 14,
+            line: 5,
+            column: 1,
+        },
+        Row {
+            text: "
 A[8] = 1;
 uint64_t x;
 s = x;",

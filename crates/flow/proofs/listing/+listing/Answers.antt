@@ -1,9 +1,9 @@
 use Rattle.std.specs.Prelude.{[], OnOk}
 use Rattle.std.proofs.Common.{sym, subst}
 use Rattle.std.proofs.lemmas.Result.{on_ok_weaker}
-use Rattle.pragma.specs.Parallel.{LoopsHave}
+use Rattle.semantics.specs.Meaning.Definite.{Privates}
 use Rattle.ktree.proofs.Trees.{block_is}
-use Rattle.flow.specs.Private.{IsPrivate}
+use Rattle.flow.specs.Private.{LoopsPrivate}
 use Rattle.flow.specs.Parallel.{Adds, LoopsAre}
 use Rattle.flow.proofs.ParallelLemmas.{body_listed, all_listed, item_listed}
 use Rattle.flow.proofs.listing.+listing.Goals as goal
@@ -15,7 +15,7 @@ add_statement-returns-in-For t c =
 
 pub add_statement-returns-in-Block : goal.add_statement-returns-in-Block
 add_statement-returns-in-Block t c =
-    subst (λ s. OnOk c.add_items.result (LoopsHave c.args.directives.now IsPrivate [] s → Adds (LoopsAre c.args.directives.now s) c.args.loops.now.items c.add_items.new.loops.items))
+    subst (λ s. OnOk c.add_items.result ((P : Privates) → LoopsPrivate c.args.directives.now P [] s → Adds (LoopsAre c.args.directives.now s) c.args.loops.now.items c.add_items.new.loops.items))
     (sym (block_is c.args.statement.now c.in-Block.items c.deref-in-Block.result.now c.in-Block.is c.deref-in-Block.ensures.value)) c.add_items.ensures
 
 pub add_items-loop-i-preserved : goal.add_items-loop-i-preserved

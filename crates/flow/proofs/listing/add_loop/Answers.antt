@@ -6,10 +6,10 @@ use Rattle.flow.proofs.ParallelLemmas.{loop_listed}
 use Rattle.flow.proofs.listing.add_loop.Goals as goal
 
 pub returns-in_default : goal.returns-in_default
-returns-in_default c = λ h. absurd (c.in_default.ensures.err.1 h.0 h.1 h.2)
+returns-in_default c = λ P h. absurd (c.in_default.ensures.err.1 h.0 h.1 h.2)
 
 pub returns : goal.returns
-returns c = λ h.
+returns c = λ P h.
     let said = c.in-Ok.directive in
     let private = c.in_ok-private.private in
     let loop : ParallelLoop = record { line = c.args.place; directive = said; private = private } in (
@@ -19,6 +19,6 @@ returns c = λ h.
         loop,
         refl,
         loop_listed c.args.directives.now c.args.place (items_of c.args.rest.now) said c.in-Ok.ensures.ok (stmt_of c.in-Some.statement.now) c.in-Some.ensures private
-            c.in_ok-private.ensures h,
+            c.in_ok-private.ensures (P c.args.place.line) h,
       ),
     )

@@ -30,8 +30,8 @@ prepare-requires g c =
 pub returns-in_err-outline-clause-beginning : goal.returns-in_err-outline-clause-beginning
 returns-in_err-outline-clause-beginning g c = nothing_written c.args.checked.now c.args.input.now _ c.declarations-declarations.ensures.sound
 
-pub returns-in_err-team_block-clause-beginning : goal.returns-in_err-team_block-clause-beginning
-returns-in_err-team_block-clause-beginning g c =
+pub returns-in_err-run_body-clause-beginning : goal.returns-in_err-run_body-clause-beginning
+returns-in_err-run_body-clause-beginning g c =
     let a = c.args.checked.now in
     let ks = c.in_ok-store.store in
     let sound = c.declarations-declarations.ensures.sound in
@@ -40,8 +40,8 @@ returns-in_err-team_block-clause-beginning g c =
     let body : items_performed [] c.deref.result.now ≡ apart_items [] (items_of a.kernel.body.items) = ap (items_performed []) c.deref.ensures.value ∙ c.in_ok-outline.ensures.is in
     let fit = subst (AllFit ready.layout ready.mark []) (sym c.deref.ensures.value) ready.fit in
     let some = subst (λ (f : State → Option Effect). IsSome (f (state_of ks))) (sym body) (runs_apart a c.args.input.now ks sound first) in
-    apart_written a c.args.input.now ks sound first (g.S.Sink.told c.args.sink.now) (g.S.Sink.told c.team_block.new.sink)
-    (subst (λ (f : State → Option Effect). AddsBeginning (g.S.Sink.told c.args.sink.now) (g.S.Sink.told c.team_block.new.sink) (text_of (f (state_of ks)))) body (c.in_err-team_block.ensures.beginning ready.layout ready.mark [] fit (state_of ks) ready.stand some))
+    apart_written a c.args.input.now ks sound first (g.S.Sink.told c.args.sink.now) (g.S.Sink.told c.run_body.new.sink)
+    (subst (λ (f : State → Option Effect). AddsBeginning (g.S.Sink.told c.args.sink.now) (g.S.Sink.told c.run_body.new.sink) (text_of (f (state_of ks)))) body (c.in_err-run_body.ensures.beginning.begun ready.layout ready.mark [] fit (state_of ks) ready.stand some))
 
 pub returns-clause-all : goal.returns-clause-all
 returns-clause-all g c =
@@ -53,13 +53,13 @@ returns-clause-all g c =
     let body : items_performed [] c.deref.result.now ≡ apart_items [] (items_of a.kernel.body.items) = ap (items_performed []) c.deref.ensures.value ∙ c.in_ok-outline.ensures.is in
     let fit = subst (AllFit ready.layout ready.mark []) (sym c.deref.ensures.value) ready.fit in
     let some = subst (λ (f : State → Option Effect). IsSome (f (state_of ks))) (sym body) (runs_apart a c.args.input.now ks sound first) in
-    let walked = c.in_ok-team_block.ensures.ran ready.layout ready.mark [] fit (state_of ks) ready.stand some in
-    let ran = subst (λ (f : State → Option Effect). Ran (f (state_of ks)) (state_of ks) walked.state (g.S.Sink.told c.args.sink.now) (g.S.Sink.told c.team_block.new.sink)) body walked.ran in
-    let run = as_run a c.args.input.now ks sound first walked.state (g.S.Sink.told c.args.sink.now) (g.S.Sink.told c.team_block.new.sink) ran in
-    let cells = cells_of_end ready.layout ready.mark (items_performed [] c.deref.result.now (state_of ks)) (state_of ks) c.team_block.new.registers.items c.team_block.new.store (g.S.Sink.told c.args.sink.now) (g.S.Sink.told c.team_block.new.sink) c.cells-cells.ensures.filled walked in
+    let walked = c.in_ok-run_body.ensures.ran.walked ready.layout ready.mark [] fit (state_of ks) ready.stand some in
+    let ran = subst (λ (f : State → Option Effect). Ran (f (state_of ks)) (state_of ks) walked.state (g.S.Sink.told c.args.sink.now) (g.S.Sink.told c.run_body.new.sink)) body walked.ran in
+    let run = as_run a c.args.input.now ks sound first walked.state (g.S.Sink.told c.args.sink.now) (g.S.Sink.told c.run_body.new.sink) ran in
+    let cells = cells_of_end ready.layout ready.mark (items_performed [] c.deref.result.now (state_of ks)) (state_of ks) c.run_body.new.registers.items c.run_body.new.store (g.S.Sink.told c.args.sink.now) (g.S.Sink.told c.run_body.new.sink) c.cells-cells.ensures.filled walked in
     on_ok_weaker c.dump.result
-    (λ e. all_written a c.args.input.now ks sound first run.state c.team_block.new.store (λ x is. cells x is ∙ run.same x is) (g.S.Sink.told c.args.sink.now) (g.S.Sink.told c.team_block.new.sink) run.ran (g.S.Sink.told c.dump.new.sink)
-    (subst (λ ds. g.S.Sink.told c.dump.new.sink ≡ g.S.Sink.told c.team_block.new.sink ++ dump ds (state_of c.team_block.new.store)) c.declarations-declarations.ensures.variables e))
+    (λ e. all_written a c.args.input.now ks sound first run.state c.run_body.new.store (λ x is. cells x is ∙ run.same x is) (g.S.Sink.told c.args.sink.now) (g.S.Sink.told c.run_body.new.sink) run.ran (g.S.Sink.told c.dump.new.sink)
+    (subst (λ ds. g.S.Sink.told c.dump.new.sink ≡ g.S.Sink.told c.run_body.new.sink ++ dump ds (state_of c.run_body.new.store)) c.declarations-declarations.ensures.variables e))
     c.dump.ensures.all
 
 pub returns-clause-beginning : goal.returns-clause-beginning
@@ -72,9 +72,9 @@ returns-clause-beginning g c =
     let body : items_performed [] c.deref.result.now ≡ apart_items [] (items_of a.kernel.body.items) = ap (items_performed []) c.deref.ensures.value ∙ c.in_ok-outline.ensures.is in
     let fit = subst (AllFit ready.layout ready.mark []) (sym c.deref.ensures.value) ready.fit in
     let some = subst (λ (f : State → Option Effect). IsSome (f (state_of ks))) (sym body) (runs_apart a c.args.input.now ks sound first) in
-    let walked = c.in_ok-team_block.ensures.ran ready.layout ready.mark [] fit (state_of ks) ready.stand some in
-    let ran = subst (λ (f : State → Option Effect). Ran (f (state_of ks)) (state_of ks) walked.state (g.S.Sink.told c.args.sink.now) (g.S.Sink.told c.team_block.new.sink)) body walked.ran in
-    let run = as_run a c.args.input.now ks sound first walked.state (g.S.Sink.told c.args.sink.now) (g.S.Sink.told c.team_block.new.sink) ran in
-    let cells = cells_of_end ready.layout ready.mark (items_performed [] c.deref.result.now (state_of ks)) (state_of ks) c.team_block.new.registers.items c.team_block.new.store (g.S.Sink.told c.args.sink.now) (g.S.Sink.told c.team_block.new.sink) c.cells-cells.ensures.filled walked in
-    dump_written a c.args.input.now ks sound first run.state c.team_block.new.store (λ x is. cells x is ∙ run.same x is) (g.S.Sink.told c.args.sink.now) (g.S.Sink.told c.team_block.new.sink) run.ran (g.S.Sink.told c.dump.new.sink)
-    (subst (λ ds. AddsBeginning (g.S.Sink.told c.team_block.new.sink) (g.S.Sink.told c.dump.new.sink) (dump ds (state_of c.team_block.new.store))) c.declarations-declarations.ensures.variables c.dump.ensures.beginning)
+    let walked = c.in_ok-run_body.ensures.ran.walked ready.layout ready.mark [] fit (state_of ks) ready.stand some in
+    let ran = subst (λ (f : State → Option Effect). Ran (f (state_of ks)) (state_of ks) walked.state (g.S.Sink.told c.args.sink.now) (g.S.Sink.told c.run_body.new.sink)) body walked.ran in
+    let run = as_run a c.args.input.now ks sound first walked.state (g.S.Sink.told c.args.sink.now) (g.S.Sink.told c.run_body.new.sink) ran in
+    let cells = cells_of_end ready.layout ready.mark (items_performed [] c.deref.result.now (state_of ks)) (state_of ks) c.run_body.new.registers.items c.run_body.new.store (g.S.Sink.told c.args.sink.now) (g.S.Sink.told c.run_body.new.sink) c.cells-cells.ensures.filled walked in
+    dump_written a c.args.input.now ks sound first run.state c.run_body.new.store (λ x is. cells x is ∙ run.same x is) (g.S.Sink.told c.args.sink.now) (g.S.Sink.told c.run_body.new.sink) run.ran (g.S.Sink.told c.dump.new.sink)
+    (subst (λ ds. AddsBeginning (g.S.Sink.told c.run_body.new.sink) (g.S.Sink.told c.dump.new.sink) (dump ds (state_of c.run_body.new.store))) c.declarations-declarations.ensures.variables c.dump.ensures.beginning)

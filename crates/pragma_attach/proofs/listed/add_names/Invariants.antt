@@ -2,7 +2,7 @@ use Rattle.std.proofs.Common.{◌≡◌, ℕ, drop}
 use Rattle.std.specs.Prelude.{◌||◌, map}
 use Rattle.semantics.specs.Meaning.Agrees.{is_among}
 use Rattle.pragma_mention.specs.Sets.{holds}
-use Rattle.pragma_attach.specs.Resolved.{variable_named}
+use Rattle.pragma_named.specs.Views.{variable_named}
 use Rattle.pragma_attach.proofs.listed.add_names.Given as goal
 
 -- those so far, with those that are left

@@ -3,7 +3,7 @@ use Rattle.std.specs.Prelude.{◌||◌, map, flat_map}
 use Rattle.semantics.specs.Meaning.Agrees.{is_among}
 use Rattle.semantics.specs.Directives.Naming.{kept_private}
 use Rattle.pragma_mention.specs.Sets.{holds}
-use Rattle.pragma_attach.specs.Resolved.{resolved_clause}
+use Rattle.pragma_named.specs.Views.{resolved_clause}
 use Rattle.pragma_attach.proofs.listed.private_in.Given as goal
 
 -- those so far, with those of the clauses that are left

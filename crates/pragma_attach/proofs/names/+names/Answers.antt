@@ -5,7 +5,8 @@ use Rattle.semantics.specs.Directives.Annotated.{lines_in, lines_among}
 use Rattle.ktree.specs.View.{stmt_of, items_of}
 use Rattle.ktree.proofs.Trees.{block_is, next_item}
 use Rattle.cparse_cursor.specs.Names.{names_of}
-use Rattle.pragma_attach.specs.Told.{kept, Carries, Misses, Blames}
+use Rattle.pragma_named.specs.Known.{kept}
+use Rattle.pragma_attach.specs.Told.{Carries, Misses, Blames}
 use Rattle.pragma_attach.proofs.NamesLaw.{blames_weaker, err_weaker, carried_miss, directive_item, statement_item, loop_lines, first_missed, second_lines}
 use Rattle.pragma_attach.proofs.names.+names.Goals as goal
 

@@ -3,7 +3,8 @@ use Rattle.semantics.specs.Source.Scope.{Scope}
 use Rattle.semantics.specs.Directives.Annotated.{lines_among}
 use Rattle.ktree.specs.View.{items_of}
 use Rattle.cparse_cursor.specs.Names.{names_of}
-use Rattle.pragma_attach.specs.Told.{kept, Carries}
+use Rattle.pragma_named.specs.Known.{kept}
+use Rattle.pragma_attach.specs.Told.{Carries}
 use Rattle.pragma_attach.proofs.names.+names.Given as goal
 
 -- the lines of the items so far, and of those that are left

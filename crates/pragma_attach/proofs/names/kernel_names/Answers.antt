@@ -3,7 +3,7 @@ use Rattle.std.proofs.Common.{ap, ◌∙◌}
 use Rattle.semantics.specs.Directives.Annotated.{lines_among, lines_of, file_scope}
 use Rattle.ktree.specs.View.{items_of, kernel_of}
 use Rattle.cparse_cursor.specs.Names.{names_of}
-use Rattle.pragma_attach.specs.Told.{kept}
+use Rattle.pragma_named.specs.Known.{kept}
 use Rattle.std.proofs.lemmas.Result.{on_ok_weaker}
 use Rattle.pragma_attach.proofs.NamesLaw.{err_weaker, all_told, one_missed}
 use Rattle.pragma_attach.proofs.names.kernel_names.Goals as goal

@@ -2,7 +2,8 @@ use Rattle.std.proofs.Common.{sym, ◌∙◌, subst}
 use Rattle.semantics.specs.Directives.Annotated.{resolve_clauses}
 use Rattle.cparse_cursor.specs.Names.{names_of}
 use Rattle.pragma_attach.specs.Resolved.{Fails}
-use Rattle.pragma_attach.specs.Told.{unless_twice, kept}
+use Rattle.pragma_named.specs.Known.{kept}
+use Rattle.pragma_attach.specs.Told.{unless_twice}
 use Rattle.pragma_attach.proofs.NamesLaw.{not_kept, missed}
 use Rattle.pragma_attach.proofs.names.line_names.Goals as goal
 

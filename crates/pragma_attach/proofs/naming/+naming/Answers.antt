@@ -1,8 +1,10 @@
 use Rattle.std.specs.Prelude.{◌≡◌, is_none, IfOk}
 use Rattle.std.proofs.Common.{sym, subst}
 use Rattle.ktree.proofs.Trees.{block_is}
-use Rattle.pragma_attach.specs.Told.{kept}
-use Rattle.pragma_attach.specs.Rightly.{lines_known, names_rightly, each_construct}
+use Rattle.pragma_named.specs.Known.{kept}
+use Rattle.pragma_named.specs.Known.{lines_known}
+use Rattle.pragma_named.specs.Lines.{each_construct}
+use Rattle.pragma_attach.specs.Rightly.{names_rightly}
 use Rattle.pragma_attach.proofs.naming.+naming.Goals as goal
 
 pub statement_fault-returns-in-Block : goal.statement_fault-returns-in-Block

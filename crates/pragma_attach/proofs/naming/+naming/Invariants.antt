@@ -1,8 +1,10 @@
 use Rattle.std.proofs.Common.{◌≡◌, drop}
 use Rattle.std.specs.Prelude.{None}
 use Rattle.ktree.specs.View.{items_of}
-use Rattle.pragma_attach.specs.Told.{kept}
-use Rattle.pragma_attach.specs.Rightly.{lines_known, names_rightly, each_among}
+use Rattle.pragma_named.specs.Known.{kept}
+use Rattle.pragma_named.specs.Known.{lines_known}
+use Rattle.pragma_named.specs.Lines.{each_among}
+use Rattle.pragma_attach.specs.Rightly.{names_rightly}
 use Rattle.pragma_attach.proofs.naming.+naming.Given as goal
 
 -- the items that are left decide

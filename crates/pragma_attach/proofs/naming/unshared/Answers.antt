@@ -3,9 +3,10 @@ use Rattle.std.proofs.Common.{◌∙◌}
 use Rattle.semantics.specs.Directives.Naming.{kept_private}
 use Rattle.ktree.specs.View.{stmt_of}
 use Rattle.pragma_mention.specs.Sets.{holds}
-use Rattle.pragma_attach.specs.Resolved.{resolved_clause}
-use Rattle.pragma_attach.specs.Told.{kept}
-use Rattle.pragma_attach.specs.Rightly.{lines_known, names_inside}
+use Rattle.pragma_named.specs.Views.{resolved_clause}
+use Rattle.pragma_named.specs.Known.{kept}
+use Rattle.pragma_named.specs.Known.{lines_known}
+use Rattle.pragma_attach.specs.Rightly.{names_inside}
 use Rattle.pragma_attach.proofs.RightlyLaw.{inside_wanted, none_among}
 use Rattle.pragma_attach.proofs.naming.unshared.Goals as goal
 

@@ -1,7 +1,7 @@
 use Rattle.std.specs.Prelude.{map}
 use Rattle.std.proofs.Common.{sym, ◌∙◌}
-use Rattle.pragma_attach.specs.Resolved.{variable_named}
-use Rattle.pragma_attach.specs.declared.resolved.Named.{Named}
+use Rattle.pragma_named.specs.Views.{variable_named}
+use Rattle.pragma_named.specs.declared.named.Named.{Named}
 use Rattle.pragma_mention.specs.Sets.{holds}
 use Rattle.semantics.specs.Directives.Naming.{are_distinct}
 use Rattle.pragma_attach.proofs.OnceLaw.{fresh_first, none_held, one_new}

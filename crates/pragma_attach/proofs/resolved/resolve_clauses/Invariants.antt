@@ -2,7 +2,7 @@ use Rattle.std.proofs.Common.{refl}
 use Rattle.semantics.specs.Directives.Annotated.{resolve_clause, resolve_clauses}
 use Rattle.pragma_clause.specs.Views.{written_clause}
 use Rattle.cparse_cursor.specs.Names.{names_of}
-use Rattle.pragma_attach.specs.Resolved.{resolved_clause}
+use Rattle.pragma_named.specs.Views.{resolved_clause}
 use Rattle.pragma_attach.proofs.EachLaw.{Left}
 use Rattle.pragma_attach.proofs.resolved.resolve_clauses.Given as goal
 

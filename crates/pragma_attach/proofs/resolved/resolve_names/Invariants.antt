@@ -2,7 +2,7 @@ use Rattle.std.proofs.Common.{refl}
 use Rattle.semantics.specs.Directives.Annotated.{resolve, resolve_all}
 use Rattle.ktree.specs.DirectiveView.{name_of}
 use Rattle.cparse_cursor.specs.Names.{names_of}
-use Rattle.pragma_attach.specs.Resolved.{variable_named}
+use Rattle.pragma_named.specs.Views.{variable_named}
 use Rattle.pragma_attach.proofs.EachLaw.{Left}
 use Rattle.pragma_attach.proofs.resolved.resolve_names.Given as goal
 

@@ -3,8 +3,10 @@ use Rattle.std.proofs.Common.{rules, sym, ap, ◌∙◌}
 use Rattle.ktree.specs.View.{stmt_of}
 use Rattle.ktree.proofs.Trees.{block_is}
 use Rattle.pragma_mention.specs.Sets.{holds}
-use Rattle.pragma_attach.specs.Told.{kept}
-use Rattle.pragma_attach.specs.Rightly.{lines_known, line_wanted, each_construct}
+use Rattle.pragma_named.specs.Known.{kept}
+use Rattle.pragma_named.specs.Known.{lines_known}
+use Rattle.pragma_named.specs.Lines.{each_construct}
+use Rattle.pragma_attach.specs.Rightly.{line_wanted}
 use Rattle.pragma_attach.proofs.RightlyLaw.{statement_asked}
 use Rattle.pragma_attach.proofs.wanted.+wanted.Goals as goal
 

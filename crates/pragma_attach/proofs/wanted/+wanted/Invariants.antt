@@ -2,8 +2,10 @@ use Rattle.std.proofs.Common.{◌≡◌, drop}
 use Rattle.std.specs.Prelude.{None}
 use Rattle.ktree.specs.View.{items_of}
 use Rattle.pragma_mention.specs.Sets.{holds}
-use Rattle.pragma_attach.specs.Told.{kept}
-use Rattle.pragma_attach.specs.Rightly.{lines_known, line_wanted, each_among}
+use Rattle.pragma_named.specs.Known.{kept}
+use Rattle.pragma_named.specs.Known.{lines_known}
+use Rattle.pragma_named.specs.Lines.{each_among}
+use Rattle.pragma_attach.specs.Rightly.{line_wanted}
 use Rattle.pragma_attach.proofs.wanted.+wanted.Given as goal
 
 -- the items that are left decide

@@ -2,7 +2,7 @@ use Rattle.std.proofs.Common.{◌≡◌, drop}
 use Rattle.std.specs.Prelude.{map, flat_map}
 use Rattle.semantics.specs.Directives.Naming.{variables_in}
 use Rattle.pragma_mention.specs.Sets.{holds}
-use Rattle.pragma_attach.specs.Resolved.{resolved_clause}
+use Rattle.pragma_named.specs.Views.{resolved_clause}
 use Rattle.pragma_attach.specs.Rightly.{are_wanted}
 use Rattle.pragma_attach.proofs.wanted.clause_fault.Given as goal
 

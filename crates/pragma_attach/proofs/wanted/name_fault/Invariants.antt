@@ -1,7 +1,7 @@
 use Rattle.std.proofs.Common.{◌≡◌, drop}
 use Rattle.std.specs.Prelude.{map}
 use Rattle.pragma_mention.specs.Sets.{holds}
-use Rattle.pragma_attach.specs.Resolved.{variable_named}
+use Rattle.pragma_named.specs.Views.{variable_named}
 use Rattle.pragma_attach.specs.Rightly.{are_wanted}
 use Rattle.pragma_attach.proofs.wanted.name_fault.Given as goal
 

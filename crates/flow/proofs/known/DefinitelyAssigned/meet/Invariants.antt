@@ -6,5 +6,5 @@ use Rattle.flow.proofs.known.DefinitelyAssigned.meet.Given as goal
 -- the slots so far are known only where the others are
 abbrev pub invariant-loop-i : goal.invariant-loop-i
 invariant-loop-i l =
-    (known_of l.slots.items ≡ met_below (known_of l.initial.slots.items) (known_of l.other) l.i)
+    (known_of (l.slots.items, l.fn.self.1) ≡ met_below (known_of (l.initial.slots.items, l.fn.self.1)) (known_of l.other) l.i)
     × (vec_len l.slots ≡ l.count)

@@ -1,0 +1,46 @@
+-- The private variables of directive lines are locals, and where none is read unassigned, none is whatever is private.
+use Rattle.std.specs.Prelude.{ℕ, Bool, true, false, not, nat_lt, ◌≡◌, ◌≤◌, ◌==◌, ◌||◌, if◌then◌else◌, List, [], ◌∷◌, filter, flat_map, length, is_some, Option, Some, None}
+use Rattle.std.proofs.Common.{refl, ap, subst}
+use Rattle.std.proofs.lemmas.Bool.{eqb-true, ltb-false}
+use Rattle.semantics.specs.Tree.{Variable, Kernel}
+use Rattle.semantics.specs.Meaning.Agrees.{is_among}
+use Rattle.semantics.specs.Meaning.Definite.{DefinitelyAssigned, Privates, no_privates, definite_items, known_at_start, IsDefinite}
+use Rattle.semantics.specs.Directives.Directive.{Clause}
+use Rattle.semantics.specs.Directives.Annotated.{Directives, clauses_at}
+use Rattle.semantics.specs.Directives.Clauses.{private_of, locals_in, privates_of}
+use Rattle.law_private.proofs.More.{more_known}
+use Rattle.law_independence.specs.OrderLaws.{ArePrivateLocals}
+
+-- of those that a test leaves each passes it
+passes : (n : ℕ) (xs : List Variable) (x : Variable) → is_among (filter (λ y. not (nat_lt y n)) xs) x ≡ true → n ≤ x
+passes n [] x h = absurd cc
+passes n (y ∷ xs) x h = go (nat_lt y n) refl h (λ k. passes n xs x k)
+  where
+    rest : List Variable
+    rest = filter (λ y. not (nat_lt y n)) xs
+
+    here : (e : Bool) → (y == x) ≡ e → n ≤ y → (e || is_among rest x) ≡ true → (is_among rest x ≡ true → n ≤ x) → n ≤ x
+    here true same le h later = subst (λ z. n ≤ z) (eqb-true y x same) le
+    here false same le h later = later h
+
+    go : (b : Bool) → nat_lt y n ≡ b → is_among (if not b then y ∷ rest else rest) x ≡ true → (is_among rest x ≡ true → n ≤ x) → n ≤ x
+    go true is h later = later h
+    go false is h later = here (y == x) refl (ltb-false y n is) h later
+
+pub private_locals : (k : Kernel) (ds : Directives) → ArePrivateLocals k (privates_of k ds)
+private_locals k ds line x h = go (clauses_at k ds line) h
+  where
+    go : (o : Option (List (Clause Variable))) → is_among (locals_in k o) x ≡ true → length k.variables ≤ x
+    go None h = absurd cc
+    go (Some cs) h = passes (length k.variables) (flat_map private_of cs) x h
+
+-- with private locals that are unassigned behind their constructs no local is read unassigned, nor is one without them
+pub plainly_definite : (P : Privates) (k : Kernel) → IsDefinite P k → IsDefinite no_privates k
+plainly_definite P k h = go (definite_items P [] k.body start) refl h
+  where
+    start : DefinitelyAssigned
+    start = known_at_start k.variables
+
+    go : (o : Option DefinitelyAssigned) → definite_items P [] k.body start ≡ o → is_some o ≡ true → IsDefinite no_privates k
+    go None e h = absurd cc
+    go (Some known) e h = ap is_some (more_known.items P no_privates [] [] k.body start known start (λ line x q. absurd (cc q)) (λ x q. q) (λ x q. q) e).is

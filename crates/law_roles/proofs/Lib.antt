@@ -1,0 +1,16 @@
+pub mod Trees
+pub mod Seen
+pub mod Shadow
+pub mod Shifting
+pub mod Keeping
+pub mod Followed
+pub mod Moved
+pub mod Recorded
+pub mod Partials
+pub mod Operands
+pub mod Starts
+pub mod Lasts
+pub mod Chunked
+pub mod Shared
+pub mod Joining
+pub mod Rows

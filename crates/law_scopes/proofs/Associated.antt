@@ -1,0 +1,94 @@
+-- A `parallel for` associates at least one loop. (OpenMP 5.2, 4.4.3)
+use Rattle.std.specs.Prelude.{ℕ, zero, suc, true, ◌≡◌, nat_le, List, [], ◌∷◌, Option, Some, None}
+use Rattle.std.specs.List.{AllByRecursion as Each}
+use Rattle.std.proofs.Common.{refl, subst}
+use Rattle.std.proofs.lemmas.Option.{same_Some, none-some}
+use Rattle.semantics.specs.Tree.{Name}
+use Rattle.semantics.specs.Source.Token.{Token}
+use Rattle.semantics.specs.Directives.Directive.{Schedule, Clause, DefaultShared, DefaultNone, Shared, Private, Firstprivate, ScheduledBy, Collapse, Directive, ParallelFor}
+use Rattle.semantics.specs.Directives.DirectiveGrammar as grammar
+use Rattle.semantics.specs.Directives.DirectiveGrammar.{ReadsNumber, ReadsClause, ReadsFurther, ReadsClauses, ReadsDirective}
+use Rattle.cparse_grammar.specs.Reading.{◌>>=◌}
+use Rattle.pragma.specs.Clauses.{Said, with_clause, said_by, ReadsLoop}
+use Rattle.pragma.specs.Parallel.{associated}
+use Rattle.law_commute.proofs.Values.{first_of}
+
+-- `collapse(c)` is of one loop at least
+abbrev Counts : Clause Name → Type 0
+Counts (Collapse c) = nat_le 1 c ≡ true
+Counts _ = Unit {0}
+
+number_counts : {most : ℕ} {ds : List ℕ} {c : ℕ} → ReadsNumber most ds c → nat_le 1 c ≡ true
+number_counts (grammar.number h le) = first_of _ _ le
+
+clause_counts : {ts : List Token} {c : Clause Name} → ReadsClause ts c → Counts c
+clause_counts grammar.default_shared = tt
+clause_counts grammar.default_none = tt
+clause_counts (grammar.shared r) = tt
+clause_counts (grammar.private r) = tt
+clause_counts (grammar.firstprivate r) = tt
+clause_counts (grammar.lastprivate r) = tt
+clause_counts (grammar.last_conditional r) = tt
+clause_counts (grammar.reduction op r) = tt
+clause_counts (grammar.inscan op h) = tt
+clause_counts (grammar.schedule r) = tt
+clause_counts (grammar.collapse r) = number_counts r
+clause_counts grammar.ordered = tt
+clause_counts (grammar.ordered_loops r) = tt
+clause_counts grammar.nowait = tt
+
+further_count : {ts : List Token} {cs : List (Clause Name)} → ReadsFurther ts cs → Each Counts cs
+further_count grammar.no_further = tt
+further_count (grammar.next r q) = (clause_counts r, further_count q)
+further_count (grammar.next_behind_comma r q) = (clause_counts r, further_count q)
+
+clauses_count : {ts : List Token} {cs : List (Clause Name)} → ReadsClauses ts cs → Each Counts cs
+clauses_count grammar.no_clauses = tt
+clauses_count (grammar.first r q) = (clause_counts r, further_count q)
+
+abbrev LoopCounts : Directive Name → Type 0
+LoopCounts (ParallelFor cs) = Each Counts cs
+LoopCounts _ = Unit {0}
+
+directive_counts : {ts : List Token} {d : Directive Name} → ReadsDirective ts d → LoopCounts d
+directive_counts (grammar.parallel_for r on once) = clauses_count r
+directive_counts (grammar.parallel r on once) = tt
+directive_counts (grammar.worksharing r on once) = tt
+directive_counts (grammar.scan_inclusive h) = tt
+directive_counts (grammar.scan_exclusive h) = tt
+directive_counts grammar.ordered_region = tt
+directive_counts grammar.source = tt
+directive_counts (grammar.sink r) = tt
+
+abbrev AtLeastOne : Option ℕ → Type 0
+AtLeastOne None = Unit {0}
+AtLeastOne (Some c) = nat_le 1 c ≡ true
+
+with_counts : (c : Clause Name) (s s' : Said) → Counts c → AtLeastOne s.1 → with_clause c s ≡ Some s' → AtLeastOne s'.1
+with_counts (ScheduledBy k) (None, c) s' h g e = subst (λ (t : Said). AtLeastOne t.1) (same_Some (Some k, c) s' e) g
+with_counts (Collapse c) (k, None) s' h g e = subst (λ (t : Said). AtLeastOne t.1) (same_Some (k, Some c) s' e) h
+with_counts DefaultShared s s' h g e = subst (λ (t : Said). AtLeastOne t.1) (same_Some s s' e) g
+with_counts DefaultNone s s' h g e = subst (λ (t : Said). AtLeastOne t.1) (same_Some s s' e) g
+with_counts (Shared xs) s s' h g e = subst (λ (t : Said). AtLeastOne t.1) (same_Some s s' e) g
+with_counts (Private xs) s s' h g e = subst (λ (t : Said). AtLeastOne t.1) (same_Some s s' e) g
+with_counts (Firstprivate xs) s s' h g e = subst (λ (t : Said). AtLeastOne t.1) (same_Some s s' e) g
+with_counts c s s' h g e = absurd (cc e)
+
+said_counts : (cs : List (Clause Name)) (s : Said) → Each Counts cs → said_by cs ≡ Some s → AtLeastOne s.1
+said_counts [] s h e = subst (λ (t : Said). AtLeastOne t.1) (same_Some (None, None) s e) tt
+said_counts (c ∷ cs) s h e = at (said_by cs) (λ before is. said_counts cs before h.1 is) e
+  where
+    at : (o : Option Said) → ((before : Said) → o ≡ Some before → AtLeastOne before.1) → (o >>= λ said. with_clause c said) ≡ Some s → AtLeastOne s.1
+    at None rest q = absurd (none-some s q)
+    at (Some before) rest q = with_counts c before s h.0 (rest before refl) q
+
+pub at_least_one : (line : List ℕ) (k : Option Schedule) (c : Option ℕ) → ReadsLoop line k c → (m : ℕ) × (associated c ≡ suc m)
+at_least_one line k c r = at c (said_counts r.clauses (k, c) (directive_counts r.reads.reads) r.says)
+  where
+    above : (d : ℕ) → nat_le 1 d ≡ true → (m : ℕ) × (d ≡ suc m)
+    above zero h = absurd (cc h)
+    above (suc d) h = (d, refl)
+
+    at : (o : Option ℕ) → AtLeastOne o → (m : ℕ) × (associated o ≡ suc m)
+    at None h = (0, refl)
+    at (Some d) h = above d h

@@ -1,0 +1,41 @@
+-- The variables round a loop have the values in their registers, and its space is that of these values.
+use Rattle.std.proofs.Common.{◌≡◌, ℕ, Bool, true, false, cond, pos, List, [], ◌∷◌, map, Some, None, Option, length, zero, suc, refl, sym, ap, ◌∙◌, subst, Contains, arith}
+use Rattle.std.specs.Prelude.{◌==◌, ◌<◌, ◌^◌, slice_index, slice_index_or}
+use Rattle.std.proofs.lemmas.Bool.{eqb-true, eqb-false}
+use Rattle.semantics.specs.Tree.{Variable}
+use Rattle.ktree.specs.declared.place.VarId.{VarId}
+use Rattle.nest_loop.specs.Turn.{HoldCounters}
+use Rattle.nest_space.specs.Nests.{given}
+use Rattle.nest_space.specs.Space.{Turns}
+use Rattle.nest_space.specs.Heads.{HasIterations}
+use Rattle.lower.specs.declared.lowered.LoweredLoop.{LoweredLoop}
+use Rattle.lower.specs.Lowered.{IsSpaceOf, values_in}
+
+-- a variable that is listed has what its register holds
+given_is : (vs : List VarId) (registers : List ℕ) (x : Variable) → Contains (map (λ v. v.0) vs) x → given (values_in vs registers) x ≡ pos (slice_index registers x)
+given_is [] registers x (k, lt, e) = absurd (omega arith)
+given_is (v ∷ vs) registers x (k, lt, e) = go (given_is vs registers x) (v.0 == x) refl k lt e
+  where
+    go : (Contains (map (λ w. w.0) vs) x → given (values_in vs registers) x ≡ pos (slice_index registers x)) → (b : Bool) → (v.0 == x) ≡ b → (k : ℕ) → k < length (map (λ w. w.0) (v ∷ vs)) → slice_index_or (map (λ w. w.0) (v ∷ vs)) k x ≡ x → cond (v.0 == x) (pos (slice_index registers v.0)) (given (values_in vs registers) x) ≡ pos (slice_index registers x)
+    go rest true f k lt e = ap (λ b. cond b (pos (slice_index registers v.0)) (given (values_in vs registers) x)) f ∙ ap (λ y. pos (slice_index registers y)) (eqb-true v.0 x f)
+    go rest false f zero lt e = absurd (eqb-false v.0 x f e)
+    go rest false f (suc k) lt e = ap (λ b. cond b (pos (slice_index registers v.0)) (given (values_in vs registers) x)) f ∙ rest (k, omega arith, e)
+
+or_nothing : Option (List (List ℕ)) → List (List ℕ)
+or_nothing None = []
+or_nothing (Some vs) = vs
+
+pub space_of : (l : LoweredLoop) (registers : List ℕ) (ts : List Turns) → HasIterations l.loops.items (given (values_in l.around.items registers)) ts → IsSpaceOf l registers ts
+unfolding or_nothing
+space_of l registers ts has layout mark loops body outer us ks r =
+    let counters : HoldCounters r.box (given (values_in l.around.items registers)) outer = λ x is.
+    let held = r.counters x is in
+    let there : slice_index registers x ≡ held.0 = r.stand.machine.local x held.0 held.1 in
+    record {
+      number = held.0;
+      held = held.1;
+      is = given_is l.around.items registers x (r.lowered.around x is) ∙ ap pos there;
+      below = subst (λ n. n < 2 ^ 64) there (r.stand.machine.fits.registers x);
+    }
+    in
+    ap or_nothing (sym r.are ∙ has r.box loops outer counters r.lowered.heads)

@@ -1,0 +1,42 @@
+-- Parallel loops as they are lowered, and where they are reached. (OpenMP 5.2, 4.4.2 and 11.5)
+use Rattle.std.specs.Prelude.{ℕ, ◌≡◌, true, List, map, Some, Contains, slice_index}
+use Rattle.semantics.specs.Tree.{Variable, Stmt}
+use Rattle.ktree.specs.declared.place.VarId.{VarId}
+use Rattle.semantics.specs.Meaning.State.{State, Holds}
+use Rattle.semantics.specs.Meaning.Runs.{run}
+use Rattle.semantics.specs.Loops.Nest.{Loop, Vector, iterations}
+use Rattle.affine.specs.declared.interval.Side.{Side}
+use Rattle.affine_expr.specs.Forms.{is_counter}
+use Rattle.nest_space.specs.declared.bounds.Value.{Value}
+use Rattle.nest_space.specs.Space.{Turns, vectors}
+use Rattle.nest_space.specs.Heads.{AreHeadsOf}
+use Rattle.store.specs.Kept.{Kept}
+use Rattle.lower_code.specs.declared.term.Laid.{Laid}
+use Rattle.lower_code.specs.Meaning.{AreLocals}
+use Rattle.lower_run.specs.Walk.{Performs, StandFor}
+use Rattle.lower.specs.declared.lowered.LoweredLoop.{LoweredLoop}
+
+-- these variables, each with what its register holds
+abbrev pub values_in : List VarId → List ℕ → List Value
+values_in variables registers = map (λ v. record { variable = v; value = slice_index registers v.0 }) variables
+
+-- a loop is lowered from this nest inside the loops of a box: their variables are listed, its loops stand in their canonical form, its variables are locals with registers, and its body is code
+pub record IsLoweredFrom (layout : List Laid) (mark : ℕ) (box : List Side) (loops : List Loop) (statement : Stmt) (l : LoweredLoop) : Type 0 where
+  pub around : (x : Variable) → is_counter box x ≡ true → Contains (map (λ v. v.0) l.around.items) x
+  pub heads : AreHeadsOf box loops l.loops.items
+  pub own : AreLocals layout mark (map (λ h. h.variable) loops)
+  pub body : Performs layout mark (run statement) l.body
+
+-- it is reached in this state, for which registers and a store stand: the loops round it are at a turn, and these are its iterations
+pub record IsReached (layout : List Laid) (mark : ℕ) (loops : List Loop) (body : Stmt) (outer : State) (us : List Vector) (l : LoweredLoop) (registers : List ℕ) (ks : List Kept) : Type 0 where
+  pub box : List Side
+  pub lowered : IsLoweredFrom layout mark box loops body l
+  pub stand : StandFor layout mark outer registers ks
+  pub counters : (x : Variable) → is_counter box x ≡ true → (n : ℕ) × (outer.locals x ≡ Holds n)
+  pub are : iterations loops outer ≡ Some us
+
+-- wherever it is reached with these registers, its iterations are the vectors of this space
+abbrev pub IsSpaceOf : LoweredLoop → List ℕ → List Turns → Type 0
+IsSpaceOf l registers ts =
+    (layout : List Laid) (mark : ℕ) (loops : List Loop) (body : Stmt) (outer : State) (us : List Vector) (ks : List Kept)
+    → IsReached layout mark loops body outer us l registers ks → us ≡ vectors ts

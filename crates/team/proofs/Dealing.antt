@@ -1,0 +1,77 @@
+-- The pieces of the chunks that are dealt to workers are those of all chunks.
+use Rattle.std.specs.Prelude.{ℕ, zero, suc, Bool, false, ◌≡◌, ◌+◌, ◌<◌, ◌≤◌, List, [], ◌∷◌, ◌++◌, length, map, flat_map, take, slice_get, Option, Some, None}
+use Rattle.std.proofs.Common.{refl, sym, ap, ◌∙◌, subst, append-nil, arith}
+use Rattle.std.proofs.lemmas.List.{map-append, take_more}
+use Rattle.std.proofs.lemmas.List.Sums.{length-filter, count_by-le-length}
+use Rattle.std.proofs.lemmas.List.Elements.{All-append, All-same}
+use Rattle.std.proofs.lemmas.Grind.{flat_map-append}
+use Rattle.std.proofs.lemmas.Option.{slice_get_within, get_or_from_slice_get}
+use Rattle.semantics.specs.Meaning.Places.{below}
+use Rattle.semantics.specs.Loops.Arrangement.{EachOnceBelow, times, once_below}
+use Rattle.semantics.specs.Loops.Chunk.{Chunk, cut, owner}
+use Rattle.semantics.specs.Teams.Machine.{own_chunks, is_mine}
+use Rattle.semantics.specs.Teams.WholeRuns.{is_by_ticket}
+use Rattle.schedule.specs.Part as parts
+use Rattle.schedule.specs.Part.{static_kind}
+use Rattle.schedule.proofs.Owned.{workers_share_chunks}
+use Rattle.store.specs.Kept.{Kept}
+use Rattle.lower.specs.declared.lowered.LoweredLoop.{LoweredLoop}
+use Rattle.team.specs.declared.worker.ChunkChanges.{ChunkChanges}
+use Rattle.team.specs.Ends.{IsChange, AreAll}
+use Rattle.team.specs.Dealt.{own_numbers, IsDealt}
+use Rattle.team.proofs.Cutting.{length_below, one_below}
+
+-- a worker has no more chunks than there are
+pub own_few : (size : Option ℕ) (count workers worker : ℕ) → length (own_numbers size count workers worker) ≤ count
+own_few size count workers worker =
+    let p : ℕ → Bool = λ c. is_mine worker (owner (static_kind size) c workers) in
+    omega (arith, length-filter p (below count), count_by-le-length p (below count), length_below count)
+
+-- the numbers of its part are these
+pub part_numbers : (p : parts.Part) (size : Option ℕ) (n workers worker : ℕ) (chunks : List Chunk) → p ≡ record { kind = static_kind size; iterations = n; workers = workers; worker = worker }
+    → chunks ≡ cut (static_kind size) n workers → parts.own_numbers p ≡ own_numbers size (length chunks) workers worker
+part_numbers p size n workers worker chunks is whole = ap parts.own_numbers is ∙ ap (λ (k : List Chunk). own_chunks (static_kind size) (length k) workers worker) (sym whole)
+
+-- one more of a list
+pub next_own : (xs : List ℕ) (i x : ℕ) → slice_get xs i ≡ Some x → take (i + 1) xs ≡ take i xs ++ x ∷ []
+next_own xs i x e = take_more xs i x (slice_get_within xs i x e) ∙ ap (λ y. take i xs ++ y ∷ []) (get_or_from_slice_get xs i x x e)
+
+-- nothing stands past its end
+pub past_end : (xs : List ℕ) (i : ℕ) → slice_get xs i ≡ None → length xs ≤ i
+past_end [] i e = omega arith
+past_end (x ∷ xs) zero e = absurd (cc e)
+past_end (x ∷ xs) (suc i) e = let r = past_end xs i e in omega arith
+
+module _ (l : LoweredLoop) (registers : List ℕ) (ks : List Kept) (chunks : List Chunk) where
+  -- one worker more
+  pub dealt_more : (own : ℕ → List ℕ) (n m : ℕ) (was more after : List ChunkChanges) → m ≡ suc n → after ≡ was ++ more
+      → IsDealt l registers ks chunks (flat_map own (below n)) was → IsDealt l registers ks chunks (own n) more → IsDealt l registers ks chunks (flat_map own (below m)) after
+  dealt_more own n m was more after next joined first last =
+      let number : ChunkChanges → ℕ = λ c. c.work.chunk.0 in
+      let all : flat_map own (below m) ≡ flat_map own (below n) ++ own n =
+      ap (λ k. flat_map own (below k)) next ∙ flat_map-append own (below n) (n ∷ []) ∙ ap (λ (k : List ℕ). flat_map own (below n) ++ k) (append-nil (own n)) in
+      record {
+        numbers_are = ap (λ (cs : List ChunkChanges). map number cs) joined ∙ map-append number was more ∙ (λ i. first.numbers_are i ++ last.numbers_are i) ∙ sym all;
+        each = All-same (IsChange l registers ks chunks) after (was ++ more) joined (All-append (IsChange l registers ks chunks) was more first.each last.each);
+      }
+
+  not_drawn : (size : Option ℕ) → is_by_ticket (static_kind size) ≡ false
+  not_drawn None = refl
+  not_drawn (Some k) = refl
+
+  -- all workers' together
+  pub dealt_all : (size : Option ℕ) (workers n iterations : ℕ) (cs : List ChunkChanges) → chunks ≡ cut (static_kind size) iterations workers → 0 < workers → n ≡ workers
+      → IsDealt l registers ks chunks (flat_map (own_numbers size (length chunks) workers) (below n)) cs → AreAll l registers ks chunks cs
+  dealt_all size workers n iterations cs is some number dealt =
+      let kind = static_kind size in
+      let count = length chunks in
+      let law : EachOnceBelow count (flat_map (own_chunks kind count workers) (below workers)) =
+      subst (λ (k : List Chunk). EachOnceBelow (length k) (flat_map (own_chunks kind (length k) workers) (below workers))) (sym is) (workers_share_chunks kind iterations workers (not_drawn size) some) in
+      record {
+        each = dealt.each;
+        every = λ x less.
+            let once : times x (map (λ (c : ChunkChanges). c.work.chunk.0) cs) ≡ once_below x count =
+            ap (times x) (dealt.numbers_are ∙ ap (λ k. flat_map (own_numbers size count workers) (below k)) number) ∙ law x in
+            let one : once_below x count ≡ 1 = one_below x count less in
+            omega arith;
+      }

@@ -1,0 +1,75 @@
+-- What the workers' ends are together.
+use Rattle.std.specs.Prelude.{ℕ, Bool, true, false, ◌≡◌, ◌+◌, ◌<◌, ◌≤◌, nat_lt, List, [], ◌∷◌, ◌++◌, map, length, slice_get, All, Some}
+use Rattle.std.proofs.Common.{refl, sym, ap, ◌∙◌, length-append, arith}
+use Rattle.std.proofs.lemmas.Bool.Decides.{nat_tests}
+use Rattle.std.proofs.lemmas.Option.{same_Some, slice_get_within}
+use Rattle.std.proofs.lemmas.List.{map-append}
+use Rattle.std.proofs.lemmas.List.Elements.{All-nil, All-head, All-tail, All-append, All-same, All-push}
+use Rattle.schedule.proofs.Sized.{get-append_left, get-append_seam}
+use Rattle.semantics.specs.Loops.Chunk.{Chunk}
+use Rattle.store.specs.Kept.{Kept}
+use Rattle.lower.specs.declared.lowered.LoweredLoop.{LoweredLoop}
+use Rattle.draw.specs.Tickets.{DrawingName, SeatState, all_tickets}
+use Rattle.draw.proofs.Seats.{all_tickets-snoc}
+use Rattle.team.specs.declared.worker.Finished.{Finished}
+use Rattle.team.specs.declared.worker.ChunkChanges.{ChunkChanges}
+use Rattle.team.specs.Ends.{IsChange, IsFinished, AreTaken, AreAll}
+use Rattle.team.specs.Places.{Aim, AreFor}
+
+module _ (l : LoweredLoop) (registers : List ℕ) (ks : List Kept) (chunks : List Chunk) (of : DrawingName) where
+  pub taken_none : AreTaken l registers ks chunks of [] []
+  taken_none =
+      record {
+        named = All-nil (λ (s : SeatState). s.of ≡ of);
+        ended = All-nil (λ (s : SeatState). s.ended ≡ true);
+        numbers = refl;
+        each = All-nil (IsChange l registers ks chunks);
+      }
+
+  -- one more end
+  pub taken_more : (seats seats' : List SeatState) (cs cs' : List ChunkChanges) (f : Finished) → seats' ≡ seats ++ f.seat ∷ [] → cs' ≡ cs ++ f.changes.items
+      → AreTaken l registers ks chunks of seats cs → IsFinished l registers ks chunks of f → AreTaken l registers ks chunks of seats' cs'
+  taken_more seats seats' cs cs' f more joined was one =
+      let number : ChunkChanges → ℕ = λ c. c.work.chunk.0 in
+      record {
+        named = All-same (λ (s : SeatState). s.of ≡ of) seats' (seats ++ f.seat ∷ []) more (All-push (λ (s : SeatState). s.of ≡ of) seats f.seat was.named one.seat);
+        ended = All-same (λ (s : SeatState). s.ended ≡ true) seats' (seats ++ f.seat ∷ []) more (All-push (λ (s : SeatState). s.ended ≡ true) seats f.seat was.ended one.ended);
+        numbers =
+            ap (λ (k : List ChunkChanges). map number k) joined ∙ map-append number cs f.changes.items ∙ (λ i. was.numbers i ++ one.numbers i)
+            ∙ sym (ap all_tickets more ∙ all_tickets-snoc seats f.seat);
+        each = All-same (IsChange l registers ks chunks) cs' (cs ++ f.changes.items) joined (All-append (IsChange l registers ks chunks) cs f.changes.items was.each one.each);
+      }
+
+-- where there is no chunk, no changes are those of all
+pub all_of_none : (l : LoweredLoop) (registers : List ℕ) (ks : List Kept) (chunks : List Chunk) (cs : List ChunkChanges) → chunks ≡ [] → cs ≡ [] → AreAll l registers ks chunks cs
+all_of_none l registers ks chunks cs none is =
+    record {
+      each = All-same (IsChange l registers ks chunks) cs [] is (All-nil (IsChange l registers ks chunks));
+      every = λ number less. let long : length chunks ≡ 0 = ap (λ (k : List Chunk). length k) none in absurd (omega arith);
+    }
+
+-- what holds of each element holds of the one between two parts
+pub member : {X : Type 0} (P : X → Type 0) (ys rest : List X) (x : X) → All P (ys ++ x ∷ rest) → P x
+member P [] rest x h = All-head P x rest h
+member P (y ∷ ys) rest x h = member P ys rest x (All-tail P y (ys ++ x ∷ rest) h)
+
+-- the place that comes next is the one of its number
+pub place_of : (aim : Aim) (ys rest all : List Aim) (p : Aim) → ys ++ p ∷ rest ≡ all → AreFor aim all → p ≡ record aim { number = length ys }
+place_of aim ys rest all p whole are = are (length ys) p (sym (ap (λ (k : List Aim). slice_get k (length ys)) whole) ∙ get-append_seam ys p rest (length ys) refl)
+
+-- one more place
+pub made_more : (aim : Aim) (places places' : List Aim) (p : Aim) → places' ≡ places ++ p ∷ [] → p ≡ record aim { number = length places } → AreFor aim places → AreFor aim places'
+made_more aim places places' p more is are k q there = go (nat_lt k (length places)) refl
+  where
+    go : (b : Bool) → nat_lt k (length places) ≡ b → q ≡ record aim { number = k }
+    go true e =
+        let lt : k < length places = grind (arith, nat_tests) in
+        are k q (sym (get-append_left places (p ∷ []) k lt) ∙ (ap (λ (l : List Aim). slice_get l k) (sym more) ∙ there))
+    go false e =
+        let le : length places ≤ k = grind (arith, nat_tests) in
+        let within : k < length places' = slice_get_within places' k q there in
+        let long : length places' ≡ length places + 1 = ap (λ (l : List Aim). length l) more ∙ length-append places (p ∷ []) in
+        let last : k ≡ length places = omega arith in
+        let here : slice_get places' k ≡ Some p = ap (λ (l : List Aim). slice_get l k) more ∙ get-append_seam places p [] k last in
+        let same : q ≡ p = same_Some q p (sym there ∙ here) in
+        same ∙ is ∙ ap (λ (n : ℕ). record aim { number = n }) (sym last)

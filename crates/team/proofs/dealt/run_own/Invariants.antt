@@ -1,0 +1,16 @@
+use Rattle.std.proofs.Common.{◌≡◌, ◌-◌, take, length, map, All}
+use Rattle.team.specs.Ends.{IsChangeOf}
+use Rattle.team.specs.Dealt.{own_numbers}
+use Rattle.team.proofs.dealt.run_own.Given as goal
+
+-- the own chunks so far
+abbrev pub invariant-loop-number : goal.invariant-loop-number
+invariant-loop-number g l =
+    record {
+      runner : l.runner ≡ l.job.store.now;
+      numbers : map (λ c. c.work.chunk.0) l.changes.items ≡ take l.turn (own_numbers l.fn.size (length l.job.chunks.now) l.workers l.worker);
+      each : All (IsChangeOf l.job) l.changes.items;
+    }
+
+abbrev pub decreases-loop-number : goal.decreases-loop-number
+decreases-loop-number g l = length (own_numbers l.fn.size (length l.job.chunks.now) l.workers l.worker) - l.turn

@@ -1,0 +1,27 @@
+use Rattle.std.proofs.Common.{ℕ, ◌+◌, List, [], ◌∷◌, ◌++◌, length, sym, ap, ◌∙◌, subst, append_assoc, length-append}
+use Rattle.team.specs.declared.way.Way.TheVariants.{Drawn}
+use Rattle.team.specs.declared.place.End.TheVariants.{Draws}
+use Rattle.draw.specs.Tickets.{SeatState}
+use Rattle.team.specs.Ends.{IsFinished}
+use Rattle.team.specs.Places.{Aim, IsEndBy}
+use Rattle.team.proofs.Ending.{taken_more, place_of}
+use Rattle.team.proofs.drawn.collect.Goals as goal
+
+pub loop-place-preserved : goal.loop-place-preserved
+loop-place-preserved c =
+    let ys = c.loop-place.yielded in
+    let was = c.loop-place.invariant in
+    let place = c.in-Some.place in
+    let finished = c.in-Some-draws.field-0 in
+    let whole = ap (λ (r : List Aim). ys ++ r) (sym c.in-Some.ensures.steps.0) ∙ was.whole in
+    record {
+      whole = append_assoc ys (place ∷ []) _ ∙ whole;
+      taken = λ aim draw way are.
+          let here = place_of aim ys _ c.args.places.items place whole are in
+          let one : IsFinished aim.lowered aim.registers aim.store aim.chunks draw.drawing finished
+          = subst (λ (a : Aim). IsEndBy a (Drawn draw) (Draws finished)) here (c.in-Some-draws.ensures draw (ap (λ (a : Aim). a.way) here ∙ way)) in
+          taken_more aim.lowered aim.registers aim.store aim.chunks draw.drawing c.loop-place.seats.items c.push.new.self.items c.loop-place.changes.items c.append.new.self.items finished c.in_ok-push.ensures.items c.in_ok-append.ensures.items (was.taken aim draw way are) one;
+      len =
+          ap (λ (k : List SeatState). length k) c.in_ok-push.ensures.items
+          ∙ (length-append c.loop-place.seats.items (finished.seat ∷ []) ∙ (ap (λ (n : ℕ). n + 1) was.len ∙ sym (length-append ys (place ∷ []))));
+    }

@@ -1,0 +1,47 @@
+use Rattle.std.proofs.Common.{length, flat_map, vec_len, ◌∙◌, arith}
+use Rattle.std.proofs.lemmas.Result.{IfOk-weaker}
+use Rattle.semantics.specs.Meaning.Places.{below}
+use Rattle.nest_space.specs.Space.{vectors}
+use Rattle.team.specs.Ends.{AreAll}
+use Rattle.team.specs.Dealt.{IsDealt, own_numbers}
+use Rattle.team.proofs.Dealing.{dealt_all}
+use Rattle.team.proofs.lent.changes_left.Goals as goal
+
+pub all_changes-requires : goal.all_changes-requires
+all_changes-requires c =
+    let aim = c.requires.0 in
+    let left = c.requires.2 in
+    let draw = c.in-Drawn.draw in
+    let is = c.in-Drawn.is in
+    let taken = c.in_ok-seats-in-Drawn.ensures.taken aim draw (left.way_is ∙ is) left.made in
+    let len = c.in_ok-seats-in-Drawn.ensures.len in
+    let seats = (left.comes.seats draw is).0 in
+    let places = c.args.places.ok.0 in
+    let all = left.all in
+    let least = left.some in
+    record {
+      some = omega arith;
+      all = omega arith;
+      named = taken.named;
+      ended = taken.ended;
+    }
+
+pub returns-in-Dealt-clause-all : goal.returns-in-Dealt-clause-all
+returns-in-Dealt-clause-all c = λ aim space left.
+    let size = c.in-Dealt.field-0 in
+    let is = c.in-Dealt.is in
+    let own = own_numbers size (length aim.chunks) aim.workers in
+    let count = vec_len c.args.places in
+    let places = c.args.places.ok.0 in
+    let all = left.all in
+    let least = left.some in
+    IfOk-weaker c.gather.result (λ cs. IsDealt aim.lowered aim.registers aim.store aim.chunks (flat_map own (below count)) cs.items) (λ cs. AreAll aim.lowered aim.registers aim.store aim.chunks cs.items)
+    (λ cs dealt. dealt_all aim.lowered aim.registers aim.store aim.chunks size aim.workers count (length (vectors space)) cs.items (left.comes.cut size is) (omega arith) (omega arith) dealt)
+    (c.gather.ensures.dealt aim size (left.way_is ∙ is) left.made)
+
+pub returns-in_ok-seats-in-Drawn-clause-all : goal.returns-in_ok-seats-in-Drawn-clause-all
+returns-in_ok-seats-in-Drawn-clause-all c = λ aim space left.
+    let draw = c.in-Drawn.draw in
+    let is = c.in-Drawn.is in
+    let taken = c.in_ok-seats-in-Drawn.ensures.taken aim draw (left.way_is ∙ is) left.made in
+    c.all_changes.ensures aim.lowered aim.registers aim.store aim.chunks (record { count = left.comes.count draw is; each = taken.each; numbers = taken.numbers })

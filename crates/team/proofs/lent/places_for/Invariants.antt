@@ -1,0 +1,11 @@
+use Rattle.std.proofs.Common.{◌≡◌, vec_len}
+use Rattle.team.specs.Places.{AreFor, aim_of}
+use Rattle.team.proofs.lent.places_for.Given as goal
+
+abbrev pub invariant-loop-number : goal.invariant-loop-number
+invariant-loop-number l =
+    record {
+      end : l.number-end ≡ l.workers;
+      len : vec_len l.places ≡ l.number;
+      made : AreFor (aim_of l.lowered l.grounds l.store l.way l.workers) l.places.items;
+    }

@@ -1,0 +1,31 @@
+use Rattle.std.proofs.Common.{◌≤◌, refl, subst, sym, ◌∙◌}
+use Rattle.team.specs.Places.{AreLeft, aim_of}
+use Rattle.team.proofs.lent.taken_back.Goals as goal
+
+pub changes_left-changes-requires : goal.changes_left-changes-requires
+changes_left-changes-requires c =
+    let lent = c.args.lent in
+    let aim = aim_of lent.lowered.now lent.grounds lent.store lent.way lent.workers in
+    let left : AreLeft aim lent.grounds.space lent.way lent.places.items =
+    record {
+      way_is = refl;
+      comes = lent.comes;
+      some = subst (λ n. 1 ≤ n) c.get-count.ensures.value c.get-count.ensures.least;
+      all = sym lent.places.ok.0 ∙ lent.all;
+      made = lent.made;
+    } in
+    (aim, lent.grounds.space, left)
+
+pub returns-clause-all : goal.returns-clause-all
+returns-clause-all c =
+    let lent = c.args.lent in
+    let aim = aim_of lent.lowered.now lent.grounds lent.store lent.way lent.workers in
+    let left : AreLeft aim lent.grounds.space lent.way lent.places.items =
+    record {
+      way_is = refl;
+      comes = lent.comes;
+      some = subst (λ n. 1 ≤ n) c.get-count.ensures.value c.get-count.ensures.least;
+      all = sym lent.places.ok.0 ∙ lent.all;
+      made = lent.made;
+    } in
+    c.changes_left-changes.ensures.all aim lent.grounds.space left

@@ -1,0 +1,5 @@
+pub mod Together
+pub mod Applied
+pub mod Ends
+pub mod Dealt
+pub mod Places

@@ -1,0 +1,96 @@
+-- Places for what the workers of a loop leave, and the rule of a place. Its word is 0 before an end is put there, 1 while a worker has the place, and 2 behind.
+use Rattle.std.specs.Prelude.{ℕ, ◌≡◌, ◌≢◌, ◌≤◌, ◌^◌, List, [], ◌∷◌, length, slice_get, slice_index, All, Option, Some}
+use mathlib.Core.Option.{some}
+use lib.ListN.{get_elem?}
+use Rattle.atomic_table.specs.Table.{State, Me, Step}
+use Rattle.semantics.specs.Loops.Chunk.{Chunk, cut}
+use Rattle.nest_space.specs.Space.{Turns, vectors}
+use Rattle.schedule.specs.Part.{static_kind}
+use Rattle.store.specs.Kept.{Kept}
+use Rattle.lower.specs.declared.lowered.LoweredLoop.{LoweredLoop}
+use Rattle.team.specs.declared.way.Draw.{Draw}
+use Rattle.team.specs.declared.way.Way.{Way}
+use Rattle.team.specs.declared.way.Way.TheVariants.{Dealt, Drawn}
+use Rattle.team.specs.declared.grounds.Grounds.{Grounds}
+use Rattle.team.specs.declared.place.End.{End}
+use Rattle.team.specs.declared.place.End.TheVariants.{Share, Draws}
+use Rattle.team.specs.Ends.{IsFinished}
+use Rattle.team.specs.Dealt.{own_numbers, IsDealt}
+
+-- what a place is made for: a loop where it is reached, its chunks, how these come to so many workers, and the number of one of them
+pub record Aim : Type 0 where
+  pub lowered : LoweredLoop
+  pub registers : List ℕ
+  pub store : List Kept
+  pub chunks : List Chunk
+  pub way : Way
+  pub workers : ℕ
+  pub number : ℕ
+
+-- what this worker leaves, by the way that chunks come to it
+abbrev pub IsEndBy : Aim → Way → End → Type 0
+IsEndBy a (Dealt size) (Share cs) = IsDealt a.lowered a.registers a.store a.chunks (own_numbers size (length a.chunks) a.workers a.number) cs.items
+IsEndBy a (Drawn draws) (Draws f) = IsFinished a.lowered a.registers a.store a.chunks draws.drawing f
+IsEndBy a _ _ = ⊥
+
+abbrev pub IsEnd : Aim → End → Type 0
+IsEnd a e = IsEndBy a a.way e
+
+-- a place for each worker
+abbrev pub AreFor : Aim → List Aim → Type 0
+AreFor a places = (k : ℕ) (p : Aim) → slice_get places k ≡ Some p → p ≡ record a { number = k }
+
+-- what the places of a loop are made for, but for their numbers
+abbrev pub aim_of : LoweredLoop → Grounds → List Kept → Way → ℕ → Aim
+aim_of l grounds ks way workers =
+    record {
+      lowered = l;
+      registers = grounds.registers.items;
+      store = ks;
+      chunks = grounds.chunks;
+      way = way;
+      workers = workers;
+      number = 0;
+    }
+
+-- chunks come to so many workers as their cut asks: dealt ones are those of their kind, and drawn ones have a drawing with a free seat for each worker
+pub record IsWay (way : Way) (space : List Turns) (chunks : List Chunk) (workers : ℕ) : Type 0 where
+  pub cut : (size : Option ℕ) → way ≡ Dealt size → chunks ≡ cut (static_kind size) (length (vectors space)) workers
+  pub some : (k : ℕ) → way ≡ Dealt (Some k) → (1 ≤ k) × (k ≤ 2 ^ 24)
+  pub count : (draw : Draw) → way ≡ Drawn draw → draw.drawing.count ≡ length chunks
+  pub seats : (draw : Draw) → way ≡ Drawn draw → (draw.drawing.seats ≡ workers) × All (λ s. s ≡ draw.drawing) draw.seats.items
+
+-- the places of a loop's workers, of whom there are some, and how chunks came to them
+pub record AreLeft (a : Aim) (space : List Turns) (way : Way) (places : List Aim) : Type 0 where
+  pub way_is : a.way ≡ way
+  pub comes : IsWay way space a.chunks a.workers
+  pub some : 1 ≤ a.workers
+  pub all : length places ≡ a.workers
+  pub made : AreFor a places
+
+abbrev pub St : Type 0
+St = State (Option End) ℕ
+
+abbrev pub Mine : Type 0
+Mine = Me (Option End) ℕ
+
+-- an end that is there is what the place is made for, and unless the word is 1 something is there
+pub record Fits (a : Aim) (s : St) : Type 0 where
+  pub one_word : length s.words ≡ 1
+  pub one_home : length s.homes ≡ 1
+  pub right : (e : End) → get_elem? s.homes 0 ≡ some (some (Some e)) → IsEnd a e
+  pub there : slice_index s.words 0 ≢ 1 → (y : Option End) × (get_elem? s.homes 0 ≡ some (some y))
+
+-- a worker that looks at the place
+abbrev pub entered : Step (Option End) → Mine → ℕ → Mine → Type 0
+entered st m found m' = m'.0 ≡ 0
+
+-- the word was 0, and the worker has the place; or nothing changed
+abbrev pub took : Step (Option End) → Mine → ℕ → Mine → Type 0
+took st m found m' =
+    (found ≡ 0 → (x : Option End) × (m' ≡ (m.0, (0, x) ∷ [])))
+    × (found ≢ 0 → m' ≡ m)
+
+-- the place is given back
+abbrev pub gave : Step (Option End) → Mine → ℕ → Mine → Type 0
+gave st m found m' = m' ≡ (m.0, [])

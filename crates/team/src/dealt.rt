@@ -1,0 +1,74 @@
+//! Chunks that are dealt to workers, of the schedules that fix the worker of each (OpenMP 5.2, 11.5.3).
+
+ghost use Rattle.std.specs.Prelude.{◌≡◌, ℕ, ◌<◌, ◌≤◌, ◌^◌, length, vec_len, flat_map, Option, IfOk, IfErr, IfSome};
+ghost use Rattle.semantics.specs.Loops.Chunk.{cut};
+ghost use Rattle.semantics.specs.Meaning.Places.{below};
+ghost use Rattle.nest_space.specs.Space.{vectors};
+ghost use Rattle.schedule.specs.Part.{static_kind};
+ghost use Rattle.team.specs.declared.way.Way.TheVariants.{Dealt};
+ghost use Rattle.team.specs.Ends.{IsReady};
+ghost use Rattle.team.specs.Dealt.{IsDealt, own_numbers};
+ghost use Rattle.team.specs.Places.{Aim, AreFor};
+
+use crate::gate::{Gate, Taken};
+use crate::job::Job;
+use crate::place::Place;
+use crate::worker::{ChunkChanges, run_taken};
+use ktree::{Refusal, Workers};
+use overlay::Worker;
+use schedule::static_init;
+use std::alloc::Global;
+
+/// Runs a worker's own chunks, in their order: those of `static, k` for `Some(k)`, else those of plain `static`.
+pub(crate) fn run_own<G: Gate>(
+    alloc: Global,
+    job: Job,
+    workers: Workers,
+    worker: u64,
+    size: Option<u64>,
+    gate: &G,
+) -> Result<Vec<ChunkChanges>, Refusal>
+    requires ready { IsReady job }
+    requires chunks { job.chunks.now
+        ≡ cut (static_kind size) (length (vectors job.space.now)) workers }
+    requires size { IfSome size (λ k. (1 ≤ k) × (k ≤ 2 ^ 24)) }
+    requires worker { worker < workers }
+    ensures dealt { IfOk result (λ cs. IsDealt job.entry.lowered.now job.entry.registers.now
+        job.entry.store.now job.entry.chunks.now
+        (own_numbers size (length job.entry.chunks.now) workers worker) cs.items) }
+    ensures refusal { IfErr result (λ refusal. refusal ≡ Refusal.OutOfMemory) }
+{
+    let part = static_init(job.space.count(), workers, worker, size);
+    let mut runner = Worker::new(alloc, job.store)?;
+    let mut changes = Vec::new(alloc);
+    let mut turn = 0;
+    while let Some(number) = part.number(turn) {
+        let taken = Taken {
+            worker,
+            workers: workers.get(),
+            chunk: number,
+            chunks: job.chunks.len(),
+        };
+        changes.push(run_taken(alloc, job, &mut runner, taken, gate)?)?;
+        turn += 1;
+    }
+    Ok(changes)
+}
+
+/// What the own chunks of all workers change, where all of them have left that.
+pub(crate) fn gather(alloc: Global, places: Vec<Place>) -> Result<Vec<ChunkChanges>, Refusal>
+    ensures dealt { (aim : Aim) (size : Option ℕ) → aim.way ≡ Dealt size → AreFor aim places.items
+        → IfOk result (λ cs. IsDealt aim.lowered aim.registers aim.store aim.chunks
+        (flat_map (own_numbers size (length aim.chunks) aim.workers) (below (vec_len places)))
+        cs.items) }
+    ensures refusal { IfErr result (λ refusal. refusal ≡ Refusal.OutOfMemory) }
+{
+    let mut changes = Vec::new(alloc);
+    for place in places {
+        let Some(mut theirs) = place.share() else {
+            return Err(Refusal::OutOfMemory);
+        };
+        changes.append(&mut theirs)?;
+    }
+    Ok(changes)
+}

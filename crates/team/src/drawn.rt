@@ -1,0 +1,71 @@
+//! Chunks that workers draw, of the schedules that fix no worker for a chunk (OpenMP 5.2, 11.5.3).
+
+ghost use Rattle.std.specs.Prelude.{◌≡◌, ℕ, List, length, vec_len, IfOk, IfErr};
+ghost use Rattle.semantics.specs.Loops.Chunk.{Chunk};
+ghost use Rattle.store.specs.Kept.{Kept};
+ghost use Rattle.lower.specs.declared.lowered.LoweredLoop.{LoweredLoop};
+ghost use Rattle.team.specs.declared.way.Draw.{Draw};
+ghost use Rattle.team.specs.declared.way.Way.TheVariants.{Drawn};
+ghost use Rattle.team.specs.Ends.{AreTaken, AreBack, AreDrawn, AreAll};
+ghost use Rattle.team.specs.Places.{Aim, AreFor};
+
+use crate::place::Place;
+use crate::worker::{ChunkChanges, Finished};
+use draw::{DrawSeat, Drawing};
+use ktree::Refusal;
+use std::alloc::Global;
+
+/// The seats and the changes of all workers, in their order, where all of them have left these.
+pub(crate) fn collect(
+    alloc: Global,
+    places: Vec<Place>,
+) -> Result<(Vec<DrawSeat>, Vec<ChunkChanges>), Refusal>
+    ensures taken { (aim : Aim) (draw : Draw) → aim.way ≡ Drawn draw → AreFor aim places.items
+        → IfOk result (λ r. AreTaken aim.lowered aim.registers aim.store aim.chunks draw.drawing
+        r.0.items r.1.items) }
+    ensures len { IfOk result (λ r. length r.0.items ≡ vec_len places) }
+    ensures refusal { IfErr result (λ refusal. refusal ≡ Refusal.OutOfMemory) }
+{
+    let mut seats = Vec::new(alloc);
+    let mut changes = Vec::new(alloc);
+    for place in places {
+        let Some(
+            Finished {
+                seat,
+                changes: mut theirs,
+            },
+        ) = place.draws()
+        else {
+            return Err(Refusal::OutOfMemory);
+        };
+        seats.push(seat)?;
+        changes.append(&mut theirs)?;
+    }
+    Ok((seats, changes))
+}
+
+/// What the workers of a loop leave: their drawing, the seat of each, and what the chunks that they
+/// drew change.
+#[derive(Drop)]
+pub(crate) struct TeamEnd {
+    pub(crate) drawing: Drawing,
+    pub(crate) seats: Vec<DrawSeat>,
+    pub(crate) changes: Vec<ChunkChanges>,
+}
+
+/// What all chunks of a loop change: where all seats are back, no chunk was left out.
+pub(crate) fn all_changes(end: TeamEnd) -> Vec<ChunkChanges>
+    requires { AreBack end.drawing end.seats.items }
+    ensures { (l : LoweredLoop) (registers : List ℕ) (ks : List Kept) (chunks : List Chunk)
+        → AreDrawn l registers ks chunks end.drawing end.seats.items end.changes.items
+        → AreAll l registers ks chunks result.items }
+{
+    let TeamEnd {
+        drawing,
+        seats,
+        changes,
+    } = end;
+    let whole = drawing.close(seats).whole();
+    prove!(whole);
+    changes
+}

@@ -1,0 +1,16 @@
+//! What the workers of a loop share.
+
+use lower::LoweredLoop;
+use nest_space::Space;
+use schedule::Chunks;
+use store::Store;
+
+/// A loop where it is reached: its registers and its store there, its iterations, and the chunks that these are cut into.
+#[derive(Clone, Copy)]
+pub struct Job<'l, 'r, 'p, 's, 'c> {
+    pub lowered: &'l LoweredLoop,
+    pub registers: &'r [u64],
+    pub space: &'p Space,
+    pub store: &'s Store,
+    pub chunks: &'c Chunks,
+}

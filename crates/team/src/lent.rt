@@ -1,0 +1,222 @@
+//! A loop that is lent to a crew.
+
+ghost use Rattle.std.specs.Prelude.{◌≡◌, ◌<◌, length, vec_len, List, IfOk, IfErr, IfSome};
+ghost use Rattle.semantics.specs.Loops.Chunk.{cut};
+ghost use Rattle.nest_space.specs.Space.{Turns, vectors};
+ghost use Rattle.schedule.specs.Sched.{kind_of};
+ghost use Rattle.team.specs.Ends.{IsReady, IsSplit, AreAll};
+ghost use Rattle.team.specs.Places.{Aim, IsEnd, AreFor, AreLeft, IsWay, aim_of};
+
+use crate::dealt::{gather, run_own};
+use crate::drawn::{TeamEnd, all_changes, collect};
+use crate::gate::Gate;
+use crate::grounds::Grounds;
+use crate::job::Job;
+use crate::place::{End, Place, Plan};
+use crate::way::{Draw, Way, seat_of, way_of};
+use crate::worker::{ChunkChanges, Member, work};
+use crew::{Crew, lend};
+use ktree::{Refusal, Workers};
+use lower::LoweredLoop;
+use schedule::Sched;
+use std::alloc::Global;
+use std::mem;
+use std::sync::Wait;
+use std::sync::atomic::{AtomicU64, Ordering};
+use store::Store;
+
+/// A loop where it is reached, with all that its workers need, and a place for what each of them leaves. Threads share it.
+#[derive(Drop)]
+pub struct LentLoop<'l> {
+    alloc: Global,
+    lowered: &'l LoweredLoop,
+    grounds: Grounds,
+    store: Store,
+    workers: Workers,
+    way: Way,
+    places: Vec<Place>,
+    claims: AtomicU64,
+    pub ghost ready: { IsSplit lowered.now grounds.registers.items grounds.space grounds.chunks },
+    pub ghost comes: { IsWay way grounds.space grounds.chunks workers },
+    pub ghost all: { vec_len places ≡ workers },
+    pub ghost made: { AreFor (aim_of lowered.now grounds store way workers) places.items },
+}
+
+/// A place for each of so many workers.
+fn places_for(
+    alloc: Global,
+    lowered: &LoweredLoop,
+    grounds: &Grounds,
+    store: &Store,
+    way: &Way,
+    workers: Workers,
+) -> Result<Vec<Place>, Refusal>
+    ensures all { IfOk result (λ places. vec_len places ≡ workers) }
+    ensures made { IfOk result (λ places. AreFor
+        (aim_of lowered.now grounds.now store.now way.now workers) places.items) }
+    ensures refusal { IfErr result (λ refusal. refusal ≡ Refusal.OutOfMemory) }
+{
+    let mut places = Vec::with_capacity(alloc, workers.get() as usize)?;
+    for number in 0..workers.get() {
+        let plan = Plan::new(
+            lowered,
+            &grounds.registers,
+            store,
+            &grounds.chunks,
+            way,
+            workers,
+            number,
+        );
+        places.push(Place::new(alloc, &plan)?)?;
+    }
+    Ok(places)
+}
+
+/// The way that chunks come to so many workers of a loop, and a place for each.
+fn equipped(
+    alloc: Global,
+    lowered: &LoweredLoop,
+    grounds: &Grounds,
+    store: &Store,
+    workers: Workers,
+    sched: &Sched,
+) -> Result<(Way, Vec<Place>), Refusal>
+    requires split { IsSplit lowered.now grounds.now.registers.items grounds.now.space
+        grounds.now.chunks }
+    requires chunks { grounds.now.chunks
+        ≡ cut (kind_of sched.now) (length (vectors grounds.now.space)) workers }
+    ensures comes { IfOk result (λ r. IsWay r.0 grounds.now.space grounds.now.chunks workers) }
+    ensures all { IfOk result (λ r. vec_len r.1 ≡ workers) }
+    ensures made { IfOk result (λ r. AreFor
+        (aim_of lowered.now grounds.now store.now r.0 workers) r.1.items) }
+    ensures refusal { IfErr result (λ refusal. refusal ≡ Refusal.OutOfMemory) }
+{
+    let way = way_of(alloc, sched, &grounds.space, &grounds.chunks, workers)?;
+    let places = places_for(alloc, lowered, grounds, store, &way, workers)?;
+    Ok((way, places))
+}
+
+/// What the worker of a number leaves, if memory is left for that.
+fn end_of<G: Gate>(lent: &LentLoop<'_>, number: u64, gate: &G) -> Option<End>
+    requires { number < lent.now.workers }
+    ensures { IfSome result (IsEnd (record (aim_of lent.now.lowered.now lent.now.grounds
+        lent.now.store lent.now.way lent.now.workers) { number = number })) }
+{
+    let job = Job {
+        lowered: lent.lowered,
+        registers: lent.grounds.registers.as_slice(),
+        space: &lent.grounds.space,
+        store: &lent.store,
+        chunks: &lent.grounds.chunks,
+    };
+    match &lent.way {
+        Way::Dealt(size) => {
+            let Ok(changes) = run_own(lent.alloc, job, lent.workers, number, *size, gate) else {
+                return None;
+            };
+            Some(End::Share(changes))
+        }
+        Way::Drawn(draw) => {
+            let seat = seat_of(draw, number)?;
+            let member = Member { number, seat };
+            let Ok(finished) = work(lent.alloc, job, &draw.drawing, member, gate) else {
+                return None;
+            };
+            Some(End::Draws(finished))
+        }
+    }
+}
+
+impl<'l, G: Gate> crew::Job<G> for LentLoop<'l> {
+    fn work(&self, gate: &G) {
+        for _ in 0..self.places.len() {
+            let number = self.claims.fetch_add(1, Ordering::SeqCst);
+            let Some(place) = self.places.get(number as usize) else {
+                return;
+            };
+            if let Some(end) = end_of(self, number, gate) {
+                place.hand_in(end);
+            }
+        }
+    }
+}
+
+/// What all chunks of a loop change, where all of its workers have left theirs.
+fn changes_left(alloc: Global, way: Way, places: Vec<Place>) -> Result<Vec<ChunkChanges>, Refusal>
+    requires { (aim : Aim) × (space : List Turns) × AreLeft aim space way places.items }
+    ensures all { (aim : Aim) (space : List Turns) → AreLeft aim space way places.items
+        → IfOk result (λ cs. AreAll aim.lowered aim.registers aim.store aim.chunks cs.items) }
+    ensures refusal { IfErr result (λ refusal. refusal ≡ Refusal.OutOfMemory) }
+{
+    match way {
+        Way::Dealt(_) => gather(alloc, places),
+        Way::Drawn(draw) => {
+            let Draw { drawing, seats: _ } = draw;
+            let (seats, changes) = collect(alloc, places)?;
+            Ok(all_changes(TeamEnd {
+                drawing,
+                seats,
+                changes,
+            }))
+        }
+    }
+}
+
+/// Takes a loop back from its workers: its store, and what all chunks change.
+fn taken_back(lent: LentLoop<'_>) -> (Store, Result<Vec<ChunkChanges>, Refusal>)
+    ensures store { result.0 ≡ lent.entry.store }
+    ensures all { IfOk result.1 (λ cs. AreAll lent.entry.lowered.now
+        lent.entry.grounds.registers.items lent.entry.store lent.entry.grounds.chunks cs.items) }
+    ensures refusal { IfErr result.1 (λ refusal. refusal ≡ Refusal.OutOfMemory) }
+{
+    let _count = lent.workers.get();
+    let LentLoop {
+        alloc,
+        lowered: _,
+        grounds: _,
+        store,
+        workers: _,
+        way,
+        places,
+        claims: _,
+    } = lent;
+    let changes = changes_left(alloc, way, places);
+    (store, changes)
+}
+
+/// What all chunks of a loop change, that is lent to a crew.
+pub(crate) fn lent_changes<'l, R: Wait, G: Gate>(
+    rt: &R,
+    alloc: Global,
+    crew: &Crew<LentLoop<'l>>,
+    lowered: &'l LoweredLoop,
+    grounds: Grounds,
+    store: &mut Store,
+    workers: Workers,
+    sched: &Sched,
+    gate: &G,
+) -> Result<Vec<ChunkChanges>, Refusal>
+    requires split { IsSplit lowered.now grounds.registers.items grounds.space grounds.chunks }
+    requires chunks { grounds.chunks
+        ≡ cut (kind_of sched.now) (length (vectors grounds.space)) workers }
+    ensures all { IfOk result (λ cs. AreAll lowered.now grounds.registers.items store.old
+        grounds.chunks cs.items) }
+    ensures store { store.new ≡ store.old }
+    ensures refusal { IfErr result (λ refusal. refusal ≡ Refusal.OutOfMemory) }
+{
+    let (way, places) = equipped(alloc, lowered, &grounds, store, workers, sched)?;
+    let nothing = Store::zeros(alloc, Vec::new(alloc))?;
+    let lent = LentLoop {
+        alloc,
+        lowered,
+        grounds,
+        store: mem::replace(store, nothing),
+        workers,
+        way,
+        places,
+        claims: AtomicU64::new(0),
+    };
+    let (whole, changes) = taken_back(lend(rt, alloc, crew, gate, lent));
+    *store = whole;
+    changes
+}

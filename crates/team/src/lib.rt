@@ -1,0 +1,19 @@
+//! A team of workers, each in a thread of its own, that runs the chunks of any lowered nest (OpenMP 5.2, 11.5).
+#![tactic(auto)]
+
+mod applied;
+mod dealt;
+mod drawn;
+mod gate;
+mod grounds;
+mod job;
+mod lent;
+mod place;
+mod teamwork;
+mod way;
+mod worker;
+
+pub use gate::{Gate, OpenGate, Taken};
+pub use lent::LentLoop;
+pub use semantics::laws::every_order;
+pub use teamwork::{run_loop, share_loop};

@@ -1,0 +1,167 @@
+//! The team.
+
+ghost use Rattle.std.specs.Prelude.{◌≡◌, map, IfOk, IfErr, OnOk};
+ghost use Rattle.schedule.specs.Sched.{kind_said};
+ghost use Rattle.team.specs.Ends.{AreOfLoop};
+ghost use Rattle.team.specs.Together.{LeavesTogether, IsLeft};
+
+use crate::applied::apply_all;
+use crate::gate::Gate;
+use crate::grounds::grounds_of;
+use crate::lent::{LentLoop, lent_changes};
+use crate::worker::ChunkChanges;
+use crew::{Crew, dismiss, serve_all};
+use ktree::{Refusal, Workers};
+use lower::LoweredLoop;
+use schedule::{Sched, sched_of};
+use std::alloc::Global;
+use std::sync::Wait;
+use std::thread::{Threads, join_mut};
+use store::Store;
+
+/// What all chunks of a loop change, cut as its clause says, and for `runtime` as this schedule does. Where it has no iteration, nothing
+/// is lent to the crew.
+fn loop_changes<'l, R: Wait, G: Gate>(
+    rt: &R,
+    alloc: Global,
+    crew: &Crew<LentLoop<'l>>,
+    lowered: &'l LoweredLoop,
+    registers: &[u64],
+    store: &mut Store,
+    workers: Workers,
+    runtime: Sched,
+    gate: &G,
+) -> Result<Vec<ChunkChanges>, Refusal>
+    ensures all { IfOk result (λ cs. AreOfLoop lowered.now registers.now store.old
+        (kind_said lowered.now.schedule runtime) workers cs.items) }
+    ensures store { store.new ≡ store.old }
+    ensures refusal { IfErr result (λ refusal. refusal ≡ Refusal.OutOfMemory) }
+{
+    let sched = sched_of(lowered.schedule, runtime);
+    let grounds = grounds_of(alloc, lowered, registers, &sched, workers)?;
+    if grounds.chunks.is_empty() {
+        return Ok(Vec::new(alloc));
+    }
+    lent_changes(
+        rt, alloc, crew, lowered, grounds, store, workers, &sched, gate,
+    )
+}
+
+/// Runs a loop on a crew that stands by, as [`run_loop`] does on a team of its own.
+///
+/// # Errors
+///
+/// As for [`run_loop`].
+pub fn share_loop<'l, R: Wait, G: Gate>(
+    rt: &R,
+    alloc: Global,
+    crew: &Crew<LentLoop<'l>>,
+    lowered: &'l LoweredLoop,
+    registers: &[u64],
+    store: &mut Store,
+    workers: Workers,
+    runtime: Sched,
+    gate: &G,
+) -> Result<(), Refusal>
+    ensures leaves { OnOk result (LeavesTogether lowered.now registers.now store.old store.new
+        (kind_said lowered.now.schedule runtime) workers) }
+    ensures shape { map (λ k. k.lengths) store.new ≡ map (λ k. k.lengths) store.old }
+    ensures refusal { IfErr result (λ refusal. refusal ≡ Refusal.OutOfMemory) }
+    ensures kept { IfErr result (λ refusal. store.new ≡ store.old) }
+{
+    let changes = loop_changes(
+        rt, alloc, crew, lowered, registers, store, workers, runtime, gate,
+    )?;
+    apply_all(store, changes);
+    Ok(())
+}
+
+/// Runs a loop on a crew, and dismisses it.
+fn lead<'l, R: Wait, G: Gate>(
+    rt: &R,
+    alloc: Global,
+    crew: &Crew<LentLoop<'l>>,
+    lowered: &'l LoweredLoop,
+    registers: &[u64],
+    store: &mut Store,
+    workers: Workers,
+    runtime: Sched,
+    gate: &G,
+) -> Result<(), Refusal>
+    ensures leaves { OnOk result (IsLeft lowered.now registers.now store.old store.new
+        (kind_said lowered.now.schedule runtime) workers) }
+    ensures shape { map (λ k. k.lengths) store.new ≡ map (λ k. k.lengths) store.old }
+    ensures refusal { IfErr result (λ refusal. refusal ≡ Refusal.OutOfMemory) }
+    ensures kept { IfErr result (λ refusal. store.new ≡ store.old) }
+{
+    let end = share_loop(
+        rt, alloc, crew, lowered, registers, store, workers, runtime, gate,
+    );
+    dismiss(crew);
+    end
+}
+
+/// Starts a crew, runs a loop on it, and ends it.
+fn run_led<'l, R: Threads + Wait + Sync, G: Gate + Sync>(
+    rt: &R,
+    alloc: Global,
+    crew: &Crew<LentLoop<'l>>,
+    lowered: &'l LoweredLoop,
+    registers: &[u64],
+    store: &mut Store,
+    workers: Workers,
+    runtime: Sched,
+    gate: &G,
+) -> Result<(), Refusal>
+    ensures leaves { OnOk result (IsLeft lowered.now registers.now store.old store.new
+        (kind_said lowered.now.schedule runtime) workers) }
+    ensures shape { map (λ k. k.lengths) store.new ≡ map (λ k. k.lengths) store.old }
+    ensures refusal { IfErr result (λ refusal. refusal ≡ Refusal.OutOfMemory) }
+    ensures kept { IfErr result (λ refusal. store.new ≡ store.old) }
+{
+    let (_, end) = join_mut(
+        rt,
+        &mut || serve_all(rt, alloc, crew, gate),
+        &mut || {
+            lead(
+                rt, alloc, crew, lowered, registers, store, workers, runtime, gate,
+            )
+        },
+    );
+    end
+}
+
+/// Runs a loop on a team of so many workers, by the schedule of its clause, and for `runtime` by this one (OpenMP 5.2, 11.5 and
+/// 11.5.3): each worker runs the chunks that are its own or that it draws from the store before the loop; after all have met the
+/// end, the store is overwritten by what they changed. These registers stand as where the loop is reached. Where its chunks have a
+/// run each from there, each object is then as before where none of these runs changes it, and else as one of them leaves it that does.
+///
+/// # Errors
+///
+/// `OutOfMemory` alone, where memory is refused; the store is then as before. Of threads that do not start the others do the work.
+pub fn run_loop<R: Threads + Wait + Sync, G: Gate + Sync>(
+    rt: &R,
+    alloc: Global,
+    lowered: &LoweredLoop,
+    registers: &[u64],
+    store: &mut Store,
+    workers: Workers,
+    runtime: Sched,
+    gate: &G,
+) -> Result<(), Refusal>
+    ensures leaves { OnOk result (LeavesTogether lowered.now registers.now store.old store.new
+        (kind_said lowered.now.schedule runtime) workers) }
+    ensures shape { map (λ k. k.lengths) store.new ≡ map (λ k. k.lengths) store.old }
+    ensures refusal { IfErr result (λ refusal. refusal ≡ Refusal.OutOfMemory) }
+    ensures kept { IfErr result (λ refusal. store.new ≡ store.old) }
+{
+    let crew = Crew::new(workers.get() - 1);
+    if crew.others() == 0 {
+        return share_loop(
+            rt, alloc, &crew, lowered, registers, store, workers, runtime, gate,
+        );
+    }
+    run_led(
+        rt, alloc, &crew, lowered, registers, store, workers, runtime, gate,
+    )
+}

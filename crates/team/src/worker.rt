@@ -1,0 +1,97 @@
+//! One worker of a team.
+
+ghost use Rattle.std.specs.Prelude.{◌≡◌, ◌<◌, length, IfOk, IfErr};
+ghost use Rattle.draw.specs.Tickets.{fresh};
+ghost use Rattle.team.specs.Ends.{IsReady, IsChangeOf, IsFinished};
+
+use crate::gate::{Gate, Taken};
+use crate::job::Job;
+use draw::{DrawSeat, Drawing};
+use ktree::{ChunkNo, Refusal};
+use overlay::{Work, Worker};
+use overlay_pages::Changes;
+use std::alloc::Global;
+
+/// What a chunk changes, without the store that it was run from.
+#[derive(Drop)]
+pub struct ChunkChanges {
+    pub work: Work,
+    pub changes: Changes,
+}
+
+/// A member of a team before it starts: its number among them, and its right to draw.
+#[derive(Drop)]
+pub struct Member {
+    pub number: u64,
+    pub seat: DrawSeat,
+    pub ghost within: { number < seat.of.seats },
+}
+
+/// What a worker leaves when it met the end of the chunks.
+#[derive(Drop)]
+pub struct Finished {
+    pub seat: DrawSeat,
+    pub changes: Vec<ChunkChanges>,
+}
+
+/// Runs a chunk that a worker has taken, after the gate is told of it.
+pub(crate) fn run_taken<G: Gate>(
+    alloc: Global,
+    job: Job,
+    runner: &mut Worker,
+    taken: Taken,
+    gate: &G,
+) -> Result<ChunkChanges, Refusal>
+    requires ready { IsReady job }
+    requires runner { runner.old ≡ job.store.now }
+    requires worker { taken.worker < taken.workers }
+    requires chunk { taken.chunk < taken.chunks }
+    requires count { taken.chunks ≡ length job.chunks.now }
+    ensures runner { runner.new ≡ runner.old }
+    ensures change { IfOk result (IsChangeOf job.entry) }
+    ensures number { IfOk result (λ c. c.work.chunk.0 ≡ taken.chunk) }
+    ensures refusal { IfErr result (λ refusal. refusal ≡ Refusal.OutOfMemory) }
+{
+    gate.entered(taken);
+    let chunk = job.chunks.at(taken.chunk);
+    let work = Work {
+        chunk: ChunkNo(taken.chunk),
+        first: chunk.first,
+        count: chunk.count,
+    };
+    let changes = runner.run_chunk(alloc, job.lowered, job.registers, job.space, work)?;
+    Ok(ChunkChanges { work, changes })
+}
+
+/// Draws until the end, and runs each chunk drawn.
+pub(crate) fn work<G: Gate>(
+    alloc: Global,
+    job: Job,
+    drawing: &Drawing,
+    member: Member,
+    gate: &G,
+) -> Result<Finished, Refusal>
+    requires ready { IsReady job }
+    requires count { drawing.now.count ≡ length job.chunks.now }
+    requires seat { member.seat ≡ fresh drawing.now }
+    ensures finished { IfOk result (λ f. IsFinished job.entry.lowered.now job.entry.registers.now
+        job.entry.store.now job.entry.chunks.now drawing.now f) }
+    ensures refusal { IfErr result (λ refusal. refusal ≡ Refusal.OutOfMemory) }
+{
+    let Member {
+        number: worker,
+        mut seat,
+    } = member;
+    let mut runner = Worker::new(alloc, job.store)?;
+    let mut changes = Vec::new(alloc);
+    while let Some(ticket) = drawing.next(&mut seat) {
+        let taken = Taken {
+            worker,
+            workers: drawing.seats(),
+            chunk: ticket,
+            chunks: drawing.count(),
+        };
+        changes.push(run_taken(alloc, job, &mut runner, taken, gate)?)?;
+    }
+    Ok(Finished { seat, changes })
+}

@@ -1,5 +1,0 @@
-pub mod Cutting
-pub mod Ending
-pub mod Dealing
-pub mod Applying
-pub mod Merging

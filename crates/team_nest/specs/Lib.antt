@@ -1,4 +1,0 @@
-pub mod Together
-pub mod Applied
-pub mod Ends
-pub mod Dealt

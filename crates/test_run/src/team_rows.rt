@@ -1,0 +1,178 @@
+//! Loops that a team runs: what they leave under every schedule, by one worker, three and 64; the values are C's, or counted by hand.
+
+use crate::lowering::{Site, left_by, lowered, one_loop};
+use ktree::{ChunkSize, Schedule};
+use lower::LoweredLoop;
+use schedule::Sched;
+use std::alloc::Global;
+use std::sync::Wait;
+use std::thread::Threads;
+use team::OpenGate;
+
+/// A loop, and what it leaves in `A`, `B` and `s`.
+type Row<'t> = (Site<'t>, [u64; 15]);
+
+/// The schedules of a clause, by numbers from 0; from 6 on it is `runtime`.
+fn clause(number: u64, size: ChunkSize) -> Option<Schedule> {
+    match number {
+        0 => None,
+        1 => Some(Schedule::Static),
+        2 => Some(Schedule::StaticChunks(size)),
+        3 => Some(Schedule::Dynamic(size)),
+        4 => Some(Schedule::Guided(size)),
+        5 => Some(Schedule::Auto),
+        _ => Some(Schedule::Runtime),
+    }
+}
+
+/// What stands for `runtime` there.
+fn runtime(number: u64, size: ChunkSize) -> Sched {
+    match number {
+        7 => Sched::Static(size),
+        8 => Sched::Dynamic(size),
+        9 => Sched::Guided(size),
+        _ => Sched::PlainStatic,
+    }
+}
+
+/// Whether a loop leaves these values by so many workers.
+fn leaves<R: Threads + Wait + Sync>(
+    rt: &R,
+    alloc: Global,
+    lowered: &LoweredLoop,
+    site: Site,
+    count: u64,
+    runtime: Sched,
+    values: &[u64],
+) -> bool {
+    match left_by(rt, alloc, lowered, site, count, runtime, &OpenGate) {
+        Some(store) => store.cells() == values,
+        None => false,
+    }
+}
+
+/// Whether it does so behind the clause of a number, by one worker, three and 64.
+fn leaves_by_all<R: Threads + Wait + Sync>(
+    rt: &R,
+    alloc: Global,
+    row: &Row,
+    number: u64,
+    size: ChunkSize,
+) -> bool {
+    let (site, values) = row;
+    let Some(lowered) = lowered(alloc, *site, clause(number, size)) else {
+        return false;
+    };
+    let mut same = true;
+    for count in [1, 3, 64] {
+        let runtime = runtime(number, size);
+        same &= leaves(rt, alloc, &lowered, *site, count, runtime, values);
+    }
+    same
+}
+
+/// Whether it does so behind each clause, its chunks of three iterations where they have a size.
+fn leaves_always<R: Threads + Wait + Sync>(rt: &R, alloc: Global, row: &Row) -> bool {
+    let Some(three) = ChunkSize::new(3) else {
+        return false;
+    };
+    let mut same = true;
+    for number in 0..10u64 {
+        same &= leaves_by_all(rt, alloc, row, number, three);
+    }
+    same
+}
+
+/// The number of the first of some rows, from 0, that leaves something else somewhere.
+fn first_other<R: Threads + Wait + Sync>(rt: &R, alloc: Global, rows: &[Row]) -> Option<usize> {
+    for (number, row) in rows.iter().enumerate() {
+        if !leaves_always(rt, alloc, row) {
+            return Some(number);
+        }
+    }
+    None
+}
+
+const SUMS: &str =
+    "for (uint64_t i = 0; i < 8; i++) { uint64_t t = i; for (uint64_t k = 0; k < i; k++) t += k; A[i] = t; }";
+
+const BRANCHES: &str =
+    "for (uint64_t i = 0; i < 8; i++) if (i % 2 == 0) A[i] = i + 5; else { uint64_t t = A[i]; A[i] = 100 * t - i; }";
+
+const TWICE: &str = "for (uint64_t i = 0; i < 8; i++) { A[i] = i; A[i] = A[i] + 1; }";
+
+const WRAPS: &str = "for (uint64_t i = 0; i < 5; i++) A[i] = i - A[i];";
+
+#[test]
+fn bodies_of_every_form_are_run(rt: HostRuntime) {
+    let rows = [
+        (
+            one_loop(SUMS),
+            [0, 1, 3, 6, 10, 15, 21, 28, 0, 0, 0, 0, 0, 0, 0],
+        ),
+        (
+            one_loop(BRANCHES),
+            [5, 99, 7, 97, 9, 95, 11, 93, 0, 0, 0, 0, 0, 0, 0],
+        ),
+        (
+            one_loop(TWICE),
+            [1, 2, 3, 4, 5, 6, 7, 8, 0, 0, 0, 0, 0, 0, 0],
+        ),
+        (
+            one_loop(WRAPS),
+            [
+                18446744073709551615,
+                0,
+                1,
+                2,
+                3,
+                1,
+                1,
+                1,
+                0,
+                0,
+                0,
+                0,
+                0,
+                0,
+                0,
+            ],
+        ),
+    ];
+    assert_eq!(rt; first_other(&rt, rt.alloc(), &rows), None);
+}
+
+const FALLS: &str = "for (uint64_t i = 7; i >= 2; i -= 2) A[i] = i * i;";
+
+const TABLE: &str =
+    "for (uint64_t i = 0; i < 2; i++) for (uint64_t j = 0; j < 3; j++) B[i][j] = 10 * i + j + A[j];";
+
+const INNER: &str =
+    "for (uint64_t j = 0; j < 8; j++) for (uint64_t i = 0; i < j; i++) A[i] = i + j;";
+
+const NEVER: &str = "for (uint64_t i = 3; i < 3; i++) A[i] = 7;";
+
+#[test]
+fn nests_of_every_form_are_run(rt: HostRuntime) {
+    let nest = Site {
+        depth: 2,
+        ..one_loop(TABLE)
+    };
+    let turn = Site {
+        turn: Some(3),
+        ..one_loop(INNER)
+    };
+    let rows = [
+        (
+            one_loop(FALLS),
+            [1, 1, 1, 9, 1, 25, 1, 49, 0, 0, 0, 0, 0, 0, 0],
+        ),
+        (nest, [1, 1, 1, 1, 1, 1, 1, 1, 1, 2, 3, 11, 12, 13, 0]),
+        (turn, [3, 4, 5, 1, 1, 1, 1, 1, 0, 0, 0, 0, 0, 0, 0]),
+        (
+            one_loop(NEVER),
+            [1, 1, 1, 1, 1, 1, 1, 1, 0, 0, 0, 0, 0, 0, 0],
+        ),
+    ];
+    assert_eq!(rt; first_other(&rt, rt.alloc(), &rows), None);
+}
