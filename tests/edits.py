@@ -1,23 +1,30 @@
 #!/usr/bin/env python3
 """Tries the edits that must fail, crates/NAME/edits/*.edit: wrong bodies of functions, in the form of `rt must-fail`.
 
-    python3 tests/edits.py [NAME..]        of all crates, or of these
-    python3 tests/edits.py --proved        of all crates, each of which was proved just now as it stands
+    python3 tests/edits.py                 of all crates but those whose edits were refused as they stand
+    python3 tests/edits.py --all           of all crates
+    python3 tests/edits.py NAME..          of these crates
     python3 tests/edits.py --read          says in a second which edits, of edits/ and of must-fail/, cannot be applied, and tries none
+    --proved, in front of these            each crate was proved just now as it stands
 
 Edits of different functions of a crate are tried together, in one check. An edit is refused only where a goal of the very
 function that it changes is refused, and one of a constant only where a goal of a function that names the constant is; where
 that is not shown, it is tried alone. Unless --proved says that it was, the crate as it stands has to be proved, over the same
 kept work. It prints a line for each crate, the edits that are not refused, and their number; the status is 0 where each edit
 is refused.
+
+Whether an edit is refused depends on the sources of its crate, on what the crates below promise and on the toolchain alone.
+Where all edits of a crate were refused, the sum of these is noted in tests/edits.tried, and they are tried anew once it differs.
 """
 import dataclasses
 import glob
+import hashlib
 import os
 import re
 import shutil
 import sys
 import tempfile
+import threading
 import time
 
 TOP = os.path.dirname(os.path.dirname(os.path.abspath(__file__)))
@@ -30,6 +37,7 @@ JOBS = ["--jobs", "1"]
 HEAD = re.compile(r"(\s*)(?:pub(?:\([^)]*\))? )?(?:const )?(?:unsafe )?fn (\w+)")
 CONST = re.compile(r"\s*(?:pub(?:\([^)]*\))? )?const (\w+):")
 IMPL = re.compile(r"impl(?:<.*?>)? (?:(?P<trait>.*) for )?(?:\w+::)*(?P<type>\w+)")
+TRIED = os.path.join(TOP, "tests", "edits.tried")
 NAMES_ALONE = "only because a proof file names what the edit took away"
 NAMES = re.compile(r"has no field|is not in scope|has no `|was not admitted")
 
@@ -221,10 +229,12 @@ def try_crate(rt, crate, files, was_proved):
             failed.append(f"{crate.name}/{os.path.basename(file)}: it cannot be applied: {why}")
         else:
             edits.append(edit)
-    with tempfile.TemporaryDirectory(prefix="edits-") as kept:
-        before = f"{crate.folder}/out/incremental"
-        if os.path.isdir(before):
-            shutil.copytree(before, kept, dirs_exist_ok=True)
+    with tempfile.TemporaryDirectory(prefix="edits-") as room:
+        kept, before = f"{room}/kept", rt.work_for(crate)
+        if before:
+            rt.linked(before, kept)
+        else:
+            os.mkdir(kept)
         shown = []
         for batch in in_batches([it for it in edits if it.functions]):
             shown += try_batch(rt, crate, batch, kept)
@@ -254,6 +264,35 @@ def libraries_are_there(rt, crates):
     return not any(it.build_rlib(JOBS, anew=False) for it in below.values())
 
 
+class Tried:
+    """The crates whose edits were all refused, each with the sum of what that rests on, as the file of this name has them."""
+
+    def __init__(self, rt):
+        self.lock, self.rt = threading.Lock(), rt
+        rows = read(TRIED).splitlines() if os.path.isfile(TRIED) else []
+        self.sums = dict(row.split() for row in rows)
+
+    def sum_of(self, crate):
+        """The sum of a crate's sources with its edits, of the sources of those below without their proofs, and of the toolchain."""
+        found = hashlib.sha256(read(f"{self.rt.KIT}/KIT-ID").encode())
+        parts = [(crate, it) for it in ("src", "specs", "proofs", "edits")]
+        for owner, part in parts + [(dep, it) for dep in crate.below() for it in ("src", "specs")]:
+            for file in sorted(glob.glob(f"{owner.folder}/{part}/**/*.*", recursive=True)):
+                found.update(f"{owner.name}/{os.path.relpath(file, owner.folder)}\n{read(file)}\n".encode())
+        return found.hexdigest()[:32]
+
+    def has(self, crate):
+        return self.sums.get(crate.name) == self.sum_of(crate)
+
+    def note(self, crate, known):
+        """Notes that all edits of a crate are refused; crates that have none any more are dropped."""
+        with self.lock:
+            self.sums[crate.name] = self.sum_of(crate)
+            rows = [f"{name} {sum}\n" for name, sum in sorted(self.sums.items()) if name in known]
+            with open(TRIED, "w", encoding="utf-8") as it:
+                it.writelines(rows)
+
+
 def read_all(rt):
     """Says which edits cannot be applied, and how many there are."""
     files = sorted(glob.glob(f"{TOP}/crates/*/edits/*")) + sorted(glob.glob(f"{TOP}/crates/*/must-fail/*.edit"))
@@ -265,14 +304,14 @@ def read_all(rt):
     return 1 if faults else 0
 
 
-def main(names):
+def main(words):
     started = time.time()
     os.chdir(TOP)
     rt = kit.load()
-    if names == ["--read"]:
+    if words == ["--read"]:
         return read_all(rt)
-    was_proved = names == ["--proved"]
-    names = [] if was_proved else names
+    was_proved, is_anew = "--proved" in words, "--all" in words
+    names = [it for it in words if not it.startswith("--")]
     rt.rtlib.guarded()
     rt.rtlib.Crate = rt.Crate
     rt.Crate.cuts_libraries = True
@@ -280,7 +319,10 @@ def main(names):
     files = {}
     for file in every:
         files.setdefault(file.split("/")[-3], []).append(file)
-    chosen = [it for it in rt.rtlib.crates_below(TOP) if it.name in files and (not names or it.name in names)]
+    with_edits = [it for it in rt.rtlib.crates_below(TOP) if it.name in files and (not names or it.name in names)]
+    tried = Tried(rt)
+    as_noted = [] if names or is_anew else [it for it in with_edits if tried.has(it)]
+    chosen = [it for it in with_edits if it not in as_noted]
     if not libraries_are_there(rt, chosen):
         sys.exit("edits: a library is not proved, so no edit was tried")
 
@@ -290,6 +332,8 @@ def main(names):
         count = len(files[crate.name])
         took = time.time() - begun
         print(f"edits of {crate.name}: {count - len(failed)} of {count} refused, {shown} together, {checks} checks, {took:.0f} s", flush=True)
+        if not failed:
+            tried.note(crate, files)
         return failed, count
 
     work = {}
@@ -298,12 +342,13 @@ def main(names):
         work[crate.name, "edits"] = ([], lines, rt.need(crate), lambda given, jobs, it=crate: task(it))
     done = rt.in_lanes(work).values()
     failed = [text for texts, _ in done for text in texts]
-    tried = sum(count for _, count in done)
+    now, noted = sum(count for _, count in done), sum(len(files[it.name]) for it in as_noted)
     wanted = len(every) if not names else sum(len(files.get(it, [])) for it in names)
     for text in failed:
         print(text)
-    print(f"edits: {tried} of {wanted} tried, {tried - len(failed)} refused, {time.time() - started:.0f} s")
-    return 0 if not failed and tried == wanted else 1
+    refused = now + noted - len(failed)
+    print(f"edits: {refused} of {wanted} refused, {now} tried now and {noted} as they stand before, {time.time() - started:.0f} s")
+    return 0 if refused == wanted else 1
 
 
 if __name__ == "__main__":
