@@ -3,6 +3,7 @@ use Rattle.std.specs.Prelude.{ℕ, List, [], ◌∷◌, ◌++◌}
 use Rattle.std.proofs.Common.{refl}
 use Rattle.semantics.specs.Tree.{Stmt, Assign, Update, If, IfElse, For, Block, Print, Items, no_items, mark, local, stmt, Declaration}
 use Rattle.semantics.specs.Loops.Nest.{Loop}
+use Rattle.law_lines.proofs.Kept.{kept_lines_are_read}
 use Rattle.pairtest_counter.specs.Levels.{Nesting}
 use Rattle.nest.specs.Nests.{Has, Have, StaysInside}
 use Rattle.pragma.specs.Parallel.{associated, FirstHas, LineHas, LoopsHave, ItemsHave}
@@ -54,6 +55,6 @@ module _ (text : List ℕ) (ds : List Declaration) (short : HaveShort ds) where
 
 pub shown_kernels_are_independent : ShownKernelsAreIndependent
 shown_kernels_are_independent text k reads in_range shown =
-    let read = reads.reads in
+    let read = (kept_lines_are_read text k reads).reads in
     items_independent text k.variables (decls_short read.declared tt) k.body no_loops [] refl shown
     (items_read [] read.items (decls_small read.declared tt) (λ y c. absurd cc)) in_range

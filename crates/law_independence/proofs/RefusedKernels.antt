@@ -4,6 +4,7 @@ use Rattle.std.proofs.Common.{refl, sym, inl, inr, subst}
 use Rattle.semantics.specs.Tree.{Stmt, Assign, Update, If, IfElse, For, Block, Print, Items, no_items, mark, local, stmt, Declaration}
 use Rattle.semantics.specs.Source.Text.{line_at}
 use Rattle.semantics.specs.Loops.Nest.{Loop}
+use Rattle.law_lines.proofs.Kept.{kept_lines_are_read}
 use Rattle.ktree.specs.declared.refusal.Refusal.{Refusal}
 use Rattle.affine.specs.declared.interval.Interval.{Interval}
 use Rattle.nest_loop.specs.Loops.{inside}
@@ -75,5 +76,5 @@ module _ (text : List ℕ) (ds : List Declaration) (r : Refusal) (short : HaveSh
 pub refusals_are_told : RefusalsAreTold
 refusals_are_told text k r reads in_range right (inl e) = inl e
 refusals_are_told text k r reads in_range right (inr refused) =
-    let read = reads.reads in
+    let read = (kept_lines_are_read text k reads).reads in
     inr (items_told text k.variables r (decls_short read.declared tt) k.body no_loops [] refl (items_read [] read.items (decls_small read.declared tt) (λ y c. absurd cc)) in_range right refused)

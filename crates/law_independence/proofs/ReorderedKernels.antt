@@ -9,6 +9,7 @@ use Rattle.semantics.specs.Source.Statements.{ReadsStmt, assign, update, if_only
 use Rattle.semantics.specs.Source.Text.{line_at}
 use Rattle.semantics.specs.Meaning.Definite.{Privates, no_privates, definite_items, known_at_start}
 use Rattle.semantics.specs.Loops.Nest.{Loop}
+use Rattle.law_lines.proofs.Kept.{kept_lines_are_read}
 use Rattle.nest_loop.specs.Loops.{inside}
 use Rattle.pairtest_counter.specs.Levels.{Nesting}
 use Rattle.pragma.specs.Parallel.{associated, FirstHas, LineHas, LoopsHave, ItemsHave}
@@ -95,7 +96,7 @@ module _ (text : List ℕ) (ds : List Declaration) (short : HaveShort ds) (P : P
 pub accepted_loops_commute : AcceptedLoopsCommute
 accepted_loops_commute text k P reads in_range definite locals private shown =
     let ds = k.variables in
-    let read = reads.reads in
+    let read = (kept_lines_are_read text k reads).reads in
     let left = some_there (definite_items P [] k.body (known_at_start ds)) definite in
     let plain = more_known.items P no_privates [] [] k.body (known_at_start ds) left.0 (known_at_start ds) (λ line x h. absurd (cc h)) (λ x h. h) (λ x h. h) left.1 in
     let below = decls_below (length ds) read.declared (omega arith) tt in

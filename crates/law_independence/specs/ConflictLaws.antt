@@ -1,7 +1,7 @@
 -- What the dependence test tells of a kernel: a conflict is one, in the words of the definitions. (C11 5.1.2.4, 4; OpenMP 5.2, 1.4.1)
 use Rattle.std.specs.Prelude.{ℕ, ◌≡◌, ◌⊎◌, ◌<◌, List, [], ◌∷◌, length, map, slice_get, Option, Some, None, option_and_then, string_bytes}
 use Rattle.semantics.specs.Tree.{Stmt, Declaration, Kernel}
-use Rattle.semantics.specs.Source.Grammar.{ReadsText}
+use Rattle.law_lines.specs.Without.{IsTreeOf}
 use Rattle.semantics.specs.Meaning.State.{State}
 use Rattle.semantics.specs.Meaning.Value.{values}
 use Rattle.semantics.specs.Loops.Nest.{Loop, Vector, nest_of, loop_values, at_value, iterations, at_vector}
@@ -126,5 +126,5 @@ IsToldOf ds r serial n s =
 -- a kernel of the grammar whose loops are canonical, with subscripts in range and right nests, is refused for its first parallel loop that is not shown to be independent; those before it are independent
 abbrev pub RefusalsAreTold : Type 0
 RefusalsAreTold =
-    (text : List ℕ) (k : Kernel) (r : Refusal) → ReadsText text k → IsInRange k → AreRightNests text k → IsRefused text k r
+    (text : List ℕ) (k : Kernel) (r : Refusal) → IsTreeOf text k → IsInRange k → AreRightNests text k → IsRefused text k r
     → (r ≡ refusals.OutOfMemory) ⊎ FirstItemHas text IsIndependentNest (IsToldOf k.variables r) [] k.body

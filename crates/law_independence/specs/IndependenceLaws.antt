@@ -1,7 +1,7 @@
 -- Loops that the tests of pairs show to be independent have no conflicts. (C11 5.1.2.4, 4; OpenMP 5.2, 1.4.1 and 11.5)
 use Rattle.std.specs.Prelude.{ℕ, ◌≡◌, ℤ, List, [], length, map, Contains, Some, IsSome}
 use Rattle.semantics.specs.Tree.{Stmt, Declaration, Kernel}
-use Rattle.semantics.specs.Source.Grammar.{ReadsText}
+use Rattle.law_lines.specs.Without.{IsTreeOf}
 use Rattle.semantics.specs.Meaning.State.{State}
 use Rattle.semantics.specs.Loops.Nest.{Loop, Vector, nest_of, iterations}
 use Rattle.semantics.specs.Loops.Access.{Conflict}
@@ -45,4 +45,4 @@ ShownLoopsAreIndependent =
 
 -- each parallel loop of a kernel of the grammar is independent, where no subscript leaves its dimension and the test of pairs shows all of them to be so
 abbrev pub ShownKernelsAreIndependent : Type 0
-ShownKernelsAreIndependent = (text : List ℕ) (k : Kernel) → ReadsText text k → IsInRange k → AreShownLoops text k → ItemsHave text IsIndependentNest [] k.body
+ShownKernelsAreIndependent = (text : List ℕ) (k : Kernel) → IsTreeOf text k → IsInRange k → AreShownLoops text k → ItemsHave text IsIndependentNest [] k.body

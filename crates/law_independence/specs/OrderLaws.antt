@@ -5,7 +5,7 @@ use Rattle.semantics.specs.Tree.{Variable, Stmt, Kernel}
 use Rattle.semantics.specs.Source.Token.{Token}
 use Rattle.semantics.specs.Source.Scope.{Scope}
 use Rattle.semantics.specs.Source.Statements.{ReadsIncrement}
-use Rattle.semantics.specs.Source.Grammar.{ReadsText}
+use Rattle.law_lines.specs.Without.{IsTreeOf}
 use Rattle.semantics.specs.Meaning.State.{State}
 use Rattle.semantics.specs.Meaning.Agrees.{is_among}
 use Rattle.semantics.specs.Meaning.Definite.{Privates, IsDefinite}
@@ -75,5 +75,5 @@ ArePrivateLocals k P = (line : ℕ) (x : Variable) → is_among (P line) x ≡ t
 -- so each parallel loop of a kernel of the grammar, where no subscript leaves its dimension, no local is read before it is assigned, parallel loops keep to their own scalars and their private ones, print nothing and assign each private one before they read it, and the test of pairs shows all of them to be independent
 abbrev pub AcceptedLoopsCommute : Type 0
 AcceptedLoopsCommute =
-    (text : List ℕ) (k : Kernel) (P : Privates) → ReadsText text k → IsInRange k → IsDefinite P k → ArePrivateLocals k P → ItemsPrivate text P [] k.body
+    (text : List ℕ) (k : Kernel) (P : Privates) → IsTreeOf text k → IsInRange k → IsDefinite P k → ArePrivateLocals k P → ItemsPrivate text P [] k.body
     → AreShownLoops text k → ItemsHave text CommutesAsNest [] k.body

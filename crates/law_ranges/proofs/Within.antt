@@ -9,6 +9,7 @@ use Rattle.semantics.specs.Meaning.Value.{values, both}
 use Rattle.semantics.specs.Meaning.Value as meaning
 use Rattle.semantics.specs.Meaning.Places as places
 use Rattle.semantics.specs.Loops.Nest.{at_vector}
+use Rattle.law_lines.proofs.Kept.{kept_lines_are_read}
 use Rattle.affine.specs.declared.interval.Side.{Side}
 use Rattle.affine.specs.Affine.{Affine}
 use Rattle.affine_expr.specs.Forms.{form_of}
@@ -52,7 +53,7 @@ module _ (s : State) (box : List Side) (turn_values : Variable → ℤ) (turn : 
 
 pub ranges_hold_at_turns : RangesHoldAtTurns
 ranges_hold_at_turns text k access s turns u reads in_range there e among =
-    let read = reads.reads in
+    let read = (kept_lines_are_read text k reads).reads in
     let round = items_round k.variables [] [] k.body refl (items_read [] read.items (decls_small read.declared tt) (λ y c. absurd cc)) in_range access there in
     let turn = turn_of access.inner [] round.box (λ x. pos 0) s turns u round.round (at_start s) e among in
     let indexes = subscripts_there (at_vector access.inner u s) round.box turn.0 turn.1 (lengths_of (slice_get k.variables access.array)) access.subscripts

@@ -1,7 +1,7 @@
 -- Accesses at the turns of the loops round them. (C11 6.5.6, 8; OpenMP 5.2, 4.4.2)
 use Rattle.std.specs.Prelude.{ℕ, ◌≡◌, true, ℤ, List, [], ◌∷◌, Contains, Some, slice_get}
 use Rattle.semantics.specs.Tree.{Variable, Declaration, Kernel}
-use Rattle.semantics.specs.Source.Grammar.{ReadsText}
+use Rattle.law_lines.specs.Without.{IsTreeOf}
 use Rattle.semantics.specs.Meaning.State.{State}
 use Rattle.semantics.specs.Meaning.Value.{values}
 use Rattle.semantics.specs.Meaning.Places as places
@@ -25,7 +25,7 @@ pub record IsWithin (ds : List Declaration) (access : Access) (s : State) : Type
 -- so those of each access of a kernel in range, at each turn of the loops round it, whatever the state before these loops is
 abbrev pub RangesHoldAtTurns : Type 0
 RangesHoldAtTurns =
-    (text : List ℕ) (k : Kernel) (access : Access) (s : State) (turns : List Vector) (u : Vector) → ReadsText text k → IsInRange k
+    (text : List ℕ) (k : Kernel) (access : Access) (s : State) (turns : List Vector) (u : Vector) → IsTreeOf text k → IsInRange k
     → Contains (items_accesses [] k.body) access → iterations access.inner s ≡ Some turns → Contains turns u → IsWithin k.variables access (at_vector access.inner u s)
 
 -- loops of the text, the outermost first, inside some with constant bounds: each has constant bounds too; all of them, the innermost first

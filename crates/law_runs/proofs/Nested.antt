@@ -10,6 +10,7 @@ use Rattle.semantics.specs.Source.Grammar.{ReadsLengths, no_lengths, dimension, 
 use Rattle.semantics.specs.Meaning.State.{State}
 use Rattle.semantics.specs.Meaning.Runs.{Effect, run_items}
 use Rattle.semantics.specs.Meaning.Definite.{DefinitelyAssigned, no_privates, definite_items, known_at_start}
+use Rattle.law_lines.proofs.Kept.{kept_lines_are_read}
 use Rattle.law_runs.specs.Total.{NestedKernelsRun}
 use Rattle.nest_loop.specs.Constants.{Each, IsSmall}
 use Rattle.nest_loop.proofs.Visible.{each_weaker, constant_there}
@@ -70,7 +71,7 @@ pub nested_kernels_run : NestedKernelsRun
 unfolding no_values
 nested_kernels_run text k s reads in_range definite state outside =
     let ds = k.variables in
-    let read = reads.reads in
+    let read = (kept_lines_are_read text k reads).reads in
     let left = some_there (definite_items no_privates [] k.body (known_at_start ds)) definite in
     let below = decls_below (length ds) read.declared (omega arith) tt in
     let point : IsPoint ds [] no_values read.scope (length ds) (known_at_start ds) s = record {

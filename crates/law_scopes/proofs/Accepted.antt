@@ -14,6 +14,7 @@ use Rattle.semantics.specs.Meaning.Runs.{Effect}
 use Rattle.semantics.specs.Meaning.Definite.{Privates, DefinitelyAssigned, known_with, without, may_take, may_test, no_privates, privates_in, after_both, declared_known, definite, definite_items, known_at_start}
 use Rattle.semantics.specs.Meaning.Agrees.{also, is_among, declared_in, visible_behind}
 use Rattle.semantics.specs.Loops.Nest.{Loop, nest_of, iterations}
+use Rattle.law_lines.proofs.Kept.{kept_lines_are_read}
 use Rattle.affine.specs.declared.interval.Side.{Side}
 use Rattle.nest_loop.specs.Canonical.{stepped, assigns, assigns_among}
 use Rattle.nest_loop.specs.Constants.{Each}
@@ -246,7 +247,7 @@ pub accepted_apart : AcceptedKernelsRunApart
 accepted_apart text k P s e reads in_range definite locals private commute none ran =
     let ds = k.variables in
     let n = length ds in
-    let read = reads.reads in
+    let read = (kept_lines_are_read text k reads).reads in
     let known = known_at_start ds in
     let left = some_there (definite_items P [] k.body known) definite in
     let plain = more_known.items P no_privates [] [] k.body known left.0 known (λ at x h. absurd (cc h)) (λ x h. h) (λ x h. h) left.1 in

@@ -1,7 +1,7 @@
 -- Kernels run apart leave what they leave in sequence. (C11 6.2.1 and 6.2.4; OpenMP 5.2, 11.5)
 use Rattle.std.specs.Prelude.{ℕ, ◌≡◌, ◌≤◌, List, [], length, Option, Some, None}
 use Rattle.semantics.specs.Tree.{Variable, Kernel}
-use Rattle.semantics.specs.Source.Grammar.{ReadsText}
+use Rattle.law_lines.specs.Without.{IsTreeOf}
 use Rattle.semantics.specs.Meaning.State.{State, overwritten}
 use Rattle.semantics.specs.Meaning.Definite.{Privates, IsDefinite}
 use Rattle.semantics.specs.Meaning.Runs.{Effect, run_items}
@@ -25,6 +25,6 @@ pub record LeavesTheSame (s : State) (e : Effect) (o : Option Effect) : Type 0 w
 -- so it is of each kernel of the grammar with subscripts in range, in which no local is read before it is assigned, and whose parallel loops commute and assign of scalars their own and their private ones alone
 abbrev pub AcceptedKernelsRunApart : Type 0
 AcceptedKernelsRunApart =
-    (text : List ℕ) (k : Kernel) (P : Privates) (s : State) (e : Effect) → ReadsText text k → IsInRange k → IsDefinite P k → ArePrivateLocals k P
+    (text : List ℕ) (k : Kernel) (P : Privates) (s : State) (e : Effect) → IsTreeOf text k → IsInRange k → IsDefinite P k → ArePrivateLocals k P
     → ItemsPrivate text P [] k.body → ItemsHave text CommutesAsNest [] k.body → NoObjectsFrom (length k.variables) s → run_items k.body s ≡ Some e
     → LeavesTheSame s e (apart_items [] k.body s)

@@ -6,6 +6,7 @@ use Rattle.semantics.specs.Source.Token.{Token, Word, IntegerConstant, StringLit
 use Rattle.semantics.specs.Source.Cuts.{is_name, Stands, word, number, text, symbol, Cuts, end, blank, line_end, comment_line, comment, directive, header, token}
 use Rattle.semantics.specs.Source.Scope.{Scope, Entity, AVariable, AConstant, same_name, find, with_constants}
 use Rattle.semantics.specs.Source.Grammar.{ReadsLengths, no_lengths, dimension, ReadsDecls, no_decls, enum, object, headers, ReadsText}
+use Rattle.law_lines.specs.Without.{IsTreeOf}
 use Rattle.seqrun_io.specs.Reading.{IsOther, ArePositive, AreVariables}
 use Rattle.seqrun_io.proofs.InputLaw.{itself}
 
@@ -90,8 +91,11 @@ variables_in (object {scope = scope} {next = next} {name = name} {ns = ns} {ts =
 )
 
 -- so a text's variables can be named in an input
-pub variables_of : (bytes : List ℕ) (tree : Kernel) → ReadsText bytes tree → AreVariables tree.variables
-variables_of bytes tree r =
+read_variables : (bytes : List ℕ) (tree : Kernel) → ReadsText bytes tree → AreVariables tree.variables
+read_variables bytes tree r =
     let all : AreNamed r.tokens = cut_named r.cut.cut in
     let parts = subst AreNamed r.reads.all all in
     variables_in r.reads.declared (front r.reads.decls _ (behind (headers r.reads.includes) _ parts))
+
+pub variables_of : (bytes : List ℕ) (tree : Kernel) → IsTreeOf bytes tree → AreVariables tree.variables
+variables_of bytes tree t = subst (λ (k : Kernel). AreVariables k.variables) (sym t.is) (read_variables bytes t.whole t.reads)
