@@ -1,0 +1,134 @@
+//! Kernels without the directive lines of their parallel regions.
+
+ghost use Rattle.std.specs.Prelude.{◌≡◌, Some, IfOk};
+ghost use Rattle.semantics.specs.Directives.Placed.{is_team};
+ghost use Rattle.ktree.specs.DirectiveView.{name_of, directive_of};
+ghost use Rattle.ktree.specs.View.{stmt_of, with_item, items_of, kernel_of};
+ghost use Rattle.law_lines.specs.Without.{without_in, without_among, without_lines};
+ghost use Rattle.pragma_region.specs.Regions.{is_region_line};
+
+use ktree::{Directive, Item, Kernel, Place, Stmt, Written};
+use pragma::Directives;
+use std::alloc::{AllocError, Global};
+
+/// Whether a directive is `parallel`.
+fn is_parallel(directive: &Directive<Written>) -> bool
+    ensures { result ≡ is_team (Some (directive_of name_of directive.now)) }
+{
+    match directive {
+        Directive::Parallel(_) => true,
+        _ => false,
+    }
+}
+
+/// Whether the line at a place is a `parallel` directive.
+#[tactic(auto, using(crate::proofs::Lines::region_none))]
+fn is_region(directives: &Directives, place: Place) -> bool
+    ensures { result ≡ is_region_line directives.now place.line }
+{
+    let Ok(directive) = directives.directive(place) else {
+        return false;
+    };
+    is_parallel(directive)
+}
+
+/// A statement without these lines.
+#[cycle(statement)]
+#[tactic(auto, using(ktree::proofs::Trees::block_items))]
+fn statement_without(
+    alloc: Global,
+    directives: &Directives,
+    statement: Stmt,
+) -> Result<Stmt, AllocError>
+    ensures { IfOk result (λ s. stmt_of s
+        ≡ without_in (is_region_line directives.now) (stmt_of statement)) }
+{
+    match statement {
+        Stmt::Assign(target, source) => Ok(Stmt::Assign(target, source)),
+        Stmt::Update(target, operator, operand) => Ok(Stmt::Update(target, operator, operand)),
+        Stmt::If(test, then, other) => {
+            let then = boxed_without(alloc, directives, then)?;
+            match other {
+                None => Ok(Stmt::If(test, then, None)),
+                Some(other) => {
+                    let other = boxed_without(alloc, directives, other)?;
+                    Ok(Stmt::If(test, then, Some(other)))
+                }
+            }
+        }
+        Stmt::For(head, body) => {
+            let body = boxed_without(alloc, directives, body)?;
+            Ok(Stmt::For(head, body))
+        }
+        Stmt::Block(items) => Ok(Stmt::Block(items_without(alloc, directives, items)?)),
+        Stmt::Print(parts, place) => Ok(Stmt::Print(parts, place)),
+    }
+}
+
+/// A statement in a box.
+#[cycle(statement)]
+fn boxed_without(
+    alloc: Global,
+    directives: &Directives,
+    statement: Box<Stmt>,
+) -> Result<Box<Stmt>, AllocError>
+    ensures { IfOk result (λ s. stmt_of s.value
+        ≡ without_in (is_region_line directives.now) (stmt_of statement.value)) }
+{
+    let statement = statement_without(alloc, directives, Box::into_inner(statement))?;
+    Ok(Box::new(alloc, statement)?)
+}
+
+/// The items of a block.
+#[cycle(statement)]
+fn items_without(
+    alloc: Global,
+    directives: &Directives,
+    items: Vec<Item>,
+) -> Result<Vec<Item>, AllocError>
+    ensures { IfOk result (λ kept. items_of kept.items
+        ≡ without_among (is_region_line directives.now) (items_of items.items)) }
+{
+    let mut kept = Vec::new(alloc);
+    for item in items {
+        match item {
+            Item::Directive(place) => {
+                if !is_region(directives, place) {
+                    kept.push(Item::Directive(place))?;
+                }
+            }
+            Item::Local(local) => kept.push(Item::Local(local))?,
+            Item::Statement(statement) => {
+                kept.push(Item::Statement(boxed_without(alloc, directives, statement)?))?;
+            }
+        }
+    }
+    Ok(kept)
+}
+
+/// The kernel with each parallel region dissolved: without the lines of its `parallel` directives, so that each of its loops stands
+/// behind its own line alone (OpenMP 5.2, 10.1 and 11.5).
+///
+/// # Errors
+///
+/// Where memory runs out.
+pub fn dissolve_regions(
+    alloc: Global,
+    directives: &Directives,
+    kernel: Kernel,
+) -> Result<Kernel, AllocError>
+    ensures { IfOk result (λ k. kernel_of k
+        ≡ without_lines (is_region_line directives.now) (kernel_of kernel)) }
+{
+    let Kernel {
+        constants,
+        variables,
+        body,
+    } = kernel;
+    let body = items_without(alloc, directives, body)?;
+    Ok(Kernel {
+        constants,
+        variables,
+        body,
+    })
+}

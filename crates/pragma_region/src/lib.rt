@@ -1,0 +1,6 @@
+//! Parallel regions that are dissolved into their loops.
+#![tactic(auto)]
+
+mod dissolving;
+
+pub use dissolving::dissolve_regions;
