@@ -1,6 +1,6 @@
 -- The private variables of directive lines are locals, and where none is read unassigned, none is whatever is private.
 use Rattle.std.specs.Prelude.{ℕ, Bool, true, false, not, nat_lt, ◌≡◌, ◌≤◌, ◌==◌, ◌||◌, if◌then◌else◌, List, [], ◌∷◌, filter, flat_map, length, is_some, Option, Some, None}
-use Rattle.std.proofs.Common.{refl, ap, subst}
+use Rattle.std.proofs.Common.{refl, sym, ap, subst}
 use Rattle.std.proofs.lemmas.Bool.{eqb-true, ltb-false}
 use Rattle.semantics.specs.Tree.{Variable, Kernel}
 use Rattle.semantics.specs.Meaning.Agrees.{is_among}
@@ -8,6 +8,7 @@ use Rattle.semantics.specs.Meaning.Definite.{DefinitelyAssigned, Privates, no_pr
 use Rattle.semantics.specs.Directives.Directive.{Clause}
 use Rattle.semantics.specs.Directives.Annotated.{Directives, clauses_at}
 use Rattle.semantics.specs.Directives.Clauses.{private_of, locals_in, privates_of}
+use Rattle.law_lines.specs.Without.{IsTreeOf}
 use Rattle.law_private.proofs.More.{more_known}
 use Rattle.law_independence.specs.OrderLaws.{ArePrivateLocals}
 
@@ -27,12 +28,15 @@ passes n (y ∷ xs) x h = go (nat_lt y n) refl h (λ k. passes n xs x k)
     go true is h later = later h
     go false is h later = here (y == x) refl (ltb-false y n is) h later
 
-pub private_locals : (k : Kernel) (ds : Directives) → ArePrivateLocals k (privates_of k ds)
-private_locals k ds line x h = go (clauses_at k ds line) h
+whole_locals : (k : Kernel) (ds : Directives) → ArePrivateLocals k (privates_of k ds)
+whole_locals k ds line x h = go (clauses_at k ds line) h
   where
     go : (o : Option (List (Clause Variable))) → is_among (locals_in k o) x ≡ true → length k.variables ≤ x
     go None h = absurd cc
     go (Some cs) h = passes (length k.variables) (flat_map private_of cs) x h
+
+pub private_locals : (text : List ℕ) (k : Kernel) (t : IsTreeOf text k) (ds : Directives) → ArePrivateLocals k (privates_of t.whole ds)
+private_locals text k t ds = subst (λ (j : Kernel). ArePrivateLocals j (privates_of t.whole ds)) (sym t.is) (whole_locals t.whole ds)
 
 -- with private locals that are unassigned behind their constructs no local is read unassigned, nor is one without them
 pub plainly_definite : (P : Privates) (k : Kernel) → IsDefinite P k → IsDefinite no_privates k

@@ -1,7 +1,7 @@
 -- Kernels whose parallel loops are shown to be independent, and what is kept of an accepted text. (OpenMP 5.2, 1.4.1 and 11.5; C11 5.1.2.4)
 use Rattle.std.specs.Prelude.{ℕ, ◌≡◌, true, List, [], Some}
 use Rattle.semantics.specs.Tree.{Kernel, strip}
-use Rattle.semantics.specs.Source.Grammar.{ReadsText}
+use Rattle.law_lines.specs.Without.{IsTreeOf}
 use Rattle.semantics.specs.Meaning.Definite.{IsDefinite}
 use Rattle.semantics.specs.Directives.Annotated.{Directives, clauses_at}
 use Rattle.semantics.specs.Directives.Clauses.{privates_of}
@@ -33,17 +33,17 @@ tree_of p = strip (kernel_of p.kernel)
 abbrev pub clauses_said : Kernel → Directives → Lines
 clauses_said k ds line = known_clauses (Some (clauses_at k ds line))
 
--- what is known before the dependence test: the text reads as the tree, whose loops are canonical and never wrap, no subscript leaves its array, each directive line is a `parallel for` before a loop that holds no other, with a right nest, that writes no scalar but its own and the private ones, which it assigns before it reads them, and prints nothing, and no local is read before it is assigned; its directives are attached to it, the private ones are those of their clauses, and these name what they may
+-- what is known before the dependence test: the tree is one of the text, whose directives are attached to the whole of it; its loops are canonical and never wrap, no subscript leaves its array, each directive line left in it is that of a loop directly behind it that holds no other, with a right nest, that writes no scalar but its own and the private ones, which it assigns before it reads them, and prints nothing, and no local is read before it is assigned; the private ones are those of the clauses, and these name what they may
 pub record HasPassed (text : List ℕ) (k : Kernel) : Type 0 where
-  pub reads : ReadsText text k
+  pub reads : IsTreeOf text k
   pub directives : Directives
-  pub attached : IsAttached text k directives
+  pub attached : IsAttached text reads.whole directives
   pub in_range : IsInRange k
   pub directed : IsDirected text k
   pub nested : AreRightNests text k
-  pub definite : IsDefinite (privates_of k directives) k
-  pub private : ItemsPrivate text (privates_of k directives) [] k.body
-  pub fit : fit_clauses (clauses_said k directives) k ≡ true
+  pub definite : IsDefinite (privates_of reads.whole directives) k
+  pub private : ItemsPrivate text (privates_of reads.whole directives) [] k.body
+  pub fit : fit_clauses (clauses_said reads.whole directives) k ≡ true
 
 -- at each turn of the serial loops round a parallel loop no two of its iterations conflict, and in any order they leave the same elements
 pub record AreIndependent (text : List ℕ) (k : Kernel) : Type 0 where

@@ -1,15 +1,15 @@
--- A `parallel for` associates at least one loop. (OpenMP 5.2, 4.4.3)
+-- A loop's directive associates at least one loop. (OpenMP 5.2, 4.4.3)
 use Rattle.std.specs.Prelude.{ℕ, zero, suc, true, ◌≡◌, nat_le, List, [], ◌∷◌, Option, Some, None}
 use Rattle.std.specs.List.{AllByRecursion as Each}
 use Rattle.std.proofs.Common.{refl, subst}
 use Rattle.std.proofs.lemmas.Option.{same_Some, none-some}
 use Rattle.semantics.specs.Tree.{Name}
 use Rattle.semantics.specs.Source.Token.{Token}
-use Rattle.semantics.specs.Directives.Directive.{Schedule, Clause, DefaultShared, DefaultNone, Shared, Private, Firstprivate, ScheduledBy, Collapse, Directive, ParallelFor}
+use Rattle.semantics.specs.Directives.Directive.{Schedule, Clause, DefaultShared, DefaultNone, Nowait, Shared, Private, Firstprivate, ScheduledBy, Collapse, Directive, ParallelFor, Parallel, Worksharing, ScanInclusive, ScanExclusive, OrderedRegion, DoacrossSource, DoacrossSink}
 use Rattle.semantics.specs.Directives.DirectiveGrammar as grammar
 use Rattle.semantics.specs.Directives.DirectiveGrammar.{ReadsNumber, ReadsClause, ReadsFurther, ReadsClauses, ReadsDirective}
 use Rattle.cparse_grammar.specs.Reading.{◌>>=◌}
-use Rattle.pragma.specs.Clauses.{Said, with_clause, said_by, ReadsLoop}
+use Rattle.pragma.specs.Clauses.{Said, with_clause, said_by, loop_of, ReadsLoop}
 use Rattle.pragma.specs.Parallel.{associated}
 use Rattle.law_commute.proofs.Values.{first_of}
 
@@ -48,12 +48,13 @@ clauses_count (grammar.first r q) = (clause_counts r, further_count q)
 
 abbrev LoopCounts : Directive Name → Type 0
 LoopCounts (ParallelFor cs) = Each Counts cs
+LoopCounts (Worksharing cs) = Each Counts cs
 LoopCounts _ = Unit {0}
 
 directive_counts : {ts : List Token} {d : Directive Name} → ReadsDirective ts d → LoopCounts d
 directive_counts (grammar.parallel_for r on once) = clauses_count r
 directive_counts (grammar.parallel r on once) = tt
-directive_counts (grammar.worksharing r on once) = tt
+directive_counts (grammar.worksharing r on once) = clauses_count r
 directive_counts (grammar.scan_inclusive h) = tt
 directive_counts (grammar.scan_exclusive h) = tt
 directive_counts grammar.ordered_region = tt
@@ -72,6 +73,7 @@ with_counts DefaultNone s s' h g e = subst (λ (t : Said). AtLeastOne t.1) (same
 with_counts (Shared xs) s s' h g e = subst (λ (t : Said). AtLeastOne t.1) (same_Some s s' e) g
 with_counts (Private xs) s s' h g e = subst (λ (t : Said). AtLeastOne t.1) (same_Some s s' e) g
 with_counts (Firstprivate xs) s s' h g e = subst (λ (t : Said). AtLeastOne t.1) (same_Some s s' e) g
+with_counts Nowait s s' h g e = subst (λ (t : Said). AtLeastOne t.1) (same_Some s s' e) g
 with_counts c s s' h g e = absurd (cc e)
 
 said_counts : (cs : List (Clause Name)) (s : Said) → Each Counts cs → said_by cs ≡ Some s → AtLeastOne s.1
@@ -82,8 +84,18 @@ said_counts (c ∷ cs) s h e = at (said_by cs) (λ before is. said_counts cs bef
     at None rest q = absurd (none-some s q)
     at (Some before) rest q = with_counts c before s h.0 (rest before refl) q
 
+loop_counts : (d : Directive Name) (s : Said) → LoopCounts d → loop_of d ≡ Some s → AtLeastOne s.1
+loop_counts (ParallelFor cs) s h e = said_counts cs s h e
+loop_counts (Worksharing cs) s h e = said_counts cs s h e
+loop_counts (Parallel cs) s h e = absurd (none-some s e)
+loop_counts (ScanInclusive x) s h e = absurd (none-some s e)
+loop_counts (ScanExclusive x) s h e = absurd (none-some s e)
+loop_counts OrderedRegion s h e = absurd (none-some s e)
+loop_counts DoacrossSource s h e = absurd (none-some s e)
+loop_counts (DoacrossSink es) s h e = absurd (none-some s e)
+
 pub at_least_one : (line : List ℕ) (k : Option Schedule) (c : Option ℕ) → ReadsLoop line k c → (m : ℕ) × (associated c ≡ suc m)
-at_least_one line k c r = at c (said_counts r.clauses (k, c) (directive_counts r.reads.reads) r.says)
+at_least_one line k c r = at c (loop_counts r.directive (k, c) (directive_counts r.reads.reads) r.says)
   where
     above : (d : ℕ) → nat_le 1 d ≡ true → (m : ℕ) × (d ≡ suc m)
     above zero h = absurd (cc h)

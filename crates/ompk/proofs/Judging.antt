@@ -1,19 +1,26 @@
 -- What the passes before the dependence test find out together, and which of them refuses.
-use Rattle.std.specs.Prelude.{ℕ, ◌≡◌, ◌⊎◌, List, length, Some}
-use Rattle.std.proofs.Common.{sym, ap, subst, inl, inr}
+use Rattle.std.specs.Prelude.{ℕ, ◌≡◌, List, [], length, Some}
+use Rattle.std.proofs.Common.{refl, sym, ap, ◌∙◌, subst, inl, inr}
 use Rattle.std.proofs.Math.Path.{fun_ext}
-use Rattle.semantics.specs.Tree.{Kernel}
-use Rattle.semantics.specs.Meaning.Definite.{Privates}
+use Rattle.semantics.specs.Tree.{Kernel, strip}
+use Rattle.semantics.specs.Source.Grammar.{ReadsText}
+use Rattle.semantics.specs.Meaning.Definite.{Privates, IsDefinite}
 use Rattle.semantics.specs.Directives.Annotated.{Directives, clauses_at}
 use Rattle.semantics.specs.Directives.Clauses.{locals_in, privates_of}
 use Rattle.semantics.specs.Directives.Naming.{IsAttached}
+use Rattle.semantics.specs.Theorems.{StandsFor}
+use Rattle.semantics.proofs.EraseTextLaw.{text_erased}
+use Rattle.law_lines.proofs.Stripped.{stripped_trees_are_one}
+use Rattle.ktree.specs.View.{kernel_of}
 use Rattle.ktree.specs.declared.refusal.Refusal.{Refusal}
-use Rattle.pragma.specs.Plain.{IsDirected}
 use Rattle.pragma_named.specs.Known.{Known, Lines, known_clauses, lines_known}
-use Rattle.nest.specs.Perfect.{AreRightNests}
+use Rattle.pragma_region.specs.Regions.{is_region_line, alone}
+use Rattle.flow.specs.Private.{ItemsPrivate}
 use Rattle.flow.specs.Judged.{private_locals}
-use Rattle.deptest.specs.Accepted.{clauses_said}
-use Rattle.ompk.specs.Refused.{RefusesScalars, RefusesClauses, RefusesPasses}
+use Rattle.flow_clauses.specs.Fitting.{fit_clauses}
+use Rattle.deptest.specs.Accepted.{Program, tree_of, clauses_said, HasPassed}
+use Rattle.ompk.specs.Judged.{IsLineKernel, IsOfKernel}
+use Rattle.ompk.specs.Refused.{IsJudged, RefusesAlone, RefusesKernel}
 
 -- what is said of each line is what the table knows
 module _ (k : Kernel) (ds : Directives) (known : Known) (each : (n : ℕ) → clauses_at k ds n ≡ Some (lines_known known n)) where
@@ -23,9 +30,43 @@ module _ (k : Kernel) (ds : Directives) (known : Known) (each : (n : ℕ) → cl
   pub privates_are : privates_of k ds ≡ private_locals known (length k.variables)
   privates_are = fun_ext (λ n. ap (locals_in k) (each n))
 
-module _ (text : List ℕ) (k : Kernel) (ds : Directives) (lines : Lines) (P : Privates) (clauses : clauses_said k ds ≡ lines) (privates : privates_of k ds ≡ P)
-    (attached : IsAttached text k ds) (directed : IsDirected text k) (nested : AreRightNests text k) where
-  -- the data are refused
-  pub data_refused : (r : Refusal) → RefusesScalars text k P r ⊎ RefusesClauses lines k r → RefusesPasses text k r
-  data_refused r (inl h) = inr (inr (inr (ds, (attached, directed, nested), inl (inl (subst (λ Q. RefusesScalars text k Q r) (sym privates) h)))))
-  data_refused r (inr h) = inr (inr (inr (ds, (attached, directed, nested), inl (inr (subst (λ ls. RefusesClauses ls k r) (sym clauses) h)))))
+-- a kernel that is judged has passed
+pub has_passed : (text : List ℕ) (k : Kernel) (known : Known) → IsLineKernel text k known → IsJudged text k (private_locals known (length k.variables)) (lines_known known) → HasPassed text k
+has_passed text k known stands judged =
+    record {
+      reads = stands.reads;
+      directives = stands.directives;
+      attached = stands.attached;
+      in_range = judged.in_range;
+      directed = judged.right.0;
+      nested = judged.right.1;
+      definite = subst (λ (P : Privates). IsDefinite P k) (sym stands.privates) judged.data.0;
+      private = subst (λ (P : Privates). ItemsPrivate text P [] k.body) (sym stands.privates) judged.data.1;
+      fit = ap (λ (lines : Lines). fit_clauses lines k) stands.clauses ∙ judged.data.2;
+    }
+
+-- a kernel whose directives are attached, with its parallel regions dissolved
+pub line_kernel : (text : List ℕ) (tree k : Kernel) (ds : Directives) (known : Known) → ReadsText text tree → IsAttached text tree ds → clauses_said tree ds ≡ lines_known known
+    → privates_of tree ds ≡ private_locals known (length tree.variables) → k ≡ alone text tree → IsLineKernel text k known
+line_kernel text tree k ds known reads attached clauses privates is =
+    record {
+      reads = record { whole = tree; reads = reads; left_out = is_region_line text; is = is };
+      directives = ds;
+      attached = attached;
+      clauses = clauses;
+      privates = privates ∙ ap (λ (j : Kernel). private_locals known (length j.variables)) (sym is);
+    }
+
+-- it is refused
+pub alone_refused : (text : List ℕ) (tree k : Kernel) (ds : Directives) (known : Known) (r : Refusal) → IsAttached text tree ds → clauses_said tree ds ≡ lines_known known
+    → privates_of tree ds ≡ private_locals known (length tree.variables) → k ≡ alone text tree
+    → RefusesAlone text k (private_locals known (length k.variables)) (lines_known known) r → RefusesKernel text tree r
+alone_refused text tree k ds known r attached clauses privates is refused =
+    let there = subst (λ (j : Kernel). RefusesAlone text j (private_locals known (length j.variables)) (lines_known known) r) is refused in
+    let by_lines = subst (λ (lines : Lines). RefusesAlone text (alone text tree) (private_locals known (length tree.variables)) lines r) (sym clauses) there in
+    inr (ds, attached, subst (λ (P : Privates). RefusesAlone text (alone text tree) P (clauses_said tree ds) r) (sym privates) by_lines)
+
+-- what is kept stands for the text
+pub stands_for : (text : List ℕ) (tree : Kernel) (p : Program) → ReadsText text tree → IsOfKernel text tree p → StandsFor text (tree_of p)
+stands_for text tree p reads is =
+    subst (StandsFor text) (sym (ap strip is.kernel_is ∙ stripped_trees_are_one (is_region_line text) tree)) (text_erased reads)

@@ -17,7 +17,8 @@ use Rattle.pragma.specs.Faults as lines
 use Rattle.pragma.specs.declared.faults.Fault as line_faults
 use Rattle.affine_expr.specs.Faults as loops
 use Rattle.affine_expr.specs.declared.faults.Fault as loop_faults
-use Rattle.nest.specs.Nests.{IsNested}
+use Rattle.pragma_region.specs.Regions.{alone}
+use Rattle.nest.specs.Nests.{IsNested, IsInRange}
 use Rattle.nest.specs.Leaves.{LeavesSomewhere}
 use Rattle.nest.specs.Perfect.{AreRightNests}
 use Rattle.flow.specs.Private.{ItemsPrivate, TellsOfItems, data_refusal_of}
@@ -39,9 +40,13 @@ RefusesRanges tree r = (place : Place) × (r ≡ SubscriptOutOfRange place) × L
 abbrev pub RefusesDirectives : List ℕ → Kernel → Refusal → Type 0
 RefusesDirectives text tree r = IsOfDirectives r × ((ds : Directives) → IsAttached text tree ds → ⊥)
 
--- memory was refused, or so it is; or a directive line is no `parallel for` of the known clauses before a loop, or stands inside a parallel loop (K11, K21)
+-- memory was refused, or so it is
 abbrev pub RefusesLines : List ℕ → Kernel → Refusal → Type 0
-RefusesLines text tree r = (r ≡ OutOfMemory) ⊎ (RefusesDirectives text tree r ⊎ ((f : line_faults.Fault) × (r ≡ lines.refusal_of f) × (IsDirected text tree → ⊥)))
+RefusesLines text tree r = (r ≡ OutOfMemory) ⊎ RefusesDirectives text tree r
+
+-- a directive line is none of a loop, with known clauses, before a loop, or stands inside a parallel loop (K11, K21)
+abbrev pub RefusesPlaces : List ℕ → Kernel → Refusal → Type 0
+RefusesPlaces text tree r = (f : line_faults.Fault) × (r ≡ lines.refusal_of f) × (IsDirected text tree → ⊥)
 
 -- memory was refused, or a local may be read before it is assigned; or a parallel loop writes a shared scalar, or reads a private one that it has not assigned, or prints, or a line has no nest, whichever is told
 abbrev pub RefusesScalars : List ℕ → Kernel → Privates → Refusal → Type 0
@@ -53,36 +58,49 @@ abbrev pub RefusesClauses : Lines → Kernel → Refusal → Type 0
 RefusesClauses lines tree r = (r ≡ OutOfMemory) ⊎ ((number_of r ≡ 15) × (fit_clauses lines tree ≡ false))
 
 -- one of both
-abbrev pub RefusesData : List ℕ → Kernel → Directives → Refusal → Type 0
-RefusesData text tree ds r = RefusesScalars text tree (privates_of tree ds) r ⊎ RefusesClauses (clauses_said tree ds) tree r
+abbrev pub RefusesData : List ℕ → Kernel → Privates → Lines → Refusal → Type 0
+RefusesData text tree P lines r = RefusesScalars text tree P r ⊎ RefusesClauses lines tree r
 
 -- the passes before that of the data find nothing wrong, nor does that of the data
-abbrev pub IsNestedRightly : List ℕ → Kernel → Directives → Type 0
-IsNestedRightly text tree ds = IsAttached text tree ds × IsDirected text tree × AreRightNests text tree
+abbrev pub IsNestedRightly : List ℕ → Kernel → Type 0
+IsNestedRightly text tree = IsDirected text tree × AreRightNests text tree
 
-abbrev pub HasRightData : List ℕ → Kernel → Directives → Type 0
-HasRightData text tree ds =
-    IsDefinite (privates_of tree ds) tree × ItemsPrivate text (privates_of tree ds) [] tree.body × (fit_clauses (clauses_said tree ds) tree ≡ true)
+abbrev pub HasRightData : List ℕ → Kernel → Privates → Lines → Type 0
+HasRightData text tree P lines = IsDefinite P tree × ItemsPrivate text P [] tree.body × (fit_clauses lines tree ≡ true)
 
 -- the data are wrong, or they are right and a subscript leaves its array
-abbrev pub RefusesDataOrRanges : List ℕ → Kernel → Directives → Refusal → Type 0
-RefusesDataOrRanges text tree ds r = RefusesData text tree ds r ⊎ (HasRightData text tree ds × RefusesRanges tree r)
+abbrev pub RefusesDataOrRanges : List ℕ → Kernel → Privates → Lines → Refusal → Type 0
+RefusesDataOrRanges text tree P lines r = RefusesData text tree P lines r ⊎ (HasRightData text tree P lines × RefusesRanges tree r)
 
--- memory was refused, or the first pass that finds something wrong tells it: lines, then nests, then data, then ranges
-abbrev pub RefusesPasses : List ℕ → Kernel → Refusal → Type 0
-RefusesPasses text tree r =
+-- memory was refused, or the first pass that finds something wrong tells it: places of lines, then nests, then data, then ranges
+abbrev pub RefusesPasses : List ℕ → Kernel → Privates → Lines → Refusal → Type 0
+RefusesPasses text tree P lines r =
     (r ≡ OutOfMemory)
-    ⊎ (RefusesLines text tree r
+    ⊎ (RefusesPlaces text tree r
     ⊎ ((IsDirected text tree × RefusesNests text tree r)
-    ⊎ ((ds : Directives) × IsNestedRightly text tree ds × RefusesDataOrRanges text tree ds r)))
+    ⊎ (IsNestedRightly text tree × RefusesDataOrRanges text tree P lines r)))
+
+-- none of them finds anything, by the clauses that are known of each line
+pub record IsJudged (text : List ℕ) (tree : Kernel) (P : Privates) (lines : Lines) : Type 0 where
+  pub right : IsNestedRightly text tree
+  pub data : HasRightData text tree P lines
+  pub in_range : IsInRange tree
 
 -- all of that is well, and the dependence test refuses the tree, or memory was refused
 abbrev pub RefusesPairs : List ℕ → Kernel → Refusal → Type 0
 RefusesPairs text tree r = HasPassed text tree × RefusesLoops text tree r
 
+-- a tree whose parallel regions are dissolved is refused by one of these passes or by that test
+abbrev pub RefusesAlone : List ℕ → Kernel → Privates → Lines → Refusal → Type 0
+RefusesAlone text tree P lines r = RefusesPasses text tree P lines r ⊎ RefusesPairs text tree r
+
+-- the directives are attached, and the tree with its parallel regions dissolved is refused, by the clauses of its lines
+abbrev pub RefusesAttached : List ℕ → Kernel → Refusal → Type 0
+RefusesAttached text tree r = (ds : Directives) × IsAttached text tree ds × RefusesAlone text (alone text tree) (privates_of tree ds) (clauses_said tree ds) r
+
 -- the tree is none that is run
 abbrev pub RefusesKernel : List ℕ → Kernel → Refusal → Type 0
-RefusesKernel text tree r = RefusesPasses text tree r ⊎ RefusesPairs text tree r
+RefusesKernel text tree r = RefusesLines text tree r ⊎ RefusesAttached text tree r
 
 -- no tree is read from the text, or one that is refused
 abbrev pub RefusesText : List ℕ → Refusal → Type 0

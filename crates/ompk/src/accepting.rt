@@ -17,8 +17,9 @@ ghost use Rattle.pragma.specs.Plain.{IsDirected};
 ghost use Rattle.nest.specs.Nests.{IsInRange};
 ghost use Rattle.nest.specs.Perfect.{AreRightNests};
 ghost use Rattle.nest.specs.Judged.{IsTableOf};
-ghost use Rattle.deptest.specs.Accepted.{tree_of, clauses_said, HasPassed, IsAccepted};
-ghost use Rattle.ompk.specs.Refused.{RefusesLines, RefusesNests, RefusesRanges, RefusesScalars, RefusesClauses, RefusesPasses, RefusesKernel, RefusesText};
+ghost use Rattle.deptest.specs.Accepted.{tree_of, clauses_said, IsAccepted};
+ghost use Rattle.ompk.specs.Judged.{IsLineKernel, IsOfKernel};
+ghost use Rattle.ompk.specs.Refused.{IsJudged, RefusesLines, RefusesPlaces, RefusesNests, RefusesRanges, RefusesScalars, RefusesClauses, RefusesPasses, RefusesAlone, RefusesKernel, RefusesText};
 
 use cparse::parse;
 use deptest::{Checked, accept};
@@ -29,16 +30,16 @@ use nest::{LoopTable, nests};
 use pragma::{Directives, first_fault};
 use pragma_attach::attach;
 use pragma_named::LineClauses;
+use pragma_region::dissolve_regions;
 use std::alloc::Global;
 
 // Refuses a kernel with a directive line that is none, does not stand where it may, names what is no variable or has one in the wrong
-// clauses, and one with a line that is no `parallel for` of the known clauses before a loop; gives the clauses of each line.
+// clauses; gives the clauses of each line.
 fn judge_lines(
     alloc: Global,
     kernel: &Kernel,
     directives: &Directives,
 ) -> Result<LineClauses, Refusal>
-    ensures ok { IfOk result (λ _. IsDirected directives.now (kernel_of kernel.now)) }
     ensures attached { IfOk result (λ _. IsAttached directives.now (kernel_of kernel.now)
         (directives_of directives.now (kernel_of kernel.now))) }
     ensures clauses { IfOk result (λ lines. clauses_said (kernel_of kernel.now)
@@ -49,8 +50,16 @@ fn judge_lines(
     ensures refusal { IfErr result (RefusesLines directives.now (kernel_of kernel.now)) }
 {
     let lines = attach(alloc, kernel, directives)?;
+    Ok(lines)
+}
+
+// Refuses a kernel with a line that is none of a loop, with the known clauses, before a loop, or stands inside a parallel loop.
+fn judge_places(kernel: &Kernel, directives: &Directives) -> Result<(), Refusal>
+    ensures ok { OnOk result (IsDirected directives.now (kernel_of kernel.now)) }
+    ensures refusal { IfErr result (RefusesPlaces directives.now (kernel_of kernel.now)) }
+{
     match first_fault(kernel, directives) {
-        None => Ok(lines),
+        None => Ok(()),
         Some(fault) => Err(fault.refusal()),
     }
 }
@@ -189,21 +198,49 @@ struct KnownLoops {
     parallel: Vec<ParallelLoop>,
 }
 
-// Refuses a tree that does not pass what stands before the dependence test, in the order of the passes: directive lines, loops and
-// nests, data, and ranges.
-fn judge(alloc: Global, kernel: &Kernel, directives: &Directives) -> Result<KnownLoops, Refusal>
-    requires { ReadsText directives.now (kernel_of kernel.now) }
-    ensures passed { IfOk result (λ _. HasPassed directives.now (kernel_of kernel.now)) }
+// Refuses a tree that does not pass what stands before the dependence test, in the order of the passes: places of directive lines, loops
+// and nests, data, and ranges.
+fn judge(
+    alloc: Global,
+    kernel: &Kernel,
+    directives: &Directives,
+    lines: &LineClauses,
+) -> Result<KnownLoops, Refusal>
+    ensures judged { IfOk result (λ _. IsJudged directives.now (kernel_of kernel.now)
+        (private_locals (kept lines.now) (length (kernel_of kernel.now).variables))
+        (lines_known (kept lines.now))) }
     ensures table { IfOk result (λ known. IsTableOf (kernel_of kernel.now) known.table) }
     ensures listed { IfOk result (λ known. AreParallelLoops directives.now (kernel_of kernel.now)
         known.parallel.items) }
-    ensures refusal { IfErr result (RefusesPasses directives.now (kernel_of kernel.now)) }
+    ensures refusal { IfErr result (RefusesPasses directives.now (kernel_of kernel.now)
+        (private_locals (kept lines.now) (length (kernel_of kernel.now).variables))
+        (lines_known (kept lines.now))) }
 {
-    let lines = judge_lines(alloc, kernel, directives)?;
+    judge_places(kernel, directives)?;
     let table = judge_nests(alloc, kernel, directives)?;
-    let parallel = judge_data(alloc, kernel, directives, &lines)?;
+    let parallel = judge_data(alloc, kernel, directives, lines)?;
     judge_ranges(kernel, &table)?;
     Ok(KnownLoops { table, parallel })
+}
+
+// Accepts a kernel whose parallel regions are dissolved, or refuses it.
+fn accept_alone(
+    alloc: Global,
+    kernel: Kernel,
+    text: &[u8],
+    directives: &Directives,
+    lines: &LineClauses,
+) -> Result<Checked, Refusal>
+    requires stands { IsLineKernel text.now (kernel_of kernel) (kept lines.now) }
+    requires lines { directives.now ≡ text.now }
+    ensures is { IfOk result (λ checked. checked ≡ record { text = text.now; kernel = kernel }) }
+    ensures refusal { IfErr result (RefusesAlone text.now (kernel_of kernel)
+        (private_locals (kept lines.now) (length (kernel_of kernel).variables))
+        (lines_known (kept lines.now))) }
+{
+    let text = Vec::from_slice(alloc, text)?;
+    let KnownLoops { table, parallel } = judge(alloc, &kernel, directives, lines)?;
+    accept(alloc, directives, &table, text, kernel, parallel)
 }
 
 // Accepts the kernel of a text with these directive lines, or refuses it.
@@ -215,18 +252,18 @@ fn accept_directed(
 ) -> Result<Checked, Refusal>
     requires reads { ReadsText text.now (kernel_of kernel) }
     requires lines { directives.now ≡ text.now }
-    ensures is { IfOk result (λ checked. checked ≡ record { text = text.now; kernel = kernel }) }
+    ensures is { IfOk result (IsOfKernel text.now (kernel_of kernel)) }
     ensures refusal { IfErr result (RefusesKernel text.now (kernel_of kernel)) }
 {
-    let text = Vec::from_slice(alloc, text)?;
-    let KnownLoops { table, parallel } = judge(alloc, &kernel, directives)?;
-    accept(alloc, directives, &table, text, kernel, parallel)
+    let lines = judge_lines(alloc, &kernel, directives)?;
+    let kernel = dissolve_regions(alloc, directives, kernel)?;
+    accept_alone(alloc, kernel, text, directives, &lines)
 }
 
 // Accepts the kernel of a text, or refuses it.
 fn accept_kernel(alloc: Global, kernel: Kernel, text: &[u8]) -> Result<Checked, Refusal>
     requires { ReadsText text.now (kernel_of kernel) }
-    ensures is { IfOk result (λ checked. checked ≡ record { text = text.now; kernel = kernel }) }
+    ensures is { IfOk result (IsOfKernel text.now (kernel_of kernel)) }
     ensures refusal { IfErr result (RefusesKernel text.now (kernel_of kernel)) }
 {
     let directives = Directives::read(alloc, text)?;

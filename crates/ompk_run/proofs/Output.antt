@@ -35,7 +35,7 @@ named a is = variables_of a.text (kernel_of a.kernel) is.passed.reads
 pub body_runs : (a : Program) (given : Given) → IsAccepted a → AreGiven (tree_of a).variables given → IsSome (body_run a (first_state a given))
 body_runs a given is g =
     nested_kernels_run a.text (kernel_of a.kernel) (first_state a given) is.passed.reads is.passed.in_range
-    (plainly_definite (privates_of (kernel_of a.kernel) is.passed.directives) (kernel_of a.kernel) is.passed.definite) (start_is_state (tree_of a).variables given g) (λ x. refl)
+    (plainly_definite (privates_of is.passed.reads.whole is.passed.directives) (kernel_of a.kernel) is.passed.definite) (start_is_state (tree_of a).variables given g) (λ x. refl)
 
 abbrev shown_of : Program → Given → Effect → List ℕ
 shown_of a given e = e.text ++ dump (tree_of a).variables (overwritten (first_state a given) e.writes)

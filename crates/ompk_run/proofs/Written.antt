@@ -83,8 +83,8 @@ module _ (a : Program) (input : List ℕ) (ks : List Kept) (is : IsAccepted a) (
   -- it leaves what the run leaves
   same_apart : (e : Effect) → run_items (items_of a.kernel.body.items) outset ≡ Some e → LeavesTheSame outset e apart
   same_apart e q =
-      accepted_apart a.text (kernel_of a.kernel) (privates_of (kernel_of a.kernel) is.passed.directives) outset e is.passed.reads is.passed.in_range is.passed.definite
-      (private_locals (kernel_of a.kernel) is.passed.directives) is.passed.private is.independent.commute none_behind q
+      accepted_apart a.text (kernel_of a.kernel) (privates_of is.passed.reads.whole is.passed.directives) outset e is.passed.reads is.passed.in_range is.passed.definite
+      (private_locals a.text (kernel_of a.kernel) is.passed.reads is.passed.directives) is.passed.private is.independent.commute none_behind q
 
   pub runs_apart : IsSome apart
   runs_apart = go (run_items (items_of a.kernel.body.items) outset) refl runs

@@ -1,15 +1,15 @@
--- What a `parallel for` says, and what a line is read as.
+-- What a loop's directive says, and what a line is read as.
 use Rattle.std.specs.Prelude.{ℕ, ◌≡◌, List, Option, Some, None}
 use Rattle.std.proofs.Common.{refl, sym, ap, ◌∙◌, inl, inr}
 use Rattle.semantics.specs.Tree.{Name}
-use Rattle.semantics.specs.Directives.Directive.{Schedule, Clause, Directive, ParallelFor, Parallel, Worksharing, ScanInclusive, ScanExclusive, OrderedRegion, DoacrossSource, DoacrossSink}
+use Rattle.semantics.specs.Directives.Directive.{Schedule, Directive}
 use Rattle.semantics.specs.Directives.DirectiveGrammar.{ReadsLine}
 use Rattle.ktree.specs.declared.place.Place.{Place}
 use Rattle.ktree.specs.declared.refusal.Refusal.{Refusal}
 use Rattle.ktree.specs.declared.refusal.Refusal.TheVariants as refusals
 use Rattle.pragma_clause.specs.Outcome.{HasForm, IsFault, IsTold}
 use Rattle.pragma_clause.proofs.DirectiveComplete.{line_read}
-use Rattle.pragma.specs.Clauses.{Said, said_by, ReadsLoop, loop_of}
+use Rattle.pragma.specs.Clauses.{Said, ReadsLoop, loop_of}
 use Rattle.pragma.specs.Reading.{ReadsNone, IsTooLarge, IsReading}
 use Rattle.pragma.specs.declared.reading.Reading.TheVariants as readings
 
@@ -18,14 +18,14 @@ use Rattle.pragma.specs.declared.reading.Reading.TheVariants as readings
 same_said : {s t : Said} → Some s ≡ Some t → s ≡ t
 same_said e = cc e
 
+same_directive : {d e : Directive Name} → Some d ≡ Some e → d ≡ e
+same_directive e = cc e
+
 pub read_once : (line : List ℕ) (k : Option Schedule) (c : Option ℕ) (m : Option Schedule) (d : Option ℕ) → ReadsLoop line k c → ReadsLoop line m d → (k ≡ m) × (c ≡ d)
 read_once line k c m d p q = (ap (λ (s : Said). s.0) same, ap (λ (s : Said). s.1) same)
   where
-    clauses : {bs cs : List (Clause Name)} → Some (ParallelFor bs) ≡ Some (ParallelFor cs) → bs ≡ cs
-    clauses e = cc e
-
-    one : p.clauses ≡ q.clauses
-    one = clauses (sym (line_read line (ParallelFor p.clauses) p.reads) ∙ line_read line (ParallelFor q.clauses) q.reads)
+    one : p.directive ≡ q.directive
+    one = same_directive (sym (line_read line p.directive p.reads) ∙ line_read line q.directive q.reads)
 
     left : Said
     left = (k, c)
@@ -34,28 +34,15 @@ read_once line k c m d p q = (ap (λ (s : Said). s.0) same, ap (λ (s : Said). s
     right = (m, d)
 
     same : left ≡ right
-    same = same_said (sym p.says ∙ ap said_by one ∙ q.says)
+    same = same_said (sym p.says ∙ ap loop_of one ∙ q.says)
 
-says : (line : List ℕ) (d : Directive Name) (s : Said) → ReadsLine line d → loop_of d ≡ Some s → ReadsLoop line (s.0) (s.1)
-says line (ParallelFor cs) s e f = record { clauses = cs; reads = e; says = f }
-says line (Parallel cs) s e f = absurd (cc f)
-says line (Worksharing cs) s e f = absurd (cc f)
-says line (ScanInclusive x) s e f = absurd (cc f)
-says line (ScanExclusive x) s e f = absurd (cc f)
-says line OrderedRegion s e f = absurd (cc f)
-says line DoacrossSource s e f = absurd (cc f)
-says line (DoacrossSink es) s e f = absurd (cc f)
-
--- a `parallel for` is the directive of its line
+-- what is read of a line is its directive
 the_directive : (line : List ℕ) (d : Directive Name) (k : Option Schedule) (c : Option ℕ) → ReadsLine line d → ReadsLoop line k c → loop_of d ≡ Some (k, c)
-the_directive line d k c e r = ap loop_of (same (sym (line_read line d e) ∙ line_read line (ParallelFor r.clauses) r.reads)) ∙ r.says
-  where
-    same : {a b : Directive Name} → Some a ≡ Some b → a ≡ b
-    same f = cc f
+the_directive line d k c e r = ap loop_of (same_directive (sym (line_read line d e) ∙ line_read line r.directive r.reads)) ∙ r.says
 
 -- what a directive says is what its line says
 pub loop_read : (line : List ℕ) (d : Directive Name) (k : Option Schedule) (c : Option ℕ) → ReadsLine line d → loop_of d ≡ Some (k, c) → ReadsLoop line k c
-loop_read line d k c e f = says line d (k, c) e f
+loop_read line d k c e f = record { directive = d; reads = e; says = f }
 
 -- and where it says nothing the line does not
 pub no_loop : (line : List ℕ) (d : Directive Name) → ReadsLine line d → loop_of d ≡ None → (k : Option Schedule) (c : Option ℕ) → ReadsLoop line k c → ⊥
@@ -65,11 +52,11 @@ no_loop line d e f k c r = absurd (cc (sym f ∙ the_directive line d k c e r))
 pub read_fault : (line : List ℕ) (place : Place) (d : Directive Name) → ReadsLine line d → IsFault place (IsTooLarge line) (refusals.Directive place)
 read_fault line place d e = inr (refl, λ (t : IsTooLarge line). t.1 d e)
 
--- a line that is no directive is no `parallel for`
+-- a line that is no directive is none of a loop
 pub none_said : (line : List ℕ) (place : Place) (r : Refusal) → IsFault place (HasForm line) r × ReadsNone line
     → IsFault place (IsTooLarge line) r × ((k : Option Schedule) (c : Option ℕ) → ReadsLoop line k c → ⊥)
-none_said line place r (inl f, n) = (inl (f.0, (f.1, n)), λ k c l. n (ParallelFor l.clauses) l.reads)
-none_said line place r (inr f, n) = (inr (f.0, λ (t : IsTooLarge line). f.1 t.0), λ k c l. n (ParallelFor l.clauses) l.reads)
+none_said line place r (inl f, n) = (inl (f.0, (f.1, n)), λ k c l. n l.directive l.reads)
+none_said line place r (inr f, n) = (inr (f.0, λ (t : IsTooLarge line). f.1 t.0), λ k c l. n l.directive l.reads)
 
 -- ---- readings
 

@@ -8,7 +8,7 @@ ghost use Rattle.pragma.specs.Views.{said_of};
 
 use ktree::{AssociatedLoops, Clause, Directive, Schedule, Written};
 
-/// What the clauses of a `parallel for` directive say (OpenMP 5.2, 17).
+/// What the clauses of a loop's directive say: of a `parallel for`, or of a `for` inside a `parallel` (OpenMP 5.2, 11.5 and 17).
 #[derive(Clone, Copy, Debug, PartialEq, Eq)]
 pub struct ParallelFor {
     /// What `schedule` says (OpenMP 5.2, 11.5.3).
@@ -46,7 +46,8 @@ fn with_clause(clause: &Clause<Written>, said: ParallelFor) -> Option<ParallelFo
         | Clause::DefaultNone
         | Clause::Shared(_)
         | Clause::Private(_)
-        | Clause::Firstprivate(_) => Some(said),
+        | Clause::Firstprivate(_)
+        | Clause::Nowait => Some(said),
         _ => None,
     }
 }
@@ -64,12 +65,12 @@ fn said_by(clauses: &[Clause<Written>]) -> Option<ParallelFor>
     }
 }
 
-/// What a directive says, where it is a `parallel for` of known clauses.
-pub(crate) fn loop_of(directive: &Directive<Written>) -> Option<ParallelFor>
+/// What a directive says, where it is a `parallel for`, or a `for` inside a `parallel`, of known clauses.
+pub fn loop_of(directive: &Directive<Written>) -> Option<ParallelFor>
     ensures { option_map said_of result ≡ loop_of (written_directive directive.now) }
 {
     match directive {
-        Directive::ParallelFor(clauses) => said_by(clauses.as_slice()),
+        Directive::ParallelFor(clauses) | Directive::For(clauses) => said_by(clauses.as_slice()),
         _ => None,
     }
 }

@@ -4,8 +4,8 @@ ghost use Rattle.std.specs.Prelude.{◌≡◌, Some, IfOk};
 ghost use Rattle.semantics.specs.Directives.Placed.{is_team};
 ghost use Rattle.ktree.specs.DirectiveView.{name_of, directive_of};
 ghost use Rattle.ktree.specs.View.{stmt_of, with_item, items_of, kernel_of};
-ghost use Rattle.law_lines.specs.Without.{without_in, without_among, without_lines};
-ghost use Rattle.pragma_region.specs.Regions.{is_region_line};
+ghost use Rattle.law_lines.specs.Without.{without_in, without_among};
+ghost use Rattle.pragma_region.specs.Regions.{is_region_line, alone};
 
 use ktree::{Directive, Item, Kernel, Place, Stmt, Written};
 use pragma::Directives;
@@ -117,8 +117,7 @@ pub fn dissolve_regions(
     directives: &Directives,
     kernel: Kernel,
 ) -> Result<Kernel, AllocError>
-    ensures { IfOk result (λ k. kernel_of k
-        ≡ without_lines (is_region_line directives.now) (kernel_of kernel)) }
+    ensures { IfOk result (λ k. kernel_of k ≡ alone directives.now (kernel_of kernel)) }
 {
     let Kernel {
         constants,

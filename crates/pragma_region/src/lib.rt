@@ -2,5 +2,7 @@
 #![tactic(auto)]
 
 mod dissolving;
+mod listing;
 
 pub use dissolving::dissolve_regions;
+pub use listing::{RegionPart, regions_of};

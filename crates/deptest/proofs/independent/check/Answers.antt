@@ -10,7 +10,7 @@ invariant_of-result c =
     let p = c.requires.passed in
     record {
       apart = shown_kernels_are_independent _ _ p.reads p.in_range c.in-Ok.ensures.ok;
-      commute = accepted_loops_commute _ _ _ p.reads p.in_range p.definite (private_locals (kernel_of c.args.kernel.now) p.directives) p.private c.in-Ok.ensures.ok;
+      commute = accepted_loops_commute _ _ _ p.reads p.in_range p.definite (private_locals _ (kernel_of c.args.kernel.now) p.reads p.directives) p.private c.in-Ok.ensures.ok;
     }
 
 pub returns-in-Err-clause-err : goal.returns-in-Err-clause-err

@@ -4,12 +4,12 @@ use Rattle.pragma_named.specs.Known.{kept}
 use Rattle.ompk.proofs.Judging.{clauses_are, privates_are}
 use Rattle.ompk.proofs.accepting.judge_lines.Goals as goal
 
-pub returns-in-None-clause-clauses : goal.returns-in-None-clause-clauses
-returns-in-None-clause-clauses c =
+pub returns-clause-clauses : goal.returns-clause-clauses
+returns-clause-clauses c =
     let k = kernel_of c.args.kernel.now in
     clauses_are k (directives_of c.args.directives.now k) (kept c.in_ok-lines.lines) c.in_ok-lines.ensures.clauses
 
-pub returns-in-None-clause-privates : goal.returns-in-None-clause-privates
-returns-in-None-clause-privates c =
+pub returns-clause-privates : goal.returns-clause-privates
+returns-clause-privates c =
     let k = kernel_of c.args.kernel.now in
     privates_are k (directives_of c.args.directives.now k) (kept c.in_ok-lines.lines) c.in_ok-lines.ensures.clauses
