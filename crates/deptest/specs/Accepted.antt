@@ -1,6 +1,7 @@
 -- Kernels whose parallel loops are shown to be independent, and what is kept of an accepted text. (OpenMP 5.2, 1.4.1 and 11.5; C11 5.1.2.4)
-use Rattle.std.specs.Prelude.{ℕ, ◌≡◌, true, List, [], Some}
+use Rattle.std.specs.Prelude.{ℕ, ◌≡◌, true, List, [], map, Some}
 use Rattle.semantics.specs.Tree.{Kernel, strip}
+use Rattle.semantics.specs.Source.Grammar.{ReadsText}
 use Rattle.law_lines.specs.Without.{IsTreeOf}
 use Rattle.semantics.specs.Meaning.Definite.{IsDefinite}
 use Rattle.semantics.specs.Directives.Annotated.{Directives, clauses_at}
@@ -13,6 +14,9 @@ use Rattle.pragma.specs.Parallel.{ItemsHave}
 use Rattle.nest.specs.Nests.{IsInRange}
 use Rattle.nest.specs.Perfect.{AreRightNests}
 use Rattle.pragma_named.specs.Known.{Lines, known_clauses}
+use Rattle.pragma_region.specs.Regions.{alone}
+use Rattle.pragma_region.specs.Listed.{regions_of, parts_of, part_said}
+use Rattle.pragma_region.specs.declared.listing.RegionPart.{RegionPart}
 use Rattle.flow.specs.Private.{ItemsPrivate}
 use Rattle.flow_clauses.specs.Fitting.{fit_clauses}
 use Rattle.flow.specs.Parallel.{AreParallelLoops}
@@ -55,7 +59,15 @@ pub record IsAccepted (p : Program) : Type 0 where
   pub passed : HasPassed p.text (kernel_of p.kernel)
   pub independent : AreIndependent p.text (kernel_of p.kernel)
 
--- and what is kept of it: its parallel loops, in the order of the text
-pub record IsKept (p : Program) (loops : List ParallelLoop) : Type 0 where
+-- the parts of a text's parallel regions, where the tree is that of the text with these regions dissolved
+pub record AreRegions (text : List ℕ) (k : Kernel) (parts : List RegionPart) : Type 0 where
+  pub whole : Kernel
+  pub reads : ReadsText text whole
+  pub dissolved : k ≡ alone text whole
+  pub are : map part_said parts ≡ parts_of (regions_of text whole)
+
+-- and what is kept of it: its parallel loops and the parts of its parallel regions, in the order of the text
+pub record IsKept (p : Program) (loops : List ParallelLoop) (parts : List RegionPart) : Type 0 where
   pub accepted : IsAccepted p
   pub listed : AreParallelLoops p.text (kernel_of p.kernel) loops
+  pub regions : AreRegions p.text (kernel_of p.kernel) parts

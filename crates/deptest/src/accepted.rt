@@ -4,7 +4,7 @@ ghost use Rattle.std.specs.Prelude.{◌≡◌, map, IfOk, IfErr};
 ghost use Rattle.ktree.specs.View.{declaration_of, kernel_of};
 ghost use Rattle.nest.specs.Judged.{IsTableOf};
 ghost use Rattle.flow.specs.Parallel.{AreParallelLoops};
-ghost use Rattle.deptest.specs.Accepted.{tree_of, HasPassed, AreIndependent, IsAccepted};
+ghost use Rattle.deptest.specs.Accepted.{tree_of, HasPassed, AreIndependent, AreRegions, IsAccepted};
 ghost use Rattle.deptest.specs.Refused.{RefusesLoops};
 
 use crate::independent::check;
@@ -12,15 +12,23 @@ use flow::ParallelLoop;
 use ktree::{Declaration, Item, Kernel, Refusal};
 use nest::LoopTable;
 use pragma::Directives;
+use pragma_region::RegionPart;
 use std::alloc::Global;
 use std::marker::Model;
+
+/// The parallel loops of a kernel, and the parts of the regions that they stand in, both in the order of the text.
+#[derive(Drop)]
+pub struct Parallel {
+    pub loops: Vec<ParallelLoop>,
+    pub regions: Vec<RegionPart>,
+}
 
 /// An accepted kernel: what every pass before a run found out of it, that its parallel loops are independent, and these loops.
 #[derive(Drop)]
 pub struct Checked {
     text: Vec<u8>,
     kernel: Kernel,
-    loops: Vec<ParallelLoop>,
+    parallel: Parallel,
 }
 
 impl Model for Checked {
@@ -34,7 +42,8 @@ impl Model for Checked {
 
     ghost view = { λ c. record { text = c.text.items; kernel = c.kernel } };
 
-    ghost invariant = { λ c. IsKept (record { text = c.text.items; kernel = c.kernel }) c.loops.items };
+    ghost invariant = { λ c. IsKept (record { text = c.text.items; kernel = c.kernel }) c.parallel.loops.items
+        c.parallel.regions.items };
 }
 
 impl Checked {
@@ -57,7 +66,14 @@ impl Checked {
     pub fn loops(&self) -> &[ParallelLoop]
         ensures { AreParallelLoops self.now.text (kernel_of self.now.kernel) result.now }
     {
-        self.loops.as_slice()
+        self.parallel.loops.as_slice()
+    }
+
+    /// The parts of its parallel regions, in the order of the text.
+    pub fn regions(&self) -> &[RegionPart]
+        ensures { AreRegions self.now.text (kernel_of self.now.kernel) result.now }
+    {
+        self.parallel.regions.as_slice()
     }
 
     /// The text that it was read from.
@@ -85,7 +101,7 @@ fn test_kernel(
     Ok(())
 }
 
-/// Accepts the kernel of a text that has passed all else, with these parallel loops, where they are independent
+/// Accepts the kernel of a text that has passed all else, with these parallel loops and their regions, where the loops are independent
 /// (OpenMP 5.2, 11.5); the directive lines are the text's, and the table is that of the kernel's loops.
 ///
 /// # Errors
@@ -95,21 +111,23 @@ pub fn accept(
     alloc: Global,
     directives: &Directives,
     table: &LoopTable,
-    text: Vec<u8>,
+    text: &[u8],
     kernel: Kernel,
-    loops: Vec<ParallelLoop>,
+    parallel: Parallel,
 ) -> Result<Checked, Refusal>
-    requires lines { directives.now ≡ text.items }
-    requires passed { HasPassed text.items (kernel_of kernel) }
+    requires lines { directives.now ≡ text.now }
+    requires passed { HasPassed text.now (kernel_of kernel) }
     requires table { IsTableOf (kernel_of kernel) table.now }
-    requires listed { AreParallelLoops text.items (kernel_of kernel) loops.items }
-    ensures is { IfOk result (λ checked. checked ≡ record { text = text.items; kernel = kernel }) }
-    ensures err { IfErr result (RefusesLoops text.items (kernel_of kernel)) }
+    requires listed { AreParallelLoops text.now (kernel_of kernel) parallel.loops.items }
+    requires regions { AreRegions text.now (kernel_of kernel) parallel.regions.items }
+    ensures is { IfOk result (λ checked. checked ≡ record { text = text.now; kernel = kernel }) }
+    ensures err { IfErr result (RefusesLoops text.now (kernel_of kernel)) }
 {
     test_kernel(alloc, directives, table, &kernel)?;
+    let text = Vec::from_slice(alloc, text)?;
     Ok(Checked {
         text,
         kernel,
-        loops,
+        parallel,
     })
 }

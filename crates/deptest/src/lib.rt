@@ -4,5 +4,5 @@
 mod accepted;
 mod independent;
 
-pub use accepted::{Checked, accept};
+pub use accepted::{Checked, Parallel, accept};
 pub use independent::{Independent, check};

@@ -1,3 +1,4 @@
 pub mod Fronts
 pub mod Texts
+pub mod Printed
 pub mod TextLaw

@@ -1,30 +1,37 @@
--- The regions of an accepted text are those of its parallel loops.
+-- The regions of an accepted text, as they are listed.
 use Rattle.std.specs.Prelude.{ℕ, zero, suc, Bool, true, false, ◌||◌, if◌then◌else◌, ◌≡◌, List, [], ◌∷◌, ◌++◌, map, flat_map, Option, Some, None, option_and_then, Result, Ok, Err, OnOk}
 use Rattle.std.specs.Option.{unwrap_or}
 use Rattle.std.specs.Result.{is_err}
-use Rattle.std.proofs.Common.{refl, sym, ap, ◌∙◌}
+use Rattle.std.proofs.Common.{refl, sym, ap, ◌∙◌, subst}
 use Rattle.std.proofs.lemmas.List.{map-append}
 use Rattle.semantics.specs.Tree.{Name, Stmt, Assign, Update, If, IfElse, For, Block, Print, Items, no_items, mark, local, stmt, Kernel}
 use Rattle.semantics.specs.Source.Text.{line_at}
 use Rattle.semantics.specs.Source.Scope.{Scope, AVariable}
 use Rattle.semantics.specs.Meaning.Value.{map_option}
 use Rattle.semantics.specs.Loops.Nest.{Loop, as_loop, only_loop, holds_none, nest_of}
-use Rattle.semantics.specs.Directives.Directive.{Schedule, StaticPlain, Clause, DefaultShared, DefaultNone, Shared, Private, Firstprivate, ScheduledBy, Collapse, ParallelFor}
+use Rattle.semantics.specs.Source.Grammar.{ReadsText}
+use Rattle.semantics.specs.Directives.Directive.{Schedule, StaticPlain, Clause, DefaultShared, DefaultNone, Nowait, Shared, Private, Firstprivate, ScheduledBy, Collapse, Directive, ParallelFor, Parallel, Worksharing, ScanInclusive, ScanExclusive, OrderedRegion, DoacrossSource, DoacrossSink}
+use Rattle.semantics.specs.Directives.Placed.{is_team}
 use Rattle.semantics.specs.Directives.Annotated.{Directives, directive_at, file_scope, lines_in, lines_among, lines_of, ReadsDirectives}
 use Rattle.semantics.specs.Directives.Clauses.{depth_of, schedule_of, doacross_of, reduction_of, is_scan}
-use Rattle.semantics.specs.Directives.Regions.{sinks_among, sinks_in, region_by, regions_in, regions_among, listing_of}
+use Rattle.semantics.specs.Directives.Regions as meant
+use Rattle.semantics.specs.Directives.Regions.{offsets_of, sinks_among, sinks_in}
 use Rattle.semantics.specs.Directives.Listing.{ListedLoop, listing}
 use Rattle.cparse_grammar.specs.Reading.{◌>>=◌}
 use Rattle.pragma_clause.proofs.DirectiveComplete.{line_read}
-use Rattle.pragma.specs.Clauses.{Said, with_clause, said_by}
+use Rattle.law_lines.specs.Without.{without_in, without_among}
+use Rattle.pragma.specs.Clauses.{Said, with_clause, said_by, loop_of}
 use Rattle.pragma.specs.Parallel.{LineHas, LoopsHave, ItemsHave}
 use Rattle.pragma.specs.Plain.{has_line, has_line_among, IsPlainFor, IsPlainLoop, IsDirected}
-use Rattle.pragma.specs.Views.{scheduled}
+use Rattle.pragma_attach.specs.Standing.{directive_on}
 use Rattle.pragma_attach.specs.Attached.{directives_of}
 use Rattle.pragma_attach.proofs.LinesLaw.{Read, AllRead, both_read, Found, AllFound, found_first, found_second, all_found, are_read}
-use Rattle.flow.specs.Parallel.{LoopsAre, ItemsAre, IsParallelLoop, AreParallelLoops}
-use Rattle.flow.specs.declared.environment.ParallelLoop.{ParallelLoop}
-use Rattle.listing.specs.Regions.{region_of}
+use Rattle.pragma_region.specs.Regions.{is_region_line, alone}
+use Rattle.pragma_region.specs.Listed.{one_loop, shared_line, shared_behind, shared_among, shared_in, region_line, region_behind, regions_in, regions_among, regions_of, part_said}
+use Rattle.pragma_region.specs.declared.listing.RegionPart.{RegionPart}
+use Rattle.deptest.specs.Accepted.{AreRegions}
+use Rattle.listing.specs.Regions.{plain_said, printed}
+use Rattle.listing.proofs.Printed.{printed_regions}
 
 -- ---- what known clauses say
 
@@ -85,6 +92,12 @@ one_more (Firstprivate xs) cs j d k e p f = record {
   reductions = p.reductions;
   scan = p.scan;
 }
+one_more Nowait cs j d k e p f = record {
+  schedule = p.schedule ∙ ap (λ o. unwrap_or o StaticPlain) (first_said f);
+  doacross = p.doacross;
+  reductions = p.reductions;
+  scan = p.scan;
+}
 one_more c cs j d k e p f = absurd (cc f)
 
 are_plain : (cs : List (Clause Name)) (k : Option Schedule) (c : Option ℕ) → said_by cs ≡ Some (k, c) → IsPlain cs k
@@ -96,7 +109,7 @@ are_plain (x ∷ cs) k c e = go (said_by cs) refl (are_plain cs) e
     go None f before g = absurd (cc g)
     go (Some (j, d)) f before g = one_more x cs j d k c (before j d f) g
 
--- ---- a statement with no directive line in it
+-- ---- a statement in which no directive line is a sink's
 
 left_of : (x y : Bool) → (x || y) ≡ false → x ≡ false
 left_of true y e = absurd (cc e)
@@ -107,49 +120,66 @@ right_of true y e = absurd (cc e)
 right_of false y e = e
 
 module _ (ds : Directives) where
-  no_sinks : (items : Items) → has_line_among items ≡ false → sinks_among ds items ≡ []
-  no_sinks no_items e = refl
-  no_sinks (mark n rest) e = absurd (cc e)
-  no_sinks (local x name start rest) e = no_sinks rest e
-  no_sinks (stmt s rest) e = no_sinks rest (right_of (has_line s) (has_line_among rest) e)
+  abbrev mutual
+    -- each line has no offsets
+    Quiet : Stmt → Type 0
+    Quiet (Assign x is v) = Unit {0}
+    Quiet (Update x is op v) = Unit {0}
+    Quiet (If c a) = Quiet a
+    Quiet (IfElse c a b) = Quiet a × Quiet b
+    Quiet (For x name start test step body) = Quiet body
+    Quiet (Block items) = AllQuiet items
+    Quiet (Print parts) = Unit {0}
 
-  no_sinks_in : (ls : List Loop) (s : Stmt) → has_line s ≡ false → sinks_in ds (Some (ls, s)) ≡ []
-  no_sinks_in ls (Block items) e = no_sinks items e
-  no_sinks_in ls (Assign x is v) e = refl
-  no_sinks_in ls (Update x is op v) e = refl
-  no_sinks_in ls (If c a) e = refl
-  no_sinks_in ls (IfElse c a b) e = refl
-  no_sinks_in ls (For x name start test step body) e = refl
-  no_sinks_in ls (Print parts) e = refl
+    AllQuiet : Items → Type 0
+    AllQuiet no_items = Unit {0}
+    AllQuiet (mark n rest) = (offsets_of (directive_at ds n) ≡ []) × AllQuiet rest
+    AllQuiet (local x name start rest) = AllQuiet rest
+    AllQuiet (stmt s rest) = Quiet s × AllQuiet rest
 
-  abbrev lines_behind : Option (Loop × Stmt) → Bool
-  lines_behind None = false
-  lines_behind (Some found) = has_line found.1
+  no_sinks : (items : Items) → AllQuiet items → sinks_among ds items ≡ []
+  no_sinks no_items q = refl
+  no_sinks (mark n rest) q = ap (λ o. o ++ sinks_among ds rest) q.0 ∙ no_sinks rest q.1
+  no_sinks (local x name start rest) q = no_sinks rest q
+  no_sinks (stmt s rest) q = no_sinks rest q.1
+
+  no_sinks_in : (ls : List Loop) (s : Stmt) → Quiet s → sinks_in ds (Some (ls, s)) ≡ []
+  no_sinks_in ls (Block items) q = no_sinks items q
+  no_sinks_in ls (Assign x is v) q = refl
+  no_sinks_in ls (Update x is op v) q = refl
+  no_sinks_in ls (If c a) q = refl
+  no_sinks_in ls (IfElse c a b) q = refl
+  no_sinks_in ls (For x name start test step body) q = refl
+  no_sinks_in ls (Print parts) q = refl
+
+  abbrev QuietBehind : Option (Loop × Stmt) → Type 0
+  QuietBehind None = Unit {0}
+  QuietBehind (Some found) = Quiet found.1
 
   mutual
-    of_loop : (s : Stmt) (l : Loop) (b : Stmt) → has_line s ≡ false → as_loop s ≡ Some (l, b) → has_line b ≡ false
-    of_loop (Assign x is v) l b e f = absurd (cc f)
-    of_loop (Update x is op v) l b e f = absurd (cc f)
-    of_loop (If c a) l b e f = absurd (cc f)
-    of_loop (IfElse c a d) l b e f = absurd (cc f)
-    of_loop (For x name start test step body) l b e f = sym (ap lines_behind f) ∙ e
-    of_loop (Block items) l b e f = of_only items l b e f
-    of_loop (Print parts) l b e f = absurd (cc f)
+    of_loop : (s : Stmt) (l : Loop) (b : Stmt) → Quiet s → as_loop s ≡ Some (l, b) → Quiet b
+    of_loop (Assign x is v) l b q f = absurd (cc f)
+    of_loop (Update x is op v) l b q f = absurd (cc f)
+    of_loop (If c a) l b q f = absurd (cc f)
+    of_loop (IfElse c a d) l b q f = absurd (cc f)
+    of_loop (For x name start test step body) l b q f = subst QuietBehind f q
+    of_loop (Block items) l b q f = of_only items l b q f
+    of_loop (Print parts) l b q f = absurd (cc f)
 
-    of_only : (items : Items) (l : Loop) (b : Stmt) → has_line_among items ≡ false → only_loop items ≡ Some (l, b) → has_line b ≡ false
-    of_only no_items l b e f = absurd (cc f)
-    of_only (mark n rest) l b e f = absurd (cc f)
-    of_only (local x name start rest) l b e f = absurd (cc f)
-    of_only (stmt s rest) l b e f = go (holds_none rest) (of_loop s l b (left_of (has_line s) (has_line_among rest) e)) f
+    of_only : (items : Items) (l : Loop) (b : Stmt) → AllQuiet items → only_loop items ≡ Some (l, b) → Quiet b
+    of_only no_items l b q f = absurd (cc f)
+    of_only (mark n rest) l b q f = absurd (cc f)
+    of_only (local x name start rest) l b q f = absurd (cc f)
+    of_only (stmt s rest) l b q f = go (holds_none rest) (of_loop s l b q.0) f
       where
-        go : (t : Bool) → (as_loop s ≡ Some (l, b) → has_line b ≡ false) → (if t then as_loop s else None) ≡ Some (l, b) → has_line b ≡ false
+        go : (t : Bool) → (as_loop s ≡ Some (l, b) → Quiet b) → (if t then as_loop s else None) ≡ Some (l, b) → Quiet b
         go true inner g = inner g
         go false inner g = absurd (cc g)
 
   -- nor in the body of a nest
-  no_sinks_of : (n : ℕ) (outside : List Loop → List Loop) (s : Stmt) → has_line s ≡ false → sinks_in ds (map_option (λ (inner : List Loop × Stmt). (outside inner.0, inner.1)) (nest_of n s)) ≡ []
-  no_sinks_of zero outside s e = no_sinks_in (outside []) s e
-  no_sinks_of (suc n) outside s e = go (as_loop s) refl (λ l b h. no_sinks_of n (λ ls. outside (l ∷ ls)) b h)
+  no_sinks_of : (n : ℕ) (outside : List Loop → List Loop) (s : Stmt) → Quiet s → sinks_in ds (map_option (λ (inner : List Loop × Stmt). (outside inner.0, inner.1)) (nest_of n s)) ≡ []
+  no_sinks_of zero outside s q = no_sinks_in (outside []) s q
+  no_sinks_of (suc n) outside s q = go (as_loop s) refl (λ l b h. no_sinks_of n (λ ls. outside (l ∷ ls)) b h)
     where
       joined : (l : Loop) (o : Option (List Loop × Stmt))
           → sinks_in ds (map_option (λ (inner : List Loop × Stmt). (outside inner.0, inner.1)) (map_option (λ (inner : List Loop × Stmt). (l ∷ inner.0, inner.1)) o)) ≡ sinks_in ds (map_option (λ (inner : List Loop × Stmt). (outside (l ∷ inner.0), inner.1)) o)
@@ -157,31 +187,12 @@ module _ (ds : Directives) where
       joined l (Some nest) = refl
 
       go : (o : Option (Loop × Stmt)) → as_loop s ≡ o
-          → ((l : Loop) (b : Stmt) → has_line b ≡ false → sinks_in ds (map_option (λ (inner : List Loop × Stmt). (outside (l ∷ inner.0), inner.1)) (nest_of n b)) ≡ [])
+          → ((l : Loop) (b : Stmt) → Quiet b → sinks_in ds (map_option (λ (inner : List Loop × Stmt). (outside (l ∷ inner.0), inner.1)) (nest_of n b)) ≡ [])
           → sinks_in ds (map_option (λ (inner : List Loop × Stmt). (outside inner.0, inner.1)) (option_and_then (λ (found : Loop × Stmt). map_option (λ (inner : List Loop × Stmt). (found.0 ∷ inner.0, inner.1)) (nest_of n found.1)) o)) ≡ []
       go None f inner = refl
-      go (Some (l, b)) f inner = joined l (nest_of n b) ∙ inner l b (of_loop s l b e f)
+      go (Some (l, b)) f inner = joined l (nest_of n b) ∙ inner l b (of_loop s l b q f)
 
-mutual
-  -- no line, no loop
-  no_loops : (text : List ℕ) (s : Stmt) (ls : List ParallelLoop) → has_line s ≡ false → LoopsAre text s ls → ls ≡ []
-  no_loops text (Assign x is v) ls e p = p
-  no_loops text (Update x is op v) ls e p = p
-  no_loops text (If c a) ls e p = no_loops text a ls e p
-  no_loops text (IfElse c a b) ls e (first, others, is, p, q) =
-      is ∙ ap (λ l. l ++ others) (no_loops text a first (left_of (has_line a) (has_line b) e) p) ∙ no_loops text b others (right_of (has_line a) (has_line b) e) q
-  no_loops text (For x name start test step body) ls e p = no_loops text body ls e p
-  no_loops text (Block items) ls e p = no_loops_among text items ls e p
-  no_loops text (Print parts) ls e p = p
-
-  no_loops_among : (text : List ℕ) (items : Items) (ls : List ParallelLoop) → has_line_among items ≡ false → ItemsAre text items ls → ls ≡ []
-  no_loops_among text no_items ls e p = p
-  no_loops_among text (mark n rest) ls e p = absurd (cc e)
-  no_loops_among text (local x name start rest) ls e p = no_loops_among text rest ls e p
-  no_loops_among text (stmt s rest) ls e (first, others, is, p, q) =
-      is
-      ∙ ap (λ l. l ++ others) (no_loops text s first (left_of (has_line s) (has_line_among rest) e) p)
-      ∙ no_loops_among text rest others (right_of (has_line s) (has_line_among rest) e) q
+-- ---- the regions
 
 plain_for : (s : Stmt) → IsPlainFor s → has_line s ≡ false
 plain_for (For x name start test step body) p = p
@@ -192,66 +203,197 @@ plain_for (IfElse c a b) p = absurd p
 plain_for (Block items) p = absurd p
 plain_for (Print parts) p = absurd p
 
--- ---- the regions
-
-joined : (ls first others : List ParallelLoop) (xs ys : List (List ListedLoop)) → ls ≡ first ++ others → map region_of first ≡ xs → map region_of others ≡ ys → map region_of ls ≡ xs ++ ys
-joined ls first others xs ys e f g = ap (map region_of) e ∙ map-append region_of first others ∙ ap (λ l. l ++ map region_of others) f ∙ ap (λ l. xs ++ l) g
+same_directive : {d e : Directive Name} → Some d ≡ Some e → d ≡ e
+same_directive p = cc p
 
 module _ (text : List ℕ) (ds : Directives) where
-  -- a line before a loop
-  line_region : (n : ℕ) (rest : Items) (l : ParallelLoop) (s : Stmt) (inside : List (List ListedLoop)) → Found text ds n → IsParallelLoop text n rest l → has_line s ≡ false
-      → region_by ds (directive_at ds n) s inside ≡ region_of l ∷ []
-  line_region n rest l s inside (d, on, at) p e =
-      let reads = p.reads in
-      let plain = are_plain reads.clauses (scheduled l.directive) l.directive.collapse reads.says in
-      let sinks : sinks_in ds (nest_of (depth_of reads.clauses) s) ≡ [] = alone (nest_of (depth_of reads.clauses) s) ∙ no_sinks_of ds (depth_of reads.clauses) (λ ls. ls) s e in
-      ap (λ o. region_by ds o s inside) (at ∙ sym on ∙ line_read (line_at text n) (ParallelFor reads.clauses) reads.reads)
-      ∙ (λ i. (record { schedule = plain.schedule i; doacross = plain.doacross i; sinks = sinks i; reductions = plain.reductions i; scan = plain.scan i } ∷ []) ∷ [])
+  abbrev out : ℕ → Bool
+  out n = is_region_line text n
+
+  -- the line of a region has no offsets
+  region_quiet : (n : ℕ) (o : Option (Directive Name)) → directive_on text n ≡ o → directive_at ds n ≡ o → out n ≡ true → offsets_of (directive_at ds n) ≡ []
+  region_quiet n (Some (Parallel cs)) e f t = ap offsets_of f
+  region_quiet n None e f t = absurd (cc (sym (ap is_team e) ∙ t))
+  region_quiet n (Some (ParallelFor cs)) e f t = absurd (cc (sym (ap is_team e) ∙ t))
+  region_quiet n (Some (Worksharing cs)) e f t = absurd (cc (sym (ap is_team e) ∙ t))
+  region_quiet n (Some (ScanInclusive x)) e f t = absurd (cc (sym (ap is_team e) ∙ t))
+  region_quiet n (Some (ScanExclusive x)) e f t = absurd (cc (sym (ap is_team e) ∙ t))
+  region_quiet n (Some OrderedRegion) e f t = absurd (cc (sym (ap is_team e) ∙ t))
+  region_quiet n (Some DoacrossSource) e f t = absurd (cc (sym (ap is_team e) ∙ t))
+  region_quiet n (Some (DoacrossSink es)) e f t = absurd (cc (sym (ap is_team e) ∙ t))
+
+  mutual
+    -- where no line is left but those of regions
+    quiet_in : (scope : Scope) (s : Stmt) → AllFound text ds (lines_in scope s) → has_line (without_in out s) ≡ false → Quiet ds s
+    quiet_in scope (Assign x is v) f e = tt
+    quiet_in scope (Update x is op v) f e = tt
+    quiet_in scope (If c a) f e = quiet_in scope a f e
+    quiet_in scope (IfElse c a b) f e = (
+      quiet_in scope a (found_first text ds (lines_in scope a) (lines_in scope b) f) (left_of (has_line (without_in out a)) (has_line (without_in out b)) e),
+      quiet_in scope b (found_second text ds (lines_in scope a) (lines_in scope b) f) (right_of (has_line (without_in out a)) (has_line (without_in out b)) e),
+    )
+    quiet_in scope (For x name start test step body) f e = quiet_in ((name, AVariable x 0) ∷ scope) body f e
+    quiet_in scope (Block items) f e = quiet_among scope items f e
+    quiet_in scope (Print parts) f e = tt
+
+    quiet_among : (scope : Scope) (items : Items) → AllFound text ds (lines_among scope items) → has_line_among (without_among out items) ≡ false → AllQuiet ds items
+    quiet_among scope no_items f e = tt
+    quiet_among scope (mark n rest) (found, f) e = go (out n) refl e (λ q. quiet_among scope rest f q)
+      where
+        go : (b : Bool) → out n ≡ b → has_line_among (if b then without_among out rest else mark n (without_among out rest)) ≡ false
+            → (has_line_among (without_among out rest) ≡ false → AllQuiet ds rest) → AllQuiet ds (mark n rest)
+        go true t q later = (region_quiet n (Some found.0) found.1 found.2 t, later q)
+        go false t q later = absurd (cc q)
+    quiet_among scope (local x name start rest) f e = quiet_among ((name, AVariable x 0) ∷ scope) rest f e
+    quiet_among scope (stmt s rest) f e = (
+      quiet_in scope s (found_first text ds (lines_in scope s) (lines_among scope rest) f) (left_of (has_line (without_in out s)) (has_line_among (without_among out rest)) e),
+      quiet_among scope rest (found_second text ds (lines_in scope s) (lines_among scope rest) f) (right_of (has_line (without_in out s)) (has_line_among (without_among out rest)) e),
+    )
+
+  -- the line before, and its directive
+  abbrev Before : Option ℕ → Option (Directive Name) → Type 0
+  Before None o = o ≡ None
+  Before (Some n) o = o ≡ directive_on text n
+
+  -- what is known of the items behind it, where it is left in the tree
+  abbrev Behind : Option ℕ → Items → Type 0
+  Behind None items = Unit {0}
+  Behind (Some n) items = out n ≡ false → (serial : List Loop) × LineHas text IsPlainLoop serial n (without_among out items)
+
+  -- the loop behind a line of these clauses
+  one_listed : (n : ℕ) (d : Directive Name) (cs : List (Clause Name)) (scope : Scope) (s : Stmt) (rest : Items) → directive_on text n ≡ Some d → loop_of d ≡ said_by cs → AllFound text ds (lines_in scope s)
+      → (serial : List Loop) × LineHas text IsPlainLoop serial n (stmt (without_in out s) (without_among out rest)) → map plain_said (one_loop (said_by cs)) ≡ meant.listed ds cs s ∷ []
+  one_listed n d cs scope s rest on is found (serial, (k, c, r, first)) =
+      let same = same_directive (sym (line_read (line_at text n) r.directive r.reads) ∙ on) in
+      let says : said_by cs ≡ Some (k, c) = sym is ∙ ap loop_of (sym same) ∙ r.says in
+      let plain = are_plain cs k c says in
+      let quiet = quiet_in scope s found (plain_for (without_in out s) first) in
+      let sinks : sinks_in ds (nest_of (depth_of cs) s) ≡ [] = alone (nest_of (depth_of cs) s) ∙ no_sinks_of ds (depth_of cs) (λ ls. ls) s quiet in
+      ap (λ o. map plain_said (one_loop o)) says
+      ∙ (λ i. record { schedule = sym plain.schedule i; doacross = sym plain.doacross i; sinks = sym sinks i; reductions = sym plain.reductions i; scan = sym plain.scan i } ∷ [])
     where
       alone : (o : Option (List Loop × Stmt)) → sinks_in ds o ≡ sinks_in ds (map_option (λ (inner : List Loop × Stmt). (inner.0, inner.1)) o)
       alone None = refl
       alone (Some nest) = refl
 
-  mutual
-    of_stmt : (scope : Scope) (serial : List Loop) (s : Stmt) (ls : List ParallelLoop) → LoopsHave text IsPlainLoop serial s → AllFound text ds (lines_in scope s) → LoopsAre text s ls → map region_of ls ≡ regions_in ds s
-    of_stmt scope serial (Assign x is v) ls h f p = ap (map region_of) p
-    of_stmt scope serial (Update x is op v) ls h f p = ap (map region_of) p
-    of_stmt scope serial (If c a) ls h f p = of_stmt scope serial a ls h f p
-    of_stmt scope serial (IfElse c a b) ls h f (first, others, is, p, q) =
-        joined ls first others (regions_in ds a) (regions_in ds b) is
-        (of_stmt scope serial a first h.0 (found_first text ds (lines_in scope a) (lines_in scope b) f) p)
-        (of_stmt scope serial b others h.1 (found_second text ds (lines_in scope a) (lines_in scope b) f) q)
-    of_stmt scope serial (For x name start test step body) ls h f p =
-        of_stmt ((name, AVariable x 0) ∷ scope) (serial ++ record { variable = x; start = start; test = test; step = step } ∷ []) body ls h f p
-    of_stmt scope serial (Block items) ls h f p = of_items scope serial items ls h f p
-    of_stmt scope serial (Print parts) ls h f p = ap (map region_of) p
+  -- a line that is none of a region is left
+  left_in : (n : ℕ) (o : Option (Directive Name)) → directive_on text n ≡ o → is_team o ≡ false → out n ≡ false
+  left_in n o e t = ap is_team e ∙ t
 
-    of_items : (scope : Scope) (serial : List Loop) (items : Items) (ls : List ParallelLoop) → ItemsHave text IsPlainLoop serial items → AllFound text ds (lines_among scope items) → ItemsAre text items ls → map region_of ls ≡ regions_among ds None items
-    of_items scope serial no_items ls h f p = ap (map region_of) p
-    of_items scope serial (mark n no_items) ls ((k, c, r, first), h) f p = absurd first
-    of_items scope serial (mark n (mark m rest)) ls ((k, c, r, first), h) f p = absurd first
-    of_items scope serial (mark n (local x name start rest)) ls ((k, c, r, first), h) f p = absurd first
-    of_items scope serial (mark n (stmt s rest)) ls ((k, c, r, first), h) f (l, behind, is, p, (inner, others, cut, q, t)) =
-        let free = plain_for s first in
-        let bare : behind ≡ others = cut ∙ ap (λ x. x ++ others) (no_loops text s inner free q) in
-        joined ls (l ∷ []) others (region_by ds (directive_at ds n) s (regions_in ds s)) (regions_among ds None rest)
-        (is ∙ ap (λ x. l ∷ x) bare)
-        (sym (line_region n (stmt s rest) l s (regions_in ds s) f.0 p free))
-        (of_items scope serial rest others h.1 (found_second text ds (lines_in scope s) (lines_among scope rest) f.1) t)
-    of_items scope serial (local x name start rest) ls h f p = of_items ((name, AVariable x 0) ∷ scope) serial rest ls h f p
-    of_items scope serial (stmt s rest) ls h f (first, others, is, p, q) =
-        joined ls first others (regions_in ds s) (regions_among ds None rest) is
-        (of_stmt scope serial s first h.0 (found_first text ds (lines_in scope s) (lines_among scope rest) f) p)
-        (of_items scope serial rest others h.1 (found_second text ds (lines_in scope s) (lines_among scope rest) f) q)
+  -- a loop of a `parallel` block
+  one_shared : (before : Option ℕ) (o : Option (Directive Name)) (scope : Scope) (s : Stmt) (rest : Items) → Before before o → Behind before (stmt s rest) → AllFound text ds (lines_in scope s)
+      → map plain_said (shared_behind text before) ≡ meant.shared_by ds o s
+  one_shared None o scope s rest b h found = ap (λ p. meant.shared_by ds p s) (sym b)
+  one_shared (Some n) o scope s rest b h found = go (directive_on text n) refl ∙ ap (λ p. meant.shared_by ds p s) (sym b)
+    where
+      go : (p : Option (Directive Name)) → directive_on text n ≡ p → map plain_said (shared_line (directive_on text n)) ≡ meant.shared_by ds (directive_on text n) s
+      go (Some (Worksharing cs)) e =
+          ap (λ p. map plain_said (shared_line p)) e ∙ one_listed n (Worksharing cs) cs scope s rest e refl found (h (left_in n (Some (Worksharing cs)) e refl)) ∙ ap (λ p. meant.shared_by ds p s) (sym e)
+      go None e = ap (λ p. map plain_said (shared_line p)) e ∙ ap (λ p. meant.shared_by ds p s) (sym e)
+      go (Some (ParallelFor cs)) e = ap (λ p. map plain_said (shared_line p)) e ∙ ap (λ p. meant.shared_by ds p s) (sym e)
+      go (Some (Parallel cs)) e = ap (λ p. map plain_said (shared_line p)) e ∙ ap (λ p. meant.shared_by ds p s) (sym e)
+      go (Some (ScanInclusive x)) e = ap (λ p. map plain_said (shared_line p)) e ∙ ap (λ p. meant.shared_by ds p s) (sym e)
+      go (Some (ScanExclusive x)) e = ap (λ p. map plain_said (shared_line p)) e ∙ ap (λ p. meant.shared_by ds p s) (sym e)
+      go (Some OrderedRegion) e = ap (λ p. map plain_said (shared_line p)) e ∙ ap (λ p. meant.shared_by ds p s) (sym e)
+      go (Some DoacrossSource) e = ap (λ p. map plain_said (shared_line p)) e ∙ ap (λ p. meant.shared_by ds p s) (sym e)
+      go (Some (DoacrossSink es)) e = ap (λ p. map plain_said (shared_line p)) e ∙ ap (λ p. meant.shared_by ds p s) (sym e)
+
+  -- what is known of a block's items behind a line that is passed
+  behind_mark : (serial : List Loop) (n : ℕ) (rest : Items) → ItemsHave text IsPlainLoop serial (without_among out (mark n rest)) → Behind (Some n) rest × ItemsHave text IsPlainLoop serial (without_among out rest)
+  behind_mark serial n rest h = go (out n) refl h
+    where
+      wrong : true ≡ false → ⊥
+      wrong e = cc e
+
+      go : (b : Bool) → out n ≡ b → ItemsHave text IsPlainLoop serial (if b then without_among out rest else mark n (without_among out rest)) → Behind (Some n) rest × ItemsHave text IsPlainLoop serial (without_among out rest)
+      go true t g = (λ f. absurd (wrong (sym t ∙ f)), g)
+      go false t g = (λ f. (serial, g.0), g.1)
+
+  found_before : (n : ℕ) → Found text ds n → directive_at ds n ≡ directive_on text n
+  found_before n f = f.2 ∙ sym f.1
+
+  shared_listed : (scope : Scope) (serial : List Loop) (before : Option ℕ) (o : Option (Directive Name)) (items : Items) → Before before o → Behind before items → ItemsHave text IsPlainLoop serial (without_among out items)
+      → AllFound text ds (lines_among scope items) → map plain_said (shared_among text before items) ≡ meant.loops_among ds o items
+  shared_listed scope serial before o no_items b h have f = refl
+  shared_listed scope serial before o (mark n rest) b h have (found, f) =
+      let p = behind_mark serial n rest have in
+      shared_listed scope serial (Some n) (directive_at ds n) rest (found_before n found) p.0 p.1 f
+  shared_listed scope serial before o (local x name start rest) b h have f = shared_listed ((name, AVariable x 0) ∷ scope) serial None None rest refl tt have f
+  shared_listed scope serial before o (stmt s rest) b h have f =
+      map-append plain_said (shared_behind text before) (shared_among text None rest)
+      ∙ ap (λ xs. xs ++ map plain_said (shared_among text None rest)) (one_shared before o scope s rest b h (found_first text ds (lines_in scope s) (lines_among scope rest) f))
+      ∙ ap (λ xs. meant.shared_by ds o s ++ xs) (shared_listed scope serial None None rest refl tt have.1 (found_second text ds (lines_in scope s) (lines_among scope rest) f))
+
+  block_listed : (scope : Scope) (serial : List Loop) (s : Stmt) → LoopsHave text IsPlainLoop serial (without_in out s) → AllFound text ds (lines_in scope s) → map plain_said (shared_in text s) ≡ meant.loops_in ds s
+  block_listed scope serial (Block items) have f = shared_listed scope serial None None items refl tt have f
+  block_listed scope serial (Assign x is v) have f = refl
+  block_listed scope serial (Update x is op v) have f = refl
+  block_listed scope serial (If c a) have f = refl
+  block_listed scope serial (IfElse c a b) have f = refl
+  block_listed scope serial (For x name start test step body) have f = refl
+  block_listed scope serial (Print parts) have f = refl
+
+  -- a region behind a line, or those inside the statement
+  one_region : (before : Option ℕ) (o : Option (Directive Name)) (scope : Scope) (serial : List Loop) (s : Stmt) (rest : Items) → Before before o → Behind before (stmt s rest)
+      → LoopsHave text IsPlainLoop serial (without_in out s) → AllFound text ds (lines_in scope s) → map (map plain_said) (regions_in text s) ≡ meant.regions_in ds s
+      → map (map plain_said) (region_behind text before s (regions_in text s)) ≡ meant.region_by ds o s (meant.regions_in ds s)
+  one_region None o scope serial s rest b h have found inside = inside ∙ ap (λ p. meant.region_by ds p s (meant.regions_in ds s)) (sym b)
+  one_region (Some n) o scope serial s rest b h have found inside = go (directive_on text n) refl ∙ ap (λ p. meant.region_by ds p s (meant.regions_in ds s)) (sym b)
+    where
+      mine : Option (Directive Name) → List (List ListedLoop)
+      mine p = map (map plain_said) (region_line p (shared_in text s) (regions_in text s))
+
+      theirs : Option (Directive Name) → List (List ListedLoop)
+      theirs p = meant.region_by ds p s (meant.regions_in ds s)
+
+      go : (p : Option (Directive Name)) → directive_on text n ≡ p → mine (directive_on text n) ≡ theirs (directive_on text n)
+      go (Some (ParallelFor cs)) e = ap mine e ∙ ap (λ (l : List ListedLoop). l ∷ []) (one_listed n (ParallelFor cs) cs scope s rest e refl found (h (left_in n (Some (ParallelFor cs)) e refl))) ∙ ap theirs (sym e)
+      go (Some (Parallel cs)) e = ap mine e ∙ ap (λ (l : List ListedLoop). l ∷ []) (block_listed scope serial s have found) ∙ ap theirs (sym e)
+      go None e = ap mine e ∙ inside ∙ ap theirs (sym e)
+      go (Some (Worksharing cs)) e = ap mine e ∙ inside ∙ ap theirs (sym e)
+      go (Some (ScanInclusive x)) e = ap mine e ∙ inside ∙ ap theirs (sym e)
+      go (Some (ScanExclusive x)) e = ap mine e ∙ inside ∙ ap theirs (sym e)
+      go (Some OrderedRegion) e = ap mine e ∙ inside ∙ ap theirs (sym e)
+      go (Some DoacrossSource) e = ap mine e ∙ inside ∙ ap theirs (sym e)
+      go (Some (DoacrossSink es)) e = ap mine e ∙ inside ∙ ap theirs (sym e)
+
+  mutual
+    of_stmt : (scope : Scope) (serial : List Loop) (s : Stmt) → LoopsHave text IsPlainLoop serial (without_in out s) → AllFound text ds (lines_in scope s) → map (map plain_said) (regions_in text s) ≡ meant.regions_in ds s
+    of_stmt scope serial (Assign x is v) have f = refl
+    of_stmt scope serial (Update x is op v) have f = refl
+    of_stmt scope serial (If c a) have f = of_stmt scope serial a have f
+    of_stmt scope serial (IfElse c a b) have f =
+        map-append (map plain_said) (regions_in text a) (regions_in text b)
+        ∙ ap (λ xs. xs ++ map (map plain_said) (regions_in text b)) (of_stmt scope serial a have.0 (found_first text ds (lines_in scope a) (lines_in scope b) f))
+        ∙ ap (λ xs. meant.regions_in ds a ++ xs) (of_stmt scope serial b have.1 (found_second text ds (lines_in scope a) (lines_in scope b) f))
+    of_stmt scope serial (For x name start test step body) have f =
+        of_stmt ((name, AVariable x 0) ∷ scope) (serial ++ record { variable = x; start = start; test = test; step = step } ∷ []) body have f
+    of_stmt scope serial (Block items) have f = of_items scope serial None None items refl tt have f
+    of_stmt scope serial (Print parts) have f = refl
+
+    of_items : (scope : Scope) (serial : List Loop) (before : Option ℕ) (o : Option (Directive Name)) (items : Items) → Before before o → Behind before items → ItemsHave text IsPlainLoop serial (without_among out items)
+        → AllFound text ds (lines_among scope items) → map (map plain_said) (regions_among text before items) ≡ meant.regions_among ds o items
+    of_items scope serial before o no_items b h have f = refl
+    of_items scope serial before o (mark n rest) b h have (found, f) =
+        let p = behind_mark serial n rest have in
+        of_items scope serial (Some n) (directive_at ds n) rest (found_before n found) p.0 p.1 f
+    of_items scope serial before o (local x name start rest) b h have f = of_items ((name, AVariable x 0) ∷ scope) serial None None rest refl tt have f
+    of_items scope serial before o (stmt s rest) b h have f =
+        let first = found_first text ds (lines_in scope s) (lines_among scope rest) f in
+        map-append (map plain_said) (region_behind text before s (regions_in text s)) (regions_among text None rest)
+        ∙ ap (λ xs. xs ++ map (map plain_said) (regions_among text None rest)) (one_region before o scope serial s rest b h have.0 first (of_stmt scope serial s have.0 first))
+        ∙ ap (λ xs. meant.region_by ds o s (meant.regions_in ds s) ++ xs) (of_items scope serial None None rest refl tt have.1 (found_second text ds (lines_in scope s) (lines_among scope rest) f))
 
 -- ---- each line is read
 
 module _ (text : List ℕ) where
-  line_is_read : (n : ℕ) (rest : Items) (serial : List Loop) → LineHas text IsPlainLoop serial n rest → Read text n
-  line_is_read n rest serial (k, c, r, first) = (ParallelFor r.clauses, line_read (line_at text n) (ParallelFor r.clauses) r.reads)
+  -- that of a region
+  region_is_read : (n : ℕ) (o : Option (Directive Name)) → directive_on text n ≡ o → is_region_line text n ≡ true → Read text n
+  region_is_read n None e t = absurd (cc (sym (ap is_team e) ∙ t))
+  region_is_read n (Some d) e t = (d, e)
 
   mutual
-    read_in : (scope : Scope) (serial : List Loop) (s : Stmt) → LoopsHave text IsPlainLoop serial s → AllRead text (lines_in scope s)
+    read_in : (scope : Scope) (serial : List Loop) (s : Stmt) → LoopsHave text IsPlainLoop serial (without_in (is_region_line text) s) → AllRead text (lines_in scope s)
     read_in scope serial (Assign x is v) h = tt
     read_in scope serial (Update x is op v) h = tt
     read_in scope serial (If c a) h = read_in scope serial a h
@@ -261,21 +403,33 @@ module _ (text : List ℕ) where
     read_in scope serial (Block items) h = read_among scope serial items h
     read_in scope serial (Print parts) h = tt
 
-    read_among : (scope : Scope) (serial : List Loop) (items : Items) → ItemsHave text IsPlainLoop serial items → AllRead text (lines_among scope items)
+    read_among : (scope : Scope) (serial : List Loop) (items : Items) → ItemsHave text IsPlainLoop serial (without_among (is_region_line text) items) → AllRead text (lines_among scope items)
     read_among scope serial no_items h = tt
-    read_among scope serial (mark n rest) h = (line_is_read n rest serial h.0, read_among scope serial rest h.1)
+    read_among scope serial (mark n rest) h = go (is_region_line text n) refl h (λ g. read_among scope serial rest g)
+      where
+        go : (b : Bool) → is_region_line text n ≡ b → ItemsHave text IsPlainLoop serial (if b then without_among (is_region_line text) rest else mark n (without_among (is_region_line text) rest))
+            → (ItemsHave text IsPlainLoop serial (without_among (is_region_line text) rest) → AllRead text (lines_among scope rest)) → AllRead text (lines_among scope (mark n rest))
+        go true t g later = (region_is_read n (directive_on text n) refl t, later g)
+        go false t ((k, c, r, first), g) later = ((r.directive, line_read (line_at text n) r.directive r.reads), later g)
     read_among scope serial (local x name start rest) h = read_among ((name, AVariable x 0) ∷ scope) serial rest h
     read_among scope serial (stmt s rest) h = both_read text (lines_in scope s) (lines_among scope rest) (read_in scope serial s h.0) (read_among scope serial rest h.1)
 
 -- ---- the listing of the text
 
-pub listed_ok : {T E : Type 0} (q : Result T E) (t : Bool) (text : List ℕ) (k : Kernel) (ls : List ParallelLoop) (a b : List ℕ) → t ≡ is_err q → t ≡ false → IsDirected text k → AreParallelLoops text k ls
-    → OnOk q (b ≡ a ++ listing (map region_of ls)) → (ds : Directives) × ReadsDirectives text k ds × (b ≡ a ++ listing_of k ds)
-listed_ok (Ok x) t text k ls a b e f h p o =
-    let read = read_among text (file_scope k) [] k.body h in
-    let ds = directives_of text k in
-    (ds, are_read text k read, o ∙ ap (λ l. a ++ listing l) (of_items text ds (file_scope k) [] k.body ls h (all_found text (lines_of k) read) p))
-listed_ok (Err x) t text k ls a b e f h p o = absurd (wrong (sym e ∙ f))
+pub listed : (text : List ℕ) (k : Kernel) (parts : List RegionPart) (a b : List ℕ) → IsDirected text k → AreRegions text k parts → b ≡ a ++ printed 0 0 (map part_said parts)
+    → (whole : Kernel) × (ds : Directives) × ReadsText text whole × ReadsDirectives text whole ds × (b ≡ a ++ meant.listing_of whole ds)
+listed text k parts a b directed are is =
+    let whole = are.whole in
+    let have : ItemsHave text IsPlainLoop [] (alone text whole).body = subst (λ (j : Kernel). IsDirected text j) are.dissolved directed in
+    let read = read_among text (file_scope whole) [] whole.body have in
+    let ds = directives_of text whole in
+    let regions = of_items text ds (file_scope whole) [] None None whole.body refl tt have (all_found text (lines_of whole) read) in
+    (whole, ds, are.reads, are_read text whole read, is ∙ ap (λ l. a ++ printed 0 0 l) are.are ∙ ap (λ l. a ++ l) (printed_regions 0 0 (regions_of text whole)) ∙ ap (λ l. a ++ listing l) regions)
+
+pub listed_ok : {T E : Type 0} (q : Result T E) (t : Bool) (text : List ℕ) (k : Kernel) (parts : List RegionPart) (a b : List ℕ) → t ≡ is_err q → t ≡ false → IsDirected text k → AreRegions text k parts
+    → OnOk q (b ≡ a ++ printed 0 0 (map part_said parts)) → (whole : Kernel) × (ds : Directives) × ReadsText text whole × ReadsDirectives text whole ds × (b ≡ a ++ meant.listing_of whole ds)
+listed_ok (Ok x) t text k parts a b e f h p o = listed text k parts a b h p o
+listed_ok (Err x) t text k parts a b e f h p o = absurd (wrong (sym e ∙ f))
   where
     wrong : true ≡ false → ⊥
     wrong g = cc g

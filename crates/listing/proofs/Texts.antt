@@ -1,17 +1,14 @@
 -- The texts of lines and regions, taken apart.
-use Rattle.std.specs.Prelude.{ℕ, suc, Bool, true, ◌≡◌, ◌+◌, ◌<◌, if◌then◌else◌, ◌⊎◌, List, [], ◌∷◌, ◌++◌, length, map, take, codes, Result, Ok, Err, OnOk}
+use Rattle.std.specs.Prelude.{ℕ, Bool, true, ◌≡◌, if◌then◌else◌, ◌⊎◌, List, [], ◌∷◌, ◌++◌, codes, Result, Ok, Err, OnOk}
 use Rattle.std.specs.Fmt.{decimal}
-use Rattle.std.proofs.Common.{refl, sym, ap, ◌∙◌, subst, append_assoc, arith, get_or, add-one, inl, inr}
+use Rattle.std.proofs.Common.{refl, sym, ap, ◌∙◌, subst, append_assoc, inl, inr}
 use Rattle.std.proofs.lemmas.Grind.{flat_map-append}
-use Rattle.std.proofs.lemmas.List.{map-append, length-map, length-take-le}
-use Rattle.std.proofs.Math.Seq.{take-suc}
 use Rattle.semantics.specs.Directives.Directive.{Schedule, StaticPlain, StaticSize, DynamicSize, GuidedSize, Auto, Runtime}
-use Rattle.semantics.specs.Directives.Listing.{ListedLoop, Lines, is_static, begin_lines, end_lines, loop_lines, numbered, loops_text, regions_text}
+use Rattle.semantics.specs.Directives.Listing.{Lines, is_static, begin_lines, end_lines, loop_lines, numbered}
 use Rattle.ktree.specs.declared.directive.Schedule as code
 use Rattle.ktree.specs.declared.directive.Schedule.TheVariants as kind
 use Rattle.ktree.specs.DirectiveView.{schedule_of}
-use Rattle.flow.specs.declared.environment.ParallelLoop.{ParallelLoop}
-use Rattle.listing.specs.Regions.{plain_loop, region_of}
+use Rattle.listing.specs.Regions.{plain_loop}
 
 numbered-append : (r l : ℕ) (xs ys : Lines) → numbered r l (xs ++ ys) ≡ numbered r l xs ++ numbered r l ys
 numbered-append r l xs ys = flat_map-append (λ line. decimal r ++ 46 ∷ (decimal l ++ 32 ∷ (line ++ 10 ∷ []))) xs ys
@@ -53,25 +50,3 @@ pub loop_ok : {T E : Type 0} (q : Result T E) (r l : ℕ) (a b c d : List ℕ) (
 loop_ok q r l a b c d s e f o =
     subst (λ (xs : Lines). OnOk q (d ≡ a ++ numbered r l xs)) (loop_parts s)
     (both_added_ok q r l a c d (begin_lines s ++ end_lines s) (codes "__kmpc_barrier" ∷ []) (both_added r l a b c (begin_lines s) (end_lines s) e f) o)
-
--- the regions so far, and one more
-regions-append : (r n : ℕ) (first others : List (List ListedLoop)) → n ≡ r + length first → regions_text r (first ++ others) ≡ regions_text r first ++ regions_text n others
-regions-append r n [] others e = ap (λ k. regions_text k others) (let k : r ≡ n = omega arith in k)
-regions-append r n (x ∷ first) others e =
-    ap (λ t. (numbered r 0 (codes "__kmpc_fork_call" ∷ []) ++ loops_text r 1 x) ++ t) (regions-append (suc r) n first others (omega arith))
-    ∙ sym (append_assoc (numbered r 0 (codes "__kmpc_fork_call" ∷ []) ++ loops_text r 1 x) (regions_text (suc r) first) (regions_text n others))
-
-pub one_more : (a b c : List ℕ) (ls : List ParallelLoop) (i : ℕ) (l : ParallelLoop) → i < length ls → l ≡ get_or ls i l → b ≡ a ++ regions_text 1 (map region_of (take i ls)) → c ≡ b ++ regions_text (i + 1) (region_of l ∷ []) → c ≡ a ++ regions_text 1 (map region_of (take (i + 1) ls))
-one_more a b c ls i l lt is e f =
-    f
-    ∙ ap (λ t. t ++ regions_text (i + 1) (region_of l ∷ [])) e
-    ∙ append_assoc a (regions_text 1 (map region_of (take i ls))) (regions_text (i + 1) (region_of l ∷ []))
-    ∙ ap (λ t. a ++ t)
-    (sym (regions-append 1 (i + 1) (map region_of (take i ls)) (region_of l ∷ []) count)
-    ∙ ap (regions_text 1) (sym (map-append region_of (take i ls) (l ∷ [])) ∙ ap (map region_of) (sym taken)))
-  where
-    count : i + 1 ≡ 1 + length (map region_of (take i ls))
-    count = omega (arith, length-map (take i ls) region_of, length-take-le i ls (omega arith))
-
-    taken : take (i + 1) ls ≡ take i ls ++ l ∷ []
-    taken = ap (λ n. take n ls) (add-one i) ∙ take-suc ls i l lt ∙ ap (λ x. take i ls ++ x ∷ []) (sym is)

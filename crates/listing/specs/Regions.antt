@@ -1,17 +1,19 @@
--- The regions of a kernel as they are listed: each `parallel for` is one, with one loop. (OpenMP 5.2, 17)
-use Rattle.std.specs.Prelude.{ℕ, ◌≡◌, List, [], ◌∷◌, ◌++◌, None, false}
+-- The regions of a kernel as they are listed, part by part. (OpenMP 5.2, 10.1, 11.5 and 17)
+use Rattle.std.specs.Prelude.{ℕ, suc, ◌≡◌, ◌≤◌, ◌+◌, List, [], ◌∷◌, ◌++◌, Option, Some, None, false, codes}
 use Rattle.std.specs.Option.{unwrap_or}
+use Rattle.semantics.specs.Tree.{Kernel}
+use Rattle.semantics.specs.Source.Grammar.{ReadsText}
 use Rattle.semantics.specs.Directives.Directive.{Schedule, StaticPlain}
 use Rattle.semantics.specs.Directives.Annotated.{Directives, ReadsDirectives}
-use Rattle.semantics.specs.Directives.Listing.{ListedLoop}
+use Rattle.semantics.specs.Directives.Listing.{ListedLoop, loop_lines, numbered}
 use Rattle.semantics.specs.Directives.Regions.{listing_of}
-use Rattle.ktree.specs.View.{kernel_of}
+use Rattle.pragma.specs.Clauses.{Said}
 use Rattle.pragma.specs.Views.{scheduled}
 use Rattle.pragma.specs.declared.combined.ParallelFor.{ParallelFor}
-use Rattle.flow.specs.declared.environment.ParallelLoop.{ParallelLoop}
 use Rattle.deptest.specs.Accepted.{Program}
+use Rattle.listing.specs.declared.regions.Listed.{Listed}
 
--- what its line says, and plain static where that says nothing
+-- what a line says of its schedule, and plain static where it says nothing
 abbrev pub schedule_listed : ParallelFor → Schedule
 schedule_listed d = unwrap_or (scheduled d) StaticPlain
 
@@ -19,11 +21,23 @@ schedule_listed d = unwrap_or (scheduled d) StaticPlain
 abbrev pub plain_loop : Schedule → ListedLoop
 plain_loop s = record { schedule = s; doacross = None; sinks = []; reductions = []; scan = false }
 
--- the loops of the region
-abbrev pub region_of : ParallelLoop → List ListedLoop
-region_of l = plain_loop (schedule_listed l.directive) ∷ []
+-- by what its line says
+abbrev pub plain_said : Said → ListedLoop
+plain_said s = plain_loop (unwrap_or s.0 StaticPlain)
 
--- behind what was there stands the listing of a program, by the directives on the lines of its text
+-- the lines of parts, behind so many regions and so many loops of the last of these
+abbrev pub printed : ℕ → ℕ → List (Option Said) → List ℕ
+printed r l [] = []
+printed r l (None ∷ parts) = numbered (suc r) 0 (codes "__kmpc_fork_call" ∷ []) ++ printed (suc r) 0 parts
+printed r l (Some s ∷ parts) = numbered r (suc l) (loop_lines (plain_said s)) ++ printed r (suc l) parts
+
+-- behind what was there stands the listing of a program's text, by the tree that it reads as and the directives on its lines
 abbrev pub AddsListing : Program → List ℕ → List ℕ → Type 0
 AddsListing p before after =
-    (ds : Directives) × ReadsDirectives p.text (kernel_of p.kernel) ds × (after ≡ before ++ listing_of (kernel_of p.kernel) ds)
+    (whole : Kernel) × (ds : Directives) × ReadsText p.text whole × ReadsDirectives p.text whole ds × (after ≡ before ++ listing_of whole ds)
+
+-- a part is listed behind so many regions and loops: its lines are there, and those of any others can follow; neither number grows by more than one
+pub record AddsPart (part : Option Said) (before : Listed) (text text' : List ℕ) (after : Listed) : Type 0 where
+  pub lines : (rest : List (Option Said)) → text' ++ printed after.regions after.loops rest ≡ text ++ printed before.regions before.loops (part ∷ rest)
+  pub regions : after.regions ≤ before.regions + 1
+  pub loops : after.loops ≤ before.loops + 1

@@ -1,17 +1,18 @@
 //! The regions of a kernel.
 
-ghost use Rattle.std.specs.Prelude.{◌≡◌, ◌++◌, ◌∷◌, [], map, OnOk, OnErr, IfErr};
+ghost use Rattle.std.specs.Prelude.{◌≡◌, ◌+◌, ◌<◌, ◌^◌, ◌++◌, ◌∷◌, [], map, option_map, OnOk, OnErr, IfOk, IfErr};
 ghost use Rattle.semantics.specs.Theorems.{Begins};
-ghost use Rattle.semantics.specs.Directives.Listing.{regions_text, listing};
 ghost use Rattle.ktree.specs.DirectiveView.{schedule_of};
-ghost use Rattle.listing.specs.Regions.{schedule_listed, region_of, AddsListing};
+ghost use Rattle.pragma.specs.Views.{said_of};
+ghost use Rattle.pragma_region.specs.Listed.{part_said};
+ghost use Rattle.listing.specs.Regions.{schedule_listed, printed, AddsListing, AddsPart};
 
 use crate::calls::add_loop;
 use crate::lines::add_line;
 use deptest::Checked;
-use flow::ParallelLoop;
 use ktree::{Refusal, Schedule};
 use pragma::ParallelFor;
+use pragma_region::RegionPart;
 use std::alloc::AllocError;
 
 // The schedule of a loop: plain static where its line says none (OpenMP 5.2, 11.5.3).
@@ -24,35 +25,76 @@ fn schedule_for(directive: ParallelFor) -> Schedule
     }
 }
 
-// Adds the region of a `parallel for` (OpenMP 5.2, 10.1 and 17): its fork (`__kmpc_fork_call`), and its loop.
-fn add_region(
-    text: &mut Vec<u8>,
-    region: usize,
-    parallel_loop: &ParallelLoop,
-) -> Result<(), AllocError>
-    ensures added { OnOk result (text.new.items
-        ≡ text.old.items ++ regions_text region (region_of parallel_loop.now ∷ [])) }
-    ensures front { Begins text.old.items text.new.items }
-{
-    let schedule = schedule_for(parallel_loop.directive);
-    add_line(text, region, 0, b"__kmpc_fork_call", b"")?;
-    add_loop(text, region, 1, &schedule)
+/// How many regions are listed, and how many loops of the last of them.
+#[derive(Clone, Copy)]
+struct Listed {
+    regions: usize,
+    loops: usize,
 }
 
-// Adds the regions of these, numbered from 1.
-fn add_regions(text: &mut Vec<u8>, loops: &[ParallelLoop]) -> Result<(), AllocError>
-    ensures added { OnOk result (text.new.items
-        ≡ text.old.items ++ listing (map region_of loops.now)) }
+// Adds the begin of the next region: its fork (`__kmpc_fork_call`; OpenMP 5.2, 10.1).
+fn add_fork(text: &mut Vec<u8>, before: Listed) -> Result<Listed, AllocError>
+    requires { before.regions + 1 < 2 ^ 64 }
+    ensures added { IfOk result (AddsPart None before text.old.items text.new.items) }
     ensures front { Begins text.old.items text.new.items }
 {
-    for (before, parallel_loop) in loops.iter().enumerate() {
-        add_region(text, before + 1, parallel_loop)?;
+    let regions = before.regions + 1;
+    add_line(text, regions, 0, b"__kmpc_fork_call", b"")?;
+    Ok(Listed { regions, loops: 0 })
+}
+
+// Adds the next loop of the last region.
+fn add_next_loop(
+    text: &mut Vec<u8>,
+    before: Listed,
+    directive: ParallelFor,
+) -> Result<Listed, AllocError>
+    requires { before.loops + 1 < 2 ^ 64 }
+    ensures added { IfOk result (AddsPart (Some (said_of directive)) before text.old.items
+        text.new.items) }
+    ensures front { Begins text.old.items text.new.items }
+{
+    let schedule = schedule_for(directive);
+    let loops = before.loops + 1;
+    add_loop(text, before.regions, loops, &schedule)?;
+    Ok(Listed {
+        regions: before.regions,
+        loops,
+    })
+}
+
+// Adds the lines of a part.
+fn add_part(text: &mut Vec<u8>, before: Listed, part: RegionPart) -> Result<Listed, AllocError>
+    requires regions { before.regions + 1 < 2 ^ 64 }
+    requires loops { before.loops + 1 < 2 ^ 64 }
+    ensures added { IfOk result (AddsPart (part_said part) before text.old.items text.new.items) }
+    ensures front { Begins text.old.items text.new.items }
+{
+    match part.said {
+        None => add_fork(text, before),
+        Some(directive) => add_next_loop(text, before, directive),
+    }
+}
+
+// Adds the lines of all parts.
+fn add_parts(text: &mut Vec<u8>, parts: &[RegionPart]) -> Result<(), AllocError>
+    ensures added { OnOk result (text.new.items
+        ≡ text.old.items ++ printed 0 0 (map part_said parts.now)) }
+    ensures front { Begins text.old.items text.new.items }
+{
+    let mut listed = Listed {
+        regions: 0,
+        loops: 0,
+    };
+    for part in parts {
+        listed = add_part(text, listed, *part)?;
     }
     Ok(())
 }
 
-/// Adds the listing of a kernel's parallel loops, in the order of the text: a line for each call of LLVM's OpenMP runtime,
-/// behind the numbers of its region and loop. Each `parallel for` is a region of its own with one loop.
+/// Adds the listing of a kernel's parallel regions, in the order of the text: a line for each call of LLVM's OpenMP runtime,
+/// behind the numbers of its region and loop. Each `parallel for` is a region of its own with one loop, each `parallel` one with the
+/// loops of its block.
 ///
 /// # Errors
 ///
@@ -63,9 +105,9 @@ pub fn add_listing(kernel: &Checked, lines: &mut Vec<u8>) -> Result<(), Refusal>
     ensures err { IfErr result (λ refusal. refusal ≡ Refusal.OutOfMemory) }
 {
     let length = lines.len();
-    // What holds of an accepted text: each directive line of it is a `parallel for` before a loop.
+    // What holds of an accepted text: each of its directive lines stands where it may.
     let _accepted = kernel.declarations();
-    if add_regions(lines, kernel.loops()).is_err() {
+    if add_parts(lines, kernel.regions()).is_err() {
         lines.truncate(length);
         return Err(Refusal::OutOfMemory);
     }

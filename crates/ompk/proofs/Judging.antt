@@ -40,9 +40,9 @@ has_passed text k known stands judged =
       in_range = judged.in_range;
       directed = judged.right.0;
       nested = judged.right.1;
-      definite = subst (λ (P : Privates). IsDefinite P k) (sym stands.privates) judged.data.0;
-      private = subst (λ (P : Privates). ItemsPrivate text P [] k.body) (sym stands.privates) judged.data.1;
-      fit = ap (λ (lines : Lines). fit_clauses lines k) stands.clauses ∙ judged.data.2;
+      definite = subst (λ (P : Privates). IsDefinite P k) (sym stands.privates) judged.environment.0;
+      private = subst (λ (P : Privates). ItemsPrivate text P [] k.body) (sym stands.privates) judged.environment.1;
+      fit = ap (λ (lines : Lines). fit_clauses lines k) stands.clauses ∙ judged.environment.2;
     }
 
 -- a kernel whose directives are attached, with its parallel regions dissolved

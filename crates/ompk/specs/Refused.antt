@@ -83,7 +83,7 @@ RefusesPasses text tree P lines r =
 -- none of them finds anything, by the clauses that are known of each line
 pub record IsJudged (text : List ℕ) (tree : Kernel) (P : Privates) (lines : Lines) : Type 0 where
   pub right : IsNestedRightly text tree
-  pub data : HasRightData text tree P lines
+  pub environment : HasRightData text tree P lines
   pub in_range : IsInRange tree
 
 -- all of that is well, and the dependence test refuses the tree, or memory was refused

@@ -17,12 +17,12 @@ ghost use Rattle.pragma.specs.Plain.{IsDirected};
 ghost use Rattle.nest.specs.Nests.{IsInRange};
 ghost use Rattle.nest.specs.Perfect.{AreRightNests};
 ghost use Rattle.nest.specs.Judged.{IsTableOf};
-ghost use Rattle.deptest.specs.Accepted.{tree_of, clauses_said, IsAccepted};
+ghost use Rattle.deptest.specs.Accepted.{tree_of, clauses_said, AreRegions, IsAccepted};
 ghost use Rattle.ompk.specs.Judged.{IsLineKernel, IsOfKernel};
 ghost use Rattle.ompk.specs.Refused.{IsJudged, RefusesLines, RefusesPlaces, RefusesNests, RefusesRanges, RefusesScalars, RefusesClauses, RefusesPasses, RefusesAlone, RefusesKernel, RefusesText};
 
 use cparse::parse;
-use deptest::{Checked, accept};
+use deptest::{Checked, Parallel, accept};
 use flow::{DataFault, ParallelLoop, classify, definite};
 use flow_clauses::first_misuse;
 use ktree::{Kernel, Refusal};
@@ -30,7 +30,7 @@ use nest::{LoopTable, nests};
 use pragma::{Directives, first_fault};
 use pragma_attach::attach;
 use pragma_named::LineClauses;
-use pragma_region::dissolve_regions;
+use pragma_region::{RegionPart, dissolve_regions, regions_of};
 use std::alloc::Global;
 
 // Refuses a kernel with a directive line that is none, does not stand where it may, names what is no variable or has one in the wrong
@@ -195,7 +195,7 @@ fn judge_data(
 // What is known of the loops of a kernel before the dependence test: the facts of each, and those behind directive lines.
 struct KnownLoops {
     table: LoopTable,
-    parallel: Vec<ParallelLoop>,
+    loops: Vec<ParallelLoop>,
 }
 
 // Refuses a tree that does not pass what stands before the dependence test, in the order of the passes: places of directive lines, loops
@@ -211,16 +211,16 @@ fn judge(
         (lines_known (kept lines.now))) }
     ensures table { IfOk result (λ known. IsTableOf (kernel_of kernel.now) known.table) }
     ensures listed { IfOk result (λ known. AreParallelLoops directives.now (kernel_of kernel.now)
-        known.parallel.items) }
+        known.loops.items) }
     ensures refusal { IfErr result (RefusesPasses directives.now (kernel_of kernel.now)
         (private_locals (kept lines.now) (length (kernel_of kernel.now).variables))
         (lines_known (kept lines.now))) }
 {
     judge_places(kernel, directives)?;
     let table = judge_nests(alloc, kernel, directives)?;
-    let parallel = judge_data(alloc, kernel, directives, lines)?;
+    let loops = judge_data(alloc, kernel, directives, lines)?;
     judge_ranges(kernel, &table)?;
-    Ok(KnownLoops { table, parallel })
+    Ok(KnownLoops { table, loops })
 }
 
 // Accepts a kernel whose parallel regions are dissolved, or refuses it.
@@ -230,16 +230,18 @@ fn accept_alone(
     text: &[u8],
     directives: &Directives,
     lines: &LineClauses,
+    regions: Vec<RegionPart>,
 ) -> Result<Checked, Refusal>
     requires stands { IsLineKernel text.now (kernel_of kernel) (kept lines.now) }
     requires lines { directives.now ≡ text.now }
+    requires regions { AreRegions text.now (kernel_of kernel) regions.items }
     ensures is { IfOk result (λ checked. checked ≡ record { text = text.now; kernel = kernel }) }
     ensures refusal { IfErr result (RefusesAlone text.now (kernel_of kernel)
         (private_locals (kept lines.now) (length (kernel_of kernel).variables))
         (lines_known (kept lines.now))) }
 {
-    let text = Vec::from_slice(alloc, text)?;
-    let KnownLoops { table, parallel } = judge(alloc, &kernel, directives, lines)?;
+    let KnownLoops { table, loops } = judge(alloc, &kernel, directives, lines)?;
+    let parallel = Parallel { loops, regions };
     accept(alloc, directives, &table, text, kernel, parallel)
 }
 
@@ -256,8 +258,9 @@ fn accept_directed(
     ensures refusal { IfErr result (RefusesKernel text.now (kernel_of kernel)) }
 {
     let lines = judge_lines(alloc, &kernel, directives)?;
+    let regions = regions_of(alloc, directives, &kernel)?;
     let kernel = dissolve_regions(alloc, directives, kernel)?;
-    accept_alone(alloc, kernel, text, directives, &lines)
+    accept_alone(alloc, kernel, text, directives, &lines, regions)
 }
 
 // Accepts the kernel of a text, or refuses it.

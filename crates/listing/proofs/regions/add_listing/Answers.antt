@@ -4,5 +4,5 @@ use Rattle.listing.proofs.regions.add_listing.Goals as goal
 
 pub returns-clause-added : goal.returns-clause-added
 returns-clause-added c =
-    listed_ok c.add_regions.result c.is_err.result c.args.kernel.now.text (kernel_of c.args.kernel.now.kernel) _ _ _ c.is_err.ensures.value c.if-is_err.false c.declarations-accepted.ensures.sound.passed.directed c.loops.ensures
-    c.add_regions.ensures.added
+    listed_ok c.add_parts.result c.is_err.result c.args.kernel.now.text (kernel_of c.args.kernel.now.kernel) _ _ _ c.is_err.ensures.value c.if-is_err.false c.declarations-accepted.ensures.sound.passed.directed c.regions.ensures
+    c.add_parts.ensures.added

@@ -1,0 +1,33 @@
+use Rattle.std.specs.Prelude.{ℕ, ◌≡◌, List}
+use Rattle.std.proofs.Common.{ap, ◌∙◌, subst, length}
+use Rattle.std.proofs.lemmas.Result.{IfErr-weaker}
+use Rattle.semantics.specs.Directives.Naming.{IsAttached}
+use Rattle.ktree.specs.View.{kernel_of}
+use Rattle.pragma_attach.specs.Attached.{directives_of}
+use Rattle.pragma_named.specs.Known.{kept, lines_known}
+use Rattle.pragma_region.specs.Regions.{alone}
+use Rattle.flow.specs.Judged.{private_locals}
+use Rattle.ompk.specs.Refused.{RefusesAlone, RefusesKernel}
+use Rattle.ompk.proofs.Judging.{line_kernel, alone_refused}
+use Rattle.ompk.proofs.accepting.accept_directed.Goals as goal
+
+pub accept_alone-requires-clause-stands : goal.accept_alone-requires-clause-stands
+accept_alone-requires-clause-stands c =
+    let text = c.args.text.now in
+    let tree = kernel_of c.args.kernel in
+    let ds = directives_of c.args.directives.now tree in
+    let said = c.in_ok-lines.ensures in
+    line_kernel text tree (kernel_of c.in_ok-kernel.kernel) ds (kept c.in_ok-lines.lines) c.requires.reads (subst (λ (t : List ℕ). IsAttached t tree ds) c.requires.lines said.attached) said.clauses said.privates
+    (c.in_ok-kernel.ensures ∙ ap (λ (t : List ℕ). alone t tree) c.requires.lines)
+
+pub returns-clause-refusal : goal.returns-clause-refusal
+returns-clause-refusal c =
+    let text = c.args.text.now in
+    let tree = kernel_of c.args.kernel in
+    let k = kernel_of c.in_ok-kernel.kernel in
+    let ds = directives_of c.args.directives.now tree in
+    let known = kept c.in_ok-lines.lines in
+    let said = c.in_ok-lines.ensures in
+    IfErr-weaker c.accept_alone.result (RefusesAlone text k (private_locals known (length k.variables)) (lines_known known)) (RefusesKernel text tree)
+    (λ r h. alone_refused text tree k ds known r (subst (λ (t : List ℕ). IsAttached t tree ds) c.requires.lines said.attached) said.clauses said.privates
+    (c.in_ok-kernel.ensures ∙ ap (λ (t : List ℕ). alone t tree) c.requires.lines) h) c.accept_alone.ensures.refusal
