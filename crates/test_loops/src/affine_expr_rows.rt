@@ -1,6 +1,6 @@
 //! Forms of expressions, and the faults of others.
 
-use crate::texts::{I, J, at, kernel, last_statement};
+use crate::texts::{I, J, at, kernel, last_statement, no_other};
 use affine::VarBox;
 use affine_expr::*;
 use ktree::{BinaryOp, Expr, Kernel, Place, Refusal, Source, Stmt, Suffix, Target};
@@ -84,7 +84,7 @@ fn forms_of_expressions(rt: HostRuntime) {
         ("4294967297ull + (i + j)", Err(Fault::Limit(HERE))),
         ("4294967297ull + i * j", Err(Fault::NotAffine(HERE))),
     ];
-    assert_eq!(rt; first_other(rt.alloc(), &rows), None);
+    no_other(&rt, first_other(rt.alloc(), &rows));
 }
 
 /// A literal without `ull`.
@@ -107,10 +107,10 @@ fn constant_of_long(value: u64) -> Option<u32> {
 #[test]
 fn constants_of_expressions(rt: HostRuntime) {
     let alloc = rt.alloc();
-    assert_eq!(rt; computed(alloc, BinaryOp::Times, 6, 7), Ok(Some(42)));
-    assert_eq!(rt; computed(alloc, BinaryOp::Minus, 6, 7), Ok(None));
-    assert_eq!(rt; computed(alloc, BinaryOp::Plus, 2147483647, 1), Ok(None));
-    assert_eq!(rt; constant_of_long(1), None);
+    assert!(rt; computed(alloc, BinaryOp::Times, 6, 7) == Ok(Some(42)));
+    assert!(rt; computed(alloc, BinaryOp::Minus, 6, 7) == Ok(None));
+    assert!(rt; computed(alloc, BinaryOp::Plus, 2147483647, 1) == Ok(None));
+    assert!(rt; constant_of_long(1).is_none());
 }
 
 /// Whether the subscripts of a target are affine.
@@ -162,7 +162,7 @@ fn subscripts_have_places(rt: HostRuntime) {
             Err(Fault::NotAffine(at(2, 30))),
         ),
     ];
-    assert_eq!(rt; first_other_row(rt.alloc(), &rows), None);
+    no_other(&rt, first_other_row(rt.alloc(), &rows));
 }
 
 /// The first of some faults whose refusal has another number.

@@ -1,6 +1,6 @@
 //! Whether locals are assigned before they are read, and the data of parallel loops.
 
-use crate::texts::{I, J, OUT_OF_MEMORY, S, at, kernel, kernel_with, name, parsed, text};
+use crate::texts::{I, J, OUT_OF_MEMORY, S, add_last, at, kernel, name, no_other, parsed, text};
 use flow::*;
 use ktree::{AssociatedLoops, Expr, Kernel, Place, Refusal, Schedule, Source, Stmt, Target, VarId};
 use pragma::{Directives, ParallelFor};
@@ -9,12 +9,19 @@ use pragma_named::LineClauses;
 use std::alloc::Global;
 use std::collections::HashMap;
 
+/// What a refusal tells of a kernel's locals.
+fn told(refusal: &Refusal) -> Result<Option<Place>, u8> {
+    match refusal {
+        Refusal::MayBeUnassigned(place) => Ok(Some(*place)),
+        _ => Err(refusal.number()),
+    }
+}
+
 /// What is told of a kernel's locals: the place of the first that may be read unassigned, or the number of another refusal.
 fn unassigned_by(alloc: Global, kernel: &Kernel, lines: &LineClauses) -> Result<Option<Place>, u8> {
     match definite(alloc, kernel, lines) {
         Ok(()) => Ok(None),
-        Err(Refusal::MayBeUnassigned(place)) => Ok(Some(place)),
-        Err(refusal) => Err(refusal.number()),
+        Err(refusal) => told(&refusal),
     }
 }
 
@@ -24,19 +31,36 @@ fn unassigned_in(alloc: Global, kernel: &Kernel) -> Result<Option<Place>, u8> {
     unassigned_by(alloc, kernel, &none)
 }
 
+/// The clauses of a kernel's directive lines.
+fn attached(alloc: Global, kernel: &Kernel, directives: &Directives) -> Result<LineClauses, u8> {
+    match attach(alloc, kernel, directives) {
+        Ok(lines) => Ok(lines),
+        Err(refusal) => Err(refusal.number()),
+    }
+}
+
 /// The clauses of the directive lines of a text with this kernel.
 fn clauses_of(alloc: Global, kernel: &Kernel, text: &str) -> Result<LineClauses, u8> {
     match Directives::read(alloc, text.as_bytes()) {
-        Ok(directives) => { attach(alloc, kernel, &directives).map_err(|refusal| refusal.number()) }
+        Ok(directives) => attached(alloc, kernel, &directives),
         Err(_error) => Err(OUT_OF_MEMORY),
     }
 }
 
-/// What is told of the locals of a text.
+/// What is told of the locals of a kernel with the directive lines of its text.
+fn unassigned_under(alloc: Global, kernel: &Kernel, text: &str) -> Result<Option<Place>, u8> {
+    match clauses_of(alloc, kernel, text) {
+        Ok(lines) => unassigned_by(alloc, kernel, &lines),
+        Err(number) => Err(number),
+    }
+}
+
+/// The same of a text.
 fn unassigned_text(alloc: Global, text: &str) -> Result<Option<Place>, u8> {
-    let kernel = parsed(alloc, text)?;
-    let lines = clauses_of(alloc, &kernel, text)?;
-    unassigned_by(alloc, &kernel, &lines)
+    match parsed(alloc, text) {
+        Ok(kernel) => unassigned_under(alloc, &kernel, text),
+        Err(number) => Err(number),
+    }
 }
 
 /// The same of the text with these lines.
@@ -63,7 +87,7 @@ fn branches_both_assign(rt: HostRuntime) {
         ("if (s < 3) x = 1; s = x;", Some(at(2, 23))),
         ("if (s < 3) x = 1; else x = 2; s = x;", None),
     ];
-    assert_eq!(rt; first_other(rt.alloc(), &rows), None);
+    no_other(&rt, first_other(rt.alloc(), &rows));
 }
 
 #[test]
@@ -72,26 +96,26 @@ fn initialisers_assign(rt: HostRuntime) {
         ("uint64_t y = s; s = y;", None),
         ("uint64_t y = y; s = y;", Some(at(2, 14))),
     ];
-    assert_eq!(rt; first_other(rt.alloc(), &rows), None);
+    no_other(&rt, first_other(rt.alloc(), &rows));
 }
 
 #[test]
 fn updates_read_their_variable_first(rt: HostRuntime) {
     let rows = [("x += x;", Some(at(2, 1)))];
-    assert_eq!(rt; first_other(rt.alloc(), &rows), None);
+    no_other(&rt, first_other(rt.alloc(), &rows));
 }
 
 #[test]
 fn subscripts_are_read_before_the_right_side(rt: HostRuntime) {
     let rows = [("A[x] = x;", Some(at(2, 3)))];
-    assert_eq!(rt; first_other(rt.alloc(), &rows), None);
+    no_other(&rt, first_other(rt.alloc(), &rows));
 }
 
 #[test]
 fn bodies_know_the_variable_of_their_loop(rt: HostRuntime) {
     let lines = "for (uint64_t i = 0; i < 8; i++) s = i;";
     let rows = [(lines, None)];
-    assert_eq!(rt; first_other(rt.alloc(), &rows), None);
+    no_other(&rt, first_other(rt.alloc(), &rows));
 }
 
 /// `s = i;` on line 3, where `i` is the variable of a loop before it, which no text can name there.
@@ -105,10 +129,18 @@ fn assignment_of_i(alloc: Global) -> Stmt {
     Stmt::Assign(target, Source::Number(value))
 }
 
-/// What is told of the locals of the text with these lines and that statement behind them.
+/// What is told of the locals of a kernel once that statement stands behind its own.
+fn unassigned_once_added(alloc: Global, kernel: &mut Kernel) -> Result<Option<Place>, u8> {
+    match add_last(alloc, kernel, assignment_of_i(alloc)) {
+        Ok(()) => unassigned_in(alloc, kernel),
+        Err(_error) => Err(OUT_OF_MEMORY),
+    }
+}
+
+/// The same of the kernel of the text with these lines.
 fn unassigned_behind(alloc: Global, lines: &str) -> Result<Option<Place>, u8> {
-    match kernel_with(alloc, lines, assignment_of_i(alloc)) {
-        Ok(kernel) => unassigned_in(alloc, &kernel),
+    match kernel(alloc, lines) {
+        Ok(mut kernel) => unassigned_once_added(alloc, &mut kernel),
         Err(number) => Err(number),
     }
 }
@@ -117,16 +149,16 @@ fn unassigned_behind(alloc: Global, lines: &str) -> Result<Option<Place>, u8> {
 fn loops_leave_what_was_known(rt: HostRuntime) {
     let lines = "for (uint64_t i = 0; i < 8; i++) x = 1;\ns = x;";
     let rows = [(lines, Some(at(3, 5)))];
-    assert_eq!(rt; first_other(rt.alloc(), &rows), None);
+    no_other(&rt, first_other(rt.alloc(), &rows));
     let lines = "for (uint64_t i = 0; i < 8; i++) x = 1;";
-    assert_eq!(rt; unassigned_behind(rt.alloc(), lines), Ok(Some(at(3, 5))));
+    assert!(rt; unassigned_behind(rt.alloc(), lines) == Ok(Some(at(3, 5))));
 }
 
 #[test]
 fn a_start_stands_before_its_variable(rt: HostRuntime) {
     let lines = "for (uint64_t i = i; i < 8; i++) s = 1;";
     let rows = [(lines, Some(at(2, 19)))];
-    assert_eq!(rt; first_other(rt.alloc(), &rows), None);
+    no_other(&rt, first_other(rt.alloc(), &rows));
 }
 
 #[test]
@@ -135,14 +167,14 @@ fn a_step_stands_behind_the_body(rt: HostRuntime) {
         ("for (uint64_t i = 0; i < 8; i += x) x = 1;", None),
         ("\nfor (uint64_t i = 0; i < 8; x++) s = 1;", Some(at(3, 1))),
     ];
-    assert_eq!(rt; first_other(rt.alloc(), &rows), None);
+    no_other(&rt, first_other(rt.alloc(), &rows));
 }
 
 #[test]
 fn arguments_are_read(rt: HostRuntime) {
     let lines = "printf(\"%\" PRIu64 \" %\" PRIu64 \"\\n\", s, x);";
     let rows = [(lines, Some(at(2, 40)))];
-    assert_eq!(rt; first_other(rt.alloc(), &rows), None);
+    no_other(&rt, first_other(rt.alloc(), &rows));
 }
 
 #[test]
@@ -151,7 +183,7 @@ fn names_are_read_whatever_guards_them(rt: HostRuntime) {
         ("s = s < 3 ? 1 : x;", Some(at(2, 17))),
         ("if (s < 3 && x < 3) x = 1;", Some(at(2, 14))),
     ];
-    assert_eq!(rt; first_other(rt.alloc(), &rows), None);
+    no_other(&rt, first_other(rt.alloc(), &rows));
 }
 
 #[test]
@@ -159,11 +191,11 @@ fn blocks_hand_on_what_is_known(rt: HostRuntime) {
     let lines =
         "{\n#pragma omp parallel for\nfor (uint64_t i = 0; i < 8; i++) A[i] = 1;\nx = 1; }\ns = x;";
     let rows = [(lines, None)];
-    assert_eq!(rt; first_other(rt.alloc(), &rows), None);
+    no_other(&rt, first_other(rt.alloc(), &rows));
 }
 
 /// What is told of a parallel loop with four private variables.
-#[derive(Clone, Copy, Debug, PartialEq, Eq)]
+#[derive(Clone, Copy, PartialEq, Eq)]
 struct Seen {
     line: Place,
     is_in_fours_and_twos: bool,
@@ -171,7 +203,7 @@ struct Seen {
 }
 
 /// What is told of the parallel loops of a text: what is wrong with their data, or else the only one, or the lines of two.
-#[derive(Clone, Copy, Debug, PartialEq, Eq)]
+#[derive(Clone, Copy, PartialEq, Eq)]
 struct Loops {
     fault: Option<DataFault>,
     only: Option<Seen>,
@@ -227,11 +259,18 @@ fn data_of(alloc: Global, kernel: &Kernel, directives: &Directives, lines: &Line
     }
 }
 
+/// The same with the clauses of its directive lines.
+fn data_by(alloc: Global, kernel: &Kernel, directives: &Directives) -> Result<Loops, u8> {
+    match attached(alloc, kernel, directives) {
+        Ok(lines) => Ok(data_of(alloc, kernel, directives, &lines)),
+        Err(number) => Err(number),
+    }
+}
+
 /// The same with the directive lines of its text.
 fn data_under(alloc: Global, kernel: &Kernel, text: &str) -> Result<Loops, u8> {
-    let lines = clauses_of(alloc, kernel, text)?;
     match Directives::read(alloc, text.as_bytes()) {
-        Ok(directives) => Ok(data_of(alloc, kernel, &directives, &lines)),
+        Ok(directives) => data_by(alloc, kernel, &directives),
         Err(_error) => Err(OUT_OF_MEMORY),
     }
 }
@@ -282,7 +321,7 @@ fn scalars_from_outside_are_shared(rt: HostRuntime) {
             Some(DataFault::Written(at(3, 34))),
         ),
     ];
-    assert_eq!(rt; first_other_data(rt.alloc(), &rows), None);
+    no_other(&rt, first_other_data(rt.alloc(), &rows));
 }
 
 #[test]
@@ -301,7 +340,7 @@ fn private_scalars_may_be_written(rt: HostRuntime) {
             Some(DataFault::Written(at(3, 34))),
         ),
     ];
-    assert_eq!(rt; first_other_data(rt.alloc(), &rows), None);
+    no_other(&rt, first_other_data(rt.alloc(), &rows));
 }
 
 #[test]
@@ -320,7 +359,7 @@ fn private_scalars_are_assigned_before_they_are_read(rt: HostRuntime) {
             Some(DataFault::Written(at(3, 36))),
         ),
     ];
-    assert_eq!(rt; first_other_data(rt.alloc(), &rows), None);
+    no_other(&rt, first_other_data(rt.alloc(), &rows));
 }
 
 #[test]
@@ -335,7 +374,7 @@ fn copies_are_not_written(rt: HostRuntime) {
             Some(DataFault::Copied(at(3, 34))),
         ),
     ];
-    assert_eq!(rt; first_other_data(rt.alloc(), &rows), None);
+    no_other(&rt, first_other_data(rt.alloc(), &rows));
 }
 
 #[test]
@@ -362,7 +401,7 @@ fn private_locals_are_unassigned_behind_their_construct(rt: HostRuntime) {
             None,
         ),
     ];
-    assert_eq!(rt; first_other(rt.alloc(), &rows), None);
+    no_other(&rt, first_other(rt.alloc(), &rows));
 }
 
 #[test]
@@ -377,7 +416,7 @@ fn locals_and_elements_may_be_written(rt: HostRuntime) {
             None,
         ),
     ];
-    assert_eq!(rt; first_other_data(rt.alloc(), &rows), None);
+    no_other(&rt, first_other_data(rt.alloc(), &rows));
 }
 
 /// A parallel loop that prints two numbers.
@@ -388,7 +427,7 @@ const PRINTS: &str =
 fn parallel_loops_print_nothing(rt: HostRuntime) {
     let fault = DataFault::Printed(at(4, 1));
     let rows = [(PRINTS, Some(fault))];
-    assert_eq!(rt; first_other_data(rt.alloc(), &rows), None);
+    no_other(&rt, first_other_data(rt.alloc(), &rows));
 }
 
 #[test]
@@ -396,7 +435,7 @@ fn other_loops_may_share(rt: HostRuntime) {
     let lines =
         "for (uint64_t i = 0; i < 8; i++) s = i;\nprintf(\"%\" PRIu64 \" %\" PRIu64 \"\\n\", s, x);";
     let rows = [(lines, None)];
-    assert_eq!(rt; first_other_data(rt.alloc(), &rows), None);
+    no_other(&rt, first_other_data(rt.alloc(), &rows));
 }
 
 #[test]
@@ -404,7 +443,7 @@ fn steps_are_no_assignments(rt: HostRuntime) {
     let lines =
         "#pragma omp parallel for\nfor (uint64_t i = 0; i < 8; i++)\nfor (uint64_t j = 0; j < 8; j++) A[j] = 1;";
     let rows = [(lines, None)];
-    assert_eq!(rt; first_other_data(rt.alloc(), &rows), None);
+    no_other(&rt, first_other_data(rt.alloc(), &rows));
 }
 
 #[test]
@@ -415,7 +454,7 @@ fn collapsed_loops_run_the_innermost_body(rt: HostRuntime) {
         "\n#pragma omp parallel for collapse(2)\nfor (uint64_t i = 0; i < 8; i++) A[i] = 1;";
     let fault = DataFault::Directive(at(3, 1));
     let rows = [(nest, None), (alone, Some(fault))];
-    assert_eq!(rt; first_other_data(rt.alloc(), &rows), None);
+    no_other(&rt, first_other_data(rt.alloc(), &rows));
 }
 
 /// The only parallel loop of the text with these lines.
@@ -443,7 +482,7 @@ fn loops_and_locals_are_private(rt: HostRuntime) {
         is_in_fours_and_twos: true,
         private: [I, J, VarId(6), VarId(7)],
     };
-    assert_eq!(rt; only_loop(rt.alloc(), COLLAPSED), Ok(Some(expected)));
+    assert!(rt; only_loop(rt.alloc(), COLLAPSED) == Ok(Some(expected)));
 }
 
 /// The lines of the two parallel loops of the text with these lines.
@@ -466,7 +505,7 @@ for (uint64_t k = 0; k < 8; k++) A[i] = 1;
 
 #[test]
 fn parallel_loops_come_in_the_order_of_the_text(rt: HostRuntime) {
-    assert_eq!(rt; lines_of_two(rt.alloc(), TWO_LOOPS), Ok(Some([2, 4])));
+    assert!(rt; lines_of_two(rt.alloc(), TWO_LOOPS) == Ok(Some([2, 4])));
 }
 
 #[test]
@@ -475,7 +514,7 @@ fn serial_loops_are_looked_into(rt: HostRuntime) {
         "for (uint64_t i = 0; i < 8; i++) {\n#pragma omp parallel for\nfor (uint64_t j = 0; j < 8; j++) s = i; }";
     let fault = DataFault::Written(at(4, 34));
     let rows = [(lines, Some(fault))];
-    assert_eq!(rt; first_other_data(rt.alloc(), &rows), None);
+    no_other(&rt, first_other_data(rt.alloc(), &rows));
 }
 
 /// The number of the refusal that tells a fault.

@@ -1,7 +1,8 @@
 //! Kernels whose loops, nests and subscripts are looked at, and the first faults of others.
 
 use crate::texts::{
-    A, I, OUT_OF_MEMORY, X, at, kernel, kernel_with, last_statement, name, nest_of, parsed, text,
+    A, I, OUT_OF_MEMORY, X, add_last, at, kernel, last_statement, name, nest_of, no_other, parsed,
+    text,
 };
 use affine::VarBox;
 use affine_expr::Fault;
@@ -12,7 +13,7 @@ use pragma::Directives;
 use std::alloc::{AllocError, Global};
 
 /// What [`nests`] tells of a kernel: its first fault, or where its first subscript leaves its array.
-#[derive(Clone, Copy, Debug, PartialEq, Eq)]
+#[derive(Clone, Copy, PartialEq, Eq)]
 struct Faults {
     nested: Option<Fault>,
     leaves: Option<Place>,
@@ -100,7 +101,7 @@ fn subscripts_of_one_loop(rt: HostRuntime) {
             leaves(3, 3),
         ),
     ];
-    assert_eq!(rt; first_other(rt.alloc(), &rows), None);
+    no_other(&rt, first_other(rt.alloc(), &rows));
 }
 
 #[test]
@@ -119,7 +120,7 @@ fn the_first_subscript_is_told(rt: HostRuntime) {
             told(Fault::NotAffine(at(3, 3))),
         ),
     ];
-    assert_eq!(rt; first_other(rt.alloc(), &rows), None);
+    no_other(&rt, first_other(rt.alloc(), &rows));
 }
 
 /// How often the loops of a table turn at most, the first three of them, in the order of the text.
@@ -156,10 +157,7 @@ fn trip_counts(alloc: Global, lines: &str) -> Option<[Option<u64>; 3]> {
 fn tables_have_the_loops_in_the_order_of_the_text(rt: HostRuntime) {
     let lines =
         "for (uint64_t i = 0; i < 8; i++) for (uint64_t j = 0; j <= i; j += 2) { }\nfor (uint64_t k = 0; k < 3; k++) { }";
-    assert_eq!(rt;
-        trip_counts(rt.alloc(), lines),
-        Some([Some(8), Some(4), Some(3)])
-    );
+    assert!(rt; trip_counts(rt.alloc(), lines) == Some([Some(8), Some(4), Some(3)]));
 }
 
 #[test]
@@ -175,7 +173,7 @@ fn falling_loops(rt: HostRuntime) {
             leaves(3, 3),
         ),
     ];
-    assert_eq!(rt; first_other(rt.alloc(), &rows), None);
+    no_other(&rt, first_other(rt.alloc(), &rows));
 }
 
 #[test]
@@ -186,7 +184,7 @@ fn subscripts_by_other_names(rt: HostRuntime) {
         ("for (uint64_t i = 0; i < 8; i++)\nA[s] = 1;", other),
         ("for (uint64_t i = 0; i < 8; i++)\nA[i] = 1;", FINE),
     ];
-    assert_eq!(rt; first_other(rt.alloc(), &rows), None);
+    no_other(&rt, first_other(rt.alloc(), &rows));
 }
 
 #[test]
@@ -209,7 +207,7 @@ fn two_dimensions(rt: HostRuntime) {
             leaves(4, 3),
         ),
     ];
-    assert_eq!(rt; first_other(rt.alloc(), &rows), None);
+    no_other(&rt, first_other(rt.alloc(), &rows));
 }
 
 #[test]
@@ -229,7 +227,7 @@ fn bounds_with_the_outer_variable(rt: HostRuntime) {
             wraps,
         ),
     ];
-    assert_eq!(rt; first_other(rt.alloc(), &rows), None);
+    no_other(&rt, first_other(rt.alloc(), &rows));
 }
 
 #[test]
@@ -239,7 +237,7 @@ fn bodies_that_assign(rt: HostRuntime) {
         ("for (uint64_t i = 0; i < 8; i++) i = 1;", assigns),
         ("for (uint64_t i = 0; i < 8; i++) s = 1;", FINE),
     ];
-    assert_eq!(rt; first_other(rt.alloc(), &rows), None);
+    no_other(&rt, first_other(rt.alloc(), &rows));
 }
 
 /// The first faults of so many loops, one in the other.
@@ -253,40 +251,58 @@ fn faults_of_nest(alloc: Global, count: u32) -> Result<Faults, u8> {
 #[test]
 fn loops_inside_each_other(rt: HostRuntime) {
     let ninth = told(Fault::Limit(at(10, 1)));
-    assert_eq!(rt; faults_of_nest(rt.alloc(), 8), Ok(FINE));
-    assert_eq!(rt; faults_of_nest(rt.alloc(), 9), Ok(ninth));
+    assert!(rt; faults_of_nest(rt.alloc(), 8) == Ok(FINE));
+    assert!(rt; faults_of_nest(rt.alloc(), 9) == Ok(ninth));
+}
+
+/// The subscripts `[i]`.
+fn subscripts_of_i(alloc: Global) -> Result<Vec<Expr>, AllocError> {
+    let mut subscripts = Vec::new(alloc);
+    subscripts.push(Expr::Object(I, Vec::new(alloc), name(alloc, at(3, 3))))?;
+    Ok(subscripts)
+}
+
+/// `A[i]` on line 3.
+fn element_of_i(alloc: Global) -> Result<Target, AllocError> {
+    let places = Vec::from_slice(alloc, &[at(3, 3)])?;
+    let subscripts = subscripts_of_i(alloc)?;
+    let mention = NamePlaces {
+        name: at(3, 1),
+        subscripts: places,
+    };
+    Ok(Target {
+        variable: A,
+        subscripts,
+        mention,
+    })
 }
 
 /// `A[i] = 1;` on line 3, where `i` is the variable of a loop before it, which no text can name there.
 fn assignment_at_i(alloc: Global) -> Result<Stmt, AllocError> {
-    let mut subscripts = Vec::new(alloc);
-    subscripts.push(Expr::Object(I, Vec::new(alloc), name(alloc, at(3, 3))))?;
-    let mention = NamePlaces {
-        name: at(3, 1),
-        subscripts: Vec::from_slice(alloc, &[at(3, 3)])?,
-    };
-    let target = Target {
-        variable: A,
-        subscripts,
-        mention,
-    };
+    let target = element_of_i(alloc)?;
     let value = Expr::Literal(1, Suffix::Bare);
     Ok(Stmt::Assign(target, Source::Number(value)))
 }
 
-/// The first faults of the text with these lines and a statement behind them.
-fn faults_with(alloc: Global, lines: &str, last: Stmt) -> Result<Faults, u8> {
-    match kernel_with(alloc, lines, last) {
-        Ok(kernel) => faults_in(alloc, &kernel, lines),
-        Err(number) => Err(number),
+/// Puts it behind the statements of a kernel.
+fn add_assignment_at_i(alloc: Global, kernel: &mut Kernel) -> Result<(), AllocError> {
+    let last = assignment_at_i(alloc)?;
+    add_last(alloc, kernel, last)
+}
+
+/// The first faults of a kernel with it and the directive lines of these lines.
+fn faults_once_added(alloc: Global, kernel: &mut Kernel, lines: &str) -> Result<Faults, u8> {
+    match add_assignment_at_i(alloc, kernel) {
+        Ok(()) => faults_in(alloc, kernel, lines),
+        Err(_error) => Err(OUT_OF_MEMORY),
     }
 }
 
-/// The same with `A[i] = 1;` behind them.
+/// The same of the kernel of the text with these lines.
 fn faults_behind(alloc: Global, lines: &str) -> Result<Faults, u8> {
-    match assignment_at_i(alloc) {
-        Ok(last) => faults_with(alloc, lines, last),
-        Err(_error) => Err(OUT_OF_MEMORY),
+    match kernel(alloc, lines) {
+        Ok(mut kernel) => faults_once_added(alloc, &mut kernel, lines),
+        Err(number) => Err(number),
     }
 }
 
@@ -311,10 +327,10 @@ fn other_statements(rt: HostRuntime) {
             leaves(3, 3),
         ),
     ];
-    assert_eq!(rt; first_other(rt.alloc(), &rows), None);
+    no_other(&rt, first_other(rt.alloc(), &rows));
     let lines = "for (uint64_t i = 0; i < 8; i++) { }";
     let other = told(Fault::NotAffine(at(3, 3)));
-    assert_eq!(rt; faults_behind(rt.alloc(), lines), Ok(other));
+    assert!(rt; faults_behind(rt.alloc(), lines) == Ok(other));
 }
 
 /// What is told of the nests of the text with these lines.
@@ -364,7 +380,7 @@ fn iterations_have_a_limit(rt: HostRuntime) {
             None,
         ),
     ];
-    assert_eq!(rt; first_other_nest(rt.alloc(), &rows), None);
+    no_other(&rt, first_other_nest(rt.alloc(), &rows));
 }
 
 #[test]
@@ -380,7 +396,7 @@ fn nests_are_rectangular(rt: HostRuntime) {
             inner,
         ),
     ];
-    assert_eq!(rt; first_other_nest(rt.alloc(), &rows), None);
+    no_other(&rt, first_other_nest(rt.alloc(), &rows));
 }
 
 #[test]
@@ -404,7 +420,7 @@ fn nests_are_perfect(rt: HostRuntime) {
             imperfect,
         ),
     ];
-    assert_eq!(rt; first_other_nest(rt.alloc(), &rows), None);
+    no_other(&rt, first_other_nest(rt.alloc(), &rows));
 }
 
 #[test]
@@ -420,7 +436,7 @@ fn nests_in_loops_that_never_turn(rt: HostRuntime) {
             limit,
         ),
     ];
-    assert_eq!(rt; first_other_nest(rt.alloc(), &rows), None);
+    no_other(&rt, first_other_nest(rt.alloc(), &rows));
 }
 
 /// How many iterations a nest has where the variable `x` round it has this value.
@@ -465,7 +481,7 @@ fn iterations_of(alloc: Global, lines: &str) -> Option<u64> {
 #[test]
 fn nests_have_spaces(rt: HostRuntime) {
     let lines = "for (uint64_t i = 0; i < 3; i++) for (uint64_t j = 0; j < x; j++) { }";
-    assert_eq!(rt; iterations_of(rt.alloc(), lines), Some(15));
+    assert!(rt; iterations_of(rt.alloc(), lines) == Some(15));
 }
 
 #[test]
@@ -474,5 +490,5 @@ fn the_first_fault_is_told(rt: HostRuntime) {
         "#pragma omp parallel for\nfor (uint64_t i = 0; i < 16777217; i++)\nfor (uint64_t j = 0; j <= s; j++) { }";
     let limit = Some(Fault::Limit(at(3, 1)));
     let rows = [(lines, limit)];
-    assert_eq!(rt; first_other_nest(rt.alloc(), &rows), None);
+    no_other(&rt, first_other_nest(rt.alloc(), &rows));
 }
