@@ -9,3 +9,5 @@ mod lower_code_rows;
 mod overlay_pages_rows;
 #[cfg(test)]
 mod overlay_rows;
+#[cfg(test)]
+mod stores;
