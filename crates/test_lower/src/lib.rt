@@ -2,6 +2,8 @@
 #![tactic(auto)]
 
 #[cfg(test)]
+mod codes;
+#[cfg(test)]
 mod lower_block_rows;
 #[cfg(test)]
 mod lower_code_rows;

@@ -1,9 +1,9 @@
 //! Kernels of the arrays `A` of 8 and `B` of 2 times 3 elements and the scalar `s`, run as blocks, and what they print, as C prints it.
 
+use crate::codes::code_of;
 use cparse::parse;
 use ktree::Kernel;
-use lower_block::{Cells, Compiled, FlatCells, compile, run};
-use lower_code::lower_items;
+use lower_block::{Cells, Compiled, FlatCells, run};
 use seqrun_io::Memory;
 use std::alloc::Global;
 
@@ -28,12 +28,9 @@ fn block_prints(alloc: Global, compiled: &Compiled, expected: &str) -> bool {
 
 /// Whether a kernel prints this.
 fn kernel_prints(alloc: Global, kernel: &Kernel, expected: &str) -> bool {
-    let Ok(lowered) = lower_items(alloc, &kernel.variables, &kernel.body) else {
-        return false;
-    };
-    match compile(alloc, &lowered.code, lowered.registers) {
-        Ok(compiled) => block_prints(alloc, &compiled, expected),
-        Err(_refusal) => false,
+    match code_of(alloc, kernel) {
+        Some(compiled) => block_prints(alloc, &compiled, expected),
+        None => false,
     }
 }
 

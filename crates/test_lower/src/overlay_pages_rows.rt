@@ -1,22 +1,13 @@
 //! Chunks over the array `A` of 200 elements and the scalar `s`: what they see, and what is left once their changes are applied.
 
+use crate::codes::code_of;
 use crate::stores::long_array_and_a_scalar;
 use cparse::parse;
-use ktree::Kernel;
-use lower_block::{Cells, Compiled, FlatCells, compile, run};
-use lower_code::lower_items;
+use lower_block::{Cells, Compiled, FlatCells, run};
 use overlay_pages::{Change, Changes, Chunk, Own};
 use seqrun_io::Memory;
 use std::alloc::Global;
 use store::Store;
-
-/// The code of a kernel.
-fn code_of(alloc: Global, kernel: &Kernel) -> Option<Compiled> {
-    let Ok(lowered) = lower_items(alloc, &kernel.variables, &kernel.body) else {
-        return None;
-    };
-    compile(alloc, &lowered.code, lowered.registers).ok()
-}
 
 /// The code of the kernel of a text.
 fn code_in(alloc: Global, text: &[u8]) -> Option<Compiled> {
