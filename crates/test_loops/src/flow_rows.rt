@@ -83,39 +83,51 @@ fn first_other<'r>(alloc: Global, rows: &[(&'r str, Option<Place>)]) -> Option<&
 
 #[test]
 fn branches_both_assign(rt: HostRuntime) {
-    let rows = [
-        ("if (s < 3) x = 1; s = x;", Some(at(2, 23))),
+    const ROWS: &[(&str, Option<Place>)] = &[
+        (
+            "if (s < 3) x = 1; s = x;",
+            Some(Place {
+                line: 2,
+                column: 23,
+            }),
+        ),
         ("if (s < 3) x = 1; else x = 2; s = x;", None),
     ];
-    no_other(&rt, first_other(rt.alloc(), &rows));
+    no_other(&rt, first_other(rt.alloc(), ROWS));
 }
 
 #[test]
 fn initialisers_assign(rt: HostRuntime) {
-    let rows = [
+    const ROWS: &[(&str, Option<Place>)] = &[
         ("uint64_t y = s; s = y;", None),
-        ("uint64_t y = y; s = y;", Some(at(2, 14))),
+        (
+            "uint64_t y = y; s = y;",
+            Some(Place {
+                line: 2,
+                column: 14,
+            }),
+        ),
     ];
-    no_other(&rt, first_other(rt.alloc(), &rows));
+    no_other(&rt, first_other(rt.alloc(), ROWS));
 }
 
 #[test]
 fn updates_read_their_variable_first(rt: HostRuntime) {
-    let rows = [("x += x;", Some(at(2, 1)))];
-    no_other(&rt, first_other(rt.alloc(), &rows));
+    const ROWS: &[(&str, Option<Place>)] = &[("x += x;", Some(Place { line: 2, column: 1 }))];
+    no_other(&rt, first_other(rt.alloc(), ROWS));
 }
 
 #[test]
 fn subscripts_are_read_before_the_right_side(rt: HostRuntime) {
-    let rows = [("A[x] = x;", Some(at(2, 3)))];
-    no_other(&rt, first_other(rt.alloc(), &rows));
+    const ROWS: &[(&str, Option<Place>)] = &[("A[x] = x;", Some(Place { line: 2, column: 3 }))];
+    no_other(&rt, first_other(rt.alloc(), ROWS));
 }
 
 #[test]
 fn bodies_know_the_variable_of_their_loop(rt: HostRuntime) {
-    let lines = "for (uint64_t i = 0; i < 8; i++) s = i;";
-    let rows = [(lines, None)];
-    no_other(&rt, first_other(rt.alloc(), &rows));
+    const LINES: &str = "for (uint64_t i = 0; i < 8; i++) s = i;";
+    const ROWS: &[(&str, Option<Place>)] = &[(LINES, None)];
+    no_other(&rt, first_other(rt.alloc(), ROWS));
 }
 
 /// `s = i;` on line 3, where `i` is the variable of a loop before it, which no text can name there.
@@ -147,51 +159,78 @@ fn unassigned_behind(alloc: Global, lines: &str) -> Result<Option<Place>, u8> {
 
 #[test]
 fn loops_leave_what_was_known(rt: HostRuntime) {
-    let lines = "for (uint64_t i = 0; i < 8; i++) x = 1;\ns = x;";
-    let rows = [(lines, Some(at(3, 5)))];
-    no_other(&rt, first_other(rt.alloc(), &rows));
+    const LINES: &str = "for (uint64_t i = 0; i < 8; i++) x = 1;\ns = x;";
+    const ROWS: &[(&str, Option<Place>)] = &[(LINES, Some(Place { line: 3, column: 5 }))];
+    no_other(&rt, first_other(rt.alloc(), ROWS));
     let lines = "for (uint64_t i = 0; i < 8; i++) x = 1;";
     assert!(rt; unassigned_behind(rt.alloc(), lines) == Ok(Some(at(3, 5))));
 }
 
 #[test]
 fn a_start_stands_before_its_variable(rt: HostRuntime) {
-    let lines = "for (uint64_t i = i; i < 8; i++) s = 1;";
-    let rows = [(lines, Some(at(2, 19)))];
-    no_other(&rt, first_other(rt.alloc(), &rows));
+    const LINES: &str = "for (uint64_t i = i; i < 8; i++) s = 1;";
+    const ROWS: &[(&str, Option<Place>)] = &[(
+        LINES,
+        Some(Place {
+            line: 2,
+            column: 19,
+        }),
+    )];
+    no_other(&rt, first_other(rt.alloc(), ROWS));
 }
 
 #[test]
 fn a_step_stands_behind_the_body(rt: HostRuntime) {
-    let rows = [
+    const ROWS: &[(&str, Option<Place>)] = &[
         ("for (uint64_t i = 0; i < 8; i += x) x = 1;", None),
-        ("\nfor (uint64_t i = 0; i < 8; x++) s = 1;", Some(at(3, 1))),
+        (
+            "\nfor (uint64_t i = 0; i < 8; x++) s = 1;",
+            Some(Place { line: 3, column: 1 }),
+        ),
     ];
-    no_other(&rt, first_other(rt.alloc(), &rows));
+    no_other(&rt, first_other(rt.alloc(), ROWS));
 }
 
 #[test]
 fn arguments_are_read(rt: HostRuntime) {
-    let lines = "printf(\"%\" PRIu64 \" %\" PRIu64 \"\\n\", s, x);";
-    let rows = [(lines, Some(at(2, 40)))];
-    no_other(&rt, first_other(rt.alloc(), &rows));
+    const LINES: &str = "printf(\"%\" PRIu64 \" %\" PRIu64 \"\\n\", s, x);";
+    const ROWS: &[(&str, Option<Place>)] = &[(
+        LINES,
+        Some(Place {
+            line: 2,
+            column: 40,
+        }),
+    )];
+    no_other(&rt, first_other(rt.alloc(), ROWS));
 }
 
 #[test]
 fn names_are_read_whatever_guards_them(rt: HostRuntime) {
-    let rows = [
-        ("s = s < 3 ? 1 : x;", Some(at(2, 17))),
-        ("if (s < 3 && x < 3) x = 1;", Some(at(2, 14))),
+    const ROWS: &[(&str, Option<Place>)] = &[
+        (
+            "s = s < 3 ? 1 : x;",
+            Some(Place {
+                line: 2,
+                column: 17,
+            }),
+        ),
+        (
+            "if (s < 3 && x < 3) x = 1;",
+            Some(Place {
+                line: 2,
+                column: 14,
+            }),
+        ),
     ];
-    no_other(&rt, first_other(rt.alloc(), &rows));
+    no_other(&rt, first_other(rt.alloc(), ROWS));
 }
 
 #[test]
 fn blocks_hand_on_what_is_known(rt: HostRuntime) {
-    let lines =
+    const LINES: &str =
         "{\n#pragma omp parallel for\nfor (uint64_t i = 0; i < 8; i++) A[i] = 1;\nx = 1; }\ns = x;";
-    let rows = [(lines, None)];
-    no_other(&rt, first_other(rt.alloc(), &rows));
+    const ROWS: &[(&str, Option<Place>)] = &[(LINES, None)];
+    no_other(&rt, first_other(rt.alloc(), ROWS));
 }
 
 /// What is told of a parallel loop with four private variables.
@@ -311,22 +350,28 @@ fn first_other_data<'r>(alloc: Global, rows: &[(&'r str, Option<DataFault>)]) ->
 
 #[test]
 fn scalars_from_outside_are_shared(rt: HostRuntime) {
-    let rows = [
+    const ROWS: &[(&str, Option<DataFault>)] = &[
         (
             "#pragma omp parallel for\nfor (uint64_t i = 0; i < 8; i++) s = i;",
-            Some(DataFault::Written(at(3, 34))),
+            Some(DataFault::Written(Place {
+                line: 3,
+                column: 34,
+            })),
         ),
         (
             "#pragma omp parallel for\nfor (uint64_t i = 0; i < 8; i++) x = i;",
-            Some(DataFault::Written(at(3, 34))),
+            Some(DataFault::Written(Place {
+                line: 3,
+                column: 34,
+            })),
         ),
     ];
-    no_other(&rt, first_other_data(rt.alloc(), &rows));
+    no_other(&rt, first_other_data(rt.alloc(), ROWS));
 }
 
 #[test]
 fn private_scalars_may_be_written(rt: HostRuntime) {
-    let rows = [
+    const ROWS: &[(&str, Option<DataFault>)] = &[
         (
             "#pragma omp parallel for private(x)\nfor (uint64_t i = 0; i < 8; i++) { x = i; A[i] = x; }",
             None,
@@ -337,52 +382,67 @@ fn private_scalars_may_be_written(rt: HostRuntime) {
         ),
         (
             "#pragma omp parallel for private(s)\nfor (uint64_t i = 0; i < 8; i++) s = i;",
-            Some(DataFault::Written(at(3, 34))),
+            Some(DataFault::Written(Place {
+                line: 3,
+                column: 34,
+            })),
         ),
     ];
-    no_other(&rt, first_other_data(rt.alloc(), &rows));
+    no_other(&rt, first_other_data(rt.alloc(), ROWS));
 }
 
 #[test]
 fn private_scalars_are_assigned_before_they_are_read(rt: HostRuntime) {
-    let rows = [
+    const ROWS: &[(&str, Option<DataFault>)] = &[
         (
             "#pragma omp parallel for private(x)\nfor (uint64_t i = 0; i < 8; i++) { A[i] = x; x = i; }",
-            Some(DataFault::Unassigned(at(3, 43))),
+            Some(DataFault::Unassigned(Place {
+                line: 3,
+                column: 43,
+            })),
         ),
         (
             "#pragma omp parallel for private(x)\nfor (uint64_t i = 0; i < 8; i++) { if (i < 3) x = i; A[i] = x; }",
-            Some(DataFault::Unassigned(at(3, 61))),
+            Some(DataFault::Unassigned(Place {
+                line: 3,
+                column: 61,
+            })),
         ),
         (
             "#pragma omp parallel for private(x)\nfor (uint64_t i = 0; i < 8; i++) { s = 1; A[i] = x; }",
-            Some(DataFault::Written(at(3, 36))),
+            Some(DataFault::Written(Place {
+                line: 3,
+                column: 36,
+            })),
         ),
     ];
-    no_other(&rt, first_other_data(rt.alloc(), &rows));
+    no_other(&rt, first_other_data(rt.alloc(), ROWS));
 }
 
 #[test]
 fn copies_are_not_written(rt: HostRuntime) {
-    let rows = [
+    const ROWS: &[(&str, Option<DataFault>)] = &[
         (
             "#pragma omp parallel for firstprivate(s)\nfor (uint64_t i = 0; i < 8; i++) A[i] = s;",
             None,
         ),
         (
             "#pragma omp parallel for firstprivate(s)\nfor (uint64_t i = 0; i < 8; i++) s = i;",
-            Some(DataFault::Copied(at(3, 34))),
+            Some(DataFault::Copied(Place {
+                line: 3,
+                column: 34,
+            })),
         ),
     ];
-    no_other(&rt, first_other_data(rt.alloc(), &rows));
+    no_other(&rt, first_other_data(rt.alloc(), ROWS));
 }
 
 #[test]
 fn private_locals_are_unassigned_behind_their_construct(rt: HostRuntime) {
-    let rows = [
+    const ROWS: &[(&str, Option<Place>)] = &[
         (
             "x = 1;\n#pragma omp parallel for private(x)\nfor (uint64_t i = 0; i < 8; i++) { x = i; A[i] = x; }\ns = x;",
-            Some(at(5, 5)),
+            Some(Place { line: 5, column: 5 }),
         ),
         (
             "x = 1;\n#pragma omp parallel for private(x)\nfor (uint64_t i = 0; i < 8; i++) { x = i; A[i] = x; }\nx = 2; s = x;",
@@ -390,23 +450,26 @@ fn private_locals_are_unassigned_behind_their_construct(rt: HostRuntime) {
         ),
         (
             "x = 1;\nfor (uint64_t t = 0; t < 2; t++) { s = x;\n#pragma omp parallel for private(x)\nfor (uint64_t i = 0; i < 8; i++) { x = i; A[i] = x; } }",
-            Some(at(3, 40)),
+            Some(Place {
+                line: 3,
+                column: 40,
+            }),
         ),
         (
             "x = 1;\nfor (uint64_t t = 0; t < 2; t++) {\n#pragma omp parallel for private(x)\nfor (uint64_t i = 0; i < 8; i++) { x = i; A[i] = x; } }\ns = x;",
-            Some(at(6, 5)),
+            Some(Place { line: 6, column: 5 }),
         ),
         (
             "x = 1;\n#pragma omp parallel for firstprivate(x)\nfor (uint64_t i = 0; i < 8; i++) A[i] = x;\ns = x;",
             None,
         ),
     ];
-    no_other(&rt, first_other(rt.alloc(), &rows));
+    no_other(&rt, first_other(rt.alloc(), ROWS));
 }
 
 #[test]
 fn locals_and_elements_may_be_written(rt: HostRuntime) {
-    let rows = [
+    const ROWS: &[(&str, Option<DataFault>)] = &[
         (
             "#pragma omp parallel for\nfor (uint64_t i = 0; i < 8; i++) { uint64_t y; y = i; }",
             None,
@@ -416,7 +479,7 @@ fn locals_and_elements_may_be_written(rt: HostRuntime) {
             None,
         ),
     ];
-    no_other(&rt, first_other_data(rt.alloc(), &rows));
+    no_other(&rt, first_other_data(rt.alloc(), ROWS));
 }
 
 /// A parallel loop that prints two numbers.
@@ -425,36 +488,36 @@ const PRINTS: &str =
 
 #[test]
 fn parallel_loops_print_nothing(rt: HostRuntime) {
-    let fault = DataFault::Printed(at(4, 1));
-    let rows = [(PRINTS, Some(fault))];
-    no_other(&rt, first_other_data(rt.alloc(), &rows));
+    const FAULT: DataFault = DataFault::Printed(Place { line: 4, column: 1 });
+    const ROWS: &[(&str, Option<DataFault>)] = &[(PRINTS, Some(FAULT))];
+    no_other(&rt, first_other_data(rt.alloc(), ROWS));
 }
 
 #[test]
 fn other_loops_may_share(rt: HostRuntime) {
-    let lines =
+    const LINES: &str =
         "for (uint64_t i = 0; i < 8; i++) s = i;\nprintf(\"%\" PRIu64 \" %\" PRIu64 \"\\n\", s, x);";
-    let rows = [(lines, None)];
-    no_other(&rt, first_other_data(rt.alloc(), &rows));
+    const ROWS: &[(&str, Option<DataFault>)] = &[(LINES, None)];
+    no_other(&rt, first_other_data(rt.alloc(), ROWS));
 }
 
 #[test]
 fn steps_are_no_assignments(rt: HostRuntime) {
-    let lines =
+    const LINES: &str =
         "#pragma omp parallel for\nfor (uint64_t i = 0; i < 8; i++)\nfor (uint64_t j = 0; j < 8; j++) A[j] = 1;";
-    let rows = [(lines, None)];
-    no_other(&rt, first_other_data(rt.alloc(), &rows));
+    const ROWS: &[(&str, Option<DataFault>)] = &[(LINES, None)];
+    no_other(&rt, first_other_data(rt.alloc(), ROWS));
 }
 
 #[test]
 fn collapsed_loops_run_the_innermost_body(rt: HostRuntime) {
-    let nest =
+    const NEST: &str =
         "#pragma omp parallel for collapse(2)\nfor (uint64_t i = 0; i < 8; i++)\nfor (uint64_t j = 0; j < 8; j++) { uint64_t y; y = j; }";
-    let alone =
+    const ALONE: &str =
         "\n#pragma omp parallel for collapse(2)\nfor (uint64_t i = 0; i < 8; i++) A[i] = 1;";
-    let fault = DataFault::Directive(at(3, 1));
-    let rows = [(nest, None), (alone, Some(fault))];
-    no_other(&rt, first_other_data(rt.alloc(), &rows));
+    const FAULT: DataFault = DataFault::Directive(Place { line: 3, column: 1 });
+    const ROWS: &[(&str, Option<DataFault>)] = &[(NEST, None), (ALONE, Some(FAULT))];
+    no_other(&rt, first_other_data(rt.alloc(), ROWS));
 }
 
 /// The only parallel loop of the text with these lines.
@@ -510,11 +573,14 @@ fn parallel_loops_come_in_the_order_of_the_text(rt: HostRuntime) {
 
 #[test]
 fn serial_loops_are_looked_into(rt: HostRuntime) {
-    let lines =
+    const LINES: &str =
         "for (uint64_t i = 0; i < 8; i++) {\n#pragma omp parallel for\nfor (uint64_t j = 0; j < 8; j++) s = i; }";
-    let fault = DataFault::Written(at(4, 34));
-    let rows = [(lines, Some(fault))];
-    no_other(&rt, first_other_data(rt.alloc(), &rows));
+    const FAULT: DataFault = DataFault::Written(Place {
+        line: 4,
+        column: 34,
+    });
+    const ROWS: &[(&str, Option<DataFault>)] = &[(LINES, Some(FAULT))];
+    no_other(&rt, first_other_data(rt.alloc(), ROWS));
 }
 
 /// The number of the refusal that tells a fault.
