@@ -115,7 +115,7 @@ impl Both {
 }
 
 /// What a gate has seen.
-#[derive(Clone, Copy, Debug, PartialEq, Eq)]
+#[derive(Clone, Copy, PartialEq, Eq)]
 struct Seen {
     entered: u64,
     late: u64,
@@ -239,15 +239,15 @@ fn refusals_have_their_statuses(rt: HostRuntime) {
         line: 1,
         cause: Cause::Form,
     };
-    assert_eq!(rt; status_of(Refusal::Syntax(place)), 3);
-    assert_eq!(rt; status_of(Refusal::Limit(place)), 3);
-    assert_eq!(rt; status_of(Refusal::Input(fault)), 1);
-    assert_eq!(rt; status_of(Refusal::OutputFailed), 1);
-    assert_eq!(rt; status_of(Refusal::OutOfMemory), 4);
+    assert!(rt; status_of(Refusal::Syntax(place)) == 3);
+    assert!(rt; status_of(Refusal::Limit(place)) == 3);
+    assert!(rt; status_of(Refusal::Input(fault)) == 1);
+    assert!(rt; status_of(Refusal::OutputFailed) == 1);
+    assert!(rt; status_of(Refusal::OutOfMemory) == 4);
 }
 
 /// How a run ends.
-#[derive(Clone, Copy, Debug, PartialEq, Eq)]
+#[derive(Clone, Copy, PartialEq, Eq)]
 enum End {
     Done,
     OutputFailed,
@@ -255,13 +255,20 @@ enum End {
     Other,
 }
 
+/// How a run ended that is refused so.
+fn end_by(refusal: &Refusal) -> End {
+    match refusal {
+        Refusal::OutputFailed => End::OutputFailed,
+        Refusal::Input(fault) => End::Input(*fault),
+        _ => End::Other,
+    }
+}
+
 /// How a run ended that answers this.
 fn end_of(answer: Result<(), Refusal>) -> End {
     match answer {
         Ok(()) => End::Done,
-        Err(Refusal::OutputFailed) => End::OutputFailed,
-        Err(Refusal::Input(fault)) => End::Input(fault),
-        Err(_refusal) => End::Other,
+        Err(refusal) => end_by(&refusal),
     }
 }
 
@@ -414,7 +421,7 @@ fn two_workers_are_in_the_loop_at_once(rt: HostRuntime) {
         chunks: 7,
         outside: 0,
     };
-    assert_eq!(rt; seen_by_two(&rt, rt.alloc(), INCREMENT), Some(all));
+    assert!(rt; seen_by_two(&rt, rt.alloc(), INCREMENT) == Some(all));
 }
 
 #[test]
@@ -426,7 +433,7 @@ fn each_loop_has_the_chunks_of_its_own_line(rt: HostRuntime) {
         chunks: 10,
         outside: 0,
     };
-    assert_eq!(rt; seen_by_two(&rt, rt.alloc(), TWO_LINES), Some(all));
+    assert!(rt; seen_by_two(&rt, rt.alloc(), TWO_LINES) == Some(all));
 }
 
 #[test]
@@ -437,7 +444,7 @@ fn a_loop_behind_no_line_is_run_by_no_team(rt: HostRuntime) {
         chunks: 0,
         outside: 0,
     };
-    assert_eq!(rt; seen_by_two(&rt, rt.alloc(), SERIAL), Some(nothing));
+    assert!(rt; seen_by_two(&rt, rt.alloc(), SERIAL) == Some(nothing));
 }
 
 /// How the kernel of a text ends that one thread runs on an input.
@@ -481,11 +488,16 @@ fn length_of_output(alloc: Global, text: &[u8], input: &[u8]) -> usize {
     }
 }
 
+/// How many bytes a kernel writes behind an input of so many zeros, none where it does not end well.
+fn length_behind_zeros(alloc: Global, text: &[u8], count: u64) -> usize {
+    match zeros(alloc, count) {
+        Ok(input) => length_of_output(alloc, text, input.as_slice()),
+        Err(_error) => 0,
+    }
+}
+
 #[test]
-fn a_long_input_is_taken(rt: HostRuntime) -> Result<(), AllocError> {
+fn a_long_input_is_taken(rt: HostRuntime) {
     let text = b"uint64_t A[1048576];\nvoid kernel(void) {\n}\n";
-    let input = zeros(rt.alloc(), 1048576)?;
-    let length = length_of_output(rt.alloc(), text, input.as_slice());
-    assert_eq!(rt; length, 2097156);
-    Ok(())
+    assert!(rt; length_behind_zeros(rt.alloc(), text, 1048576) == 2097156);
 }

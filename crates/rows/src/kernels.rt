@@ -3,6 +3,7 @@
 ghost use Rattle.std.specs.Prelude.{◌≡◌, ◌<◌, length};
 
 use crate::first_faults::told_of;
+use crate::outcome::no_other;
 use ktree::Workers;
 use ompk::{Checked, Sched, check, run, seq};
 use seqrun_io::Memory;
@@ -115,7 +116,7 @@ fn first_other<R: Threads + Wait + Sync>(
 
 #[test]
 fn expressions_have_the_values_of_c(rt: HostRuntime) {
-    let rows = [
+    const ROWS: &[(&str, &str)] = &[
         ("s = 1 + 2;", "s = 3\nd = 0 0 0\n"),
         ("s = 1ull << 3;", "s = 8\nd = 0 0 0\n"),
         ("s = 0ull < 2;", "s = 1\nd = 0 0 0\n"),
@@ -127,12 +128,12 @@ fn expressions_have_the_values_of_c(rt: HostRuntime) {
         ("d[1] = s ? 4 : s > 1 ? 5 : 6;", "s = 0\nd = 0 6 0\n"),
         ("s = !s && (s || 2ull);", "s = 1\nd = 0 0 0\n"),
     ];
-    assert_eq!(rt; first_other(&rt, rt.alloc(), &rows), None);
+    no_other(&rt, first_other(&rt, rt.alloc(), ROWS));
 }
 
 #[test]
 fn statements_run_as_those_of_c(rt: HostRuntime) {
-    let rows = [
+    const ROWS: &[(&str, &str)] = &[
         (
             "uint64_t x; if (s > 3) x = 1; else x = 2; s = x;",
             "s = 2\nd = 0 0 0\n",
@@ -162,12 +163,12 @@ fn statements_run_as_those_of_c(rt: HostRuntime) {
             "s = 0\nd = 0 0 0\n",
         ),
     ];
-    assert_eq!(rt; first_other(&rt, rt.alloc(), &rows), None);
+    no_other(&rt, first_other(&rt, rt.alloc(), ROWS));
 }
 
 #[test]
 fn loops_run_as_those_of_c(rt: HostRuntime) {
-    let rows = [
+    const ROWS: &[(&str, &str)] = &[
         (
             "for (uint64_t i = 10; i > 2; i -= 3) { s = s * 100 + i; }",
             "s = 100704\nd = 0 0 0\n",
@@ -197,12 +198,12 @@ fn loops_run_as_those_of_c(rt: HostRuntime) {
             "s = 24\nd = 3 3 3\n",
         ),
     ];
-    assert_eq!(rt; first_other(&rt, rt.alloc(), &rows), None);
+    no_other(&rt, first_other(&rt, rt.alloc(), ROWS));
 }
 
 #[test]
 fn private_scalars_run_as_those_of_c(rt: HostRuntime) {
-    let rows = [
+    const ROWS: &[(&str, &str)] = &[
         (
             "uint64_t x;\n#pragma omp parallel for private(x)\nfor (uint64_t i = 0; i < 3; i++) { x = i * 2ull; d[i] = x + 1ull; }",
             "s = 0\nd = 1 3 5\n",
@@ -228,7 +229,7 @@ fn private_scalars_run_as_those_of_c(rt: HostRuntime) {
             "s = 0\nd = 0 0 0\n",
         ),
     ];
-    assert_eq!(rt; first_other(&rt, rt.alloc(), &rows), None);
+    no_other(&rt, first_other(&rt, rt.alloc(), ROWS));
 }
 
 /// The number of the refusal of the kernel of a body, or 0; 23 too where there is no memory for its text.
@@ -282,7 +283,7 @@ fn first_refused_depth(alloc: Global) -> Option<u32> {
 
 #[test]
 fn loops_are_refused(rt: HostRuntime) {
-    let rows = [
+    const ROWS: &[(&str, u8)] = &[
         ("for (uint64_t i = 0; i; i++) { s = i; }", 6),
         ("for (uint64_t i = 0; i < 3; i += 0) { s = i; }", 6),
         ("for (uint64_t i = 0; i > 3; i++) { s = i; }", 6),
@@ -312,14 +313,14 @@ fn loops_are_refused(rt: HostRuntime) {
         ),
     ];
     let heap = rt.alloc();
-    assert_eq!(rt; first_other_number(heap, &rows), None);
-    assert_eq!(rt; first_refused_depth(heap), None);
-    assert_eq!(rt; number_of_nest(heap, 9), 21);
+    no_other(&rt, first_other_number(heap, ROWS));
+    assert!(rt; first_refused_depth(heap).is_none());
+    assert!(rt; number_of_nest(heap, 9) == 21);
 }
 
 #[test]
 fn text_is_printed_before_the_variables(rt: HostRuntime) {
-    let rows = [
+    const ROWS: &[(&str, &str)] = &[
         (
             "printf(\"%\" PRIu64 \", 100%%\\n\", s + 7);",
             "7, 100%\ns = 0\nd = 0 0 0\n",
@@ -329,12 +330,12 @@ fn text_is_printed_before_the_variables(rt: HostRuntime) {
             "\"a\\\n4 8s = 4\nd = 0 0 0\n",
         ),
     ];
-    assert_eq!(rt; first_other(&rt, rt.alloc(), &rows), None);
+    no_other(&rt, first_other(&rt, rt.alloc(), ROWS));
 }
 
 #[test]
 fn bodies_are_refused(rt: HostRuntime) {
-    let rows = [
+    const ROWS: &[(&str, u8)] = &[
         ("s = 2147483647 + 1;", 2),
         ("s = s / 0ull;", 2),
         ("s = t;", 3),
@@ -410,7 +411,7 @@ fn bodies_are_refused(rt: HostRuntime) {
             9,
         ),
     ];
-    assert_eq!(rt; first_other_number(rt.alloc(), &rows), None);
+    no_other(&rt, first_other_number(rt.alloc(), ROWS));
 }
 
 const PRINTING: &[u8] = b"// what printf writes, and which arm counts
@@ -543,10 +544,10 @@ fn is_answered_throughout<R: Threads + Wait + Sync>(
 #[test]
 fn beginnings_and_changes_of_texts_are_answered(rt: HostRuntime) {
     let heap = rt.alloc();
-    assert_eq!(rt; is_answered_throughout(&rt, heap, PRINTING), Ok(true));
-    assert_eq!(rt; is_answered_throughout(&rt, heap, CHOOSING), Ok(true));
-    assert_eq!(rt; is_answered_throughout(&rt, heap, TEAMED), Ok(true));
-    assert_eq!(rt; is_answered_throughout(&rt, heap, WORDS), Ok(true));
+    assert!(rt; is_answered_throughout(&rt, heap, PRINTING) == Ok(true));
+    assert!(rt; is_answered_throughout(&rt, heap, CHOOSING) == Ok(true));
+    assert!(rt; is_answered_throughout(&rt, heap, TEAMED) == Ok(true));
+    assert!(rt; is_answered_throughout(&rt, heap, WORDS) == Ok(true));
 }
 
 /// A loop that is run at each of 500 turns of another: its chunks dealt to workers, and drawn by them.
@@ -568,17 +569,18 @@ fn turns_by<R: Threads + Wait + Sync>(rt: &R, alloc: Global, text: &str, count: 
     }
 }
 
+/// The first of three numbers of workers that leave something else of it.
+fn first_other_team<R: Threads + Wait + Sync>(rt: &R, alloc: Global, text: &str) -> Option<u64> {
+    for count in [2, 4, 64] {
+        if !turns_by(rt, alloc, text, count) {
+            return Some(count);
+        }
+    }
+    None
+}
+
 #[test]
 fn a_team_runs_many_loops_one_after_another(rt: HostRuntime) {
-    let heap = rt.alloc();
-    for count in [2, 4, 64] {
-        assert!(rt;
-            turns_by(&rt, heap, DEALT_IN_TURNS, count),
-            "{count} workers"
-        );
-        assert!(rt;
-            turns_by(&rt, heap, DRAWN_IN_TURNS, count),
-            "{count} workers"
-        );
-    }
+    assert!(rt; first_other_team(&rt, rt.alloc(), DEALT_IN_TURNS).is_none());
+    assert!(rt; first_other_team(&rt, rt.alloc(), DRAWN_IN_TURNS).is_none());
 }

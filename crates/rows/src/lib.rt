@@ -9,6 +9,8 @@ mod first_faults;
 #[cfg(test)]
 mod kernels;
 #[cfg(test)]
+mod outcome;
+#[cfg(test)]
 mod runtime_calls;
 #[cfg(test)]
 mod verdicts;

@@ -1,5 +1,6 @@
 //! Kernels and their listings: the calls of LLVM's OpenMP runtime that stand for their parallel loops.
 
+use crate::outcome::no_other;
 use listing::add_listing;
 use ompk::{Checked, check};
 use std::alloc::{AllocError, Global};
@@ -52,7 +53,7 @@ fn first_other(alloc: Global, rows: &[Row]) -> Option<&'static str> {
 
 #[test]
 fn schedules_are_listed(rt: HostRuntime) {
-    let rows = [
+    const ROWS: &[Row] = &[
         Row {
             body: "#pragma omp parallel for\nfor (uint64_t i = 0; i < 8; i++) { A[i] = i; }",
             listing: "1.0 __kmpc_fork_call\n1.1 __kmpc_for_static_init_8u static\n1.1 __kmpc_for_static_fini\n1.1 __kmpc_barrier\n",
@@ -82,12 +83,12 @@ fn schedules_are_listed(rt: HostRuntime) {
             listing: "1.0 __kmpc_fork_call\n1.1 __kmpc_for_static_init_8u static\n1.1 __kmpc_for_static_fini\n1.1 __kmpc_barrier\n",
         },
     ];
-    assert_eq!(rt; first_other(rt.alloc(), &rows), None);
+    no_other(&rt, first_other(rt.alloc(), ROWS));
 }
 
 #[test]
 fn regions_are_numbered_in_the_order_of_the_text(rt: HostRuntime) {
-    let rows = [
+    const ROWS: &[Row] = &[
         Row {
             body: "A[0] = 1;",
             listing: "",
@@ -97,5 +98,5 @@ fn regions_are_numbered_in_the_order_of_the_text(rt: HostRuntime) {
             listing: "1.0 __kmpc_fork_call\n1.1 __kmpc_dispatch_init_8u dynamic,1\n1.1 __kmpc_dispatch_next_8u\n1.1 __kmpc_barrier\n2.0 __kmpc_fork_call\n2.1 __kmpc_for_static_init_8u static,16777216\n2.1 __kmpc_for_static_fini\n2.1 __kmpc_barrier\n",
         },
     ];
-    assert_eq!(rt; first_other(rt.alloc(), &rows), None);
+    no_other(&rt, first_other(rt.alloc(), ROWS));
 }

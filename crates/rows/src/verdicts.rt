@@ -1,5 +1,6 @@
 //! Verdicts on parallel loops.
 
+use crate::outcome::no_other;
 use ktree::Refusal;
 use ompk::{check, tell};
 use seqrun_io::Memory;
@@ -73,7 +74,7 @@ fn first_other(alloc: Global, rows: &[Row]) -> Option<&'static str> {
 
 #[test]
 fn maps_and_stencils(rt: HostRuntime) {
-    let rows = [
+    const ROWS: &[Row] = &[
         Row {
             declarations: "uint64_t A[8];uint64_t B[8];",
             body: "#pragma omp parallel for\nfor (uint64_t i = 0; i < 8; i++) { A[i] = B[i] + 1ull; }",
@@ -105,12 +106,12 @@ fn maps_and_stencils(rt: HostRuntime) {
             verdict: Accepted,
         },
     ];
-    assert_eq!(rt; first_other(rt.alloc(), &rows), None);
+    no_other(&rt, first_other(rt.alloc(), ROWS));
 }
 
 #[test]
 fn transposes_and_reversals(rt: HostRuntime) {
-    let rows = [
+    const ROWS: &[Row] = &[
         Row {
             declarations: "uint64_t A[4][4];uint64_t B[4][4];",
             body: "#pragma omp parallel for collapse(2)\nfor (uint64_t i = 0; i < 4; i++) for (uint64_t j = 0; j < 4; j++) { B[j][i] = A[i][j]; }",
@@ -137,12 +138,12 @@ fn transposes_and_reversals(rt: HostRuntime) {
             verdict: Accepted,
         },
     ];
-    assert_eq!(rt; first_other(rt.alloc(), &rows), None);
+    no_other(&rt, first_other(rt.alloc(), ROWS));
 }
 
 #[test]
 fn strides(rt: HostRuntime) {
-    let rows = [
+    const ROWS: &[Row] = &[
         Row {
             declarations: "uint64_t A[8];uint64_t B[16];",
             body: "#pragma omp parallel for\nfor (uint64_t i = 0; i < 8; i++) { B[2*i] = A[i]; B[2*i+1] = A[i]; }",
@@ -174,12 +175,12 @@ fn strides(rt: HostRuntime) {
             verdict: Accepted,
         },
     ];
-    assert_eq!(rt; first_other(rt.alloc(), &rows), None);
+    no_other(&rt, first_other(rt.alloc(), ROWS));
 }
 
 #[test]
 fn matrices(rt: HostRuntime) {
-    let rows = [
+    const ROWS: &[Row] = &[
         Row {
             declarations: "uint64_t A[4];uint64_t B[4];uint64_t C[4][4];",
             body: "#pragma omp parallel for collapse(2)\nfor (uint64_t i = 0; i < 4; i++) for (uint64_t j = 0; j < 4; j++) { C[i][j] = A[i] * B[j]; }",
@@ -206,12 +207,12 @@ fn matrices(rt: HostRuntime) {
             verdict: Conflict("iterations 0 and 1, element S[0]\n"),
         },
     ];
-    assert_eq!(rt; first_other(rt.alloc(), &rows), None);
+    no_other(&rt, first_other(rt.alloc(), ROWS));
 }
 
 #[test]
 fn triangles_and_rows(rt: HostRuntime) {
-    let rows = [
+    const ROWS: &[Row] = &[
         Row {
             declarations: "uint64_t T[8][8];",
             body: "#pragma omp parallel for\nfor (uint64_t i = 0; i < 8; i++) for (uint64_t j = 0; j <= i; j++) { T[i][j] = 1; }",
@@ -238,12 +239,12 @@ fn triangles_and_rows(rt: HostRuntime) {
             verdict: Conflict("iterations 4 and 5, element A[4]\n"),
         },
     ];
-    assert_eq!(rt; first_other(rt.alloc(), &rows), None);
+    no_other(&rt, first_other(rt.alloc(), ROWS));
 }
 
 #[test]
 fn distances_and_guards(rt: HostRuntime) {
-    let rows = [
+    const ROWS: &[Row] = &[
         Row {
             declarations: "uint64_t A[300];",
             body: "#pragma omp parallel for\nfor (uint64_t i = 0; i < 200; i++) { A[i] = A[i+100]; }",
@@ -270,12 +271,12 @@ fn distances_and_guards(rt: HostRuntime) {
             verdict: Conflict("iterations 0 and 1, element A[0]\n"),
         },
     ];
-    assert_eq!(rt; first_other(rt.alloc(), &rows), None);
+    no_other(&rt, first_other(rt.alloc(), ROWS));
 }
 
 #[test]
 fn serial_loops_round_parallel_ones(rt: HostRuntime) {
-    let rows = [
+    const ROWS: &[Row] = &[
         Row {
             declarations: "uint64_t A[4];",
             body: "for (uint64_t t = 0; t < 3; t++)\n{\n#pragma omp parallel for\nfor (uint64_t i = 0; i < 4; i++) { A[i] = A[i] + t; } }",
@@ -287,5 +288,5 @@ fn serial_loops_round_parallel_ones(rt: HostRuntime) {
             verdict: NotShown,
         },
     ];
-    assert_eq!(rt; first_other(rt.alloc(), &rows), None);
+    no_other(&rt, first_other(rt.alloc(), ROWS));
 }

@@ -10,15 +10,28 @@ const J: VarId = VarId(7);
 
 const K: VarId = VarId(9);
 
+/// The number of the first row of two numbers and their divisor that has another.
+fn first_other_divisor(rows: &[(u64, u64, u64)]) -> Option<usize> {
+    for (number, (left, right, divisor)) in rows.iter().enumerate() {
+        if gcd(*left, *right) != *divisor {
+            return Some(number);
+        }
+    }
+    None
+}
+
 #[test]
 fn gcds(rt: HostRuntime) {
-    assert_eq!(rt; gcd(0, 0), 0);
-    assert_eq!(rt; gcd(12, 18), 6);
-    assert_eq!(rt; gcd(18, 12), 6);
-    assert_eq!(rt; gcd(0, 5), 5);
-    assert_eq!(rt; gcd(5, 0), 5);
-    assert_eq!(rt; gcd(7, 13), 1);
-    assert_eq!(rt; gcd(u64::MAX, 3), 3);
+    let rows = [
+        (0, 0, 0),
+        (12, 18, 6),
+        (18, 12, 6),
+        (0, 5, 5),
+        (5, 0, 5),
+        (7, 13, 1),
+        (u64::MAX, 3, 3),
+    ];
+    assert_eq!(rt; first_other_divisor(&rows), None);
 }
 
 /// A constant, which is within the limit.
@@ -26,11 +39,16 @@ fn number(alloc: Global, n: i128) -> Result<Form, Refusal> {
     Form::constant(alloc, n, HERE)
 }
 
+/// A form and a number.
+fn and_number(alloc: Global, form: &Form, n: i128) -> Result<Form, Refusal> {
+    let number = number(alloc, n)?;
+    form.add(&number, HERE)
+}
+
 /// The variable times a number, and another number.
 fn line(alloc: Global, factor: i64, variable: VarId, n: i128) -> Result<Form, Refusal> {
-    Form::variable(alloc, variable)
-        .scale(factor, HERE)?
-        .add(&number(alloc, n)?, HERE)
+    let multiple = Form::variable(alloc, variable).scale(factor, HERE)?;
+    and_number(alloc, &multiple, n)
 }
 
 /// Variables with the values that each has, the first as the outermost.
@@ -53,9 +71,15 @@ fn range_of(alloc: Global, form: &Form, sides: Sides<'_>) -> Option<(i128, i128)
     }
 }
 
+/// A form and a variable.
+fn and_variable(alloc: Global, form: &Form, variable: VarId) -> Result<Form, Refusal> {
+    form.add(&Form::variable(alloc, variable), HERE)
+}
+
 /// A variable and another with a number.
 fn two_variables(alloc: Global) -> Result<Form, Refusal> {
-    line(alloc, 1, I, -1)?.add(&Form::variable(alloc, J), HERE)
+    let first = line(alloc, 1, I, -1)?;
+    and_variable(alloc, &first, J)
 }
 
 /// The range of a form that there may be.
@@ -75,20 +99,48 @@ fn falling(alloc: Global, least: i128, greatest: i128) -> Option<(i128, i128)> {
     )
 }
 
+/// The range of a variable and another with a number.
+fn of_two(alloc: Global) -> Option<(i128, i128)> {
+    range_if(alloc, two_variables(alloc), &[(I, 0, 7), (J, 2, 3)])
+}
+
+/// Values of `i`, the least and the greatest, and the range of 5 - 3 * i for them.
+type Falling = (i128, i128, Option<(i128, i128)>);
+
+/// The number of the first row that has another range.
+fn first_other_falling(alloc: Global, rows: &[Falling]) -> Option<usize> {
+    for (number, (least, greatest, range)) in rows.iter().enumerate() {
+        if falling(alloc, *least, *greatest) != *range {
+            return Some(number);
+        }
+    }
+    None
+}
+
+/// Whether there is a box with these values of `i`.
+fn has_box(alloc: Global, least: i128, greatest: i128) -> bool {
+    box_of(alloc, &[(I, least, greatest)]).is_ok()
+}
+
 #[test]
 fn ranges(rt: HostRuntime) {
     let alloc = rt.alloc();
-    let both = range_if(alloc, two_variables(alloc), &[(I, 0, 7), (J, 2, 3)]);
-    assert_eq!(rt; both, Some((1, 9)));
-    assert_eq!(rt; falling(alloc, 0, 4), Some((-7, 5)));
-    assert_eq!(rt; falling(alloc, 2, 2), Some((-1, -1)));
-    assert_eq!(rt; falling(alloc, 1, 0), None);
-    assert!(rt; box_of(alloc, &[(I, 1, 0)]).is_ok());
+    assert!(rt; of_two(alloc) == Some((1, 9)));
+    let rows = [(0, 4, Some((-7, 5))), (2, 2, Some((-1, -1))), (1, 0, None)];
+    assert_eq!(rt; first_other_falling(alloc, &rows), None);
+    assert!(rt; has_box(alloc, 1, 0));
 }
 
-/// 3 * v + 4 at v = 2 * k + 1.
+/// A form at j = 2 * k + 1.
+fn at_line(alloc: Global, form: &Form) -> Result<Form, Refusal> {
+    let value = line(alloc, 2, K, 1)?;
+    form.substitute(J, &value, HERE)
+}
+
+/// 3 * j + 4 at j = 2 * k + 1.
 fn substituted(alloc: Global) -> Result<Form, Refusal> {
-    line(alloc, 3, J, 4)?.substitute(J, &line(alloc, 2, K, 1)?, HERE)
+    let form = line(alloc, 3, J, 4)?;
+    at_line(alloc, &form)
 }
 
 /// A form's constant, and its coefficients of `i`, `j` and `k`.
@@ -104,26 +156,37 @@ fn numbers_of(form: Result<Form, Refusal>) -> Option<(i64, i64, i64, i64)> {
     }
 }
 
+/// Whether a refusal is the limit here.
+fn is_limit(refusal: &Refusal) -> bool {
+    matches!(refusal, Refusal::Limit(HERE))
+}
+
 /// How many terms a form has, or whether its refusal is the limit here.
 fn length_of(form: Result<Form, Refusal>) -> Result<usize, bool> {
     match form {
         Ok(form) => Ok(form.terms().len()),
-        Err(Refusal::Limit(HERE)) => Err(true),
-        Err(_) => Err(false),
+        Err(refusal) => Err(is_limit(&refusal)),
     }
 }
 
 #[test]
 fn substitutions(rt: HostRuntime) {
-    assert_eq!(rt; numbers_of(substituted(rt.alloc())), Some((7, 0, 0, 6)));
-    assert_eq!(rt; length_of(substituted(rt.alloc())), Ok(1));
+    assert!(rt; numbers_of(substituted(rt.alloc())) == Some((7, 0, 0, 6)));
+    assert!(rt; length_of(substituted(rt.alloc())) == Ok(1));
 }
 
 const GREATEST: i128 = 1 << 62;
 
+/// A form and a multiple of a variable.
+fn and_multiple(alloc: Global, form: &Form, factor: i64) -> Result<Form, Refusal> {
+    let multiple = line(alloc, factor, I, 0)?;
+    form.add(&multiple, HERE)
+}
+
 /// The sum of two multiples of a variable.
 fn sum(alloc: Global, first: i64, second: i64) -> Result<Form, Refusal> {
-    line(alloc, first, I, 0)?.add(&line(alloc, second, I, 0)?, HERE)
+    let multiple = line(alloc, first, I, 0)?;
+    and_multiple(alloc, &multiple, second)
 }
 
 /// Whether a form there may be is within a limit.
@@ -134,41 +197,71 @@ fn is_within(form: Result<Form, Refusal>, limit: u64) -> Option<bool> {
     }
 }
 
+/// The first of some constants of whose form something else is told.
+fn first_other_number(alloc: Global, rows: &[(i128, Result<usize, bool>)]) -> Option<i128> {
+    for (n, told) in rows {
+        if length_of(number(alloc, *n)) != *told {
+            return Some(*n);
+        }
+    }
+    None
+}
+
+/// The number of the first of some sums of whose form something else is told.
+fn first_other_sum(alloc: Global, rows: &[(i64, i64, Result<usize, bool>)]) -> Option<usize> {
+    for (number, (first, second, told)) in rows.iter().enumerate() {
+        if length_of(sum(alloc, *first, *second)) != *told {
+            return Some(number);
+        }
+    }
+    None
+}
+
 #[test]
 fn limits(rt: HostRuntime) {
     let alloc = rt.alloc();
-    assert_eq!(rt; length_of(number(alloc, GREATEST)), Ok(0));
-    assert_eq!(rt; length_of(number(alloc, -GREATEST)), Ok(0));
-    assert_eq!(rt; length_of(number(alloc, GREATEST + 1)), Err(true));
-    assert_eq!(rt; length_of(number(alloc, -GREATEST - 1)), Err(true));
-    assert_eq!(rt; length_of(sum(alloc, 1 << 61, 1 << 61)), Ok(1));
-    assert_eq!(rt; length_of(sum(alloc, 1 << 62, 1)), Err(true));
-    assert_eq!(rt; is_within(sum(alloc, 1 << 62, -1), 1 << 61), Some(false));
+    let numbers = [
+        (GREATEST, Ok(0)),
+        (-GREATEST, Ok(0)),
+        (GREATEST + 1, Err(true)),
+        (-GREATEST - 1, Err(true)),
+    ];
+    assert_eq!(rt; first_other_number(alloc, &numbers), None);
+    let sums = [(1 << 61, 1 << 61, Ok(1)), (1 << 62, 1, Err(true))];
+    assert_eq!(rt; first_other_sum(alloc, &sums), None);
+    assert!(rt; is_within(sum(alloc, 1 << 62, -1), 1 << 61) == Some(false));
+}
+
+/// A form without 2 * i - 3.
+fn without_line(alloc: Global, form: &Form) -> Result<Form, Refusal> {
+    let line = line(alloc, 2, I, -3)?;
+    form.subtract(&line, HERE)
 }
 
 /// 5 * i + 1 without 2 * i - 3.
 fn difference(alloc: Global) -> Result<Form, Refusal> {
-    line(alloc, 5, I, 1)?.subtract(&line(alloc, 2, I, -3)?, HERE)
+    let form = line(alloc, 5, I, 1)?;
+    without_line(alloc, &form)
 }
 
 #[test]
 fn differences(rt: HostRuntime) {
-    assert_eq!(rt; numbers_of(difference(rt.alloc())), Some((4, 3, 0, 0)));
+    assert!(rt; numbers_of(difference(rt.alloc())) == Some((4, 3, 0, 0)));
 }
 
 /// The sum of so many variables.
 fn variables(alloc: Global, count: u32) -> Result<Form, Refusal> {
     let mut form = number(alloc, 0)?;
     for at in 0..count {
-        form = form.add(&Form::variable(alloc, VarId(at)), HERE)?;
+        form = and_variable(alloc, &form, VarId(at))?;
     }
     Ok(form)
 }
 
 #[test]
 fn numbers_of_variables(rt: HostRuntime) {
-    assert_eq!(rt; length_of(variables(rt.alloc(), 64)), Ok(64));
-    assert_eq!(rt; length_of(variables(rt.alloc(), 65)), Err(true));
+    assert!(rt; length_of(variables(rt.alloc(), 64)) == Ok(64));
+    assert!(rt; length_of(variables(rt.alloc(), 65)) == Err(true));
 }
 
 /// Whether a box has one variable, `i` with the values 1 and 2, and says nothing of `j`.
@@ -207,8 +300,7 @@ fn emptied_shape(bounds: &VarBox) -> Option<(bool, usize)> {
 fn bounded(alloc: Global, least: i128, greatest: i128) -> (bool, bool) {
     match box_of(alloc, &[(I, 1, 2), (K, least, greatest)]) {
         Ok(_) => (false, true),
-        Err(Refusal::Limit(HERE)) => (true, false),
-        Err(_) => (false, false),
+        Err(refusal) => (is_limit(&refusal), false),
     }
 }
 

@@ -99,7 +99,7 @@ fn chunk(first: u64, count: u64) -> Chunk {
 fn deals_chunks_in_turn(rt: HostRuntime) {
     assert!(rt; are_dealt(0, 3, &[chunk(0, 3), chunk(6, 3)]));
     assert!(rt; are_dealt(1, 3, &[chunk(3, 3), chunk(9, 1)]));
-    assert_eq!(rt; second_number(), Some(3));
+    assert!(rt; second_number() == Some(3));
     assert!(rt; are_dealt(0, 4, &[chunk(0, 4), chunk(8, 2)]));
     assert!(rt; are_dealt(1, 4, &[chunk(4, 4)]));
 }

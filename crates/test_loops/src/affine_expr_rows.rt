@@ -1,12 +1,15 @@
 //! Forms of expressions, and the faults of others.
 
-use crate::texts::{I, J, at, kernel, last_statement};
+use crate::texts::{I, J, at, kernel, last_statement, no_other};
 use affine::VarBox;
 use affine_expr::*;
 use ktree::{BinaryOp, Expr, Kernel, Place, Refusal, Source, Stmt, Suffix, Target};
 use std::alloc::{AllocError, Global};
 
 const HERE: Place = Place { line: 3, column: 5 };
+
+/// The number and the coefficients of i and j of a form.
+type Parts = Result<(i64, i64, i64), Fault>;
 
 /// The box of i from 0 to 7 and j from 0 to 3.
 fn bound_both(bounds: &mut VarBox) -> Result<(), Refusal> {
@@ -15,7 +18,7 @@ fn bound_both(bounds: &mut VarBox) -> Result<(), Refusal> {
 }
 
 /// The number and the coefficients of i and j of a form in a box.
-fn parts_in(alloc: Global, expr: &Expr, bounds: &VarBox) -> Result<(i64, i64, i64), Fault> {
+fn parts_in(alloc: Global, expr: &Expr, bounds: &VarBox) -> Parts {
     let form = form_of(alloc, expr, bounds, HERE)?;
     Ok((
         form.constant_term(),
@@ -25,7 +28,7 @@ fn parts_in(alloc: Global, expr: &Expr, bounds: &VarBox) -> Result<(i64, i64, i6
 }
 
 /// Those in the box of i from 0 to 7 and j from 0 to 3.
-fn parts_of(alloc: Global, expr: &Expr) -> Result<(i64, i64, i64), Fault> {
+fn parts_of(alloc: Global, expr: &Expr) -> Parts {
     let mut bounds = VarBox::new(alloc);
     if bound_both(&mut bounds).is_err() {
         return Err(Fault::OutOfMemory);
@@ -34,7 +37,7 @@ fn parts_of(alloc: Global, expr: &Expr) -> Result<(i64, i64, i64), Fault> {
 }
 
 /// Those of what a kernel's last statement assigns.
-fn assigned_parts(alloc: Global, kernel: &Kernel) -> Result<(i64, i64, i64), Fault> {
+fn assigned_parts(alloc: Global, kernel: &Kernel) -> Parts {
     match last_statement(kernel) {
         Some(Stmt::Assign(_, Source::Number(expr))) => parts_of(alloc, expr),
         _ => Err(Fault::OutOfMemory),
@@ -42,7 +45,7 @@ fn assigned_parts(alloc: Global, kernel: &Kernel) -> Result<(i64, i64, i64), Fau
 }
 
 /// Those of the text with these lines; `OutOfMemory` stands for its refusal too.
-fn parts_behind(alloc: Global, lines: &str) -> Result<(i64, i64, i64), Fault> {
+fn parts_behind(alloc: Global, lines: &str) -> Parts {
     match kernel(alloc, lines) {
         Ok(kernel) => assigned_parts(alloc, &kernel),
         Err(_number) => Err(Fault::OutOfMemory),
@@ -50,7 +53,7 @@ fn parts_behind(alloc: Global, lines: &str) -> Result<(i64, i64, i64), Fault> {
 }
 
 /// Those of an expression.
-fn parts(alloc: Global, expr: &str) -> Result<(i64, i64, i64), Fault> {
+fn parts(alloc: Global, expr: &str) -> Parts {
     match format!(in alloc; "uint64_t i; uint64_t j; s = {expr};") {
         Ok(lines) => parts_behind(alloc, lines.as_str()),
         Err(_error) => Err(Fault::OutOfMemory),
@@ -58,10 +61,7 @@ fn parts(alloc: Global, expr: &str) -> Result<(i64, i64, i64), Fault> {
 }
 
 /// The first of some rows of expressions of which something else is told.
-fn first_other<'r>(
-    alloc: Global,
-    rows: &[(&'r str, Result<(i64, i64, i64), Fault>)],
-) -> Option<&'r str> {
+fn first_other<'r>(alloc: Global, rows: &[(&'r str, Parts)]) -> Option<&'r str> {
     for (text, expected) in rows {
         if parts(alloc, text) != *expected {
             return Some(*text);
@@ -72,7 +72,7 @@ fn first_other<'r>(
 
 #[test]
 fn forms_of_expressions(rt: HostRuntime) {
-    let rows = [
+    const ROWS: &[(&str, Parts)] = &[
         ("3ull * i - (j - 5ull)", Ok((5, 3, -1))),
         ("-i * 2ull + j", Ok((0, -2, 1))),
         ("4294967296ull", Ok((1 << 32, 0, 0))),
@@ -84,7 +84,7 @@ fn forms_of_expressions(rt: HostRuntime) {
         ("4294967297ull + (i + j)", Err(Fault::Limit(HERE))),
         ("4294967297ull + i * j", Err(Fault::NotAffine(HERE))),
     ];
-    assert_eq!(rt; first_other(rt.alloc(), &rows), None);
+    no_other(&rt, first_other(rt.alloc(), ROWS));
 }
 
 /// A literal without `ull`.
@@ -107,10 +107,10 @@ fn constant_of_long(value: u64) -> Option<u32> {
 #[test]
 fn constants_of_expressions(rt: HostRuntime) {
     let alloc = rt.alloc();
-    assert_eq!(rt; computed(alloc, BinaryOp::Times, 6, 7), Ok(Some(42)));
-    assert_eq!(rt; computed(alloc, BinaryOp::Minus, 6, 7), Ok(None));
-    assert_eq!(rt; computed(alloc, BinaryOp::Plus, 2147483647, 1), Ok(None));
-    assert_eq!(rt; constant_of_long(1), None);
+    assert!(rt; computed(alloc, BinaryOp::Times, 6, 7) == Ok(Some(42)));
+    assert!(rt; computed(alloc, BinaryOp::Minus, 6, 7) == Ok(None));
+    assert!(rt; computed(alloc, BinaryOp::Plus, 2147483647, 1) == Ok(None));
+    assert!(rt; constant_of_long(1).is_none());
 }
 
 /// Whether the subscripts of a target are affine.
@@ -155,14 +155,17 @@ fn first_other_row<'r>(alloc: Global, rows: &[(&'r str, Result<(), Fault>)]) -> 
 
 #[test]
 fn subscripts_have_places(rt: HostRuntime) {
-    let rows = [
+    const ROWS: &[(&str, Result<(), Fault>)] = &[
         ("uint64_t i; uint64_t j; B[i][i + j] = 1;", Ok(())),
         (
             "uint64_t i; uint64_t j; B[i][i * j] = 1;",
-            Err(Fault::NotAffine(at(2, 30))),
+            Err(Fault::NotAffine(Place {
+                line: 2,
+                column: 30,
+            })),
         ),
     ];
-    assert_eq!(rt; first_other_row(rt.alloc(), &rows), None);
+    no_other(&rt, first_other_row(rt.alloc(), ROWS));
 }
 
 /// The first of some faults whose refusal has another number.
@@ -177,7 +180,7 @@ fn first_other_fault(rows: &[(Fault, u8)]) -> Option<Fault> {
 
 #[test]
 fn faults_have_numbers(rt: HostRuntime) {
-    let rows = [
+    const ROWS: &[(Fault, u8)] = &[
         (Fault::NotCanonical(HERE), 6),
         (Fault::MayWrap(HERE), 7),
         (Fault::NotAffine(HERE), 8),
@@ -185,5 +188,5 @@ fn faults_have_numbers(rt: HostRuntime) {
         (Fault::Limit(HERE), 21),
         (Fault::OutOfMemory, 23),
     ];
-    assert_eq!(rt; first_other_fault(&rows), None);
+    assert!(rt; first_other_fault(ROWS).is_none());
 }

@@ -1,6 +1,6 @@
 //! Whether locals are assigned before they are read, and the data of parallel loops.
 
-use crate::texts::{I, J, OUT_OF_MEMORY, S, at, kernel, kernel_with, name, parsed, text};
+use crate::texts::{I, J, OUT_OF_MEMORY, S, add_last, at, kernel, name, no_other, parsed, text};
 use flow::*;
 use ktree::{AssociatedLoops, Expr, Kernel, Place, Refusal, Schedule, Source, Stmt, Target, VarId};
 use pragma::{Directives, ParallelFor};
@@ -9,12 +9,19 @@ use pragma_named::LineClauses;
 use std::alloc::Global;
 use std::collections::HashMap;
 
+/// What a refusal tells of a kernel's locals.
+fn told(refusal: &Refusal) -> Result<Option<Place>, u8> {
+    match refusal {
+        Refusal::MayBeUnassigned(place) => Ok(Some(*place)),
+        _ => Err(refusal.number()),
+    }
+}
+
 /// What is told of a kernel's locals: the place of the first that may be read unassigned, or the number of another refusal.
 fn unassigned_by(alloc: Global, kernel: &Kernel, lines: &LineClauses) -> Result<Option<Place>, u8> {
     match definite(alloc, kernel, lines) {
         Ok(()) => Ok(None),
-        Err(Refusal::MayBeUnassigned(place)) => Ok(Some(place)),
-        Err(refusal) => Err(refusal.number()),
+        Err(refusal) => told(&refusal),
     }
 }
 
@@ -24,19 +31,36 @@ fn unassigned_in(alloc: Global, kernel: &Kernel) -> Result<Option<Place>, u8> {
     unassigned_by(alloc, kernel, &none)
 }
 
+/// The clauses of a kernel's directive lines.
+fn attached(alloc: Global, kernel: &Kernel, directives: &Directives) -> Result<LineClauses, u8> {
+    match attach(alloc, kernel, directives) {
+        Ok(lines) => Ok(lines),
+        Err(refusal) => Err(refusal.number()),
+    }
+}
+
 /// The clauses of the directive lines of a text with this kernel.
 fn clauses_of(alloc: Global, kernel: &Kernel, text: &str) -> Result<LineClauses, u8> {
     match Directives::read(alloc, text.as_bytes()) {
-        Ok(directives) => { attach(alloc, kernel, &directives).map_err(|refusal| refusal.number()) }
+        Ok(directives) => attached(alloc, kernel, &directives),
         Err(_error) => Err(OUT_OF_MEMORY),
     }
 }
 
-/// What is told of the locals of a text.
+/// What is told of the locals of a kernel with the directive lines of its text.
+fn unassigned_under(alloc: Global, kernel: &Kernel, text: &str) -> Result<Option<Place>, u8> {
+    match clauses_of(alloc, kernel, text) {
+        Ok(lines) => unassigned_by(alloc, kernel, &lines),
+        Err(number) => Err(number),
+    }
+}
+
+/// The same of a text.
 fn unassigned_text(alloc: Global, text: &str) -> Result<Option<Place>, u8> {
-    let kernel = parsed(alloc, text)?;
-    let lines = clauses_of(alloc, &kernel, text)?;
-    unassigned_by(alloc, &kernel, &lines)
+    match parsed(alloc, text) {
+        Ok(kernel) => unassigned_under(alloc, &kernel, text),
+        Err(number) => Err(number),
+    }
 }
 
 /// The same of the text with these lines.
@@ -59,39 +83,51 @@ fn first_other<'r>(alloc: Global, rows: &[(&'r str, Option<Place>)]) -> Option<&
 
 #[test]
 fn branches_both_assign(rt: HostRuntime) {
-    let rows = [
-        ("if (s < 3) x = 1; s = x;", Some(at(2, 23))),
+    const ROWS: &[(&str, Option<Place>)] = &[
+        (
+            "if (s < 3) x = 1; s = x;",
+            Some(Place {
+                line: 2,
+                column: 23,
+            }),
+        ),
         ("if (s < 3) x = 1; else x = 2; s = x;", None),
     ];
-    assert_eq!(rt; first_other(rt.alloc(), &rows), None);
+    no_other(&rt, first_other(rt.alloc(), ROWS));
 }
 
 #[test]
 fn initialisers_assign(rt: HostRuntime) {
-    let rows = [
+    const ROWS: &[(&str, Option<Place>)] = &[
         ("uint64_t y = s; s = y;", None),
-        ("uint64_t y = y; s = y;", Some(at(2, 14))),
+        (
+            "uint64_t y = y; s = y;",
+            Some(Place {
+                line: 2,
+                column: 14,
+            }),
+        ),
     ];
-    assert_eq!(rt; first_other(rt.alloc(), &rows), None);
+    no_other(&rt, first_other(rt.alloc(), ROWS));
 }
 
 #[test]
 fn updates_read_their_variable_first(rt: HostRuntime) {
-    let rows = [("x += x;", Some(at(2, 1)))];
-    assert_eq!(rt; first_other(rt.alloc(), &rows), None);
+    const ROWS: &[(&str, Option<Place>)] = &[("x += x;", Some(Place { line: 2, column: 1 }))];
+    no_other(&rt, first_other(rt.alloc(), ROWS));
 }
 
 #[test]
 fn subscripts_are_read_before_the_right_side(rt: HostRuntime) {
-    let rows = [("A[x] = x;", Some(at(2, 3)))];
-    assert_eq!(rt; first_other(rt.alloc(), &rows), None);
+    const ROWS: &[(&str, Option<Place>)] = &[("A[x] = x;", Some(Place { line: 2, column: 3 }))];
+    no_other(&rt, first_other(rt.alloc(), ROWS));
 }
 
 #[test]
 fn bodies_know_the_variable_of_their_loop(rt: HostRuntime) {
-    let lines = "for (uint64_t i = 0; i < 8; i++) s = i;";
-    let rows = [(lines, None)];
-    assert_eq!(rt; first_other(rt.alloc(), &rows), None);
+    const LINES: &str = "for (uint64_t i = 0; i < 8; i++) s = i;";
+    const ROWS: &[(&str, Option<Place>)] = &[(LINES, None)];
+    no_other(&rt, first_other(rt.alloc(), ROWS));
 }
 
 /// `s = i;` on line 3, where `i` is the variable of a loop before it, which no text can name there.
@@ -105,65 +141,100 @@ fn assignment_of_i(alloc: Global) -> Stmt {
     Stmt::Assign(target, Source::Number(value))
 }
 
-/// What is told of the locals of the text with these lines and that statement behind them.
+/// What is told of the locals of a kernel once that statement stands behind its own.
+fn unassigned_once_added(alloc: Global, kernel: &mut Kernel) -> Result<Option<Place>, u8> {
+    match add_last(alloc, kernel, assignment_of_i(alloc)) {
+        Ok(()) => unassigned_in(alloc, kernel),
+        Err(_error) => Err(OUT_OF_MEMORY),
+    }
+}
+
+/// The same of the kernel of the text with these lines.
 fn unassigned_behind(alloc: Global, lines: &str) -> Result<Option<Place>, u8> {
-    match kernel_with(alloc, lines, assignment_of_i(alloc)) {
-        Ok(kernel) => unassigned_in(alloc, &kernel),
+    match kernel(alloc, lines) {
+        Ok(mut kernel) => unassigned_once_added(alloc, &mut kernel),
         Err(number) => Err(number),
     }
 }
 
 #[test]
 fn loops_leave_what_was_known(rt: HostRuntime) {
-    let lines = "for (uint64_t i = 0; i < 8; i++) x = 1;\ns = x;";
-    let rows = [(lines, Some(at(3, 5)))];
-    assert_eq!(rt; first_other(rt.alloc(), &rows), None);
+    const LINES: &str = "for (uint64_t i = 0; i < 8; i++) x = 1;\ns = x;";
+    const ROWS: &[(&str, Option<Place>)] = &[(LINES, Some(Place { line: 3, column: 5 }))];
+    no_other(&rt, first_other(rt.alloc(), ROWS));
     let lines = "for (uint64_t i = 0; i < 8; i++) x = 1;";
-    assert_eq!(rt; unassigned_behind(rt.alloc(), lines), Ok(Some(at(3, 5))));
+    assert!(rt; unassigned_behind(rt.alloc(), lines) == Ok(Some(at(3, 5))));
 }
 
 #[test]
 fn a_start_stands_before_its_variable(rt: HostRuntime) {
-    let lines = "for (uint64_t i = i; i < 8; i++) s = 1;";
-    let rows = [(lines, Some(at(2, 19)))];
-    assert_eq!(rt; first_other(rt.alloc(), &rows), None);
+    const LINES: &str = "for (uint64_t i = i; i < 8; i++) s = 1;";
+    const ROWS: &[(&str, Option<Place>)] = &[(
+        LINES,
+        Some(Place {
+            line: 2,
+            column: 19,
+        }),
+    )];
+    no_other(&rt, first_other(rt.alloc(), ROWS));
 }
 
 #[test]
 fn a_step_stands_behind_the_body(rt: HostRuntime) {
-    let rows = [
+    const ROWS: &[(&str, Option<Place>)] = &[
         ("for (uint64_t i = 0; i < 8; i += x) x = 1;", None),
-        ("\nfor (uint64_t i = 0; i < 8; x++) s = 1;", Some(at(3, 1))),
+        (
+            "\nfor (uint64_t i = 0; i < 8; x++) s = 1;",
+            Some(Place { line: 3, column: 1 }),
+        ),
     ];
-    assert_eq!(rt; first_other(rt.alloc(), &rows), None);
+    no_other(&rt, first_other(rt.alloc(), ROWS));
 }
 
 #[test]
 fn arguments_are_read(rt: HostRuntime) {
-    let lines = "printf(\"%\" PRIu64 \" %\" PRIu64 \"\\n\", s, x);";
-    let rows = [(lines, Some(at(2, 40)))];
-    assert_eq!(rt; first_other(rt.alloc(), &rows), None);
+    const LINES: &str = "printf(\"%\" PRIu64 \" %\" PRIu64 \"\\n\", s, x);";
+    const ROWS: &[(&str, Option<Place>)] = &[(
+        LINES,
+        Some(Place {
+            line: 2,
+            column: 40,
+        }),
+    )];
+    no_other(&rt, first_other(rt.alloc(), ROWS));
 }
 
 #[test]
 fn names_are_read_whatever_guards_them(rt: HostRuntime) {
-    let rows = [
-        ("s = s < 3 ? 1 : x;", Some(at(2, 17))),
-        ("if (s < 3 && x < 3) x = 1;", Some(at(2, 14))),
+    const ROWS: &[(&str, Option<Place>)] = &[
+        (
+            "s = s < 3 ? 1 : x;",
+            Some(Place {
+                line: 2,
+                column: 17,
+            }),
+        ),
+        (
+            "if (s < 3 && x < 3) x = 1;",
+            Some(Place {
+                line: 2,
+                column: 14,
+            }),
+        ),
     ];
-    assert_eq!(rt; first_other(rt.alloc(), &rows), None);
+    no_other(&rt, first_other(rt.alloc(), ROWS));
 }
 
 #[test]
 fn blocks_hand_on_what_is_known(rt: HostRuntime) {
-    let lines =
+    const LINES: &str =
         "{\n#pragma omp parallel for\nfor (uint64_t i = 0; i < 8; i++) A[i] = 1;\nx = 1; }\ns = x;";
-    let rows = [(lines, None)];
-    assert_eq!(rt; first_other(rt.alloc(), &rows), None);
+    const ROWS: &[(&str, Option<Place>)] = &[(LINES, None)];
+    no_other(&rt, first_other(rt.alloc(), ROWS));
 }
 
 /// What is told of a parallel loop with four private variables.
-#[derive(Clone, Copy, Debug, PartialEq, Eq)]
+#[derive(Clone, Copy, PartialEq, Eq)]
 struct Seen {
     line: Place,
     is_in_fours_and_twos: bool,
@@ -171,7 +242,7 @@ struct Seen {
 }
 
 /// What is told of the parallel loops of a text: what is wrong with their data, or else the only one, or the lines of two.
-#[derive(Clone, Copy, Debug, PartialEq, Eq)]
+#[derive(Clone, Copy, PartialEq, Eq)]
 struct Loops {
     fault: Option<DataFault>,
     only: Option<Seen>,
@@ -227,11 +298,18 @@ fn data_of(alloc: Global, kernel: &Kernel, directives: &Directives, lines: &Line
     }
 }
 
+/// The same with the clauses of its directive lines.
+fn data_by(alloc: Global, kernel: &Kernel, directives: &Directives) -> Result<Loops, u8> {
+    match attached(alloc, kernel, directives) {
+        Ok(lines) => Ok(data_of(alloc, kernel, directives, &lines)),
+        Err(number) => Err(number),
+    }
+}
+
 /// The same with the directive lines of its text.
 fn data_under(alloc: Global, kernel: &Kernel, text: &str) -> Result<Loops, u8> {
-    let lines = clauses_of(alloc, kernel, text)?;
     match Directives::read(alloc, text.as_bytes()) {
-        Ok(directives) => Ok(data_of(alloc, kernel, &directives, &lines)),
+        Ok(directives) => data_by(alloc, kernel, &directives),
         Err(_error) => Err(OUT_OF_MEMORY),
     }
 }
@@ -272,22 +350,28 @@ fn first_other_data<'r>(alloc: Global, rows: &[(&'r str, Option<DataFault>)]) ->
 
 #[test]
 fn scalars_from_outside_are_shared(rt: HostRuntime) {
-    let rows = [
+    const ROWS: &[(&str, Option<DataFault>)] = &[
         (
             "#pragma omp parallel for\nfor (uint64_t i = 0; i < 8; i++) s = i;",
-            Some(DataFault::Written(at(3, 34))),
+            Some(DataFault::Written(Place {
+                line: 3,
+                column: 34,
+            })),
         ),
         (
             "#pragma omp parallel for\nfor (uint64_t i = 0; i < 8; i++) x = i;",
-            Some(DataFault::Written(at(3, 34))),
+            Some(DataFault::Written(Place {
+                line: 3,
+                column: 34,
+            })),
         ),
     ];
-    assert_eq!(rt; first_other_data(rt.alloc(), &rows), None);
+    no_other(&rt, first_other_data(rt.alloc(), ROWS));
 }
 
 #[test]
 fn private_scalars_may_be_written(rt: HostRuntime) {
-    let rows = [
+    const ROWS: &[(&str, Option<DataFault>)] = &[
         (
             "#pragma omp parallel for private(x)\nfor (uint64_t i = 0; i < 8; i++) { x = i; A[i] = x; }",
             None,
@@ -298,52 +382,67 @@ fn private_scalars_may_be_written(rt: HostRuntime) {
         ),
         (
             "#pragma omp parallel for private(s)\nfor (uint64_t i = 0; i < 8; i++) s = i;",
-            Some(DataFault::Written(at(3, 34))),
+            Some(DataFault::Written(Place {
+                line: 3,
+                column: 34,
+            })),
         ),
     ];
-    assert_eq!(rt; first_other_data(rt.alloc(), &rows), None);
+    no_other(&rt, first_other_data(rt.alloc(), ROWS));
 }
 
 #[test]
 fn private_scalars_are_assigned_before_they_are_read(rt: HostRuntime) {
-    let rows = [
+    const ROWS: &[(&str, Option<DataFault>)] = &[
         (
             "#pragma omp parallel for private(x)\nfor (uint64_t i = 0; i < 8; i++) { A[i] = x; x = i; }",
-            Some(DataFault::Unassigned(at(3, 43))),
+            Some(DataFault::Unassigned(Place {
+                line: 3,
+                column: 43,
+            })),
         ),
         (
             "#pragma omp parallel for private(x)\nfor (uint64_t i = 0; i < 8; i++) { if (i < 3) x = i; A[i] = x; }",
-            Some(DataFault::Unassigned(at(3, 61))),
+            Some(DataFault::Unassigned(Place {
+                line: 3,
+                column: 61,
+            })),
         ),
         (
             "#pragma omp parallel for private(x)\nfor (uint64_t i = 0; i < 8; i++) { s = 1; A[i] = x; }",
-            Some(DataFault::Written(at(3, 36))),
+            Some(DataFault::Written(Place {
+                line: 3,
+                column: 36,
+            })),
         ),
     ];
-    assert_eq!(rt; first_other_data(rt.alloc(), &rows), None);
+    no_other(&rt, first_other_data(rt.alloc(), ROWS));
 }
 
 #[test]
 fn copies_are_not_written(rt: HostRuntime) {
-    let rows = [
+    const ROWS: &[(&str, Option<DataFault>)] = &[
         (
             "#pragma omp parallel for firstprivate(s)\nfor (uint64_t i = 0; i < 8; i++) A[i] = s;",
             None,
         ),
         (
             "#pragma omp parallel for firstprivate(s)\nfor (uint64_t i = 0; i < 8; i++) s = i;",
-            Some(DataFault::Copied(at(3, 34))),
+            Some(DataFault::Copied(Place {
+                line: 3,
+                column: 34,
+            })),
         ),
     ];
-    assert_eq!(rt; first_other_data(rt.alloc(), &rows), None);
+    no_other(&rt, first_other_data(rt.alloc(), ROWS));
 }
 
 #[test]
 fn private_locals_are_unassigned_behind_their_construct(rt: HostRuntime) {
-    let rows = [
+    const ROWS: &[(&str, Option<Place>)] = &[
         (
             "x = 1;\n#pragma omp parallel for private(x)\nfor (uint64_t i = 0; i < 8; i++) { x = i; A[i] = x; }\ns = x;",
-            Some(at(5, 5)),
+            Some(Place { line: 5, column: 5 }),
         ),
         (
             "x = 1;\n#pragma omp parallel for private(x)\nfor (uint64_t i = 0; i < 8; i++) { x = i; A[i] = x; }\nx = 2; s = x;",
@@ -351,23 +450,26 @@ fn private_locals_are_unassigned_behind_their_construct(rt: HostRuntime) {
         ),
         (
             "x = 1;\nfor (uint64_t t = 0; t < 2; t++) { s = x;\n#pragma omp parallel for private(x)\nfor (uint64_t i = 0; i < 8; i++) { x = i; A[i] = x; } }",
-            Some(at(3, 40)),
+            Some(Place {
+                line: 3,
+                column: 40,
+            }),
         ),
         (
             "x = 1;\nfor (uint64_t t = 0; t < 2; t++) {\n#pragma omp parallel for private(x)\nfor (uint64_t i = 0; i < 8; i++) { x = i; A[i] = x; } }\ns = x;",
-            Some(at(6, 5)),
+            Some(Place { line: 6, column: 5 }),
         ),
         (
             "x = 1;\n#pragma omp parallel for firstprivate(x)\nfor (uint64_t i = 0; i < 8; i++) A[i] = x;\ns = x;",
             None,
         ),
     ];
-    assert_eq!(rt; first_other(rt.alloc(), &rows), None);
+    no_other(&rt, first_other(rt.alloc(), ROWS));
 }
 
 #[test]
 fn locals_and_elements_may_be_written(rt: HostRuntime) {
-    let rows = [
+    const ROWS: &[(&str, Option<DataFault>)] = &[
         (
             "#pragma omp parallel for\nfor (uint64_t i = 0; i < 8; i++) { uint64_t y; y = i; }",
             None,
@@ -377,7 +479,7 @@ fn locals_and_elements_may_be_written(rt: HostRuntime) {
             None,
         ),
     ];
-    assert_eq!(rt; first_other_data(rt.alloc(), &rows), None);
+    no_other(&rt, first_other_data(rt.alloc(), ROWS));
 }
 
 /// A parallel loop that prints two numbers.
@@ -386,36 +488,36 @@ const PRINTS: &str =
 
 #[test]
 fn parallel_loops_print_nothing(rt: HostRuntime) {
-    let fault = DataFault::Printed(at(4, 1));
-    let rows = [(PRINTS, Some(fault))];
-    assert_eq!(rt; first_other_data(rt.alloc(), &rows), None);
+    const FAULT: DataFault = DataFault::Printed(Place { line: 4, column: 1 });
+    const ROWS: &[(&str, Option<DataFault>)] = &[(PRINTS, Some(FAULT))];
+    no_other(&rt, first_other_data(rt.alloc(), ROWS));
 }
 
 #[test]
 fn other_loops_may_share(rt: HostRuntime) {
-    let lines =
+    const LINES: &str =
         "for (uint64_t i = 0; i < 8; i++) s = i;\nprintf(\"%\" PRIu64 \" %\" PRIu64 \"\\n\", s, x);";
-    let rows = [(lines, None)];
-    assert_eq!(rt; first_other_data(rt.alloc(), &rows), None);
+    const ROWS: &[(&str, Option<DataFault>)] = &[(LINES, None)];
+    no_other(&rt, first_other_data(rt.alloc(), ROWS));
 }
 
 #[test]
 fn steps_are_no_assignments(rt: HostRuntime) {
-    let lines =
+    const LINES: &str =
         "#pragma omp parallel for\nfor (uint64_t i = 0; i < 8; i++)\nfor (uint64_t j = 0; j < 8; j++) A[j] = 1;";
-    let rows = [(lines, None)];
-    assert_eq!(rt; first_other_data(rt.alloc(), &rows), None);
+    const ROWS: &[(&str, Option<DataFault>)] = &[(LINES, None)];
+    no_other(&rt, first_other_data(rt.alloc(), ROWS));
 }
 
 #[test]
 fn collapsed_loops_run_the_innermost_body(rt: HostRuntime) {
-    let nest =
+    const NEST: &str =
         "#pragma omp parallel for collapse(2)\nfor (uint64_t i = 0; i < 8; i++)\nfor (uint64_t j = 0; j < 8; j++) { uint64_t y; y = j; }";
-    let alone =
+    const ALONE: &str =
         "\n#pragma omp parallel for collapse(2)\nfor (uint64_t i = 0; i < 8; i++) A[i] = 1;";
-    let fault = DataFault::Directive(at(3, 1));
-    let rows = [(nest, None), (alone, Some(fault))];
-    assert_eq!(rt; first_other_data(rt.alloc(), &rows), None);
+    const FAULT: DataFault = DataFault::Directive(Place { line: 3, column: 1 });
+    const ROWS: &[(&str, Option<DataFault>)] = &[(NEST, None), (ALONE, Some(FAULT))];
+    no_other(&rt, first_other_data(rt.alloc(), ROWS));
 }
 
 /// The only parallel loop of the text with these lines.
@@ -443,7 +545,7 @@ fn loops_and_locals_are_private(rt: HostRuntime) {
         is_in_fours_and_twos: true,
         private: [I, J, VarId(6), VarId(7)],
     };
-    assert_eq!(rt; only_loop(rt.alloc(), COLLAPSED), Ok(Some(expected)));
+    assert!(rt; only_loop(rt.alloc(), COLLAPSED) == Ok(Some(expected)));
 }
 
 /// The lines of the two parallel loops of the text with these lines.
@@ -466,16 +568,19 @@ for (uint64_t k = 0; k < 8; k++) A[i] = 1;
 
 #[test]
 fn parallel_loops_come_in_the_order_of_the_text(rt: HostRuntime) {
-    assert_eq!(rt; lines_of_two(rt.alloc(), TWO_LOOPS), Ok(Some([2, 4])));
+    assert!(rt; lines_of_two(rt.alloc(), TWO_LOOPS) == Ok(Some([2, 4])));
 }
 
 #[test]
 fn serial_loops_are_looked_into(rt: HostRuntime) {
-    let lines =
+    const LINES: &str =
         "for (uint64_t i = 0; i < 8; i++) {\n#pragma omp parallel for\nfor (uint64_t j = 0; j < 8; j++) s = i; }";
-    let fault = DataFault::Written(at(4, 34));
-    let rows = [(lines, Some(fault))];
-    assert_eq!(rt; first_other_data(rt.alloc(), &rows), None);
+    const FAULT: DataFault = DataFault::Written(Place {
+        line: 4,
+        column: 34,
+    });
+    const ROWS: &[(&str, Option<DataFault>)] = &[(LINES, Some(FAULT))];
+    no_other(&rt, first_other_data(rt.alloc(), ROWS));
 }
 
 /// The number of the refusal that tells a fault.

@@ -1,11 +1,14 @@
 //! Loops that are entered, and the first faults of others.
 
-use crate::texts::{I, J, at, kernel, last_statement, nest_of};
+use crate::texts::{I, J, at, kernel, last_statement, nest_of, no_other};
 use affine::VarBox;
 use affine_expr::Fault;
-use ktree::{Kernel, Stmt, VarId};
+use ktree::{Kernel, Place, Stmt, VarId};
 use nest_loop::*;
 use std::alloc::Global;
+
+/// How many loops are one directly in the other, and the numbers that the innermost's variable has.
+type Entered = Result<(usize, i64, i64), Fault>;
 
 /// The variable of a loop, which is entered, or else of the innermost of those that stand one directly in the other.
 fn innermost(alloc: Global, statement: &Stmt, bounds: &mut VarBox) -> Result<VarId, Fault> {
@@ -20,7 +23,7 @@ fn innermost(alloc: Global, statement: &Stmt, bounds: &mut VarBox) -> Result<Var
 }
 
 /// How many loops a kernel's last statement is, one directly in the other, and the numbers that the innermost's variable has.
-fn entered(alloc: Global, kernel: &Kernel) -> Result<(usize, i64, i64), Fault> {
+fn entered(alloc: Global, kernel: &Kernel) -> Entered {
     let Some(statement) = last_statement(kernel) else {
         return Err(Fault::OutOfMemory);
     };
@@ -31,7 +34,7 @@ fn entered(alloc: Global, kernel: &Kernel) -> Result<(usize, i64, i64), Fault> {
 }
 
 /// The same of the text with these lines; `OutOfMemory` stands for the refusal of the text too.
-fn inside(alloc: Global, lines: &str) -> Result<(usize, i64, i64), Fault> {
+fn inside(alloc: Global, lines: &str) -> Entered {
     match kernel(alloc, lines) {
         Ok(kernel) => entered(alloc, &kernel),
         Err(_number) => Err(Fault::OutOfMemory),
@@ -39,10 +42,7 @@ fn inside(alloc: Global, lines: &str) -> Result<(usize, i64, i64), Fault> {
 }
 
 /// The first of some rows of lines of which something else is told.
-fn first_other<'r>(
-    alloc: Global,
-    rows: &[(&'r str, Result<(usize, i64, i64), Fault>)],
-) -> Option<&'r str> {
+fn first_other<'r>(alloc: Global, rows: &[(&'r str, Entered)]) -> Option<&'r str> {
     for (text, expected) in rows {
         if inside(alloc, text) != *expected {
             return Some(*text);
@@ -53,52 +53,55 @@ fn first_other<'r>(
 
 #[test]
 fn falling_loops(rt: HostRuntime) {
-    let wraps = Err(Fault::MayWrap(at(2, 1)));
-    let rows = [
+    const WRAPS: Entered = Err(Fault::MayWrap(Place { line: 2, column: 1 }));
+    const ROWS: &[(&str, Entered)] = &[
         ("for (uint64_t i = 10; i > 2; i -= 3) { }", Ok((1, 4, 10))),
         ("for (uint64_t i = 7; i != 3; i--) { }", Ok((1, 4, 7))),
-        ("for (uint64_t i = 9; i >= 0; i--) { }", wraps),
-        ("for (uint64_t i = 6; i > 0; i -= 2) { }", wraps),
-        ("for (uint64_t i = 10; i > 1; i -= 3) { }", wraps),
-        ("for (uint64_t i = 3; i != 7; i--) { }", wraps),
+        ("for (uint64_t i = 9; i >= 0; i--) { }", WRAPS),
+        ("for (uint64_t i = 6; i > 0; i -= 2) { }", WRAPS),
+        ("for (uint64_t i = 10; i > 1; i -= 3) { }", WRAPS),
+        ("for (uint64_t i = 3; i != 7; i--) { }", WRAPS),
         ("for (uint64_t i = 6; i >= 2; i -= 2) { }", Ok((1, 2, 6))),
     ];
-    assert_eq!(rt; first_other(rt.alloc(), &rows), None);
+    no_other(&rt, first_other(rt.alloc(), ROWS));
 }
 
 #[test]
 fn rising_loops(rt: HostRuntime) {
-    let lines = "for (uint64_t i = 0; i < 4294967297ull; i++) { }";
-    let limit = Err(Fault::Limit(at(2, 26)));
-    let rows = [
+    const LINES: &str = "for (uint64_t i = 0; i < 4294967297ull; i++) { }";
+    const LIMIT: Entered = Err(Fault::Limit(Place {
+        line: 2,
+        column: 26,
+    }));
+    const ROWS: &[(&str, Entered)] = &[
         ("for (uint64_t i = 1; i <= 10; i += 4) { }", Ok((1, 1, 9))),
         ("for (uint64_t i = 0; i < 8; i++) { }", Ok((1, 0, 7))),
         ("for (uint64_t i = 5; i < 5; i++) { }", Ok((1, 5, 4))),
         ("for (uint64_t i = 2; i != 6; i++) { }", Ok((1, 2, 5))),
-        (lines, limit),
+        (LINES, LIMIT),
     ];
-    assert_eq!(rt; first_other(rt.alloc(), &rows), None);
+    no_other(&rt, first_other(rt.alloc(), ROWS));
 }
 
 #[test]
 fn other_heads(rt: HostRuntime) {
-    let other = Err(Fault::NotCanonical(at(2, 1)));
-    let rows = [
-        ("for (uint64_t i = 0; i < 8; i--) { }", other),
-        ("for (uint64_t i = 0; i == 8; i++) { }", other),
-        ("for (uint64_t i = 0; i < 8; x++) { }", other),
-        ("for (uint64_t i = 9; i != 3; i -= 2) { }", other),
-        ("for (uint64_t i = 9; i > 3; i -= 0) { }", other),
+    const OTHER: Entered = Err(Fault::NotCanonical(Place { line: 2, column: 1 }));
+    const ROWS: &[(&str, Entered)] = &[
+        ("for (uint64_t i = 0; i < 8; i--) { }", OTHER),
+        ("for (uint64_t i = 0; i == 8; i++) { }", OTHER),
+        ("for (uint64_t i = 0; i < 8; x++) { }", OTHER),
+        ("for (uint64_t i = 9; i != 3; i -= 2) { }", OTHER),
+        ("for (uint64_t i = 9; i > 3; i -= 0) { }", OTHER),
     ];
-    assert_eq!(rt; first_other(rt.alloc(), &rows), None);
+    no_other(&rt, first_other(rt.alloc(), ROWS));
 }
 
 #[test]
 fn bounds_with_variables(rt: HostRuntime) {
-    let rows = [
+    const ROWS: &[(&str, Entered)] = &[
         (
             "for (uint64_t i = 0; i < 8; i++)\nfor (uint64_t j = 0; j < i - 1; j++) { }",
-            Err(Fault::MayWrap(at(3, 1))),
+            Err(Fault::MayWrap(Place { line: 3, column: 1 })),
         ),
         (
             "for (uint64_t i = 1; i < 8; i++)\nfor (uint64_t j = 0; j < i - 1; j++) { }",
@@ -106,14 +109,17 @@ fn bounds_with_variables(rt: HostRuntime) {
         ),
         (
             "for (uint64_t i = 0; i < x; i++) { }",
-            Err(Fault::NotAffine(at(2, 26))),
+            Err(Fault::NotAffine(Place {
+                line: 2,
+                column: 26,
+            })),
         ),
         (
             "for (uint64_t i = 0; i < i; i++) { }",
-            Err(Fault::NotCanonical(at(2, 1))),
+            Err(Fault::NotCanonical(Place { line: 2, column: 1 })),
         ),
     ];
-    assert_eq!(rt; first_other(rt.alloc(), &rows), None);
+    no_other(&rt, first_other(rt.alloc(), ROWS));
 }
 
 /// Whether the loop that a kernel's last statement is assigns its variable in its body.
@@ -144,19 +150,19 @@ fn first_other_body<'r>(alloc: Global, rows: &[(&'r str, bool)]) -> Option<&'r s
 
 #[test]
 fn bodies(rt: HostRuntime) {
-    let other = "for (uint64_t i = 0; i < 8; i++) { x = 0; }";
-    let own = "for (uint64_t i = 0; i < 8; i++) { i = 0; }";
-    let rows = [
-        (other, Ok((1, 0, 7))),
-        (own, Err(Fault::NotCanonical(at(2, 1)))),
+    const OTHER: &str = "for (uint64_t i = 0; i < 8; i++) { x = 0; }";
+    const OWN: &str = "for (uint64_t i = 0; i < 8; i++) { i = 0; }";
+    const ROWS: &[(&str, Entered)] = &[
+        (OTHER, Ok((1, 0, 7))),
+        (OWN, Err(Fault::NotCanonical(Place { line: 2, column: 1 }))),
     ];
-    assert_eq!(rt; first_other(rt.alloc(), &rows), None);
-    let bodies = [(other, false), (own, true)];
-    assert_eq!(rt; first_other_body(rt.alloc(), &bodies), None);
+    no_other(&rt, first_other(rt.alloc(), ROWS));
+    const BODIES: &[(&str, bool)] = &[(OTHER, false), (OWN, true)];
+    no_other(&rt, first_other_body(rt.alloc(), BODIES));
 }
 
 /// What is known inside of so many loops, one in the other.
-fn inside_nest(alloc: Global, count: u32) -> Result<(usize, i64, i64), Fault> {
+fn inside_nest(alloc: Global, count: u32) -> Entered {
     match nest_of(alloc, count) {
         Ok(lines) => inside(alloc, lines.as_str()),
         Err(_error) => Err(Fault::OutOfMemory),
@@ -166,8 +172,8 @@ fn inside_nest(alloc: Global, count: u32) -> Result<(usize, i64, i64), Fault> {
 #[test]
 fn depths(rt: HostRuntime) {
     let ninth = Err(Fault::Limit(at(10, 1)));
-    assert_eq!(rt; inside_nest(rt.alloc(), 8), Ok((8, 0, 1)));
-    assert_eq!(rt; inside_nest(rt.alloc(), 9), ninth);
+    assert!(rt; inside_nest(rt.alloc(), 8) == Ok((8, 0, 1)));
+    assert!(rt; inside_nest(rt.alloc(), 9) == ninth);
 }
 
 /// What the loop that a kernel's last statement is does behind each turn, as a step of `i` and as one of `j`.
@@ -193,5 +199,5 @@ fn steps(rt: HostRuntime) {
         by: 3,
     };
     let lines = "for (uint64_t i = 0; i < 8; i = i + 3) { }";
-    assert_eq!(rt; steps_of(rt.alloc(), lines), Some([Some(rising), None]));
+    assert!(rt; steps_of(rt.alloc(), lines) == Some([Some(rising), None]));
 }

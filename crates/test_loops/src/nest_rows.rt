@@ -1,7 +1,8 @@
 //! Kernels whose loops, nests and subscripts are looked at, and the first faults of others.
 
 use crate::texts::{
-    A, I, OUT_OF_MEMORY, X, at, kernel, kernel_with, last_statement, name, nest_of, parsed, text,
+    A, I, OUT_OF_MEMORY, X, add_last, at, kernel, last_statement, name, nest_of, no_other, parsed,
+    text,
 };
 use affine::VarBox;
 use affine_expr::Fault;
@@ -12,33 +13,10 @@ use pragma::Directives;
 use std::alloc::{AllocError, Global};
 
 /// What [`nests`] tells of a kernel: its first fault, or where its first subscript leaves its array.
-#[derive(Clone, Copy, Debug, PartialEq, Eq)]
-struct Faults {
-    nested: Option<Fault>,
-    leaves: Option<Place>,
-}
+type Told = Result<Option<Place>, Fault>;
 
 /// No fault at all.
-const FINE: Faults = Faults {
-    nested: None,
-    leaves: None,
-};
-
-/// This fault.
-fn told(fault: Fault) -> Faults {
-    Faults {
-        nested: Some(fault),
-        leaves: None,
-    }
-}
-
-/// A subscript at this place that leaves its array.
-fn leaves(line: u32, column: u32) -> Faults {
-    Faults {
-        nested: None,
-        leaves: Some(at(line, column)),
-    }
-}
+const FINE: Told = Ok(None);
 
 /// The table of a kernel's loops, with the directive lines of its text.
 fn table_in(alloc: Global, kernel: &Kernel, text: &str) -> Result<LoopTable, Fault> {
@@ -49,26 +27,23 @@ fn table_in(alloc: Global, kernel: &Kernel, text: &str) -> Result<LoopTable, Fau
 }
 
 /// What is told of a kernel with the directive lines of its text.
-fn faults_in(alloc: Global, kernel: &Kernel, text: &str) -> Result<Faults, u8> {
+fn faults_in(alloc: Global, kernel: &Kernel, text: &str) -> Told {
     match table_in(alloc, kernel, text) {
-        Ok(table) => Ok(Faults {
-            nested: None,
-            leaves: table.leaves,
-        }),
-        Err(fault) => Ok(told(fault)),
+        Ok(table) => Ok(table.leaves),
+        Err(fault) => Err(fault),
     }
 }
 
 /// Those of a text, or the number of its refusal.
-fn faults_of(alloc: Global, text: &str) -> Result<Faults, u8> {
+fn faults_of(alloc: Global, text: &str) -> Result<Told, u8> {
     match parsed(alloc, text) {
-        Ok(kernel) => faults_in(alloc, &kernel, text),
+        Ok(kernel) => Ok(faults_in(alloc, &kernel, text)),
         Err(number) => Err(number),
     }
 }
 
 /// Those of the text with these lines.
-fn first_faults(alloc: Global, lines: &str) -> Result<Faults, u8> {
+fn first_faults(alloc: Global, lines: &str) -> Result<Told, u8> {
     match text(alloc, lines) {
         Ok(text) => faults_of(alloc, text.as_str()),
         Err(_error) => Err(OUT_OF_MEMORY),
@@ -76,7 +51,7 @@ fn first_faults(alloc: Global, lines: &str) -> Result<Faults, u8> {
 }
 
 /// The first of some rows of lines of which something else is told.
-fn first_other<'r>(alloc: Global, rows: &[(&'r str, Faults)]) -> Option<&'r str> {
+fn first_other<'r>(alloc: Global, rows: &[(&'r str, Told)]) -> Option<&'r str> {
     for (text, expected) in rows {
         if first_faults(alloc, text) != Ok(*expected) {
             return Some(*text);
@@ -87,39 +62,42 @@ fn first_other<'r>(alloc: Global, rows: &[(&'r str, Faults)]) -> Option<&'r str>
 
 #[test]
 fn subscripts_of_one_loop(rt: HostRuntime) {
-    let rows = [
+    const ROWS: &[(&str, Told)] = &[
         ("for (uint64_t i = 0; i < 8; i += 1)\nA[i + 0] = 1;", FINE),
         (
             "for (uint64_t i = 0; i < 8; i += 1)\nA[i + 1] = 1;",
-            leaves(3, 3),
+            Ok(Some(Place { line: 3, column: 3 })),
         ),
         ("for (uint64_t i = 0; i < 0; i += 1)\nA[i + 1] = 1;", FINE),
         ("for (uint64_t i = 0; i < 8; i += 4)\nA[i + 3] = 1;", FINE),
         (
             "for (uint64_t i = 0; i < 8; i += 4)\nA[i + 4] = 1;",
-            leaves(3, 3),
+            Ok(Some(Place { line: 3, column: 3 })),
         ),
     ];
-    assert_eq!(rt; first_other(rt.alloc(), &rows), None);
+    no_other(&rt, first_other(rt.alloc(), ROWS));
 }
 
 #[test]
 fn the_first_subscript_is_told(rt: HostRuntime) {
-    let rows = [
+    const ROWS: &[(&str, Told)] = &[
         (
             "for (uint64_t i = 0; i < 8; i++)\nA[i + 1] = A[i + 2];",
-            leaves(3, 3),
+            Ok(Some(Place { line: 3, column: 3 })),
         ),
         (
             "for (uint64_t i = 0; i < 8; i++)\nA[i + 0] = A[i + 1] + A[i + 2];",
-            leaves(3, 14),
+            Ok(Some(Place {
+                line: 3,
+                column: 14,
+            })),
         ),
         (
             "for (uint64_t i = 0; i < 8; i++) { A[i + 1] = 1; }\nA[s] = 1;",
-            told(Fault::NotAffine(at(3, 3))),
+            Err(Fault::NotAffine(Place { line: 3, column: 3 })),
         ),
     ];
-    assert_eq!(rt; first_other(rt.alloc(), &rows), None);
+    no_other(&rt, first_other(rt.alloc(), ROWS));
 }
 
 /// How often the loops of a table turn at most, the first three of them, in the order of the text.
@@ -156,94 +134,91 @@ fn trip_counts(alloc: Global, lines: &str) -> Option<[Option<u64>; 3]> {
 fn tables_have_the_loops_in_the_order_of_the_text(rt: HostRuntime) {
     let lines =
         "for (uint64_t i = 0; i < 8; i++) for (uint64_t j = 0; j <= i; j += 2) { }\nfor (uint64_t k = 0; k < 3; k++) { }";
-    assert_eq!(rt;
-        trip_counts(rt.alloc(), lines),
-        Some([Some(8), Some(4), Some(3)])
-    );
+    assert!(rt; trip_counts(rt.alloc(), lines) == Some([Some(8), Some(4), Some(3)]));
 }
 
 #[test]
 fn falling_loops(rt: HostRuntime) {
-    let rows = [
+    const ROWS: &[(&str, Told)] = &[
         (
             "for (uint64_t i = 8; i > 0; i--)\nA[i - 0] = 1;",
-            leaves(3, 3),
+            Ok(Some(Place { line: 3, column: 3 })),
         ),
         ("for (uint64_t i = 8; i > 0; i--)\nA[i - 1] = 1;", FINE),
         (
             "for (uint64_t i = 8; i > 0; i--)\nA[i - 2] = 1;",
-            leaves(3, 3),
+            Ok(Some(Place { line: 3, column: 3 })),
         ),
     ];
-    assert_eq!(rt; first_other(rt.alloc(), &rows), None);
+    no_other(&rt, first_other(rt.alloc(), ROWS));
 }
 
 #[test]
 fn subscripts_by_other_names(rt: HostRuntime) {
-    let other = told(Fault::NotAffine(at(3, 3)));
-    let rows = [
-        ("for (uint64_t i = 0; i < 8; i++)\nA[x] = 1;", other),
-        ("for (uint64_t i = 0; i < 8; i++)\nA[s] = 1;", other),
+    const OTHER: Told = Err(Fault::NotAffine(Place { line: 3, column: 3 }));
+    const ROWS: &[(&str, Told)] = &[
+        ("for (uint64_t i = 0; i < 8; i++)\nA[x] = 1;", OTHER),
+        ("for (uint64_t i = 0; i < 8; i++)\nA[s] = 1;", OTHER),
         ("for (uint64_t i = 0; i < 8; i++)\nA[i] = 1;", FINE),
     ];
-    assert_eq!(rt; first_other(rt.alloc(), &rows), None);
+    no_other(&rt, first_other(rt.alloc(), ROWS));
 }
 
 #[test]
 fn two_dimensions(rt: HostRuntime) {
-    let rows = [
+    const ROWS: &[(&str, Told)] = &[
         (
             "for (uint64_t i = 0; i < 2; i++)\nfor (uint64_t j = 0; j < 3; j++)\nB[i][j] = 1;",
             FINE,
         ),
         (
             "for (uint64_t i = 0; i < 2; i++)\nfor (uint64_t j = 0; j < 4; j++)\nB[i][j] = 1;",
-            leaves(4, 6),
+            Ok(Some(Place { line: 4, column: 6 })),
         ),
         (
             "for (uint64_t i = 0; i < 3; i++)\nfor (uint64_t j = 0; j < 3; j++)\nB[i][j] = 1;",
-            leaves(4, 3),
+            Ok(Some(Place { line: 4, column: 3 })),
         ),
         (
             "for (uint64_t i = 0; i < 2; i++)\nfor (uint64_t j = 0; j < 3; j++)\nB[j][i] = 1;",
-            leaves(4, 3),
+            Ok(Some(Place { line: 4, column: 3 })),
         ),
     ];
-    assert_eq!(rt; first_other(rt.alloc(), &rows), None);
+    no_other(&rt, first_other(rt.alloc(), ROWS));
 }
 
 #[test]
 fn bounds_with_the_outer_variable(rt: HostRuntime) {
-    let wraps = told(Fault::MayWrap(at(3, 1)));
-    let rows = [
+    const WRAPS: Told = Err(Fault::MayWrap(Place { line: 3, column: 1 }));
+    const ROWS: &[(&str, Told)] = &[
         (
             "for (uint64_t i = 0; i < 8; i++)\nfor (uint64_t j = 0; j <= i; j++)\nA[j + 0] = 1;",
             FINE,
         ),
         (
             "for (uint64_t i = 0; i < 8; i++)\nfor (uint64_t j = 0; j <= i; j++)\nA[j + 1] = 1;",
-            leaves(4, 3),
+            Ok(Some(Place { line: 4, column: 3 })),
         ),
         (
             "for (uint64_t i = 0; i < 8; i++)\nfor (uint64_t j = 0; j < i - 1; j++)\nA[j] = 1;",
-            wraps,
+            WRAPS,
         ),
     ];
-    assert_eq!(rt; first_other(rt.alloc(), &rows), None);
+    no_other(&rt, first_other(rt.alloc(), ROWS));
 }
 
 #[test]
 fn bodies_that_assign(rt: HostRuntime) {
-    let assigns = told(Fault::NotCanonical(at(2, 1)));
-    let rows = [
-        ("for (uint64_t i = 0; i < 8; i++) i = 1;", assigns),
+    const ASSIGNS: Told = Err(Fault::NotCanonical(Place { line: 2, column: 1 }));
+    const ROWS: &[(&str, Told)] = &[
+        ("for (uint64_t i = 0; i < 8; i++) i = 1;", ASSIGNS),
         ("for (uint64_t i = 0; i < 8; i++) s = 1;", FINE),
     ];
-    assert_eq!(rt; first_other(rt.alloc(), &rows), None);
+    no_other(&rt, first_other(rt.alloc(), ROWS));
 }
 
 /// The first faults of so many loops, one in the other.
-fn faults_of_nest(alloc: Global, count: u32) -> Result<Faults, u8> {
+fn faults_of_nest(alloc: Global, count: u32) -> Result<Told, u8> {
     match nest_of(alloc, count) {
         Ok(lines) => first_faults(alloc, lines.as_str()),
         Err(_error) => Err(OUT_OF_MEMORY),
@@ -252,75 +227,99 @@ fn faults_of_nest(alloc: Global, count: u32) -> Result<Faults, u8> {
 
 #[test]
 fn loops_inside_each_other(rt: HostRuntime) {
-    let ninth = told(Fault::Limit(at(10, 1)));
-    assert_eq!(rt; faults_of_nest(rt.alloc(), 8), Ok(FINE));
-    assert_eq!(rt; faults_of_nest(rt.alloc(), 9), Ok(ninth));
+    let ninth = Err(Fault::Limit(at(10, 1)));
+    assert!(rt; faults_of_nest(rt.alloc(), 8) == Ok(FINE));
+    assert!(rt; faults_of_nest(rt.alloc(), 9) == Ok(ninth));
+}
+
+/// The subscripts `[i]`.
+fn subscripts_of_i(alloc: Global) -> Result<Vec<Expr>, AllocError> {
+    let mut subscripts = Vec::new(alloc);
+    subscripts.push(Expr::Object(I, Vec::new(alloc), name(alloc, at(3, 3))))?;
+    Ok(subscripts)
+}
+
+/// `A[i]` on line 3.
+fn element_of_i(alloc: Global) -> Result<Target, AllocError> {
+    let places = Vec::from_slice(alloc, &[at(3, 3)])?;
+    let subscripts = subscripts_of_i(alloc)?;
+    let mention = NamePlaces {
+        name: at(3, 1),
+        subscripts: places,
+    };
+    Ok(Target {
+        variable: A,
+        subscripts,
+        mention,
+    })
 }
 
 /// `A[i] = 1;` on line 3, where `i` is the variable of a loop before it, which no text can name there.
 fn assignment_at_i(alloc: Global) -> Result<Stmt, AllocError> {
-    let mut subscripts = Vec::new(alloc);
-    subscripts.push(Expr::Object(I, Vec::new(alloc), name(alloc, at(3, 3))))?;
-    let mention = NamePlaces {
-        name: at(3, 1),
-        subscripts: Vec::from_slice(alloc, &[at(3, 3)])?,
-    };
-    let target = Target {
-        variable: A,
-        subscripts,
-        mention,
-    };
+    let target = element_of_i(alloc)?;
     let value = Expr::Literal(1, Suffix::Bare);
     Ok(Stmt::Assign(target, Source::Number(value)))
 }
 
-/// The first faults of the text with these lines and a statement behind them.
-fn faults_with(alloc: Global, lines: &str, last: Stmt) -> Result<Faults, u8> {
-    match kernel_with(alloc, lines, last) {
-        Ok(kernel) => faults_in(alloc, &kernel, lines),
-        Err(number) => Err(number),
+/// Puts it behind the statements of a kernel.
+fn add_assignment_at_i(alloc: Global, kernel: &mut Kernel) -> Result<(), AllocError> {
+    let last = assignment_at_i(alloc)?;
+    add_last(alloc, kernel, last)
+}
+
+/// The first faults of a kernel with it and the directive lines of these lines.
+fn faults_once_added(alloc: Global, kernel: &mut Kernel, lines: &str) -> Result<Told, u8> {
+    match add_assignment_at_i(alloc, kernel) {
+        Ok(()) => Ok(faults_in(alloc, kernel, lines)),
+        Err(_error) => Err(OUT_OF_MEMORY),
     }
 }
 
-/// The same with `A[i] = 1;` behind them.
-fn faults_behind(alloc: Global, lines: &str) -> Result<Faults, u8> {
-    match assignment_at_i(alloc) {
-        Ok(last) => faults_with(alloc, lines, last),
-        Err(_error) => Err(OUT_OF_MEMORY),
+/// The same of the kernel of the text with these lines.
+fn faults_behind(alloc: Global, lines: &str) -> Result<Told, u8> {
+    match kernel(alloc, lines) {
+        Ok(mut kernel) => faults_once_added(alloc, &mut kernel, lines),
+        Err(number) => Err(number),
     }
 }
 
 #[test]
 fn other_statements(rt: HostRuntime) {
-    let rows = [
+    const ROWS: &[(&str, Told)] = &[
         (
             "for (uint64_t i = 0; i < 8; i++)\nif (i < 8) A[i + 0] = 1; else A[i + 0] = 1;",
             FINE,
         ),
         (
             "for (uint64_t i = 0; i < 8; i++)\nif (i < 8) A[i + 1] = 1; else A[i + 0] = 1;",
-            leaves(3, 14),
+            Ok(Some(Place {
+                line: 3,
+                column: 14,
+            })),
         ),
         (
             "for (uint64_t i = 0; i < 8; i++)\nif (i < 8) A[i + 0] = 1; else A[i + 1] = 1;",
-            leaves(3, 33),
+            Ok(Some(Place {
+                line: 3,
+                column: 33,
+            })),
         ),
         ("for (uint64_t i = 0; i < 8; i++) { }\nA[7] = 1;", FINE),
         (
             "for (uint64_t i = 0; i < 8; i++) { }\nA[8] = 1;",
-            leaves(3, 3),
+            Ok(Some(Place { line: 3, column: 3 })),
         ),
     ];
-    assert_eq!(rt; first_other(rt.alloc(), &rows), None);
+    no_other(&rt, first_other(rt.alloc(), ROWS));
     let lines = "for (uint64_t i = 0; i < 8; i++) { }";
-    let other = told(Fault::NotAffine(at(3, 3)));
-    assert_eq!(rt; faults_behind(rt.alloc(), lines), Ok(other));
+    let other = Err(Fault::NotAffine(at(3, 3)));
+    assert!(rt; faults_behind(rt.alloc(), lines) == Ok(other));
 }
 
 /// What is told of the nests of the text with these lines.
 fn nested(alloc: Global, lines: &str) -> Result<Option<Fault>, u8> {
     match first_faults(alloc, lines) {
-        Ok(faults) => Ok(faults.nested),
+        Ok(told) => Ok(told.err()),
         Err(number) => Err(number),
     }
 }
@@ -337,8 +336,8 @@ fn first_other_nest<'r>(alloc: Global, rows: &[(&'r str, Option<Fault>)]) -> Opt
 
 #[test]
 fn iterations_have_a_limit(rt: HostRuntime) {
-    let limit = Some(Fault::Limit(at(3, 1)));
-    let rows = [
+    const LIMIT: Option<Fault> = Some(Fault::Limit(Place { line: 3, column: 1 }));
+    const ROWS: &[(&str, Option<Fault>)] = &[
         (
             "#pragma omp parallel for collapse(2)\nfor (uint64_t i = 0; i < 3; i++)\nfor (uint64_t j = 0; j < 4; j++) { }",
             None,
@@ -349,7 +348,7 @@ fn iterations_have_a_limit(rt: HostRuntime) {
         ),
         (
             "#pragma omp parallel for\nfor (uint64_t i = 0; i < 16777217; i++)\nfor (uint64_t j = 0; j < 4; j++) { }",
-            limit,
+            LIMIT,
         ),
         (
             "#pragma omp parallel for collapse(2)\nfor (uint64_t i = 0; i < 4096; i++)\nfor (uint64_t j = 0; j < 4096; j++) { }",
@@ -357,43 +356,43 @@ fn iterations_have_a_limit(rt: HostRuntime) {
         ),
         (
             "#pragma omp parallel for collapse(2)\nfor (uint64_t i = 0; i < 4097; i++)\nfor (uint64_t j = 0; j < 4096; j++) { }",
-            limit,
+            LIMIT,
         ),
         (
             "#pragma omp parallel for collapse(2)\nfor (uint64_t i = 0; i < 4294967296ull; i++)\nfor (uint64_t j = 0; j < 0; j++) { }",
             None,
         ),
     ];
-    assert_eq!(rt; first_other_nest(rt.alloc(), &rows), None);
+    no_other(&rt, first_other_nest(rt.alloc(), ROWS));
 }
 
 #[test]
 fn nests_are_rectangular(rt: HostRuntime) {
-    let inner = Some(Fault::NotPerfect(at(4, 1)));
-    let rows = [
+    const INNER: Option<Fault> = Some(Fault::NotPerfect(Place { line: 4, column: 1 }));
+    const ROWS: &[(&str, Option<Fault>)] = &[
         (
             "#pragma omp parallel for\nfor (uint64_t i = 0; i < 3; i++)\nfor (uint64_t j = 0; j <= i; j++) { }",
             None,
         ),
         (
             "#pragma omp parallel for collapse(2)\nfor (uint64_t i = 0; i < 3; i++)\nfor (uint64_t j = 0; j <= i; j++) { }",
-            inner,
+            INNER,
         ),
     ];
-    assert_eq!(rt; first_other_nest(rt.alloc(), &rows), None);
+    no_other(&rt, first_other_nest(rt.alloc(), ROWS));
 }
 
 #[test]
 fn nests_are_perfect(rt: HostRuntime) {
-    let imperfect = Some(Fault::NotPerfect(at(3, 1)));
-    let rows = [
+    const IMPERFECT: Option<Fault> = Some(Fault::NotPerfect(Place { line: 3, column: 1 }));
+    const ROWS: &[(&str, Option<Fault>)] = &[
         (
             "#pragma omp parallel for\nfor (uint64_t i = 0; i < 3; i++) { uint64_t y; for (uint64_t j = 0; j < 4; j++) { } }",
             None,
         ),
         (
             "#pragma omp parallel for collapse(2)\nfor (uint64_t i = 0; i < 3; i++) { uint64_t y; for (uint64_t j = 0; j < 4; j++) { } }",
-            imperfect,
+            IMPERFECT,
         ),
         (
             "#pragma omp parallel for\nfor (uint64_t i = 0; i < 3; i++) { }",
@@ -401,26 +400,26 @@ fn nests_are_perfect(rt: HostRuntime) {
         ),
         (
             "#pragma omp parallel for collapse(2)\nfor (uint64_t i = 0; i < 3; i++) { }",
-            imperfect,
+            IMPERFECT,
         ),
     ];
-    assert_eq!(rt; first_other_nest(rt.alloc(), &rows), None);
+    no_other(&rt, first_other_nest(rt.alloc(), ROWS));
 }
 
 #[test]
 fn nests_in_loops_that_never_turn(rt: HostRuntime) {
-    let limit = Some(Fault::Limit(at(4, 1)));
-    let rows = [
+    const LIMIT: Option<Fault> = Some(Fault::Limit(Place { line: 4, column: 1 }));
+    const ROWS: &[(&str, Option<Fault>)] = &[
         (
             "for (uint64_t i = 0; i < 0; i++) {\n#pragma omp parallel for\nfor (uint64_t j = 0; j < 16777217; j++) { } }",
             None,
         ),
         (
             "for (uint64_t i = 0; i < 1; i++) {\n#pragma omp parallel for\nfor (uint64_t j = 0; j < 16777217; j++) { } }",
-            limit,
+            LIMIT,
         ),
     ];
-    assert_eq!(rt; first_other_nest(rt.alloc(), &rows), None);
+    no_other(&rt, first_other_nest(rt.alloc(), ROWS));
 }
 
 /// How many iterations a nest has where the variable `x` round it has this value.
@@ -465,14 +464,14 @@ fn iterations_of(alloc: Global, lines: &str) -> Option<u64> {
 #[test]
 fn nests_have_spaces(rt: HostRuntime) {
     let lines = "for (uint64_t i = 0; i < 3; i++) for (uint64_t j = 0; j < x; j++) { }";
-    assert_eq!(rt; iterations_of(rt.alloc(), lines), Some(15));
+    assert!(rt; iterations_of(rt.alloc(), lines) == Some(15));
 }
 
 #[test]
 fn the_first_fault_is_told(rt: HostRuntime) {
-    let lines =
+    const LINES: &str =
         "#pragma omp parallel for\nfor (uint64_t i = 0; i < 16777217; i++)\nfor (uint64_t j = 0; j <= s; j++) { }";
-    let limit = Some(Fault::Limit(at(3, 1)));
-    let rows = [(lines, limit)];
-    assert_eq!(rt; first_other_nest(rt.alloc(), &rows), None);
+    const LIMIT: Option<Fault> = Some(Fault::Limit(Place { line: 3, column: 1 }));
+    const ROWS: &[(&str, Option<Fault>)] = &[(LINES, LIMIT)];
+    no_other(&rt, first_other_nest(rt.alloc(), ROWS));
 }

@@ -4,6 +4,7 @@
 use cparse::parse;
 use ktree::{Item, Kernel, NamePlaces, Place, Stmt, VarId};
 use std::alloc::{AllocError, Global};
+use std::process::Abort;
 
 /// The array `A`.
 pub(crate) const A: VarId = VarId(0);
@@ -36,7 +37,10 @@ pub(crate) fn text(alloc: Global, lines: &str) -> Result<String, AllocError> {
 
 /// The kernel of a text, or the number of its refusal.
 pub(crate) fn parsed(alloc: Global, text: &str) -> Result<Kernel, u8> {
-    parse(alloc, text.as_bytes()).map_err(|refusal| refusal.number())
+    match parse(alloc, text.as_bytes()) {
+        Ok(kernel) => Ok(kernel),
+        Err(refusal) => Err(refusal.number()),
+    }
 }
 
 /// That of the text with these lines.
@@ -47,16 +51,11 @@ pub(crate) fn kernel(alloc: Global, lines: &str) -> Result<Kernel, u8> {
     }
 }
 
-/// The same with one more statement behind these lines.
-pub(crate) fn kernel_with(alloc: Global, lines: &str, last: Stmt) -> Result<Kernel, u8> {
-    let Ok(last) = Box::new(alloc, last) else {
-        return Err(OUT_OF_MEMORY);
-    };
-    let mut kernel = kernel(alloc, lines)?;
-    match kernel.body.push(Item::Statement(last)) {
-        Ok(()) => Ok(kernel),
-        Err(_error) => Err(OUT_OF_MEMORY),
-    }
+/// Puts one more statement behind those of a kernel.
+pub(crate) fn add_last(alloc: Global, kernel: &mut Kernel, last: Stmt) -> Result<(), AllocError> {
+    let last = Box::new(alloc, last)?;
+    kernel.body.push(Item::Statement(last))?;
+    Ok(())
 }
 
 /// A name at a place, without subscripts.
@@ -83,4 +82,9 @@ pub(crate) fn nest_of(alloc: Global, count: u32) -> Result<String, AllocError> {
     }
     lines.push_str("{ }")?;
     Ok(lines)
+}
+
+/// Ends a test where there is a row of which something else is told, and names it.
+pub(crate) fn no_other(rt: &impl Abort, other: Option<&str>) {
+    assert_eq!(rt; other, None);
 }

@@ -2,6 +2,8 @@
 #![tactic(auto)]
 
 #[cfg(test)]
+mod codes;
+#[cfg(test)]
 mod lower_block_rows;
 #[cfg(test)]
 mod lower_code_rows;
@@ -9,3 +11,5 @@ mod lower_code_rows;
 mod overlay_pages_rows;
 #[cfg(test)]
 mod overlay_rows;
+#[cfg(test)]
+mod stores;

@@ -1,11 +1,21 @@
 //! Kernels of the arrays `A` of 8 and `B` of 2 times 3 elements and the scalar `s`, run as blocks, and what they print, as C prints it.
 
+use crate::codes::code_of;
 use cparse::parse;
 use ktree::Kernel;
-use lower_block::{Cells, Compiled, FlatCells, compile, run};
-use lower_code::lower_items;
+use lower_block::{Cells, Compiled, FlatCells, run};
 use seqrun_io::Memory;
 use std::alloc::Global;
+
+/// Whether a block over cells prints this.
+fn prints_over(alloc: Global, compiled: &Compiled, cells: &mut FlatCells, expected: &str) -> bool {
+    let Ok(mut registers) = Vec::from_elem(alloc, 0u64, compiled.registers as usize) else {
+        return false;
+    };
+    let mut sink = Memory::new(alloc);
+    run(compiled, registers.as_mut_slice(), cells, &mut sink).is_ok()
+        && sink.bytes() == expected.as_bytes()
+}
 
 /// Whether a block prints this from cells that are 0.
 fn block_prints(alloc: Global, compiled: &Compiled, expected: &str) -> bool {
@@ -13,35 +23,32 @@ fn block_prints(alloc: Global, compiled: &Compiled, expected: &str) -> bool {
         return false;
     };
     let mut cells = FlatCells { numbers };
-    let Ok(mut registers) = Vec::from_elem(alloc, 0u64, compiled.registers as usize) else {
-        return false;
-    };
-    let mut sink = Memory::new(alloc);
-    let ran = run(compiled, registers.as_mut_slice(), &mut cells, &mut sink);
-    ran.is_ok() && sink.bytes() == expected.as_bytes()
+    prints_over(alloc, compiled, &mut cells, expected)
 }
 
 /// Whether a kernel prints this.
 fn kernel_prints(alloc: Global, kernel: &Kernel, expected: &str) -> bool {
-    let Ok(lowered) = lower_items(alloc, &kernel.variables, &kernel.body) else {
-        return false;
-    };
-    match compile(alloc, &lowered.code, lowered.registers) {
-        Ok(compiled) => block_prints(alloc, &compiled, expected),
+    match code_of(alloc, kernel) {
+        Some(compiled) => block_prints(alloc, &compiled, expected),
+        None => false,
+    }
+}
+
+/// Whether the kernel of a text prints this.
+fn text_prints(alloc: Global, text: &[u8], expected: &str) -> bool {
+    match parse(alloc, text) {
+        Ok(kernel) => kernel_prints(alloc, &kernel, expected),
         Err(_refusal) => false,
     }
 }
 
 /// Whether the kernel with these lines prints this.
 fn prints(alloc: Global, lines: &str, expected: &str) -> bool {
-    let Ok(text) = format!(in alloc;
+    match format!(in alloc;
         "#include <inttypes.h>\n#include <stdint.h>\n#include <stdio.h>\nuint64_t A[8]; uint64_t B[2][3]; uint64_t s; void kernel(void) {{ uint64_t x;\n{lines}\n}}\n"
-    ) else {
-        return false;
-    };
-    match parse(alloc, text.as_bytes()) {
-        Ok(kernel) => kernel_prints(alloc, &kernel, expected),
-        Err(_refusal) => false,
+    ) {
+        Ok(text) => text_prints(alloc, text.as_bytes(), expected),
+        Err(_error) => false,
     }
 }
 
@@ -59,7 +66,7 @@ fn first_wrong(alloc: Global, rows: &[(&str, &str)]) -> u64 {
 
 #[test]
 fn blocks_print_what_c_prints(rt: HostRuntime) {
-    let rows = [
+    const ROWS: &[(&str, &str)] = &[
         (
             "x = 7; x -= 9; printf(\"%\" PRIu64 \"\\n\", x);",
             "18446744073709551614\n",
@@ -141,12 +148,12 @@ fn blocks_print_what_c_prints(rt: HostRuntime) {
             "27",
         ),
     ];
-    assert_eq!(rt; first_wrong(rt.alloc(), &rows), 0);
+    assert_eq!(rt; first_wrong(rt.alloc(), ROWS), 0);
 }
 
 #[test]
 fn instructions_in_place_of_two_print_what_c_prints(rt: HostRuntime) {
-    let rows = [
+    const ROWS: &[(&str, &str)] = &[
         (
             "x = 1000; for (uint64_t i = 0; i < 8; i++) A[i] = i * i + 7; for (uint64_t i = 0; i < 8; i++) { x = x + A[i]; x = x * A[i]; x = x ^ A[i]; x = x - A[i]; s = s + (x & A[i]); } printf(\"%\" PRIu64 \" %\" PRIu64 \"\", x, s);",
             "17603740202424 156",
@@ -176,5 +183,5 @@ fn instructions_in_place_of_two_print_what_c_prints(rt: HostRuntime) {
             "95 32",
         ),
     ];
-    assert_eq!(rt; first_wrong(rt.alloc(), &rows), 0);
+    assert_eq!(rt; first_wrong(rt.alloc(), ROWS), 0);
 }

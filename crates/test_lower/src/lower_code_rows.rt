@@ -1,58 +1,47 @@
 //! Kernels of the arrays `A` of 8 and `B` of 2 times 3 elements and the scalar `s`, and what they print, as C prints it.
 
-ghost use Rattle.std.specs.Prelude.{◌≡◌, length, IfOk};
-ghost use Rattle.semantics.specs.Meaning.Places.{size};
-
+use crate::stores::two_arrays_and_a_scalar;
 use cparse::parse;
 use ktree::Kernel;
 use lower_code::*;
 use seqrun_io::Memory;
-use std::alloc::{AllocError, Global};
-use store::{Shape, Store};
+use std::alloc::Global;
 
-/// The dimensions of a variable of so many elements.
-fn shape(alloc: Global, lengths: &[u64], count: u64) -> Result<Shape, AllocError>
-    requires { count ≡ size lengths.now }
-{
-    let lengths = Vec::from_slice(alloc, lengths)?;
-    Ok(Shape { lengths, count })
-}
-
-/// The store of these variables, each element 0.
-fn empty(alloc: Global) -> Result<Store, AllocError>
-    ensures { IfOk result (λ s. length s ≡ 3) }
-{
-    let mut shapes = Vec::new(alloc);
-    shapes.push(shape(alloc, &[8], 8)?)?;
-    shapes.push(shape(alloc, &[2, 3], 6)?)?;
-    shapes.push(shape(alloc, &[], 1)?)?;
-    Store::zeros(alloc, shapes)
+/// Whether code prints this.
+fn code_prints(alloc: Global, lowered: &Lowered, expected: &str) -> bool {
+    let Ok(mut store) = two_arrays_and_a_scalar(alloc) else {
+        return false;
+    };
+    let mut sink = Memory::new(alloc);
+    run(alloc, lowered, &mut store, &mut sink).is_ok() && sink.bytes() == expected.as_bytes()
 }
 
 /// Whether a kernel prints this.
 fn kernel_prints(alloc: Global, kernel: &Kernel, expected: &str) -> bool {
-    let Ok(mut store) = empty(alloc) else {
-        return false;
-    };
-    let Ok(lowered) = lower_items(alloc, &kernel.variables, &kernel.body) else {
-        return false;
-    };
-    let mut sink = Memory::new(alloc);
-    let behind = are_behind(kernel.variables.len() as u64, &kernel.body);
-    let ran = run(alloc, &lowered, &mut store, &mut sink);
-    behind && ran.is_ok() && sink.bytes() == expected.as_bytes()
+    match lower_items(alloc, &kernel.variables, &kernel.body) {
+        Ok(lowered) => {
+            are_behind(kernel.variables.len() as u64, &kernel.body)
+                && code_prints(alloc, &lowered, expected)
+        }
+        Err(_error) => false,
+    }
+}
+
+/// Whether the kernel of a text prints this.
+fn text_prints(alloc: Global, text: &[u8], expected: &str) -> bool {
+    match parse(alloc, text) {
+        Ok(kernel) => kernel_prints(alloc, &kernel, expected),
+        Err(_refusal) => false,
+    }
 }
 
 /// Whether the kernel with these lines prints this.
 fn prints(alloc: Global, lines: &str, expected: &str) -> bool {
-    let Ok(text) = format!(in alloc;
+    match format!(in alloc;
         "#include <inttypes.h>\n#include <stdint.h>\n#include <stdio.h>\nuint64_t A[8]; uint64_t B[2][3]; uint64_t s; void kernel(void) {{ uint64_t x;\n{lines}\n}}\n"
-    ) else {
-        return false;
-    };
-    match parse(alloc, text.as_bytes()) {
-        Ok(kernel) => kernel_prints(alloc, &kernel, expected),
-        Err(_refusal) => false,
+    ) {
+        Ok(text) => text_prints(alloc, text.as_bytes(), expected),
+        Err(_error) => false,
     }
 }
 
@@ -70,7 +59,7 @@ fn first_wrong(alloc: Global, rows: &[(&str, &str)]) -> u64 {
 
 #[test]
 fn kernels_print_what_c_prints(rt: HostRuntime) {
-    let rows = [
+    const ROWS: &[(&str, &str)] = &[
         (
             "x = 7; x -= 9; printf(\"%\" PRIu64 \"\\n\", x);",
             "18446744073709551614\n",
@@ -116,5 +105,5 @@ fn kernels_print_what_c_prints(rt: HostRuntime) {
             "13 14",
         ),
     ];
-    assert_eq!(rt; first_wrong(rt.alloc(), &rows), 0);
+    assert_eq!(rt; first_wrong(rt.alloc(), ROWS), 0);
 }

@@ -1,51 +1,30 @@
 //! Chunks over the array `A` of 200 elements and the scalar `s`: what they see, and what is left once their changes are applied.
 
-ghost use Rattle.std.specs.Prelude.{◌≡◌, length};
-ghost use Rattle.store.specs.Flat.{values_of};
-
+use crate::codes::code_of;
+use crate::stores::long_array_and_a_scalar;
 use cparse::parse;
-use ktree::Kernel;
-use lower_block::{Cells, Compiled, FlatCells, compile, run};
-use lower_code::lower_items;
+use lower_block::{Cells, Compiled, FlatCells, run};
 use overlay_pages::{Change, Changes, Chunk, Own};
 use seqrun_io::Memory;
-use std::alloc::{AllocError, Global};
-use store::{Shape, Store};
+use std::alloc::Global;
+use store::Store;
 
-/// The code of a kernel.
-fn code_of(alloc: Global, kernel: &Kernel) -> Option<Compiled> {
-    let Ok(lowered) = lower_items(alloc, &kernel.variables, &kernel.body) else {
-        return None;
-    };
-    compile(alloc, &lowered.code, lowered.registers).ok()
-}
-
-/// The code of the kernel with these lines.
-fn code(alloc: Global, lines: &str) -> Option<Compiled> {
-    let Ok(text) = format!(in alloc;
-        "#include <stdint.h>\nuint64_t A[200]; uint64_t s; void kernel(void) {{\n{lines}\n}}\n"
-    ) else {
-        return None;
-    };
-    match parse(alloc, text.as_bytes()) {
+/// The code of the kernel of a text.
+fn code_in(alloc: Global, text: &[u8]) -> Option<Compiled> {
+    match parse(alloc, text) {
         Ok(kernel) => code_of(alloc, &kernel),
         Err(_refusal) => None,
     }
 }
 
-/// Both variables, each element 0.
-fn variables(alloc: Global) -> Result<Store, AllocError> {
-    let lengths = Vec::from_slice(alloc, &[200u64])?;
-    let none = Vec::from_slice(alloc, &[])?;
-    let array = Shape {
-        lengths,
-        count: 200,
-    };
-    let scalar = Shape {
-        lengths: none,
-        count: 1,
-    };
-    Store::zeros(alloc, Vec::from_array(alloc, [array, scalar])?)
+/// The code of the kernel with these lines.
+fn code(alloc: Global, lines: &str) -> Option<Compiled> {
+    match format!(in alloc;
+        "#include <stdint.h>\nuint64_t A[200]; uint64_t s; void kernel(void) {{\n{lines}\n}}\n"
+    ) {
+        Ok(text) => code_in(alloc, text.as_bytes()),
+        Err(_error) => None,
+    }
 }
 
 /// Whether code runs over cells.
@@ -98,20 +77,45 @@ fn changes(
     }
 }
 
+/// What a worker's first chunk changes, and its second.
+type Both = (Changes, Changes);
+
 /// The changes of two chunks of one worker, each of which runs this code.
-fn twice(
-    alloc: Global,
-    compiled: &Compiled,
-    store: &Store,
-    seen: u64,
-) -> Option<(Changes, Changes)> {
+fn both(alloc: Global, compiled: &Compiled, chunk: &mut Chunk<'_>, seen: u64) -> Option<Both> {
+    let first = changes(alloc, compiled, chunk, seen)?;
+    let second = changes(alloc, compiled, chunk, seen)?;
+    Some((first, second))
+}
+
+/// The same over a store.
+fn twice(alloc: Global, compiled: &Compiled, store: &Store, seen: u64) -> Option<Both> {
     let Ok(own) = Own::new(alloc, store) else {
         return None;
     };
     let mut chunk = Chunk::over(store, own);
-    let first = changes(alloc, compiled, &mut chunk, seen)?;
-    let second = changes(alloc, compiled, &mut chunk, seen)?;
-    Some((first, second))
+    both(alloc, compiled, &mut chunk, seen)
+}
+
+/// Whether two chunks change so many places each, and leave cells of this digest.
+fn are_left(both: &Both, store: &mut Store, seen: u64, count: usize) -> bool {
+    let (first, second) = both;
+    first.apply(store);
+    second.apply(store);
+    digest(store) == seen && first.writes().len() == count && second.writes().len() == count
+}
+
+/// Whether chunks of this code over a store see cells of this digest and leave them, and how many places they change.
+fn are_right_over(
+    alloc: Global,
+    compiled: &Compiled,
+    store: &mut Store,
+    seen: u64,
+    count: usize,
+) -> bool {
+    match twice(alloc, compiled, store, seen) {
+        Some(both) => are_left(&both, store, seen, count),
+        None => false,
+    }
 }
 
 /// Whether chunks of this code see what code sees that runs over plain cells, and leave that, and how many places they change.
@@ -119,15 +123,10 @@ fn are_chunks_right(alloc: Global, compiled: &Compiled, count: usize) -> bool {
     let Some(seen) = left(alloc, compiled) else {
         return false;
     };
-    let Ok(mut store) = variables(alloc) else {
-        return false;
-    };
-    let Some((first, second)) = twice(alloc, compiled, &store, seen) else {
-        return false;
-    };
-    first.apply(&mut store);
-    second.apply(&mut store);
-    digest(&store) == seen && first.writes().len() == count && second.writes().len() == count
+    match long_array_and_a_scalar(alloc) {
+        Ok(mut store) => are_right_over(alloc, compiled, &mut store, seen, count),
+        Err(_error) => false,
+    }
 }
 
 /// Whether chunks of these lines are right.
@@ -138,43 +137,40 @@ fn is_right(alloc: Global, lines: &str, count: usize) -> bool {
     }
 }
 
-#[test]
-fn chunks_leave_what_plain_cells_hold(rt: HostRuntime) {
-    let alloc = rt.alloc();
-    assert!(rt; is_right(alloc, "if (s > 0) s = 1;", 0));
-    assert!(rt; is_right(alloc, "A[3] = 0; A[4] = 2; A[4] = 0; s = 1;", 1));
-    assert!(rt; is_right(alloc, "A[7] = 5; A[7] = A[7] * 3; s = A[7] + A[8];", 2));
-    assert!(rt;
-        is_right(
-            alloc,
-            "A[63] = 1; A[64] = A[63] + 1; A[127] = 3; A[128] = A[127] + A[64]; A[199] = 9; s = 0;",
-            5
-        )
-    );
-    assert!(rt;
-        is_right(
-            alloc,
-            "for (uint64_t i = 0; i < 200; i++) A[i] = i * i + 1;",
-            200
-        )
-    );
-    assert!(rt;
-        is_right(
-            alloc,
-            "for (uint64_t i = 0; i < 50; i++) A[199 - 3 * i] += A[3 * i] + i;",
-            49
-        )
-    );
-    assert!(rt;
-        is_right(
-            alloc,
-            "for (uint64_t i = 1; i < 200; i++) { A[i] = A[i - 1] + i; if (i % 7 == 3) s += A[i]; }",
-            200
-        )
-    );
+/// The first lines of a table, each with how many places a chunk of them changes, whose chunks are not right.
+fn first_other<'r>(alloc: Global, rows: &[(&'r str, usize)]) -> Option<&'r str> {
+    for (lines, count) in rows {
+        if !is_right(alloc, *lines, *count) {
+            return Some(*lines);
+        }
+    }
+    None
 }
 
-/// The changes of a chunk over eight cells in which this code runs.
+#[test]
+fn chunks_leave_what_plain_cells_hold(rt: HostRuntime) {
+    const ROWS: &[(&str, usize)] = &[
+        ("if (s > 0) s = 1;", 0),
+        ("A[3] = 0; A[4] = 2; A[4] = 0; s = 1;", 1),
+        ("A[7] = 5; A[7] = A[7] * 3; s = A[7] + A[8];", 2),
+        (
+            "A[63] = 1; A[64] = A[63] + 1; A[127] = 3; A[128] = A[127] + A[64]; A[199] = 9; s = 0;",
+            5,
+        ),
+        ("for (uint64_t i = 0; i < 200; i++) A[i] = i * i + 1;", 200),
+        (
+            "for (uint64_t i = 0; i < 50; i++) A[199 - 3 * i] += A[3 * i] + i;",
+            49,
+        ),
+        (
+            "for (uint64_t i = 1; i < 200; i++) { A[i] = A[i - 1] + i; if (i % 7 == 3) s += A[i]; }",
+            200,
+        ),
+    ];
+    assert_eq!(rt; first_other(rt.alloc(), ROWS), None);
+}
+
+/// The last change of a chunk over a store in which this code runs.
 fn last_change(alloc: Global, compiled: &Compiled, store: &Store) -> Option<Change> {
     let Ok(own) = Own::new(alloc, store) else {
         return None;
@@ -187,15 +183,20 @@ fn last_change(alloc: Global, compiled: &Compiled, store: &Store) -> Option<Chan
     changes.writes().last().copied()
 }
 
-/// Whether a chunk of these lines changes this place alone, to this value.
+/// The last change of a chunk in which this code runs.
+fn last_change_of(alloc: Global, compiled: &Compiled) -> Option<Change> {
+    match long_array_and_a_scalar(alloc) {
+        Ok(store) => last_change(alloc, compiled, &store),
+        Err(_error) => None,
+    }
+}
+
+/// Whether the last change of a chunk of these lines is that of this place to this value.
 fn changes_to(alloc: Global, lines: &str, place: u64, value: u64) -> bool {
-    let Some(compiled) = code(alloc, lines) else {
-        return false;
-    };
-    let Ok(store) = variables(alloc) else {
-        return false;
-    };
-    last_change(alloc, &compiled, &store) == Some(Change { place, value })
+    match code(alloc, lines) {
+        Some(compiled) => last_change_of(alloc, &compiled) == Some(Change { place, value }),
+        None => false,
+    }
 }
 
 #[test]

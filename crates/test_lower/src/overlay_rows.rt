@@ -1,17 +1,19 @@
 //! Chunks of nests over the arrays `A` of 8 and `B` of 2 times 3 elements and the scalar `s`, and what they leave; the values are C's, or counted by hand.
 
+use crate::stores::two_arrays_and_a_scalar;
 use affine::VarBox;
 use cparse::parse;
 use ktree::{ChunkNo, Item, Kernel, Stmt, VarId};
 use lower::LoweredLoop;
 use lower_block::{Compiled, compile};
-use lower_code::{layout_of, mark_among, statement};
+use lower_code::{Code, layout_of, mark_among, statement};
 use nest_loop::{Canonical, canonical_of};
 use nest_space::Space;
 use overlay::{Work, Worker};
 use overlay_pages::Changes;
-use std::alloc::{AllocError, Global};
-use store::{Shape, Store};
+use std::alloc::Global;
+use std::process::Abort;
+use store::Store;
 
 /// How many loops lie round a nest, each at this turn, how many loops it has, and which of its iterations are run, in chunks of so many.
 #[derive(Clone, Copy)]
@@ -25,7 +27,7 @@ struct Part {
 }
 
 /// Iterations of one loop, with none round it.
-const fn one_loop(first: u64, end: u64, cut: u64) -> Part {
+fn one_loop(first: u64, end: u64, cut: u64) -> Part {
     Part {
         around: 0,
         turn: 0,
@@ -76,11 +78,38 @@ fn last_statement(items: &[Item]) -> Option<&Stmt> {
     }
 }
 
+/// The registers' code of a statement of a kernel.
+fn lowered_statement(alloc: Global, kernel: &Kernel, stmt: &Stmt) -> Option<Code> {
+    let layout = layout_of(alloc, &kernel.variables).ok()?;
+    statement(alloc, stmt, &layout).ok()
+}
+
 /// The code of a statement of a kernel.
 fn code_of(alloc: Global, kernel: &Kernel, stmt: &Stmt) -> Option<Compiled> {
-    let layout = layout_of(alloc, &kernel.variables).ok()?;
-    let code = statement(alloc, stmt, &layout).ok()?;
+    let code = lowered_statement(alloc, kernel, stmt)?;
     compile(alloc, &code, mark_among(&kernel.body)).ok()
+}
+
+/// Puts the loops at a kernel's end down, and answers the code of the body.
+fn body_of(alloc: Global, kernel: &Kernel, part: Part, nest: &mut Nest) -> Option<Compiled> {
+    let stmt = last_statement(&kernel.body)?;
+    let inner = go_down(alloc, stmt, part.around, part.depth, nest)?;
+    code_of(alloc, kernel, inner)
+}
+
+/// A nest with its body.
+fn loop_of(nest: Nest, body: Compiled) -> LoweredLoop {
+    let Nest {
+        bounds: _,
+        around,
+        loops,
+    } = nest;
+    LoweredLoop {
+        around,
+        loops,
+        body,
+        schedule: None,
+    }
 }
 
 /// The nest at a kernel's end.
@@ -90,50 +119,28 @@ fn lowered_of(alloc: Global, kernel: &Kernel, part: Part) -> Option<LoweredLoop>
         around: Vec::new(alloc),
         loops: Vec::new(alloc),
     };
-    let stmt = last_statement(&kernel.body)?;
-    let inner = go_down(alloc, stmt, part.around, part.depth, &mut nest)?;
-    let body = code_of(alloc, kernel, inner)?;
-    let Nest {
-        bounds: _,
-        around,
-        loops,
-    } = nest;
-    Some(LoweredLoop {
-        around,
-        loops,
-        body,
-        schedule: None,
-    })
+    match body_of(alloc, kernel, part, &mut nest) {
+        Some(body) => Some(loop_of(nest, body)),
+        None => None,
+    }
 }
 
-/// The nest at the end of the kernel with these lines.
-fn lowered(alloc: Global, lines: &str, part: Part) -> Option<LoweredLoop> {
-    let Ok(text) = format!(in alloc;
-        "#include <stdint.h>\nuint64_t A[8]; uint64_t B[2][3]; uint64_t s; void kernel(void) {{\n{lines}\n}}\n"
-    ) else {
-        return None;
-    };
-    match parse(alloc, text.as_bytes()) {
+/// The nest at the end of the kernel of a text.
+fn lowered_in(alloc: Global, text: &[u8], part: Part) -> Option<LoweredLoop> {
+    match parse(alloc, text) {
         Ok(kernel) => lowered_of(alloc, &kernel, part),
         Err(_refusal) => None,
     }
 }
 
-/// The variables, each element 0.
-fn variables(alloc: Global) -> Result<Store, AllocError> {
-    let array = Shape {
-        lengths: Vec::from_slice(alloc, &[8u64])?,
-        count: 8,
-    };
-    let table = Shape {
-        lengths: Vec::from_slice(alloc, &[2u64, 3])?,
-        count: 6,
-    };
-    let scalar = Shape {
-        lengths: Vec::new(alloc),
-        count: 1,
-    };
-    Store::zeros(alloc, Vec::from_array(alloc, [array, table, scalar])?)
+/// The nest at the end of the kernel with these lines.
+fn lowered(alloc: Global, lines: &str, part: Part) -> Option<LoweredLoop> {
+    match format!(in alloc;
+        "#include <stdint.h>\nuint64_t A[8]; uint64_t B[2][3]; uint64_t s; void kernel(void) {{\n{lines}\n}}\n"
+    ) {
+        Ok(text) => lowered_in(alloc, text.as_bytes(), part),
+        Err(_error) => None,
+    }
 }
 
 /// What a worker's chunk changes, if the space has its iterations.
@@ -156,15 +163,27 @@ fn chunk(
         .ok()
 }
 
+/// Puts what a worker's chunk changes behind what others change.
+fn add_chunk(
+    alloc: Global,
+    lowered: &LoweredLoop,
+    registers: &[u64],
+    worker: &mut Worker<'_>,
+    work: Work,
+    all: &mut Vec<Changes>,
+) -> Option<()> {
+    let changes = chunk(alloc, lowered, registers, worker, work)?;
+    all.push(changes).ok()
+}
+
 /// What the chunks change, all run by one worker.
-fn chunks(
+fn chunks_by(
     alloc: Global,
     lowered: &LoweredLoop,
     registers: &[u64],
     part: Part,
-    store: &Store,
+    worker: &mut Worker<'_>,
 ) -> Option<Vec<Changes>> {
-    let mut worker = Worker::new(alloc, store).ok()?;
     let mut all = Vec::new(alloc);
     let mut first = part.first;
     for number in 0..8u64 {
@@ -174,155 +193,177 @@ fn chunks(
             first,
             count,
         };
-        let changes = chunk(alloc, lowered, registers, &mut worker, work)?;
-        all.push(changes).ok()?;
+        add_chunk(alloc, lowered, registers, worker, work, &mut all)?;
         first = first.saturating_add(count);
     }
     Some(all)
 }
 
-/// Whether these chunks leave these cells.
-fn leaves(alloc: Global, lowered: &LoweredLoop, part: Part, expected: &[u64]) -> bool {
-    let Ok(mut store) = variables(alloc) else {
-        return false;
-    };
-    let Ok(registers) = Vec::from_elem(alloc, part.turn, 8) else {
-        return false;
-    };
-    let Some(all) = chunks(alloc, lowered, registers.as_slice(), part, &store) else {
-        return false;
-    };
-    for changes in &all {
-        changes.apply(&mut store);
-    }
-    store.cells() == expected
+/// The same by a worker over a store.
+fn chunks_over(
+    alloc: Global,
+    lowered: &LoweredLoop,
+    registers: &[u64],
+    part: Part,
+    store: &Store,
+) -> Option<Vec<Changes>> {
+    let mut worker = Worker::new(alloc, store).ok()?;
+    chunks_by(alloc, lowered, registers, part, &mut worker)
 }
 
-/// Whether these chunks of the kernel with these lines leave this in `A`, in `B` and in `s`.
-fn is_right(alloc: Global, lines: &str, part: Part, expected: [u64; 15]) -> bool {
-    match lowered(alloc, lines, part) {
-        Some(lowered) => leaves(alloc, &lowered, part, &expected),
+/// The same where the loops round the nest are at their turns.
+fn chunks(alloc: Global, lowered: &LoweredLoop, part: Part, store: &Store) -> Option<Vec<Changes>> {
+    match Vec::from_elem(alloc, part.turn, 8) {
+        Ok(registers) => chunks_over(alloc, lowered, registers.as_slice(), part, store),
+        Err(_error) => None,
+    }
+}
+
+/// Makes changes, one after another.
+fn apply(all: &[Changes], store: &mut Store) {
+    for changes in all {
+        changes.apply(store);
+    }
+}
+
+/// Whether these chunks leave these cells of a store.
+fn leaves_of(
+    alloc: Global,
+    lowered: &LoweredLoop,
+    part: Part,
+    store: &mut Store,
+    expected: &[u64],
+) -> bool {
+    match chunks(alloc, lowered, part, store) {
+        Some(all) => {
+            apply(all.as_slice(), store);
+            store.cells() == expected
+        }
         None => false,
     }
 }
 
+/// Whether these chunks leave these cells.
+fn leaves(alloc: Global, lowered: &LoweredLoop, part: Part, expected: &[u64]) -> bool {
+    match two_arrays_and_a_scalar(alloc) {
+        Ok(mut store) => leaves_of(alloc, lowered, part, &mut store, expected),
+        Err(_error) => false,
+    }
+}
+
+/// Whether these chunks of the kernel with these lines leave this in `A`, in `B` and in `s`.
+fn is_right(alloc: Global, lines: &str, part: Part, expected: &[u64]) -> bool {
+    match lowered(alloc, lines, part) {
+        Some(lowered) => leaves(alloc, &lowered, part, expected),
+        None => false,
+    }
+}
+
+/// The lines of one loop, which of its iterations are run, the first and the end, in chunks of so many, and what these leave.
+type Row = (&'static str, (u64, u64, u64), [u64; 15]);
+
+/// The number of the first row, from 0, whose chunks leave something else.
+fn first_other(alloc: Global, rows: &[Row]) -> Option<usize> {
+    for (number, (lines, part, expected)) in rows.iter().enumerate() {
+        let (first, end, cut) = *part;
+        if !is_right(alloc, *lines, one_loop(first, end, cut), expected) {
+            return Some(number);
+        }
+    }
+    None
+}
+
+/// Ends a test where there is a row whose chunks leave something else, and gives its number.
+fn no_other(rt: &impl Abort, other: Option<usize>) {
+    assert_eq!(rt; other, None);
+}
+
+const SUMS: &str =
+    "for (uint64_t i = 0; i < 8; i++) { uint64_t t = i; for (uint64_t k = 0; k < i; k++) t += k; A[i] = t; }";
+
+const SQUARES: &str = "for (uint64_t i = 7; i >= 2; i -= 2) A[i] = i * i;";
+
 #[test]
 fn chunks_run_bodies_with_loops_and_locals(rt: HostRuntime) {
-    let alloc = rt.alloc();
-    let sums =
-        "for (uint64_t i = 0; i < 8; i++) { uint64_t t = i; for (uint64_t k = 0; k < i; k++) t += k; A[i] = t; }";
-    assert!(rt;
-        is_right(
-            alloc,
-            sums,
-            one_loop(0, 8, 3),
-            [0, 1, 3, 6, 10, 15, 21, 28, 0, 0, 0, 0, 0, 0, 0]
-        )
-    );
-    assert!(rt;
-        is_right(
-            alloc,
-            sums,
-            one_loop(3, 5, 1),
-            [0, 0, 0, 6, 10, 0, 0, 0, 0, 0, 0, 0, 0, 0, 0]
-        )
-    );
-    let squares = "for (uint64_t i = 7; i >= 2; i -= 2) A[i] = i * i;";
-    assert!(rt;
-        is_right(
-            alloc,
-            squares,
-            one_loop(0, 3, 2),
-            [0, 0, 0, 9, 0, 25, 0, 49, 0, 0, 0, 0, 0, 0, 0]
-        )
-    );
-    assert!(rt;
-        is_right(
-            alloc,
-            squares,
-            one_loop(1, 2, 1),
-            [0, 0, 0, 0, 0, 25, 0, 0, 0, 0, 0, 0, 0, 0, 0]
-        )
-    );
+    const ROWS: &[Row] = &[
+        (
+            SUMS,
+            (0, 8, 3),
+            [0, 1, 3, 6, 10, 15, 21, 28, 0, 0, 0, 0, 0, 0, 0],
+        ),
+        (
+            SUMS,
+            (3, 5, 1),
+            [0, 0, 0, 6, 10, 0, 0, 0, 0, 0, 0, 0, 0, 0, 0],
+        ),
+        (
+            SQUARES,
+            (0, 3, 2),
+            [0, 0, 0, 9, 0, 25, 0, 49, 0, 0, 0, 0, 0, 0, 0],
+        ),
+        (
+            SQUARES,
+            (1, 2, 1),
+            [0, 0, 0, 0, 0, 25, 0, 0, 0, 0, 0, 0, 0, 0, 0],
+        ),
+    ];
+    no_other(&rt, first_other(rt.alloc(), ROWS));
 }
+
+const TWICE: &str = "for (uint64_t i = 0; i < 8; i++) { A[i] = i; A[i] = A[i] + 1; }";
+
+const COUNT: &str = "for (uint64_t i = 0; i < 6; i++) s = s + 1;";
+
+const CHAIN: &str = "for (uint64_t i = 1; i < 8; i++) A[i] = A[i - 1] + 1;";
 
 #[test]
 fn chunks_see_their_own_writes_and_no_others(rt: HostRuntime) {
-    let alloc = rt.alloc();
-    let twice = "for (uint64_t i = 0; i < 8; i++) { A[i] = i; A[i] = A[i] + 1; }";
-    assert!(rt;
-        is_right(
-            alloc,
-            twice,
-            one_loop(0, 8, 4),
-            [1, 2, 3, 4, 5, 6, 7, 8, 0, 0, 0, 0, 0, 0, 0]
-        )
-    );
-    let count = "for (uint64_t i = 0; i < 6; i++) s = s + 1;";
-    assert!(rt;
-        is_right(
-            alloc,
-            count,
-            one_loop(0, 6, 6),
-            [0, 0, 0, 0, 0, 0, 0, 0, 0, 0, 0, 0, 0, 0, 6]
-        )
-    );
-    assert!(rt;
-        is_right(
-            alloc,
-            count,
-            one_loop(0, 6, 3),
-            [0, 0, 0, 0, 0, 0, 0, 0, 0, 0, 0, 0, 0, 0, 3]
-        )
-    );
-    let chain = "for (uint64_t i = 1; i < 8; i++) A[i] = A[i - 1] + 1;";
-    assert!(rt;
-        is_right(
-            alloc,
-            chain,
-            one_loop(0, 7, 3),
-            [0, 1, 2, 3, 1, 2, 3, 1, 0, 0, 0, 0, 0, 0, 0]
-        )
-    );
+    const ROWS: &[Row] = &[
+        (
+            TWICE,
+            (0, 8, 4),
+            [1, 2, 3, 4, 5, 6, 7, 8, 0, 0, 0, 0, 0, 0, 0],
+        ),
+        (
+            COUNT,
+            (0, 6, 6),
+            [0, 0, 0, 0, 0, 0, 0, 0, 0, 0, 0, 0, 0, 0, 6],
+        ),
+        (
+            COUNT,
+            (0, 6, 3),
+            [0, 0, 0, 0, 0, 0, 0, 0, 0, 0, 0, 0, 0, 0, 3],
+        ),
+        (
+            CHAIN,
+            (0, 7, 3),
+            [0, 1, 2, 3, 1, 2, 3, 1, 0, 0, 0, 0, 0, 0, 0],
+        ),
+    ];
+    no_other(&rt, first_other(rt.alloc(), ROWS));
 }
 
-#[test]
-fn chunks_run_nests(rt: HostRuntime) {
-    let alloc = rt.alloc();
-    let table =
-        "for (uint64_t i = 0; i < 2; i++) for (uint64_t j = 0; j < 3; j++) B[i][j] = 10 * i + j + 1;";
+const TABLE: &str =
+    "for (uint64_t i = 0; i < 2; i++) for (uint64_t j = 0; j < 3; j++) B[i][j] = 10 * i + j + 1;";
+
+const INNER: &str =
+    "for (uint64_t j = 0; j < 8; j++) for (uint64_t i = 0; i < j; i++) A[i] = i + j;";
+
+/// Whether iterations of two loops leave this in `B`, in chunks of so many.
+fn is_table(alloc: Global, first: u64, end: u64, cut: u64, expected: &[u64]) -> bool {
     let both = Part {
         around: 0,
         turn: 0,
         depth: 2,
-        first: 0,
-        end: 6,
-        cut: 4,
+        first,
+        end,
+        cut,
     };
-    assert!(rt;
-        is_right(
-            alloc,
-            table,
-            both,
-            [0, 0, 0, 0, 0, 0, 0, 0, 1, 2, 3, 11, 12, 13, 0]
-        )
-    );
-    let some = Part {
-        around: 0,
-        turn: 0,
-        depth: 2,
-        first: 2,
-        end: 5,
-        cut: 2,
-    };
-    assert!(rt;
-        is_right(
-            alloc,
-            table,
-            some,
-            [0, 0, 0, 0, 0, 0, 0, 0, 0, 0, 3, 11, 12, 0, 0]
-        )
-    );
+    is_right(alloc, TABLE, both, expected)
+}
+
+/// Whether the inner of two loops leaves this at the outer one's turn 3.
+fn is_inner(alloc: Global, expected: &[u64]) -> bool {
     let inner = Part {
         around: 1,
         turn: 3,
@@ -331,13 +372,16 @@ fn chunks_run_nests(rt: HostRuntime) {
         end: 3,
         cut: 2,
     };
-    let rows = "for (uint64_t j = 0; j < 8; j++) for (uint64_t i = 0; i < j; i++) A[i] = i + j;";
-    assert!(rt;
-        is_right(
-            alloc,
-            rows,
-            inner,
-            [3, 4, 5, 0, 0, 0, 0, 0, 0, 0, 0, 0, 0, 0, 0]
-        )
-    );
+    is_right(alloc, INNER, inner, expected)
+}
+
+#[test]
+fn chunks_run_nests(rt: HostRuntime) {
+    const ALL: &[u64] = &[0, 0, 0, 0, 0, 0, 0, 0, 1, 2, 3, 11, 12, 13, 0];
+    const SOME: &[u64] = &[0, 0, 0, 0, 0, 0, 0, 0, 0, 0, 3, 11, 12, 0, 0];
+    const TURN: &[u64] = &[3, 4, 5, 0, 0, 0, 0, 0, 0, 0, 0, 0, 0, 0, 0];
+    let heap = rt.alloc();
+    assert!(rt; is_table(heap, 0, 6, 4, ALL));
+    assert!(rt; is_table(heap, 2, 5, 2, SOME));
+    assert!(rt; is_inner(heap, TURN));
 }

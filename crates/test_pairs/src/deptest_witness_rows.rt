@@ -5,6 +5,7 @@ use deptest_witness::*;
 use ktree::{Place, Refusal, VarId};
 use nest_loop::{Bound, Canonical, Direction, Stride};
 use std::alloc::Global;
+use std::process::Abort;
 
 const HERE: Place = Place { line: 2, column: 3 };
 
@@ -47,18 +48,25 @@ fn multiple(alloc: Global, by: i64, variable: VarId) -> Result<Form, Refusal> {
     Form::variable(alloc, variable).scale(by, HERE)
 }
 
+/// A form and `by * variable`.
+fn and_multiple(alloc: Global, form: &Form, by: i64, variable: VarId) -> Result<Form, Refusal> {
+    let multiple = multiple(alloc, by, variable)?;
+    form.add(&multiple, HERE)
+}
+
 /// The form of these numbers.
 fn form(alloc: Global, numbers: Numbers) -> Result<Form, Refusal> {
     let (i, j, n, constant) = numbers;
     let mut form = Form::constant(alloc, constant, HERE)?;
     for (by, variable) in [(i, I), (j, J), (n, N)] {
-        form = form.add(&multiple(alloc, by, variable)?, HERE)?;
+        form = and_multiple(alloc, &form, by, variable)?;
     }
     Ok(form)
 }
 
 /// A loop.
 fn canonical(alloc: Global, round: Round) -> Result<Canonical, Refusal> {
+    let start = Form::constant(alloc, round.start, HERE)?;
     let limit = form(alloc, round.limit)?;
     Ok(Canonical {
         variable: round.variable,
@@ -67,7 +75,7 @@ fn canonical(alloc: Global, round: Round) -> Result<Canonical, Refusal> {
             by: round.by,
         },
         bound: Bound::Strict,
-        start: Form::constant(alloc, round.start, HERE)?,
+        start,
         limit,
     })
 }
@@ -81,6 +89,18 @@ fn loops_of(alloc: Global, rounds: &[Round]) -> Result<Vec<Canonical>, Refusal> 
     Ok(loops)
 }
 
+/// What a meeting is, where there is one.
+fn met_at(found: &Option<Meeting>) -> Met {
+    match found {
+        Some(meeting) => Some((
+            meeting.earlier,
+            meeting.later,
+            meeting.indexes.first().copied(),
+        )),
+        None => None,
+    }
+}
+
 /// What two accesses give in these loops; None where they are refused.
 fn between(
     alloc: Global,
@@ -90,14 +110,25 @@ fn between(
     y: &Touch<'_>,
 ) -> Option<Met> {
     match first_meeting(alloc, serial, nest, x, y) {
-        Ok(Some(meeting)) => Some(Some((
-            meeting.earlier,
-            meeting.later,
-            meeting.indexes.first().copied(),
-        ))),
-        Ok(None) => Some(None),
+        Ok(found) => Some(met_at(&found)),
         Err(_) => None,
     }
+}
+
+/// The same, with the second access of the question.
+fn met_by_first(
+    alloc: Global,
+    serial: &[Canonical],
+    nest: &[Canonical],
+    x: &Touch<'_>,
+    question: Question<'_>,
+) -> Option<Met> {
+    let subscripts = [form(alloc, question.y).ok()?];
+    let y = Touch {
+        subscripts: &subscripts,
+        inner: if question.both_inside { x.inner } else { &[] },
+    };
+    between(alloc, serial, nest, x, &y)
 }
 
 /// The same, with the accesses of the question.
@@ -108,17 +139,12 @@ fn met_inside(
     inner: &[Canonical],
     question: Question<'_>,
 ) -> Option<Met> {
-    let first = form(alloc, question.x).ok()?;
-    let second = form(alloc, question.y).ok()?;
+    let subscripts = [form(alloc, question.x).ok()?];
     let x = Touch {
-        subscripts: &[first],
+        subscripts: &subscripts,
         inner,
     };
-    let y = Touch {
-        subscripts: &[second],
-        inner: if question.both_inside { inner } else { &[] },
-    };
-    between(alloc, serial, nest, &x, &y)
+    met_by_first(alloc, serial, nest, &x, question)
 }
 
 /// The same, with the loops of the body.
@@ -187,34 +213,39 @@ fn first_other(alloc: Global, rows: &[Row]) -> Option<usize> {
     None
 }
 
+/// Ends a test where there is a row whose accesses give something else, and gives its number.
+fn no_other(rt: &impl Abort, other: Option<usize>) {
+    assert_eq!(rt; other, None);
+}
+
 #[test]
 fn shifted(rt: HostRuntime) {
-    let rows = [
+    const ROWS: &[Row] = &[
         (1, 8, (1, 0), (1, -1), Some((0, 1, Some(1)))),
         (0, 4, (3, 0), (3, 6), Some((0, 2, Some(6)))),
         (0, 4, (1, -1), (0, 0), Some((0, 1, Some(0)))),
     ];
-    assert_eq!(rt; first_other(rt.alloc(), &rows), None);
+    no_other(&rt, first_other(rt.alloc(), ROWS));
 }
 
 #[test]
 fn mirrored(rt: HostRuntime) {
-    let rows = [
+    const ROWS: &[Row] = &[
         (0, 16, (1, 0), (-1, 15), Some((7, 8, Some(7)))),
         (0, 8, (1, 0), (-1, 15), None),
         (0, 2, (1, 0), (-1, 1), Some((0, 1, Some(0)))),
     ];
-    assert_eq!(rt; first_other(rt.alloc(), &rows), None);
+    no_other(&rt, first_other(rt.alloc(), ROWS));
 }
 
 #[test]
 fn far_apart(rt: HostRuntime) {
-    let rows = [
+    const ROWS: &[Row] = &[
         (0, 200, (1, 0), (1, 63), Some((0, 63, Some(63)))),
         (0, 200, (1, 0), (1, 64), None),
         (0, 200, (1, 0), (1, 100), None),
     ];
-    assert_eq!(rt; first_other(rt.alloc(), &rows), None);
+    no_other(&rt, first_other(rt.alloc(), ROWS));
 }
 
 /// `A[i]` and `A[i + 3]` where `i` is 10, 7 and 4.

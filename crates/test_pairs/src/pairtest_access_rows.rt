@@ -65,11 +65,18 @@ fn table_of(alloc: Global, kernel: &Kernel) -> Option<LoopTable>
     nests(alloc, kernel, &directives).ok()
 }
 
+/// The same with the table of the kernel's loops.
+fn listed_of(alloc: Global, kernel: &Kernel) -> Option<Vec<Access>> {
+    let table = table_of(alloc, kernel)?;
+    listed_by(alloc, kernel, &table)
+}
+
 /// The accesses of the body of that kernel's loop.
 fn listed(alloc: Global) -> Option<Vec<Access>> {
-    let kernel = parse(alloc, TEXT).ok()?;
-    let table = table_of(alloc, &kernel)?;
-    listed_by(alloc, &kernel, &table)
+    match parse(alloc, TEXT) {
+        Ok(kernel) => listed_of(alloc, &kernel),
+        Err(_refusal) => None,
+    }
 }
 
 /// An access: its array, what it does, its first subscript's constant and coefficients, and the greatest counts of the body's own
@@ -121,10 +128,18 @@ fn accesses_in_order_of_place(rt: HostRuntime) {
 /// What is told of an access: its first subscript's constant and its coefficient of `i`, and how many loops of the body there are.
 type Told = (i64, i64, usize);
 
-/// What is told of an access, where there is one.
+/// What is told of an access.
 fn told_of(told: &Touched) -> Option<Told> {
     let form = told.subscripts.first()?;
     Some((form.constant_term(), form.coefficient(I), told.inner.len()))
+}
+
+/// What is told of an access, where there is one.
+fn told_if(found: &Option<Touched>) -> Option<Told> {
+    match found {
+        Some(told) => told_of(told),
+        None => None,
+    }
 }
 
 /// What is told of the access with so many before it of the body of a loop whose facts stand first, where it has one; None
@@ -143,8 +158,7 @@ fn told_in(
     let mut chain = EnclosingLoops::new(alloc);
     let inner = enter_loop(alloc, &mut chain, head, loops).ok()?;
     match access_at(alloc, &mut chain, inner, body, number) {
-        Ok(Some(told)) => Some(told_of(&told)),
-        Ok(None) => Some(None),
+        Ok(found) => Some(told_if(&found)),
         Err(_) => None,
     }
 }
@@ -159,11 +173,18 @@ fn told_by(alloc: Global, kernel: &Kernel, table: &LoopTable, number: usize) -> 
     told_in(alloc, table.loops.as_slice(), statement, number)
 }
 
+/// The same with the table of the kernel's loops.
+fn told_in_kernel(alloc: Global, kernel: &Kernel, number: usize) -> Option<Option<Told>> {
+    let table = table_of(alloc, kernel)?;
+    told_by(alloc, kernel, &table, number)
+}
+
 /// The same of that kernel's loop.
 fn told(alloc: Global, number: usize) -> Option<Option<Told>> {
-    let kernel = parse(alloc, TEXT).ok()?;
-    let table = table_of(alloc, &kernel)?;
-    told_by(alloc, &kernel, &table, number)
+    match parse(alloc, TEXT) {
+        Ok(kernel) => told_in_kernel(alloc, &kernel, number),
+        Err(_refusal) => None,
+    }
 }
 
 /// Whether this is told of the access of that loop with so many before it, where it has one.

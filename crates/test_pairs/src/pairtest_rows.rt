@@ -3,6 +3,7 @@
 use ktree::{Place, VarId};
 use pairtest::*;
 use std::alloc::{AllocError, Global};
+use std::process::Abort;
 
 /// A subscript: its constant and its coefficients.
 type Form<'a> = (i64, &'a [i64]);
@@ -24,16 +25,21 @@ fn nest(alloc: Global, serial: &[u64], loops: &[u64]) -> Result<Nest, AllocError
     Ok(Nest { serial, loops })
 }
 
-/// An access with one subscript.
-fn access(alloc: Global, form: Form<'_>, inner: &[u64]) -> Result<Access, AllocError> {
+/// One subscript.
+fn subscripts(alloc: Global, form: Form<'_>) -> Result<Vec<Subscript>, AllocError> {
     let (constant, coefficients) = form;
     let coefficients = Vec::from_slice(alloc, coefficients)?;
-    let subscripts = vec![in alloc;
+    Ok(vec![in alloc;
         Subscript {
             constant,
             coefficients
         },
-    ]?;
+    ]?)
+}
+
+/// An access with one subscript.
+fn access(alloc: Global, form: Form<'_>, inner: &[u64]) -> Result<Access, AllocError> {
+    let subscripts = subscripts(alloc, form)?;
     let inner = Vec::from_slice(alloc, inner)?;
     Ok(Access {
         array: VarId(0),
@@ -45,12 +51,27 @@ fn access(alloc: Global, form: Form<'_>, inner: &[u64]) -> Result<Access, AllocE
     })
 }
 
-/// What is said of two accesses; None past the limit.
+/// What is said of an access and the second one of a pair in a nest; None past the limit.
+fn said_of_first(
+    alloc: Global,
+    nest: &Nest,
+    x: &Access,
+    pair: Pair<'_>,
+) -> Result<Option<bool>, AllocError> {
+    let y = access(alloc, pair.y, pair.inner)?;
+    Ok(independent(x, &y, nest).ok())
+}
+
+/// What is said of the two accesses of a pair there.
+fn said_in(alloc: Global, nest: &Nest, pair: Pair<'_>) -> Result<Option<bool>, AllocError> {
+    let x = access(alloc, pair.x, pair.inner)?;
+    said_of_first(alloc, nest, &x, pair)
+}
+
+/// What is said of them in their own nest.
 fn said(alloc: Global, pair: Pair<'_>) -> Result<Option<bool>, AllocError> {
     let nest = nest(alloc, pair.serial, pair.loops)?;
-    let x = access(alloc, pair.x, pair.inner)?;
-    let y = access(alloc, pair.y, pair.inner)?;
-    Ok(independent(&x, &y, &nest).ok())
+    said_in(alloc, &nest, pair)
 }
 
 /// Whether this is said of them.
@@ -87,9 +108,14 @@ fn first_other(alloc: Global, rows: &[Row]) -> Option<usize> {
     None
 }
 
+/// Ends a test where there is a row of which something else is said, and gives its number.
+fn no_other(rt: &impl Abort, other: Option<usize>) {
+    assert_eq!(rt; other, None);
+}
+
 #[test]
 fn one_loop(rt: HostRuntime) {
-    let rows = [
+    const ROWS: &[Row] = &[
         (8, (2, 0), (2, 1), Some(true)),
         (7, (1, 1), (1, 0), Some(false)),
         (4, (3, 0), (3, 6), Some(false)),
@@ -98,29 +124,30 @@ fn one_loop(rt: HostRuntime) {
         (8, (1, 0), (-1, 15), Some(false)),
         (200, (1, 100), (1, 0), Some(false)),
     ];
-    assert_eq!(rt; first_other(rt.alloc(), &rows), None);
+    no_other(&rt, first_other(rt.alloc(), ROWS));
 }
 
 #[test]
 fn few_turns(rt: HostRuntime) {
-    let rows = [
+    const ROWS: &[Row] = &[
         (2, (0, 0), (0, 0), Some(false)),
         (1, (0, 0), (0, 0), Some(true)),
         (0, (0, 0), (0, 0), Some(true)),
     ];
-    assert_eq!(rt; first_other(rt.alloc(), &rows), None);
+    no_other(&rt, first_other(rt.alloc(), ROWS));
 }
+
+const GREATEST: i64 = 1 << 62;
 
 #[test]
 fn limits(rt: HostRuntime) {
-    let greatest = 1 << 62;
-    let rows = [
-        (9, (greatest, 0), (greatest, 0), Some(true)),
-        (9, (greatest, 0), (-1, 0), None),
-        (9, (0, greatest), (0, -1), None),
-        (u64::MAX, (1, 0), (1, -greatest), None),
+    const ROWS: &[Row] = &[
+        (9, (GREATEST, 0), (GREATEST, 0), Some(true)),
+        (9, (GREATEST, 0), (-1, 0), None),
+        (9, (0, GREATEST), (0, -1), None),
+        (u64::MAX, (1, 0), (1, -GREATEST), None),
     ];
-    assert_eq!(rt; first_other(rt.alloc(), &rows), None);
+    no_other(&rt, first_other(rt.alloc(), ROWS));
 }
 
 /// Whether this is said of a form with itself, where these loops are round it.

@@ -1,17 +1,18 @@
 //! Loops of texts over an array `A`, an array `B` of 2 times 3 elements and a scalar `s`, lowered, and what they leave of such variables.
 
+use crate::stores::shape;
 use affine::VarBox;
 use cparse::parse;
-use ktree::{Item, Kernel, Place, Schedule, Stmt, VarId, Workers};
+use ktree::{Item, Kernel, Place, Schedule, Stmt, Workers};
 use lower::LoweredLoop;
 use lower_block::{Compiled, compile};
-use lower_code::{layout_of, mark_among, statement};
+use lower_code::{Code, layout_of, mark_among, statement};
 use nest::{Nest, as_loop};
 use schedule::Sched;
 use std::alloc::{AllocError, Global};
 use std::sync::Wait;
 use std::thread::Threads;
-use store::{Shape, Store};
+use store::Store;
 use team::{Gate, run_loop};
 
 /// A text's last statement as a team gets it: how many elements `A` has, the text's lines, how many loops the nest has, and at which
@@ -51,32 +52,36 @@ fn body_of(depth: u64, stmt: &Stmt) -> Option<&Stmt> {
     body_of(depth - 1, level.body)
 }
 
+/// The registers' code of a statement of a kernel.
+fn lowered_statement(alloc: Global, kernel: &Kernel, stmt: &Stmt) -> Option<Code> {
+    let layout = layout_of(alloc, &kernel.variables).ok()?;
+    statement(alloc, stmt, &layout).ok()
+}
+
 /// The code of a statement of a kernel.
 fn code_of(alloc: Global, kernel: &Kernel, stmt: &Stmt) -> Option<Compiled> {
-    let layout = layout_of(alloc, &kernel.variables).ok()?;
-    let code = statement(alloc, stmt, &layout).ok()?;
+    let code = lowered_statement(alloc, kernel, stmt)?;
     compile(alloc, &code, mark_among(&kernel.body)).ok()
 }
 
-/// A nest of so many loops inside these.
+/// A nest of so many loops, with none round it yet.
 fn nest_of(
     alloc: Global,
     kernel: &Kernel,
     stmt: &Stmt,
     depth: u64,
-    around: Vec<VarId>,
     bounds: &VarBox,
 ) -> Option<LoweredLoop> {
-    let Ok(nest) = Nest::new(alloc, depth, stmt, bounds, Place { line: 1, column: 1 }) else {
-        return None;
-    };
     let body = code_of(alloc, kernel, body_of(depth, stmt)?)?;
-    Some(LoweredLoop {
-        around,
-        loops: nest.loops,
-        body,
-        schedule: None,
-    })
+    match Nest::new(alloc, depth, stmt, bounds, Place { line: 1, column: 1 }) {
+        Ok(nest) => Some(LoweredLoop {
+            around: Vec::new(alloc),
+            loops: nest.loops,
+            body,
+            schedule: None,
+        }),
+        Err(_fault) => None,
+    }
 }
 
 /// The nest inside a loop of eight turns.
@@ -86,14 +91,15 @@ fn inside_of(alloc: Global, kernel: &Kernel, stmt: &Stmt, depth: u64) -> Option<
     };
     let mut bounds = VarBox::new(alloc);
     bounds.bind(head.variable, 0, 7, head.place).ok()?;
-    let around = Vec::from_array(alloc, [head.variable]).ok()?;
-    nest_of(alloc, kernel, body, depth, around, &bounds)
+    let mut lowered = nest_of(alloc, kernel, body, depth, &bounds)?;
+    lowered.around.push(head.variable).ok()?;
+    Some(lowered)
 }
 
 /// The nest with no loop round it.
 fn alone_of(alloc: Global, kernel: &Kernel, stmt: &Stmt, depth: u64) -> Option<LoweredLoop> {
     let bounds = VarBox::new(alloc);
-    nest_of(alloc, kernel, stmt, depth, Vec::new(alloc), &bounds)
+    nest_of(alloc, kernel, stmt, depth, &bounds)
 }
 
 /// The nest at a kernel's end.
@@ -106,41 +112,43 @@ fn lowered_of(alloc: Global, kernel: &Kernel, site: Site) -> Option<LoweredLoop>
     }
 }
 
+/// The nest at the end of the kernel of a text.
+fn lowered_in(alloc: Global, text: &[u8], site: Site) -> Option<LoweredLoop> {
+    match parse(alloc, text) {
+        Ok(kernel) => lowered_of(alloc, &kernel, site),
+        Err(_refusal) => None,
+    }
+}
+
+/// The nest at the end of a text.
+fn lowered_at(alloc: Global, site: Site) -> Option<LoweredLoop> {
+    let (length, lines) = (site.length, site.lines);
+    match format!(in alloc;
+        "#include <stdint.h>\nuint64_t A[{length}]; uint64_t B[2][3]; uint64_t s; void kernel(void) {{\n{lines}\n}}\n"
+    ) {
+        Ok(text) => lowered_in(alloc, text.as_bytes(), site),
+        Err(_error) => None,
+    }
+}
+
 /// The nest at a text's end, behind such a clause.
 pub(crate) fn lowered(
     alloc: Global,
     site: Site,
     schedule: Option<Schedule>,
 ) -> Option<LoweredLoop> {
-    let (length, lines) = (site.length, site.lines);
-    let Ok(text) = format!(in alloc;
-        "#include <stdint.h>\nuint64_t A[{length}]; uint64_t B[2][3]; uint64_t s; void kernel(void) {{\n{lines}\n}}\n"
-    ) else {
-        return None;
-    };
-    let Ok(kernel) = parse(alloc, text.as_bytes()) else {
-        return None;
-    };
-    let mut lowered = lowered_of(alloc, &kernel, site)?;
+    let mut lowered = lowered_at(alloc, site)?;
     lowered.schedule = schedule;
     Some(lowered)
 }
 
 /// The variables, each element 0.
 fn zeros(alloc: Global, length: u64) -> Result<Store, AllocError> {
-    let array = Shape {
-        lengths: Vec::from_slice(alloc, &[length])?,
-        count: length,
-    };
-    let table = Shape {
-        lengths: Vec::from_slice(alloc, &[2u64, 3])?,
-        count: 6,
-    };
-    let scalar = Shape {
-        lengths: Vec::new(alloc),
-        count: 1,
-    };
-    Store::zeros(alloc, Vec::from_array(alloc, [array, table, scalar])?)
+    let mut shapes = Vec::new(alloc);
+    shapes.push(shape(alloc, &[length], length)?)?;
+    shapes.push(shape(alloc, &[2, 3], 6)?)?;
+    shapes.push(shape(alloc, &[], 1)?)?;
+    Store::zeros(alloc, shapes)
 }
 
 /// The variables, each element of `A` 1 and all else 0.
@@ -150,6 +158,26 @@ fn variables(alloc: Global, length: u64) -> Result<Store, AllocError> {
         store.put(place, 1);
     }
     Ok(store)
+}
+
+/// Whether a loop is run on a store by these workers.
+fn is_run<R: Threads + Wait + Sync, G: Gate + Sync>(
+    rt: &R,
+    alloc: Global,
+    lowered: &LoweredLoop,
+    turn: u64,
+    store: &mut Store,
+    workers: Workers,
+    runtime: Sched,
+    gate: &G,
+) -> bool {
+    match Vec::from_elem(alloc, turn, 8) {
+        Ok(registers) => {
+            let registers = registers.as_slice();
+            run_loop(rt, alloc, lowered, registers, store, workers, runtime, gate).is_ok()
+        }
+        Err(_error) => false,
+    }
 }
 
 /// What a loop leaves of these variables, run by so many workers, where this schedule stands for `runtime`.
@@ -163,17 +191,11 @@ pub(crate) fn left_by<R: Threads + Wait + Sync, G: Gate + Sync>(
     gate: &G,
 ) -> Option<Store> {
     let workers = Workers::new(count)?;
-    let Ok(mut store) = variables(alloc, site.length) else {
-        return None;
-    };
-    let Ok(registers) = Vec::from_elem(alloc, site.turn.unwrap_or(0), 8) else {
-        return None;
-    };
-    let registers = registers.as_slice();
-    match run_loop(
-        rt, alloc, lowered, registers, &mut store, workers, runtime, gate,
-    ) {
-        Ok(()) => Some(store),
-        Err(_refusal) => None,
+    let turn = site.turn.unwrap_or(0);
+    let mut store = variables(alloc, site.length).ok()?;
+    if is_run(rt, alloc, lowered, turn, &mut store, workers, runtime, gate) {
+        Some(store)
+    } else {
+        None
     }
 }

@@ -1,10 +1,19 @@
 //! Stores of one array, the variable 0.
 
 ghost use Rattle.std.specs.Prelude.{◌≡◌, [], ◌∷◌, length, IfOk};
+ghost use Rattle.semantics.specs.Meaning.Places.{size};
 
 use ktree::VarId;
 use std::alloc::{AllocError, Global};
 use store::{Shape, Store};
+
+/// The dimensions of a variable of so many elements.
+pub(crate) fn shape(alloc: Global, lengths: &[u64], count: u64) -> Result<Shape, AllocError>
+    requires { count ≡ size lengths.now }
+{
+    let lengths = Vec::from_slice(alloc, lengths)?;
+    Ok(Shape { lengths, count })
+}
 
 /// The store of one array of one dimension that holds these values.
 pub(crate) fn one_array(alloc: Global, values: &[u64]) -> Result<Store, AllocError>

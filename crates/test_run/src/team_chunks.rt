@@ -112,7 +112,7 @@ impl Held {
 }
 
 /// What was told to workers that were held.
-#[derive(Clone, Copy, Debug, PartialEq, Eq)]
+#[derive(Clone, Copy, PartialEq, Eq)]
 struct Told {
     entered: u64,
     late: u64,
@@ -175,18 +175,29 @@ fn told_in<R: Threads + Wait + Sync>(
     }
 }
 
-/// The same of a loop of so many iterations, in chunks of this size.
+/// The same of the loop at a text's end, in chunks of this size.
+fn told_behind<R: Threads + Wait + Sync>(
+    rt: &R,
+    alloc: Global,
+    lines: &str,
+    count: u64,
+    size: ChunkSize,
+) -> Option<Told> {
+    let lowered = lowered(alloc, over(lines), Some(Schedule::Dynamic(size)))?;
+    told_in(rt, alloc, &lowered, count)
+}
+
+/// The same of a loop of so many iterations.
 fn told_to<R: Threads + Wait + Sync>(
     rt: &R,
     alloc: Global,
     count: u64,
     size: ChunkSize,
 ) -> Option<Told> {
-    let Ok(lines) = format!(in alloc; "for (uint64_t i = 0; i < {count}; i++) A[i] = 2 * i;") else {
-        return None;
-    };
-    let lowered = lowered(alloc, over(lines.as_str()), Some(Schedule::Dynamic(size)))?;
-    told_in(rt, alloc, &lowered, count)
+    match format!(in alloc; "for (uint64_t i = 0; i < {count}; i++) A[i] = 2 * i;") {
+        Ok(lines) => told_behind(rt, alloc, lines.as_str(), count, size),
+        Err(_error) => None,
+    }
 }
 
 /// So many workers, each with one chunk, are all in the loop before one of them goes on; each worker and each chunk is there once.
@@ -242,12 +253,12 @@ const NEVER: &str = "for (uint64_t i = 3; i < 3; i++) A[i] = 7;";
 /// Which chunks the workers of a loop entered, how many these are, and how many by another worker than every so manieth.
 type Entered = (u64, u64, u64);
 
-/// This of a loop behind such a clause, by so many workers.
-fn entered<R: Threads + Wait + Sync>(
+/// This of a loop, by so many workers.
+fn entered_in<R: Threads + Wait + Sync>(
     rt: &R,
     alloc: Global,
-    lines: &str,
-    schedule: Option<Schedule>,
+    lowered: &LoweredLoop,
+    site: Site,
     count: u64,
 ) -> Option<Entered> {
     let gate = Entries {
@@ -255,14 +266,27 @@ fn entered<R: Threads + Wait + Sync>(
         entered: AtomicU64::new(0),
         others: AtomicU64::new(0),
     };
-    let site = over(lines);
-    let lowered = lowered(alloc, site, schedule)?;
-    let _left = left_by(rt, alloc, &lowered, site, count, Sched::PlainStatic, &gate)?;
+    if left_by(rt, alloc, lowered, site, count, Sched::PlainStatic, &gate).is_none() {
+        return None;
+    }
     Some((
         gate.chunks.load(Ordering::SeqCst),
         gate.entered.load(Ordering::SeqCst),
         gate.others.load(Ordering::SeqCst),
     ))
+}
+
+/// The same of the loop at a text's end, behind such a clause.
+fn entered<R: Threads + Wait + Sync>(
+    rt: &R,
+    alloc: Global,
+    lines: &str,
+    schedule: Option<Schedule>,
+    count: u64,
+) -> Option<Entered> {
+    let site = over(lines);
+    let lowered = lowered(alloc, site, schedule)?;
+    entered_in(rt, alloc, &lowered, site, count)
 }
 
 #[test]

@@ -5,6 +5,7 @@ use ktree::{ChunkSize, Schedule};
 use lower::LoweredLoop;
 use schedule::Sched;
 use std::alloc::Global;
+use std::process::Abort;
 use std::sync::Wait;
 use std::thread::Threads;
 use team::OpenGate;
@@ -93,6 +94,11 @@ fn first_other<R: Threads + Wait + Sync>(rt: &R, alloc: Global, rows: &[Row]) ->
     None
 }
 
+/// Ends a test where there is a row that leaves something else, and gives its number.
+fn no_other(rt: &impl Abort, other: Option<usize>) {
+    assert_eq!(rt; other, None);
+}
+
 const SUMS: &str =
     "for (uint64_t i = 0; i < 8; i++) { uint64_t t = i; for (uint64_t k = 0; k < i; k++) t += k; A[i] = t; }";
 
@@ -139,7 +145,7 @@ fn bodies_of_every_form_are_run(rt: HostRuntime) {
             ],
         ),
     ];
-    assert_eq!(rt; first_other(&rt, rt.alloc(), &rows), None);
+    no_other(&rt, first_other(&rt, rt.alloc(), &rows));
 }
 
 const FALLS: &str = "for (uint64_t i = 7; i >= 2; i -= 2) A[i] = i * i;";
@@ -174,5 +180,5 @@ fn nests_of_every_form_are_run(rt: HostRuntime) {
             [1, 1, 1, 1, 1, 1, 1, 1, 0, 0, 0, 0, 0, 0, 0],
         ),
     ];
-    assert_eq!(rt; first_other(&rt, rt.alloc(), &rows), None);
+    no_other(&rt, first_other(&rt, rt.alloc(), &rows));
 }

@@ -149,7 +149,7 @@ fn local_is_no_name_behind_its_block(rt: HostRuntime) {
         long(19, 1),
         sign(23, Symbol::Semicolon),
     ];
-    assert_eq!(rt; unknown_in_two(rt.alloc(), &tokens), Some(15));
+    assert!(rt; unknown_in_two(rt.alloc(), &tokens) == Some(15));
 }
 
 /// The column at which tokens pass the limit, or 0, where so many statements may follow; none where they are refused otherwise.
@@ -169,6 +169,6 @@ fn statement_past_the_last_is_a_limit(rt: HostRuntime) {
         sign(3, Symbol::CloseBrace),
         sign(4, Symbol::CloseBrace),
     ];
-    assert_eq!(rt; limit_column(rt.alloc(), 1, &tokens), Some(2));
-    assert_eq!(rt; limit_column(rt.alloc(), 2, &tokens), Some(0));
+    assert!(rt; limit_column(rt.alloc(), 1, &tokens) == Some(2));
+    assert!(rt; limit_column(rt.alloc(), 2, &tokens) == Some(0));
 }

@@ -12,6 +12,8 @@ mod cparse_stmt_rows;
 #[cfg(test)]
 mod ctoken_rows;
 #[cfg(test)]
+mod outcome;
+#[cfg(test)]
 mod pragma_attach_rows;
 #[cfg(test)]
 mod pragma_clause_rows;

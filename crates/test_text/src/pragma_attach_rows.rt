@@ -1,5 +1,6 @@
 //! Directives that are attached to their kernel, and what is told of those that are not.
 
+use crate::outcome::no_other;
 use cparse::parse;
 use ktree::{Kernel, Place, Refusal};
 use pragma::Directives;
@@ -58,7 +59,7 @@ fn other_told<'t>(alloc: Global, rows: &[(&'t str, u8, u32, u32)]) -> Option<&'t
 
 #[test]
 fn constructs_stand_before_their_statements(rt: HostRuntime) {
-    let rows = [
+    const ROWS: &[(&str, u8, u32, u32)] = &[
         (
             "uint64_t v; void kernel(void) {\n#pragma omp parallel for\nfor (uint64_t i = 0; i < 8; i++) { } }\n",
             0,
@@ -144,12 +145,12 @@ fn constructs_stand_before_their_statements(rt: HostRuntime) {
             0,
         ),
     ];
-    assert_eq!(rt; other_told(rt.alloc(), &rows), None);
+    no_other(&rt, other_told(rt.alloc(), ROWS));
 }
 
 #[test]
 fn names_in_clauses_are_visible_variables(rt: HostRuntime) {
-    let rows = [
+    const ROWS: &[(&str, u8, u32, u32)] = &[
         (
             "uint64_t v; void kernel(void) {\n#pragma omp parallel for shared(v)\nfor (uint64_t i = 0; i < 8; i++) { } }\n",
             0,
@@ -217,12 +218,12 @@ fn names_in_clauses_are_visible_variables(rt: HostRuntime) {
             0,
         ),
     ];
-    assert_eq!(rt; other_told(rt.alloc(), &rows), None);
+    no_other(&rt, other_told(rt.alloc(), ROWS));
 }
 
 #[test]
 fn the_first_fault_is_told(rt: HostRuntime) {
-    let rows = [
+    const ROWS: &[(&str, u8, u32, u32)] = &[
         (
             "uint64_t v; void kernel(void) {\n#pragma omp parallel for shared(v) private(v)\nfor (uint64_t i = 0; i < 8; i++) { } }\n",
             13,
@@ -290,12 +291,12 @@ fn the_first_fault_is_told(rt: HostRuntime) {
             41,
         ),
     ];
-    assert_eq!(rt; other_told(rt.alloc(), &rows), None);
+    no_other(&rt, other_told(rt.alloc(), ROWS));
 }
 
 #[test]
 fn default_none_wants_each_variable_from_outside_in_a_clause(rt: HostRuntime) {
-    let rows = [
+    const ROWS: &[(&str, u8, u32, u32)] = &[
         (
             "uint64_t A[8]; uint64_t B[8]; void kernel(void) {\n#pragma omp parallel for default(none) shared(A)\nfor (uint64_t i = 0; i < 8; i++) { A[i] = B[i]; } }\n",
             13,
@@ -405,12 +406,12 @@ fn default_none_wants_each_variable_from_outside_in_a_clause(rt: HostRuntime) {
             0,
         ),
     ];
-    assert_eq!(rt; other_told(rt.alloc(), &rows), None);
+    no_other(&rt, other_told(rt.alloc(), ROWS));
 }
 
 #[test]
 fn default_none_of_a_parallel_counts_for_its_loops(rt: HostRuntime) {
-    let rows = [
+    const ROWS: &[(&str, u8, u32, u32)] = &[
         (
             "uint64_t A[8]; uint64_t B[8]; void kernel(void) {\n#pragma omp parallel default(none) shared(A)\n{\n#pragma omp for\nfor (uint64_t i = 0; i < 8; i++) { A[i] = 1; }\n#pragma omp for\nfor (uint64_t j = 0; j < 8; j++) { B[j] = 1; } } }\n",
             13,
@@ -436,12 +437,12 @@ fn default_none_of_a_parallel_counts_for_its_loops(rt: HostRuntime) {
             0,
         ),
     ];
-    assert_eq!(rt; other_told(rt.alloc(), &rows), None);
+    no_other(&rt, other_told(rt.alloc(), ROWS));
 }
 
 #[test]
 fn a_for_names_what_its_parallel_shares(rt: HostRuntime) {
-    let rows = [
+    const ROWS: &[(&str, u8, u32, u32)] = &[
         (
             "uint64_t A[8]; void kernel(void) { uint64_t x = 1; A[0] = x;\n#pragma omp parallel private(x)\n{\n#pragma omp for private(x)\nfor (uint64_t i = 0; i < 8; i++) { x = i; A[i] = x; } } }\n",
             13,
@@ -491,5 +492,5 @@ fn a_for_names_what_its_parallel_shares(rt: HostRuntime) {
             25,
         ),
     ];
-    assert_eq!(rt; other_told(rt.alloc(), &rows), None);
+    no_other(&rt, other_told(rt.alloc(), ROWS));
 }

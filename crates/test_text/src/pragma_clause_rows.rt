@@ -1,5 +1,6 @@
 //! Directive lines of each production, and lines of which each breaks one rule.
 
+use crate::outcome::no_other;
 use ktree::{Clause, Directive, Offset, Place, Schedule, SinkElement, Written};
 use pragma_clause::read;
 use std::alloc::Global;
@@ -43,7 +44,7 @@ fn other_outcome<'l>(
 
 #[test]
 fn directives_are_told_apart(rt: HostRuntime) {
-    let rows = [
+    const ROWS: &[(&str, Result<(&str, usize), u8>)] = &[
         ("#pragma omp parallel for", Ok(("parallel for", 0))),
         (
             "#pragma omp parallel default(none) shared(a)",
@@ -62,12 +63,12 @@ fn directives_are_told_apart(rt: HostRuntime) {
             Ok(("sink", 2)),
         ),
     ];
-    assert_eq!(rt; other_outcome(rt.alloc(), &rows), None);
+    no_other(&rt, other_outcome(rt.alloc(), ROWS));
 }
 
 #[test]
 fn other_lines_are_no_directives(rt: HostRuntime) {
-    let rows = [
+    const ROWS: &[(&str, Result<(&str, usize), u8>)] = &[
         ("#pragma omp", Err(11)),
         ("#pragma omp sections", Err(11)),
         ("#pragma omp parallel, private(a)", Err(11)),
@@ -86,12 +87,12 @@ fn other_lines_are_no_directives(rt: HostRuntime) {
         ("#pragma omp ordered doacross(sink: i - 1)", Err(11)),
         ("#pragma omp ordered doacross(sink: i-2147483648)", Err(11)),
     ];
-    assert_eq!(rt; other_outcome(rt.alloc(), &rows), None);
+    no_other(&rt, other_outcome(rt.alloc(), ROWS));
 }
 
 #[test]
 fn clauses_stand_where_they_may(rt: HostRuntime) {
-    let rows = [
+    const ROWS: &[(&str, Result<(&str, usize), u8>)] = &[
         ("#pragma omp parallel for nowait", Err(11)),
         ("#pragma omp parallel lastprivate(a)", Err(11)),
         ("#pragma omp parallel collapse(2)", Err(11)),
@@ -107,12 +108,12 @@ fn clauses_stand_where_they_may(rt: HostRuntime) {
         ("#pragma omp for collapse(2) collapse(2)", Err(11)),
         ("#pragma omp for private(a) private(b)", Ok(("for", 2))),
     ];
-    assert_eq!(rt; other_outcome(rt.alloc(), &rows), None);
+    no_other(&rt, other_outcome(rt.alloc(), ROWS));
 }
 
 #[test]
 fn numbers_have_limits(rt: HostRuntime) {
-    let rows = [
+    const ROWS: &[(&str, Result<(&str, usize), u8>)] = &[
         ("#pragma omp for schedule(guided, 16777216)", Ok(("for", 1))),
         ("#pragma omp for schedule(guided, 16777217)", Err(21)),
         ("#pragma omp for ordered(4)", Ok(("for", 1))),
@@ -124,7 +125,7 @@ fn numbers_have_limits(rt: HostRuntime) {
         ("#pragma omp for collapse(5) schedule(static, 0)", Err(11)),
         ("#pragma omp for collapse(5) collapse(5)", Err(11)),
     ];
-    assert_eq!(rt; other_outcome(rt.alloc(), &rows), None);
+    no_other(&rt, other_outcome(rt.alloc(), ROWS));
 }
 
 /// What a schedule clause is called here, with its size or 0.
@@ -160,12 +161,19 @@ fn clause_form(clause: &Clause<Written>) -> (&'static str, u64, usize) {
 }
 
 /// What the first clause of a `for` or a `parallel` is called here; none where there is none.
-fn first_clause(alloc: Global, line: &[u8]) -> Option<(&'static str, u64, usize)> {
-    match read(alloc, line, HERE) {
-        Ok(Directive::For(clauses)) | Ok(Directive::Parallel(clauses)) => {
-            Some(clause_form(clauses.first()?))
-        }
+fn first_clause(directive: &Directive<Written>) -> Option<(&'static str, u64, usize)> {
+    match directive {
+        Directive::For(clauses) => clauses.first().map(clause_form),
+        Directive::Parallel(clauses) => clauses.first().map(clause_form),
         _ => None,
+    }
+}
+
+/// The same of a line's directive.
+fn first_clause_of(alloc: Global, line: &[u8]) -> Option<(&'static str, u64, usize)> {
+    match read(alloc, line, HERE) {
+        Ok(directive) => first_clause(&directive),
+        Err(_refusal) => None,
     }
 }
 
@@ -175,7 +183,7 @@ fn other_clause<'l>(
     rows: &[(&'l str, (&'static str, u64, usize))],
 ) -> Option<&'l str> {
     for (line, expected) in rows {
-        if first_clause(alloc, line.as_bytes()) != Some(*expected) {
+        if first_clause_of(alloc, line.as_bytes()) != Some(*expected) {
             return Some(*line);
         }
     }
@@ -184,7 +192,7 @@ fn other_clause<'l>(
 
 #[test]
 fn clauses_are_told_apart(rt: HostRuntime) {
-    let rows = [
+    const ROWS: &[(&str, (&str, u64, usize))] = &[
         (
             "#pragma omp parallel default(shared)",
             ("default shared", 0, 0),
@@ -218,7 +226,7 @@ fn clauses_are_told_apart(rt: HostRuntime) {
         ("#pragma omp for ordered(3)", ("ordered", 3, 0)),
         ("#pragma omp for nowait", ("nowait", 0, 0)),
     ];
-    assert_eq!(rt; other_clause(rt.alloc(), &rows), None);
+    no_other(&rt, other_clause(rt.alloc(), ROWS));
 }
 
 /// Whether a name has these bytes and stands at this column of the third line.
@@ -231,17 +239,30 @@ fn is_element(element: &SinkElement<Written>, bytes: &str, column: u32, offset: 
     stands(&element.variable, bytes, column) && element.offset == offset
 }
 
+/// Whether these are `i-1` and `jj+2`, whose names stand at these columns.
+fn are_elements(elements: &[SinkElement<Written>], first: u32, second: u32) -> bool {
+    match elements {
+        [a, b] => {
+            is_element(a, "i", first, Offset::Back(1))
+                && is_element(b, "jj", second, Offset::Forward(2))
+        }
+        _ => false,
+    }
+}
+
+/// Whether a directive is a sink of them.
+fn is_sink_of_them(directive: &Directive<Written>, first: u32, second: u32) -> bool {
+    match directive {
+        Directive::DoacrossSink(elements) => are_elements(elements, first, second),
+        _ => false,
+    }
+}
+
 /// Whether a line is a sink of `i-1` and `jj+2`, whose names stand at these columns.
 fn is_sink(alloc: Global, line: &[u8], place: Place, first: u32, second: u32) -> bool {
     match read(alloc, line, place) {
-        Ok(Directive::DoacrossSink(elements)) => match elements.as_slice() {
-            [a, b] => {
-                is_element(a, "i", first, Offset::Back(1))
-                    && is_element(b, "jj", second, Offset::Forward(2))
-            }
-            _ => false,
-        },
-        _ => false,
+        Ok(directive) => is_sink_of_them(&directive, first, second),
+        Err(_refusal) => false,
     }
 }
 

@@ -1,5 +1,6 @@
 //! Lines that are read and lines that are refused, and where they stand in kernels.
 
+use crate::outcome::no_other;
 use cparse::parse;
 use ktree::{AssociatedLoops, ChunkSize, Kernel, Place, Refusal, Schedule};
 use pragma::{Directives, Fault, ParallelFor, first_fault};
@@ -70,7 +71,7 @@ fn other_outcome<'l>(alloc: Global, rows: &[(&'l str, Result<(u64, u64), u8>)]) 
 
 #[test]
 fn clauses_stand_in_any_order(rt: HostRuntime) {
-    let rows = [
+    const ROWS: &[(&str, Result<(u64, u64), u8>)] = &[
         ("#pragma omp parallel for", Ok((0, 0))),
         ("#pragma omp parallel for schedule(dynamic)", Ok((1, 0))),
         ("#pragma omp parallel for collapse(4)", Ok((0, 4))),
@@ -83,12 +84,12 @@ fn clauses_stand_in_any_order(rt: HostRuntime) {
             Ok((16777216, 3)),
         ),
     ];
-    assert_eq!(rt; other_outcome(rt.alloc(), &rows), None);
+    no_other(&rt, other_outcome(rt.alloc(), ROWS));
 }
 
 #[test]
 fn each_clause_stands_once(rt: HostRuntime) {
-    let rows = [
+    const ROWS: &[(&str, Result<(u64, u64), u8>)] = &[
         ("#pragma omp parallel for collapse(2) collapse(2)", Err(11)),
         (
             "#pragma omp parallel for schedule(dynamic) collapse(2) schedule(dynamic)",
@@ -103,12 +104,12 @@ fn each_clause_stands_once(rt: HostRuntime) {
         ("#pragma omp parallel for nowait", Err(11)),
         ("#pragma omp for collapse(2)", Err(11)),
     ];
-    assert_eq!(rt; other_outcome(rt.alloc(), &rows), None);
+    no_other(&rt, other_outcome(rt.alloc(), ROWS));
 }
 
 #[test]
 fn numbers_of_clauses_have_limits(rt: HostRuntime) {
-    let rows = [
+    const ROWS: &[(&str, Result<(u64, u64), u8>)] = &[
         ("#pragma omp parallel for collapse(5)", Err(21)),
         ("#pragma omp parallel for collapse(0)", Err(11)),
         (
@@ -129,12 +130,12 @@ fn numbers_of_clauses_have_limits(rt: HostRuntime) {
         ),
         ("#pragma omp parallel for collapse(02)", Err(11)),
     ];
-    assert_eq!(rt; other_outcome(rt.alloc(), &rows), None);
+    no_other(&rt, other_outcome(rt.alloc(), ROWS));
 }
 
 #[test]
 fn sizes_are_literals_of_c(rt: HostRuntime) {
-    let rows = [
+    const ROWS: &[(&str, Result<(u64, u64), u8>)] = &[
         ("#pragma omp parallel for schedule(dynamic, 0)", Err(11)),
         ("#pragma omp parallel for schedule(dynamic, 03)", Err(11)),
         ("#pragma omp parallel for schedule(dynamic, 3ull)", Err(11)),
@@ -142,7 +143,7 @@ fn sizes_are_literals_of_c(rt: HostRuntime) {
         ("#pragma omp", Err(11)),
         ("x", Err(11)),
     ];
-    assert_eq!(rt; other_outcome(rt.alloc(), &rows), None);
+    no_other(&rt, other_outcome(rt.alloc(), ROWS));
 }
 
 /// The first line of a table that says something else in a text.
@@ -238,30 +239,30 @@ fn other_fault<'t>(alloc: Global, rows: &[(&'t str, Option<Fault>)]) -> Option<&
 
 #[test]
 fn a_directive_stands_before_its_loop(rt: HostRuntime) {
-    let first = Some(Fault::Directive(at(2)));
-    let rows = [
+    const FIRST: Option<Fault> = Some(Fault::Directive(Place { line: 2, column: 1 }));
+    const ROWS: &[(&str, Option<Fault>)] = &[
         (
             "uint64_t v; void kernel(void) {\n#pragma omp parallel for\nfor (uint64_t i = 0; i < 8; i++) { } }\n",
             None,
         ),
         (
             "uint64_t v; void kernel(void) {\n#pragma omp parallel for\nv = 1; }\n",
-            first,
+            FIRST,
         ),
         (
             "uint64_t v; void kernel(void) {\n#pragma omp parallel for\n{ } }\n",
-            first,
+            FIRST,
         ),
         (
             "uint64_t v; void kernel(void) {\n#pragma omp parallel for\n}\n",
-            first,
+            FIRST,
         ),
         (
             "uint64_t v; void kernel(void) {\n#pragma omp simd\nfor (uint64_t i = 0; i < 8; i++) { } }\n",
-            first,
+            FIRST,
         ),
     ];
-    assert_eq!(rt; other_fault(rt.alloc(), &rows), None);
+    no_other(&rt, other_fault(rt.alloc(), ROWS));
 }
 
 #[test]
@@ -276,7 +277,7 @@ fn a_directive_stands_in_no_parallel_loop(rt: HostRuntime) {
             Some(Fault::Directive(at(4))),
         ),
     ];
-    assert_eq!(rt; other_fault(rt.alloc(), &rows), None);
+    no_other(&rt, other_fault(rt.alloc(), &rows));
 }
 
 /// The number of the refusal that tells the first fault of the directive lines of a kernel; none without a fault, or if the text is
@@ -294,9 +295,9 @@ fn the_lowest_number_is_told(rt: HostRuntime) {
     let before_a_loop =
         "uint64_t v; void kernel(void) {\n#pragma omp parallel for collapse(5)\nfor (uint64_t i = 0; i < 8; i++) { } }\n";
     let rows = [(before_a_loop, Some(Fault::Size(at(2))))];
-    assert_eq!(rt; other_fault(alloc, &rows), None);
-    assert_eq!(rt; number_of(alloc, before_a_loop), Some(21));
+    no_other(&rt, other_fault(alloc, &rows));
+    assert!(rt; number_of(alloc, before_a_loop) == Some(21));
     let before_none =
         "uint64_t v; void kernel(void) {\n#pragma omp parallel for collapse(5)\nv = 1; }\n";
-    assert_eq!(rt; number_of(alloc, before_none), Some(11));
+    assert!(rt; number_of(alloc, before_none) == Some(11));
 }

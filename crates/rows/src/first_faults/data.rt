@@ -1,10 +1,11 @@
 //! Which of two faults is told: faults of what loops write and print, and of locals that may be unassigned.
 
 use super::{Row, first_other_body};
+use crate::outcome::no_other;
 
 #[test]
 fn first_fault_of_data_is_told(rt: HostRuntime) {
-    let rows = [
+    const ROWS: &[Row] = &[
         Row {
             text: "
 uint64_t x;
@@ -225,5 +226,5 @@ if (s) s = x; else s = y;",
             column: 12,
         },
     ];
-    assert_eq!(rt; first_other_body(rt.alloc(), &rows), None);
+    no_other(&rt, first_other_body(rt.alloc(), ROWS));
 }

@@ -1,10 +1,11 @@
 //! Which of two faults is told: faults of directive lines.
 
 use super::{Row, first_other_body};
+use crate::outcome::no_other;
 
 #[test]
 fn first_directive_at_fault_is_told(rt: HostRuntime) {
-    let rows = [
+    const ROWS: &[Row] = &[
         Row {
             text: "
 #pragma omp simd
@@ -107,5 +108,5 @@ for (uint64_t i = 0; i < 8; i++) {
             column: 1,
         },
     ];
-    assert_eq!(rt; first_other_body(rt.alloc(), &rows), None);
+    no_other(&rt, first_other_body(rt.alloc(), ROWS));
 }

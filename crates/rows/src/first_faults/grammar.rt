@@ -1,10 +1,11 @@
 //! Which of two faults is told: faults of the grammar.
 
 use super::{Row, first_other_body, first_other_text};
+use crate::outcome::no_other;
 
 #[test]
 fn first_fault_of_grammar_is_told(rt: HostRuntime) {
-    let rows = [
+    const ROWS: &[Row] = &[
         Row {
             text: "
 s = 1x;
@@ -75,12 +76,12 @@ s = 1x;",
             column: 4,
         },
     ];
-    assert_eq!(rt; first_other_body(rt.alloc(), &rows), None);
+    no_other(&rt, first_other_body(rt.alloc(), ROWS));
 }
 
 #[test]
 fn grammar_comes_before_names(rt: HostRuntime) {
-    let rows = [
+    const ROWS: &[Row] = &[
         Row {
             text: "
 void kernel(void) {
@@ -135,5 +136,5 @@ x
             column: 1,
         },
     ];
-    assert_eq!(rt; first_other_text(rt.alloc(), &rows), None);
+    no_other(&rt, first_other_text(rt.alloc(), ROWS));
 }

@@ -1,10 +1,11 @@
 //! Which of two faults is told: faults of loops and nests.
 
 use super::{Row, first_other_body};
+use crate::outcome::no_other;
 
 #[test]
 fn first_loop_at_fault_is_told(rt: HostRuntime) {
-    let rows = [
+    const ROWS: &[Row] = &[
         Row {
             text: "
 for (uint64_t i = 0; i; i++) {
@@ -93,12 +94,12 @@ if (s) A[s] = 1; else B[s] = 1;",
             column: 10,
         },
     ];
-    assert_eq!(rt; first_other_body(rt.alloc(), &rows), None);
+    no_other(&rt, first_other_body(rt.alloc(), ROWS));
 }
 
 #[test]
 fn first_nest_at_fault_is_told(rt: HostRuntime) {
-    let rows = [
+    const ROWS: &[Row] = &[
         Row {
             text: "
 #pragma omp parallel for collapse(2)
@@ -251,5 +252,5 @@ for (uint64_t i = 0; i < 16777217; i++) {
             column: 1,
         },
     ];
-    assert_eq!(rt; first_other_body(rt.alloc(), &rows), None);
+    no_other(&rt, first_other_body(rt.alloc(), ROWS));
 }

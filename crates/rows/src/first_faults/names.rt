@@ -1,10 +1,11 @@
 //! Which of two faults is told: faults of declarations, names and sorts.
 
 use super::{Row, first_other_body, first_other_text};
+use crate::outcome::no_other;
 
 #[test]
 fn first_fault_at_file_scope_is_told(rt: HostRuntime) {
-    let rows = [
+    const ROWS: &[Row] = &[
         Row {
             text: "
 enum { E = -1 };
@@ -38,12 +39,12 @@ A[0][0] = t;
             column: 10,
         },
     ];
-    assert_eq!(rt; first_other_text(rt.alloc(), &rows), None);
+    no_other(&rt, first_other_text(rt.alloc(), ROWS));
 }
 
 #[test]
 fn first_fault_of_names_is_told(rt: HostRuntime) {
-    let rows = [
+    const ROWS: &[Row] = &[
         Row {
             text: "
 t = 1;
@@ -100,5 +101,5 @@ A[i] = t;
             column: 8,
         },
     ];
-    assert_eq!(rt; first_other_body(rt.alloc(), &rows), None);
+    no_other(&rt, first_other_body(rt.alloc(), ROWS));
 }

@@ -2,7 +2,6 @@
 
 use super::told_of;
 use std::alloc::{AllocError, Global};
-use std::test::Fail;
 
 /// What is told of a text with line ends behind it, so that it has so many bytes.
 fn told_of_long(alloc: Global, text: &[u8], length: usize) -> Result<(u8, u32, u32), AllocError> {
@@ -14,14 +13,13 @@ fn told_of_long(alloc: Global, text: &[u8], length: usize) -> Result<(u8, u32, u
 }
 
 #[test]
-fn long_texts_are_told_of(rt: HostRuntime) -> Result<(), Fail> {
+fn long_texts_are_told_of(rt: HostRuntime) {
     let heap = rt.alloc();
     let right = b"uint64_t s;\nvoid kernel(void) {\ns = 1;\n}\n";
     let wrong = b"uint64_t s;\nvoid kernel(void) {\ns = ;\n}\n";
-    assert_eq!(rt; told_of_long(heap, right, 1048576)?, (0, 0, 0));
-    assert_eq!(rt; told_of_long(heap, right, 1048577)?, (21, 1048540, 1));
-    assert_eq!(rt; told_of_long(heap, wrong, 1048577)?, (1, 3, 5));
-    Ok(())
+    assert!(rt; told_of_long(heap, right, 1048576) == Ok((0, 0, 0)));
+    assert!(rt; told_of_long(heap, right, 1048577) == Ok((21, 1048540, 1)));
+    assert!(rt; told_of_long(heap, wrong, 1048577) == Ok((1, 3, 5)));
 }
 
 /// What is told of a parallel loop of so many statements, each with two accesses.
@@ -38,7 +36,6 @@ fn told_of_wide(alloc: Global, count: u64) -> Result<(u8, u32, u32), AllocError>
 }
 
 #[test]
-fn bodies_of_many_accesses_are_accepted(rt: HostRuntime) -> Result<(), Fail> {
-    assert_eq!(rt; told_of_wide(rt.alloc(), 600)?, (0, 0, 0));
-    Ok(())
+fn bodies_of_many_accesses_are_accepted(rt: HostRuntime) {
+    assert!(rt; told_of_wide(rt.alloc(), 600) == Ok((0, 0, 0)));
 }

@@ -1,10 +1,11 @@
 //! Which of two faults is told: subscripts out of range, and those of one object.
 
 use super::{Row, first_other_body, first_other_text};
+use crate::outcome::no_other;
 
 #[test]
 fn first_subscript_out_of_range_is_told(rt: HostRuntime) {
-    let rows = [
+    const ROWS: &[Row] = &[
         Row {
             text: "
 A[8] = 1;
@@ -45,12 +46,12 @@ B[8] = 1;
             column: 3,
         },
     ];
-    assert_eq!(rt; first_other_body(rt.alloc(), &rows), None);
+    no_other(&rt, first_other_body(rt.alloc(), ROWS));
 }
 
 #[test]
 fn ranges_come_behind_loops_and_data(rt: HostRuntime) {
-    let rows = [
+    const ROWS: &[Row] = &[
         Row {
             text: "
 A[8] = 1;
@@ -88,12 +89,12 @@ if (A[i + 5] < 1) A[i + 6] = 1; else A[i] = 1;
             column: 7,
         },
     ];
-    assert_eq!(rt; first_other_body(rt.alloc(), &rows), None);
+    no_other(&rt, first_other_body(rt.alloc(), ROWS));
 }
 
 #[test]
 fn first_subscript_of_an_object_is_told(rt: HostRuntime) {
-    let rows = [
+    const ROWS: &[Row] = &[
         Row {
             text: "
 uint64_t s;
@@ -118,5 +119,5 @@ M[2][3] = 1;
             column: 3,
         },
     ];
-    assert_eq!(rt; first_other_text(rt.alloc(), &rows), None);
+    no_other(&rt, first_other_text(rt.alloc(), ROWS));
 }
