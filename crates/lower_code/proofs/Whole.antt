@@ -14,7 +14,7 @@ use Rattle.lower_code.specs.declared.term.Term.{Term}
 use Rattle.lower_code.specs.declared.term.Test.{Test}
 use Rattle.lower_code.specs.declared.term.Code.{Code}
 use Rattle.lower_code.specs.Machine.{Running, after, truth, spins}
-use Rattle.lower_code.specs.Meaning.{Represents, Leads, Gives, DoesAlways, MeansTest, AreLocals, MeansDeclared, MeansStmt, MeansItems}
+use Rattle.lower_code.specs.Meaning.{Represents, Leads, Gives, DoesAlways, MeansTest, AreLocals, MeansDeclared, MeansStmt, MeansTurns, MeansItems}
 use Rattle.lower_code.proofs.Spots.{same_some}
 use Rattle.lower_code.proofs.Doing.{Sets, parts, overwritten-append, leads_nothing, then_does, branch_does, loop_does, set_declares, nothing_declares}
 
@@ -50,13 +50,14 @@ module _ (layout : List Laid) where
   if_else_means c a b z x y code mz mx my chooses mark all =
       branch_does layout mark c (run a) (run b) z x y code mz (mx mark (locals_left layout mark (declared_in a) (declared_in b) all)) (my mark (locals_right layout mark (declared_in a) (declared_in b) all)) chooses
 
+  -- the turns of a loop
+  pub turns_mean : (test : Tree.Cond) (step : Tree.Increment) (body : Tree.Stmt) (a b code : Code) (z : Test) → MeansTest layout test z → MeansStmt layout body a → DoesAlways layout (λ s. incremented s step) b → ((r : Running) → after code r ≡ spins greatest_trip_count (truth z) (λ k. after b (after a k)) r) → MeansTurns layout test body step code
+  turns_mean test step body a b code z mz ma db loops mark all = loop_does layout mark test (run body) (λ t. incremented t step) z a b code mz (ma mark all) (db mark) loops
+
   -- `for`: its variable, and then the turns
-  pub for_means : (x : ℕ) (name : Tree.Name) (start : Tree.Source) (test : Tree.Cond) (step : Tree.Increment) (body : Tree.Stmt) (t : Term) (first a b spinning code : Code) (z : Test) → Gives layout (λ s. source_value s start) t → Sets x t first → MeansTest layout test z → MeansStmt layout body a → DoesAlways layout (λ s. incremented s step) b
-      → ((r : Running) → after spinning r ≡ spins greatest_trip_count (truth z) (λ k. after b (after a k)) r) → ((r : Running) → after code r ≡ after spinning (after first r)) → MeansStmt layout (Tree.For x name start test step body) code
-  for_means x name start test step body t first a b spinning code z gives sets mz ma db loops joins mark (here, all) =
-      then_does layout mark (λ s. declared s x (Some start)) (turns greatest_trip_count (λ t. holds t test) (run body) (λ t. incremented t step)) first spinning code
-      (set_declares layout mark x start t first here.0 here.1 gives sets)
-      (loop_does layout mark test (run body) (λ t. incremented t step) z a b spinning mz (ma mark all) (db mark) loops) joins
+  pub for_means : (x : ℕ) (name : Tree.Name) (start : Tree.Source) (test : Tree.Cond) (step : Tree.Increment) (body : Tree.Stmt) (first spinning code : Code) → MeansDeclared layout x (Some start) first → MeansTurns layout test body step spinning → ((r : Running) → after code r ≡ after spinning (after first r)) → MeansStmt layout (Tree.For x name start test step body) code
+  for_means x name start test step body first spinning code md mt joins mark (here, all) =
+      then_does layout mark (λ s. declared s x (Some start)) (turns greatest_trip_count (λ t. holds t test) (run body) (λ t. incremented t step)) first spinning code (md mark (here, tt)) (mt mark all) joins
 
   -- one item
   pub statement_alone : (a : Tree.Stmt) (code : Code) → MeansStmt layout a code → MeansItems layout (Tree.stmt a Tree.no_items) code

@@ -91,12 +91,20 @@ pub(crate) fn either(alloc: Global, c: Test, d: Test) -> Result<Test, AllocError
     Ok(Test::LogicalOr(c, d))
 }
 
+/// Two pieces of code in boxes.
+fn boxed(alloc: Global, a: Code, b: Code) -> Result<(Box<Code>, Box<Code>), AllocError>
+    ensures { IfOk result (λ p. (p.0.value ≡ a) × (p.1.value ≡ b)) }
+{
+    let a = Box::new(alloc, a)?;
+    let b = Box::new(alloc, b)?;
+    Ok((a, b))
+}
+
 /// The one, and then the other.
 pub(crate) fn then(alloc: Global, a: Code, b: Code) -> Result<Code, AllocError>
     ensures { IfOk result (λ t. (r : Running) → after t r ≡ after b (after a r)) }
 {
-    let a = Box::new(alloc, a)?;
-    let b = Box::new(alloc, b)?;
+    let (a, b) = boxed(alloc, a, b)?;
     Ok(Code::Then(a, b))
 }
 
@@ -105,8 +113,7 @@ pub(crate) fn branch(alloc: Global, c: Test, a: Code, b: Code) -> Result<Code, A
     ensures { IfOk result (λ t. (r : Running)
         → after t r ≡ (if truth c r.machine then after a r else after b r)) }
 {
-    let a = Box::new(alloc, a)?;
-    let b = Box::new(alloc, b)?;
+    let (a, b) = boxed(alloc, a, b)?;
     Ok(Code::If(c, a, b))
 }
 
@@ -115,7 +122,6 @@ pub(crate) fn repeat(alloc: Global, c: Test, a: Code, b: Code) -> Result<Code, A
     ensures { IfOk result (λ t. (r : Running)
         → after t r ≡ spins greatest_trip_count (truth c) (λ k. after b (after a k)) r) }
 {
-    let a = Box::new(alloc, a)?;
-    let b = Box::new(alloc, b)?;
+    let (a, b) = boxed(alloc, a, b)?;
     Ok(Code::Loop(c, a, b))
 }

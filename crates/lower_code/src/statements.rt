@@ -1,15 +1,18 @@
 //! Code from statements.
 
-ghost use Rattle.std.specs.Prelude.{IfOk, ◌≡◌, Some, map};
+ghost use Rattle.std.specs.Prelude.{IfOk, ◌≡◌, Some, map, string_bytes};
 ghost use Rattle.semantics.specs.Meaning.Runs.{incremented};
+ghost use Rattle.semantics.specs.Tree;
 ghost use Rattle.semantics.specs.Tree.{no_items};
-ghost use Rattle.ktree.specs.View.{binary_of, exprs_of, part_of, source_of, start_of, increment_of, stmt_of, items_of, with_item};
-ghost use Rattle.lower_code.specs.Meaning.{DoesAlways, Assigns, Updates, MeansPart, MeansText, MeansDeclared, MeansStmt, MeansItems};
+ghost use Rattle.ktree.specs.View.{binary_of, cond_of, exprs_of, part_of, source_of, start_of, increment_of, stmt_of, items_of, with_item};
+ghost use Rattle.ktree.specs.declared.statement.Stmt.TheVariants.{Assign, Update};
+ghost use Rattle.lower_code.specs.Machine.{Running, after};
+ghost use Rattle.lower_code.specs.Meaning.{DoesAlways, Assigns, Updates, MeansPart, MeansText, MeansDeclared, MeansStmt, MeansTurns, MeansItems};
 
 use crate::expression::{object, place, source_value, test, value};
 use crate::making::{binary, branch, number, repeat, then};
 use crate::term::{Code, Laid, Piece, Register, Term};
-use ktree::{BinaryOp, Expr, Head, Increment, Item, PrintPart, Source, Stmt, VarId};
+use ktree::{BinaryOp, Cond, Expr, Head, Increment, Item, PrintPart, Source, Stmt, Target, VarId};
 use std::alloc::{AllocError, Global};
 
 /// An object takes what a term is worth (C11 6.5.16).
@@ -129,6 +132,76 @@ fn pieces(alloc: Global, parts: &[PrintPart], layout: &[Laid]) -> Result<Vec<Pie
     Ok(pieces)
 }
 
+/// The code of an assignment (C11 6.5.16.1).
+fn assignment(
+    alloc: Global,
+    target: &Target,
+    source: &Source,
+    layout: &[Laid],
+) -> Result<Code, AllocError>
+    ensures { IfOk result (MeansStmt layout.now (stmt_of (Assign target.now source.now))) }
+{
+    let term = source_value(alloc, source, layout)?;
+    assign(alloc, target.variable, &target.subscripts, term, layout)
+}
+
+/// The code of a compound assignment (C11 6.5.16.2).
+fn compound_assignment(
+    alloc: Global,
+    target: &Target,
+    op: BinaryOp,
+    expr: &Expr,
+    layout: &[Laid],
+) -> Result<Code, AllocError>
+    ensures { IfOk result
+        (MeansStmt layout.now (stmt_of (Update target.now op expr.now))) }
+{
+    let term = value(alloc, expr, layout)?;
+    update(alloc, target.variable, &target.subscripts, op, term, layout)
+}
+
+/// One of two, by a condition (C11 6.8.4.1).
+fn choice(alloc: Global, c: &Cond, a: Code, b: Code, layout: &[Laid]) -> Result<Code, AllocError>
+    ensures alone { IfOk result (λ code. (x : Tree.Stmt) → MeansStmt layout.now x a
+        → ((r : Running) → after b r ≡ r)
+        → MeansStmt layout.now (Tree.If (cond_of c.now) x) code) }
+    ensures either { IfOk result (λ code. (x y : Tree.Stmt) → MeansStmt layout.now x a
+        → MeansStmt layout.now y b
+        → MeansStmt layout.now (Tree.IfElse (cond_of c.now) x y) code) }
+{
+    let c = test(alloc, c, layout)?;
+    branch(alloc, c, a, b)
+}
+
+/// The turns of a loop with a body (C11 6.8.5).
+fn looped(alloc: Global, head: &Head, body: Code, layout: &[Laid]) -> Result<Code, AllocError>
+    ensures { IfOk result (λ code. (x : Tree.Stmt) → MeansStmt layout.now x body
+        → MeansTurns layout.now (cond_of head.now.test) x (increment_of head.now.step) code) }
+{
+    let c = test(alloc, &head.test, layout)?;
+    let step = increment(alloc, &head.step, layout)?;
+    repeat(alloc, c, body, step)
+}
+
+/// The code of a loop with a body: its variable's first value, and then the turns (C11 6.8.5.3).
+fn whole_loop(alloc: Global, head: &Head, body: Code, layout: &[Laid]) -> Result<Code, AllocError>
+    ensures { IfOk result (λ code. (x : Tree.Stmt) → MeansStmt layout.now x body
+        → MeansStmt layout.now (Tree.For head.now.variable.0 (string_bytes head.now.name)
+        (source_of head.now.start) (cond_of head.now.test) (increment_of head.now.step) x) code) }
+{
+    let turns = looped(alloc, head, body, layout)?;
+    let start = entry(alloc, head, layout)?;
+    then(alloc, start, turns)
+}
+
+/// The code of a call of printf's (C11 7.21.6.1).
+fn print(alloc: Global, parts: &[PrintPart], layout: &[Laid]) -> Result<Code, AllocError>
+    ensures { IfOk result (MeansStmt layout.now (Tree.Print (map part_of parts.now))) }
+{
+    let pieces = pieces(alloc, parts, layout)?;
+    Ok(Code::Print(pieces))
+}
+
 /// The code of a statement over variables that lie so (C11 6.8).
 ///
 /// # Errors
@@ -139,46 +212,24 @@ pub fn statement(alloc: Global, stmt: &Stmt, layout: &[Laid]) -> Result<Code, Al
     ensures { IfOk result (MeansStmt layout.now (stmt_of stmt.now)) }
 {
     match stmt {
-        Stmt::Assign(target, source) => {
-            let term = source_value(alloc, source, layout)?;
-            assign(alloc, target.variable, &target.subscripts, term, layout)
-        }
-        Stmt::Update(target, op, expr) => {
-            let term = value(alloc, expr, layout)?;
-            update(
-                alloc,
-                target.variable,
-                &target.subscripts,
-                *op,
-                term,
-                layout,
-            )
-        }
+        Stmt::Assign(target, source) => assignment(alloc, target, source, layout),
+        Stmt::Update(target, op, expr) => compound_assignment(alloc, target, *op, expr, layout),
         Stmt::If(c, a, other) => {
-            let c = test(alloc, c, layout)?;
             let a = statement(alloc, a, layout)?;
             match other {
-                None => branch(alloc, c, a, Code::Nothing),
+                None => choice(alloc, c, a, Code::Nothing, layout),
                 Some(b) => {
                     let b = statement(alloc, b, layout)?;
-                    branch(alloc, c, a, b)
+                    choice(alloc, c, a, b, layout)
                 }
             }
         }
         Stmt::For(head, body) => {
-            let start = source_value(alloc, &head.start, layout)?;
-            let c = test(alloc, &head.test, layout)?;
             let body = statement(alloc, body, layout)?;
-            let step = increment(alloc, &head.step, layout)?;
-            let turns = repeat(alloc, c, body, step)?;
-            let variable = head.variable.0;
-            then(alloc, Code::Set(Register { at: variable }, start), turns)
+            whole_loop(alloc, head, body, layout)
         }
         Stmt::Block(list) => items(alloc, list, layout),
-        Stmt::Print(parts, _place) => {
-            let pieces = pieces(alloc, parts, layout)?;
-            Ok(Code::Print(pieces))
-        }
+        Stmt::Print(parts, _place) => print(alloc, parts, layout),
     }
 }
 

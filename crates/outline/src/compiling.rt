@@ -1,19 +1,20 @@
 //! Statements, tests and heads of loops as they are run by one thread.
 
-ghost use Rattle.std.specs.Prelude.{◌≡◌, [], ◌∷◌, IfOk, IfErr};
+ghost use Rattle.std.specs.Prelude.{◌≡◌, ◌≤◌, [], ◌∷◌, IfOk, IfErr};
 ghost use Rattle.semantics.specs.Tree.{no_items};
 ghost use Rattle.semantics.specs.Meaning.Runs.{run, run_items};
 ghost use Rattle.semantics.specs.Meaning.Agrees.{declared_in, declared_among};
 ghost use Rattle.ktree.specs.View.{stmt_of, cond_of, with_item};
 ghost use Rattle.ktree.specs.declared.refusal.Refusal.TheVariants.{OutOfMemory};
 ghost use Rattle.lower_code.specs.Meaning.{MeansTest};
+ghost use Rattle.lower_block.specs.Emission.{Compiles};
 ghost use Rattle.outline.specs.Fit.{EntryPerforms, StepPerforms, HeadFits, WithLocals};
 ghost use Rattle.lower_run.specs.Walk.{Performs};
 
 use crate::shape::LoweredHead;
 use ktree::{Cond, Head, Item, Refusal, Stmt};
 use lower_block::{Compiled, compile};
-use lower_code::{Laid, Test, entry, increment, item as code_of_item, statement, test};
+use lower_code::{Code, Laid, Test, entry, increment, item as code_of_item, statement, test};
 use std::alloc::Global;
 
 /// What code is made for: where the file-scope variables lie among the cells, and how many registers the locals have.
@@ -21,6 +22,15 @@ use std::alloc::Global;
 pub struct Target<'l> {
     pub layout: &'l [Laid],
     pub registers: u64,
+}
+
+// Code as a block over at least so many registers.
+fn compile_code(alloc: Global, code: Code, registers: u64) -> Result<Compiled, Refusal>
+    ensures ok { IfOk result
+        (λ c. Compiles code registers c × registers ≤ c.registers) }
+    ensures refusal { IfErr result (λ refusal. refusal ≡ OutOfMemory) }
+{
+    Ok(compile(alloc, &code, registers)?)
 }
 
 // The code of a statement.
@@ -35,7 +45,7 @@ pub(crate) fn compile_statement(
     ensures refusal { IfErr result (λ refusal. refusal ≡ OutOfMemory) }
 {
     let code = statement(alloc, stmt, target.layout)?;
-    Ok(compile(alloc, &code, target.registers)?)
+    compile_code(alloc, code, target.registers)
 }
 
 // The code of a block's item.
@@ -52,7 +62,7 @@ pub(crate) fn compile_item(
     ensures refusal { IfErr result (λ refusal. refusal ≡ OutOfMemory) }
 {
     let code = code_of_item(alloc, item, target.layout)?;
-    Ok(compile(alloc, &code, target.registers)?)
+    compile_code(alloc, code, target.registers)
 }
 
 // The test of a condition.
@@ -71,7 +81,7 @@ fn compile_entry(alloc: Global, head: &Head, target: Target<'_>) -> Result<Compi
     ensures refusal { IfErr result (λ refusal. refusal ≡ OutOfMemory) }
 {
     let code = entry(alloc, head, target.layout)?;
-    Ok(compile(alloc, &code, target.registers)?)
+    compile_code(alloc, code, target.registers)
 }
 
 // What a loop does behind each turn.
@@ -81,7 +91,7 @@ fn compile_step(alloc: Global, head: &Head, target: Target<'_>) -> Result<Compil
     ensures refusal { IfErr result (λ refusal. refusal ≡ OutOfMemory) }
 {
     let code = increment(alloc, &head.step, target.layout)?;
-    Ok(compile(alloc, &code, target.registers)?)
+    compile_code(alloc, code, target.registers)
 }
 
 // The head of a loop.

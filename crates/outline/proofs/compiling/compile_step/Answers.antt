@@ -1,9 +1,11 @@
+use Rattle.std.proofs.lemmas.Result.{IfOk-weaker}
 use Rattle.outline.proofs.compiling.compile_step.Goals as goal
 
 pub returns-clause-ok : goal.returns-clause-ok
-returns-clause-ok c = record {
-  code = c.in_ok-code.code;
-  compiles = c.in_ok-compile.ensures.compiles;
-  wide = c.in_ok-compile.ensures.registers;
-  does = c.in_ok-code.ensures c.args.target.registers;
-}
+returns-clause-ok c =
+    IfOk-weaker c.compile_code.result _ _ (λ r made. record {
+      code = c.in_ok-code.code;
+      compiles = made.0;
+      wide = made.1;
+      does = c.in_ok-code.ensures c.args.target.registers;
+    }) c.compile_code.ensures.ok
