@@ -98,6 +98,16 @@ fn spelled_head(
     })
 }
 
+/// The spelling of a name, and what it belongs to.
+fn spelled<T: Drop>(alloc: Global, name: &str, owner: T) -> Result<(String, T), Stop>
+    ensures name { IfOk result (λ r. string_bytes r.0 ≡ name.now) }
+    ensures owner { IfOk result (λ r. r.1 ≡ owner) }
+    ensures err { IfErr result (λ stop. stop ≡ Memory) }
+{
+    let name = String::from_str(alloc, name)?;
+    Ok((name, owner))
+}
+
 /// The head of a loop whose word stands at a place, over the variable of this number.
 fn head_of(
     alloc: Global,
@@ -112,7 +122,7 @@ fn head_of(
     ensures step { IfOk result (λ h. h.step ≡ head.entry.step) }
     ensures err { IfErr result (λ stop. stop ≡ Memory) }
 {
-    let name = String::from_str(alloc, head.name)?;
+    let (name, head) = spelled(alloc, head.name, head)?;
     spelled_head(alloc, place, variable, name, head)
 }
 
