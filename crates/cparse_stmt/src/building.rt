@@ -1,6 +1,6 @@
 //! Statements made of their parts.
 
-ghost use Rattle.std.specs.Prelude.{◌≡◌, ◌&&◌, Some, IfOk, IfErr, is_none, string_bytes};
+ghost use Rattle.std.specs.Prelude.{◌≡◌, ◌&&◌, Some, Ok, Err, IfOk, IfErr, is_none, string_bytes};
 ghost use Rattle.semantics.specs.Tree.{If, IfElse, For};
 ghost use Rattle.semantics.specs.Source.Scope.{Scope};
 ghost use Rattle.ktree.specs.View.{stmt_of, source_of, cond_of};
@@ -124,6 +124,19 @@ fn head_of(
 {
     let (name, head) = spelled(alloc, head.name, head)?;
     spelled_head(alloc, place, variable, name, head)
+}
+
+/// What was read before a statement and that statement, if there is one.
+pub fn both<'s, 't, T: Drop>(
+    before: T,
+    body: Result<Told<'s, 't, Box<Stmt>>, Stop>,
+) -> Result<(T, Told<'s, 't, Box<Stmt>>), Stop>
+    ensures before { IfOk result (λ r. r.0 ≡ before) }
+    ensures body { IfOk result (λ r. body.entry ≡ Ok r.1) }
+    ensures err { IfErr result (λ stop. body.entry ≡ Err stop) }
+{
+    let body = body?;
+    Ok((before, body))
 }
 
 /// A loop whose word stands at a place, with the tally at its variable (C11 6.8.5.3).
