@@ -98,7 +98,8 @@ fn spelled_head(
     })
 }
 
-/// The spelling of a name, and what it belongs to.
+/// The spelling of a name, and what it belongs to. The type of that is not known here, so that letting go of it is a call, and is
+/// not written out.
 fn spelled<T: Drop>(alloc: Global, name: &str, owner: T) -> Result<(String, T), Stop>
     ensures name { IfOk result (λ r. string_bytes r.0 ≡ name.now) }
     ensures owner { IfOk result (λ r. r.1 ≡ owner) }
@@ -126,7 +127,7 @@ fn head_of(
     spelled_head(alloc, place, variable, name, head)
 }
 
-/// What was read before a statement and that statement, if there is one.
+/// What was read before a statement and that statement, if there is one; the first is of any type, as above.
 pub fn both<'s, 't, T: Drop>(
     before: T,
     body: Result<Told<'s, 't, Box<Stmt>>, Stop>,

@@ -21,7 +21,8 @@ use cparse_phrase::told::Told;
 use cparse_printf::printing::print_behind;
 use ktree::{Place, Stmt};
 
-/// A statement that ends in a semicolon, by any tree of it: of a type that is not known letting go is a call, and is not written out.
+/// A statement that ends in a semicolon, by a tree of any type: of one that is not known letting go is a call, and is not written
+/// out.
 fn end_statement<'s, 't, T: Drop>(
     tally: Tally,
     statement: Parsed<'s, 't, T>,
