@@ -1,6 +1,6 @@
 //! Statements made of their parts.
 
-ghost use Rattle.std.specs.Prelude.{◌≡◌, ◌&&◌, Some, IfOk, IfErr, is_none, string_bytes};
+ghost use Rattle.std.specs.Prelude.{◌≡◌, ◌&&◌, Some, Ok, Err, IfOk, IfErr, is_none, string_bytes};
 ghost use Rattle.semantics.specs.Tree.{If, IfElse, For};
 ghost use Rattle.semantics.specs.Source.Scope.{Scope};
 ghost use Rattle.ktree.specs.View.{stmt_of, source_of, cond_of};
@@ -98,6 +98,17 @@ fn spelled_head(
     })
 }
 
+/// The spelling of a name, and what it belongs to. The type of that is not known here, so that letting go of it is a call, and is
+/// not written out.
+fn spelled<T: Drop>(alloc: Global, name: &str, owner: T) -> Result<(String, T), Stop>
+    ensures name { IfOk result (λ r. string_bytes r.0 ≡ name.now) }
+    ensures owner { IfOk result (λ r. r.1 ≡ owner) }
+    ensures err { IfErr result (λ stop. stop ≡ Memory) }
+{
+    let name = String::from_str(alloc, name)?;
+    Ok((name, owner))
+}
+
 /// The head of a loop whose word stands at a place, over the variable of this number.
 fn head_of(
     alloc: Global,
@@ -112,8 +123,21 @@ fn head_of(
     ensures step { IfOk result (λ h. h.step ≡ head.entry.step) }
     ensures err { IfErr result (λ stop. stop ≡ Memory) }
 {
-    let name = String::from_str(alloc, head.name)?;
+    let (name, head) = spelled(alloc, head.name, head)?;
     spelled_head(alloc, place, variable, name, head)
+}
+
+/// What was read before a statement and that statement, if there is one; the first is of any type, as above.
+pub fn both<'s, 't, T: Drop>(
+    before: T,
+    body: Result<Told<'s, 't, Box<Stmt>>, Stop>,
+) -> Result<(T, Told<'s, 't, Box<Stmt>>), Stop>
+    ensures before { IfOk result (λ r. r.0 ≡ before) }
+    ensures body { IfOk result (λ r. body.entry ≡ Ok r.1) }
+    ensures err { IfErr result (λ stop. body.entry ≡ Err stop) }
+{
+    let body = body?;
+    Ok((before, body))
 }
 
 /// A loop whose word stands at a place, with the tally at its variable (C11 6.8.5.3).

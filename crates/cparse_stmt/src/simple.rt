@@ -1,6 +1,7 @@
 //! Statements in which no other stands.
 
 ghost use Rattle.std.specs.Prelude.{◌≡◌};
+ghost use Rattle.semantics.specs.Tree.{Stmt as Statement};
 ghost use Rattle.ktree.specs.View.{stmt_of};
 ghost use Rattle.cparse_grammar.specs.StatementReader.{ended};
 ghost use Rattle.cparse_grammar.specs.StatementParts.{simple};
@@ -20,14 +21,15 @@ use cparse_phrase::told::Told;
 use cparse_printf::printing::print_behind;
 use ktree::{Place, Stmt};
 
-/// A statement that ends in a semicolon.
-fn end_statement<'s, 't>(
+/// A statement that ends in a semicolon, by a tree of any type: of one that is not known letting go is a call, and is not written
+/// out.
+fn end_statement<'s, 't, T: Drop>(
     tally: Tally,
-    statement: Parsed<'s, 't, Stmt>,
+    statement: Parsed<'s, 't, T>,
     end: Place,
-) -> Result<Told<'s, 't, Stmt>, Stop>
-    ensures { Gives (told_of stmt_of) result
-        (ended (tally_of tally) (got_of stmt_of statement.entry)) }
+) -> Result<Told<'s, 't, T>, Stop>
+    ensures { (view : T → Statement) → Gives (told_of view) result
+        (ended (tally_of tally) (got_of view statement.entry)) }
 {
     let rest = semicolon(statement.rest, end)?;
     Ok(Told {

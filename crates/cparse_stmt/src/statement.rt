@@ -10,7 +10,7 @@ ghost use Rattle.cparse_cursor.specs.Names.{names_of};
 ghost use Rattle.cparse_cursor.specs.Lexemes.{tokens_of};
 ghost use Rattle.cparse_cursor.specs.Outcome.{Gives, got_of};
 
-use crate::building::{if_else, if_only, loop_statement, with_item};
+use crate::building::{both, if_else, if_only, loop_statement, with_item};
 use crate::local::{begins_item, local_behind};
 use crate::simple::simple;
 use cparse_cursor::context::{Context, Setting, enter_level};
@@ -263,7 +263,8 @@ fn selection<'s, 't>(
     let outer = enter_level(room, place)?;
     let room = enter_level(outer, place)?;
     let condition = in_parens(Context { alloc, scope, end }, room, tokens)?;
-    let then = inner(setting, scope, outer, tally, condition.rest)?;
+    let then = inner(setting, scope, outer, tally, condition.rest);
+    let (condition, then) = both(condition, then)?;
     otherwise(setting, scope, room, condition, then)
 }
 
@@ -284,7 +285,8 @@ fn otherwise<'s, 't>(
     match if_word("else", then.rest) {
         None => if_only(setting.alloc, condition, then),
         Some((_place, other)) => {
-            let other = inner(setting, scope, room, then.tally, other)?;
+            let other = inner(setting, scope, room, then.tally, other);
+            let ((condition, then), other) = both((condition, then), other)?;
             if_else(setting.alloc, condition, then, other)
         }
     }
@@ -310,7 +312,8 @@ fn iteration<'s, 't>(
     let names = count(scope);
     let behind = declare(tally)?;
     let head = heading(setting, scope, room, tally, tokens)?;
-    let body = inner(setting, scope, outer, behind, head.rest)?;
+    let body = inner(setting, scope, outer, behind, head.rest);
+    let (head, body) = both(head, body)?;
     close(scope, names);
     loop_statement(setting.alloc, place, tally, head, body)
 }

@@ -1,18 +1,13 @@
 -- What a command with subcommands is.
-use Rattle.std.proofs.Common.{Result, Ok, Err, IfErr, inl, inr, [], ◌∷◌, Bool, true, false, not, refl, ap, ap₂, codes, ◌≡◌, ◌∙◌, ◌&&◌}
+use Rattle.std.proofs.Common.{Result, Ok, Err, IfErr, inl, inr, [], ◌∷◌, Bool, true, false, not, refl, ap, ap₂, ◌≡◌, ◌∙◌, ◌&&◌}
 use Rattle.std.specs.Prelude.{IsErrAnd}
 use Rattle.clap.specs.Words.{AddsSubcommand, App, Shape, app_of, with_subcommand}
 use Rattle.clap.specs.Words.{HasKind, Kinds, kind_of}
-use Rattle.clap.specs.Simple.{new_shape}
 use Rattle.clap.specs.declared.error.Error.{Error}
 use Rattle.clap.specs.declared.error.kind.ErrorKind.TheVariants as kind
 use Rattle.clap.specs.declared.builder.command.Command.{Command}
 use Rattle.clap.specs.declared.builder.command.Command.TheViews.{out-Command}
 use Rattle.ompk_command.specs.Orders.{alone}
-
--- `ompk`, without its subcommands
-abbrev pub named : App
-named = alone (record (new_shape (codes "ompk")) { subcommand_required = true })
 
 third : (a b c d : Bool) → (a && (b && (not c && d))) ≡ true → c ≡ false
 third true true false d e = refl

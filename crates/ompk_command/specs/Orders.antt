@@ -53,6 +53,10 @@ seq = taking (codes "seq") (file ∷ input ∷ [])
 abbrev pub alone : Shape → App
 alone shape = record { top = shape; subs = [] }
 
+-- `ompk`, without its subcommands
+abbrev pub program : App
+program = alone (record (new_shape (codes "ompk")) { subcommand_required = true })
+
 -- `ompk` with one of these
 abbrev pub command_line : App
 command_line = record {

@@ -1,11 +1,11 @@
 //! What the command line asks for.
 
-ghost use Rattle.std.specs.Prelude.{◌≡◌, ◌∷◌, [], Some, option_map, false, codes, map, string_bytes, IfOk, IfErr, IsSomeAnd};
-ghost use Rattle.clap.specs.Words.{Text, app_of, first_of, found_of, rows_of, rule_of, subcommand_rows_of};
+ghost use Rattle.std.specs.Prelude.{◌≡◌, ◌∷◌, [], Some, option_map, false, true, codes, map, string_bytes, IfOk, IfErr, IsSomeAnd};
+ghost use Rattle.clap.specs.Words.{Shape, Text, app_of, first_of, found_of, rows_of, rule_of, subcommand_rows_of, with_subcommand};
 ghost use Rattle.ompk_command.specs.declared.usage.Usage.TheVariants.{OutOfMemory};
 ghost use Rattle.schedule.specs.Sched.{kind_of};
 ghost use Rattle.ompk_command.specs.Orders as orders;
-ghost use Rattle.ompk_command.specs.Orders.{AskFor, Decides, IsCount, IsReadFrom, alone, command_line};
+ghost use Rattle.ompk_command.specs.Orders.{AskFor, Decides, IsCount, IsReadFrom, alone, command_line, taking};
 ghost use Rattle.ompk_command.specs.Schedules.{Finds, IsNamed};
 ghost use Rattle.ompk_command.specs.Usages.{IsTold};
 
@@ -105,42 +105,77 @@ fn schedule<'a>(alloc: Global) -> Arg<'a>
         )
 }
 
+// `ompk NAME F [--input I]`.
+fn input_command<'a>(
+    alloc: Global,
+    name: &'a str,
+    about: &'a str,
+) -> Result<Command<'a>, AllocError>
+    ensures { IfOk result (λ command. app_of command
+        ≡ alone (taking name.now (orders.file ∷ orders.input ∷ []))) }
+{
+    Command::new(alloc, name)
+        .about(about)
+        .arg(file(alloc))?
+        .arg(input(alloc))
+}
+
 // `ompk run F [--input I] [--workers N] [--schedule KIND[,K]]`.
 fn run_command<'a>(alloc: Global) -> Result<Command<'a>, AllocError>
     ensures { IfOk result (λ command. app_of command ≡ alone orders.run) }
 {
-    Command::new(alloc, "run")
-        .about("Runs a kernel on a team of workers and writes its output")
-        .arg(file(alloc))?
-        .arg(input(alloc))?
-        .arg(workers(alloc))?
-        .arg(schedule(alloc))
+    input_command(
+        alloc,
+        "run",
+        "Runs a kernel on a team of workers and writes its output",
+    )?
+    .arg(workers(alloc))?
+    .arg(schedule(alloc))
 }
 
 // `ompk seq F [--input I]`.
 fn seq_command<'a>(alloc: Global) -> Result<Command<'a>, AllocError>
     ensures { IfOk result (λ command. app_of command ≡ alone orders.seq) }
 {
-    Command::new(alloc, "seq")
-        .about("Runs a kernel by one thread and writes its output")
-        .arg(file(alloc))?
-        .arg(input(alloc))
+    input_command(
+        alloc,
+        "seq",
+        "Runs a kernel by one thread and writes its output",
+    )
+}
+
+// The program's command, without subcommands.
+fn program_command<'a>(alloc: Global) -> Result<Command<'a>, AllocError>
+    ensures { IfOk result (λ command. app_of command ≡ orders.program) }
+{
+    Command::new(alloc, "ompk")
+        .about(
+            "Runs C11 kernels with OpenMP loops, with exactly the output of the sequential program",
+        )
+        .subcommand_required(true)
+        .bin_name("ompk")
+}
+
+// A command with one more subcommand, if memory is left for both.
+fn with<'a>(
+    command: Command<'a>,
+    added: Result<Command<'a>, AllocError>,
+) -> Result<Command<'a>, AllocError>
+    ensures { (shape : Shape) → shape.is_plain ≡ true → IfOk added.entry (λ sub. app_of sub ≡ alone shape)
+        → IfOk result (λ both. app_of both ≡ with_subcommand (app_of command.entry) shape) }
+{
+    command.subcommand(added?)
 }
 
 // All that the command line may say.
 fn command<'a>(alloc: Global) -> Result<Command<'a>, AllocError>
     ensures { IfOk result (λ command. app_of command ≡ command_line) }
 {
-    Command::new(alloc, "ompk")
-        .bin_name("ompk")?
-        .about(
-            "Runs C11 kernels with OpenMP loops, with exactly the output of the sequential program",
-        )
-        .subcommand_required(true)
-        .subcommand(check_command(alloc)?)?
-        .subcommand(lower_command(alloc)?)?
-        .subcommand(run_command(alloc)?)?
-        .subcommand(seq_command(alloc)?)
+    let program = program_command(alloc)?;
+    let one = with(program, check_command(alloc))?;
+    let two = with(one, lower_command(alloc))?;
+    let three = with(two, run_command(alloc))?;
+    with(three, seq_command(alloc))
 }
 
 // 1 to 64, without leading zeros.
@@ -279,6 +314,16 @@ fn order_in<'a>(matches: &ArgMatches<'a>) -> Result<Order<'a>, Flaw>
     Err(Flaw::Subcommand)
 }
 
+// What is told of a flaw.
+fn told(command: &mut Command<'_>, flaw: Flaw) -> Usage
+    ensures { IsTold result }
+{
+    match command.error(flaw.kind(), flaw.message()) {
+        Ok(error) => Usage::from(error),
+        Err(refused) => Usage::from(refused),
+    }
+}
+
 /// Reads the words of a command line, the program's own name first.
 ///
 /// # Errors
@@ -293,6 +338,6 @@ pub fn order_of<'a>(alloc: Global, words: &'a [String]) -> Result<Order<'a>, Usa
     let matches = command.try_get_matches_from_mut(words)?;
     match order_in(&matches) {
         Ok(order) => Ok(order),
-        Err(flaw) => Err(Usage::from(command.error(flaw.kind(), flaw.message())?)),
+        Err(flaw) => Err(told(&mut command, flaw)),
     }
 }

@@ -59,10 +59,14 @@ items-returns-clause-items t c =
 
 pub selection-returns-clause-statement : goal.selection-returns-clause-statement
 selection-returns-clause-statement t c =
-    let condition : Got Source = got_of source_of c.in_ok-condition.condition in
-    let then : Told Stmt = told_of boxed_of c.in_ok-then.then in
+    let condition : Got Source = got_of source_of c.in_ok-condition-2.condition in
+    let then : Told Stmt = told_of boxed_of c.in_ok-condition-2.then in
+    let same_condition = sym c.in_ok-condition-2.ensures.before in
+    let whole = rw same_condition at c.in_ok-condition.ensures in
+    let read = rw (c.in_ok-condition-2.ensures.body, same_condition) at c.inner-then.ensures.statement in
+    let names = rw c.in_ok-condition-2.ensures.body at c.inner-then.ensures.names in
     let e : selection c.args.room (once c.args.room) (twice c.args.room) (names_of c.args.scope.now) (tally_of c.args.tally) (tokens_of c.args.tokens.now) ≡ otherwise (statement c.in_ok-room.room) (names_of c.args.scope.now) condition then =
-    selected _ _ _ _ _ _ condition then c.in_ok-outer.ensures c.in_ok-room.ensures c.in_ok-condition.ensures c.in_ok-then.ensures.statement in
-    let same : otherwise (statement c.in_ok-room.room) (names_of c.inner.new.scope) condition then ≡ otherwise (statement c.in_ok-room.room) (names_of c.args.scope.now) condition then =
-    ap (λ scope. otherwise (statement c.in_ok-room.room) (names_of scope) condition then) c.in_ok-then.ensures.names in
+    selected _ _ _ _ _ _ condition then c.in_ok-outer.ensures c.in_ok-room.ensures whole read in
+    let same : otherwise (statement c.in_ok-room.room) (names_of c.inner-then.new.scope) condition then ≡ otherwise (statement c.in_ok-room.room) (names_of c.args.scope.now) condition then =
+    ap (λ scope. otherwise (statement c.in_ok-room.room) (names_of scope) condition then) names in
     subst (λ read. Gives (told_of stmt_of) c.otherwise.result read) (same ∙ sym e) c.otherwise.ensures.statement

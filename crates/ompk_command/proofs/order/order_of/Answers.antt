@@ -19,10 +19,3 @@ returns-in_err-matches-clause-refused c =
     c.from_residual-in_err-matches.result c.from_residual-in_err-matches.ensures.1
     (λ usage is order asked. is.0 (for_memory _ c.in_err-matches.field-0.0 (ap (λ (a : App). fault_of a words) c.in_ok-command.ensures ∙ asked.0)
     (c.in_err-matches.ensures.kinds (ap is_simple_and_free c.in_ok-command.ensures))))
-
-pub returns-in_err-error-in-Err-clause-refused : goal.returns-in_err-error-in-Err-clause-refused
-returns-in_err-error-in-Err-clause-refused c =
-    let words : List (List ℕ) = map (λ word. string_bytes word) c.args.words.now in
-    on_err (λ usage. (order : Order) → AskFor words order → usage ≡ OutOfMemory)
-    c.from_residual-in_err-error-in-Err.result c.from_residual-in_err-error-in-Err.ensures.1
-    (λ usage is order asked. is)
