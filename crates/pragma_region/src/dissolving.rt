@@ -1,27 +1,54 @@
 //! Kernels without the directive lines of their parallel regions.
 
-ghost use Rattle.std.specs.Prelude.{◌≡◌, Some, IfOk};
-ghost use Rattle.semantics.specs.Directives.Placed.{is_team};
+ghost use Rattle.std.specs.Prelude.{◌≡◌, Some, map, IfOk};
+ghost use Rattle.std.specs.List.{list_all};
 ghost use Rattle.ktree.specs.DirectiveView.{name_of, directive_of};
 ghost use Rattle.ktree.specs.View.{stmt_of, with_item, items_of, kernel_of};
 ghost use Rattle.law_lines.specs.Without.{without_in, without_among};
-ghost use Rattle.pragma_region.specs.Regions.{is_region_line, alone};
+ghost use Rattle.pragma_clause.specs.Views.{written_clause};
+ghost use Rattle.pragma_region.specs.Regions.{is_sharing, is_region, is_region_line, alone};
 
-use ktree::{Directive, Item, Kernel, Place, Stmt, Written};
+use ktree::{Clause, Directive, Item, Kernel, Place, Stmt, Written};
 use pragma::Directives;
 use std::alloc::{AllocError, Global};
 
-/// Whether a directive is `parallel`.
-fn is_parallel(directive: &Directive<Written>) -> bool
-    ensures { result ≡ is_team (Some (directive_of name_of directive.now)) }
+/// Whether a clause makes nothing private.
+fn is_sharing(clause: &Clause<Written>) -> bool
+    ensures { result ≡ is_sharing (written_clause clause.now) }
 {
-    match directive {
-        Directive::Parallel(_) => true,
+    match clause {
+        Clause::DefaultShared | Clause::DefaultNone | Clause::Shared(_) => true,
         _ => false,
     }
 }
 
-/// Whether the line at a place is a `parallel` directive.
+/// Whether all of these do so.
+fn are_sharing(clauses: &[Clause<Written>]) -> bool
+    ensures { result ≡ list_all is_sharing (map written_clause clauses.now) }
+{
+    match clauses {
+        [] => true,
+        [first, rest @ ..] => {
+            if is_sharing(first) {
+                are_sharing(rest)
+            } else {
+                false
+            }
+        }
+    }
+}
+
+/// Whether a directive is a `parallel` of known clauses.
+fn is_parallel(directive: &Directive<Written>) -> bool
+    ensures { result ≡ is_region (Some (directive_of name_of directive.now)) }
+{
+    match directive {
+        Directive::Parallel(clauses) => are_sharing(clauses.as_slice()),
+        _ => false,
+    }
+}
+
+/// Whether the line at a place is a `parallel` directive of known clauses.
 #[tactic(auto, using(crate::proofs::Lines::region_none))]
 fn is_region(directives: &Directives, place: Place) -> bool
     ensures { result ≡ is_region_line directives.now place.line }
