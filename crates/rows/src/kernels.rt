@@ -202,6 +202,21 @@ fn loops_run_as_those_of_c(rt: HostRuntime) {
 }
 
 #[test]
+fn parallel_regions_run_as_those_of_c(rt: HostRuntime) {
+    const ROWS: &[(&str, &str)] = &[
+        (
+            "\n#pragma omp parallel\n{\n#pragma omp for schedule(guided, 2)\nfor (uint64_t i = 0; i < 3; i++) { d[i] = i; }\n#pragma omp for nowait\nfor (uint64_t i = 0; i < 3; i++) { d[i] = d[i] * 10 + i; }\n}",
+            "s = 0\nd = 0 11 22\n",
+        ),
+        (
+            "uint64_t x;\nfor (uint64_t t = 0; t < 3; t++) {\n#pragma omp parallel default(none) shared(d, t, x)\n{\n#pragma omp for private(x) schedule(dynamic)\nfor (uint64_t i = 0; i < 3; i++) { x = t + i; d[i] += x; }\n} }\ns = d[2];",
+            "s = 9\nd = 3 6 9\n",
+        ),
+    ];
+    no_other(&rt, first_other(&rt, rt.alloc(), ROWS));
+}
+
+#[test]
 fn private_scalars_run_as_those_of_c(rt: HostRuntime) {
     const ROWS: &[(&str, &str)] = &[
         (
@@ -357,6 +372,18 @@ fn bodies_are_refused(rt: HostRuntime) {
         (
             "\n#pragma omp parallel for schedule(dynamic, 2)\ns = 1;",
             11,
+        ),
+        (
+            "uint64_t x;\n#pragma omp parallel private(x)\n{\n#pragma omp for\nfor (uint64_t i = 0; i < 3; i++) { x = i; d[i] = x; }\n}",
+            11,
+        ),
+        (
+            "\n#pragma omp parallel\n{\n#pragma omp for\nfor (uint64_t i = 0; i < 3; i++) { s = i; }\n}",
+            14,
+        ),
+        (
+            "\n#pragma omp parallel\n{\n#pragma omp for\nfor (uint64_t i = 0; i < 2; i++) { d[i] = d[i + 1]; }\n}",
+            19,
         ),
         (
             "\n#pragma omp parallel for\nfor (uint64_t i = 0; i < 3; i++) {\n#pragma omp parallel for\nfor (uint64_t j = 0; j < 3; j++) { d[j] = i; } }",

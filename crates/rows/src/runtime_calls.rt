@@ -87,6 +87,21 @@ fn schedules_are_listed(rt: HostRuntime) {
 }
 
 #[test]
+fn regions_of_several_loops_are_listed(rt: HostRuntime) {
+    const ROWS: &[Row] = &[
+        Row {
+            body: "#pragma omp parallel\n{\n#pragma omp for schedule(guided, 2)\nfor (uint64_t i = 0; i < 8; i++) { A[i] = i; }\n#pragma omp for nowait\nfor (uint64_t i = 0; i < 8; i++) { A[i] = A[i] + 1; }\n}",
+            listing: "1.0 __kmpc_fork_call\n1.1 __kmpc_dispatch_init_8u guided,2\n1.1 __kmpc_dispatch_next_8u\n1.1 __kmpc_barrier\n1.2 __kmpc_for_static_init_8u static\n1.2 __kmpc_for_static_fini\n1.2 __kmpc_barrier\n",
+        },
+        Row {
+            body: "#pragma omp parallel for\nfor (uint64_t i = 0; i < 8; i++) { A[i] = i; }\nif (A[0] < 1)\n{\n#pragma omp parallel shared(A)\n{\n#pragma omp for schedule(dynamic)\nfor (uint64_t i = 0; i < 8; i++) { A[i] = i; }\n}\n}\n#pragma omp parallel for schedule(static, 4)\nfor (uint64_t i = 0; i < 8; i++) { A[i] = i; }",
+            listing: "1.0 __kmpc_fork_call\n1.1 __kmpc_for_static_init_8u static\n1.1 __kmpc_for_static_fini\n1.1 __kmpc_barrier\n2.0 __kmpc_fork_call\n2.1 __kmpc_dispatch_init_8u dynamic,1\n2.1 __kmpc_dispatch_next_8u\n2.1 __kmpc_barrier\n3.0 __kmpc_fork_call\n3.1 __kmpc_for_static_init_8u static,4\n3.1 __kmpc_for_static_fini\n3.1 __kmpc_barrier\n",
+        },
+    ];
+    no_other(&rt, first_other(rt.alloc(), ROWS));
+}
+
+#[test]
 fn regions_are_numbered_in_the_order_of_the_text(rt: HostRuntime) {
     const ROWS: &[Row] = &[
         Row {
