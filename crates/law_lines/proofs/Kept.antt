@@ -6,7 +6,7 @@ use Rattle.semantics.specs.Source.Token.{Token, Word, Punctuator, OpenParen, Clo
 use Rattle.semantics.specs.Source.Scope.{Scope}
 use Rattle.semantics.specs.Source.Statements.{ReadsStmt, assign, update, if_only, if_else, for_loop, block, print, ReadsItems, no_more, line, empty_local, first_local, statement, is_closed, stmt_count, statement_count}
 use Rattle.semantics.specs.Source.Grammar.{Reads, headers}
-use Rattle.law_lines.specs.Without.{without_in, without_among, IsTreeOf, HasTokens}
+use Rattle.law_lines.specs.Without.{without_in, without_among, HasTokens}
 use Rattle.law_lines.specs.Laws.{KeptLinesAreRead}
 
 -- a statement, and items, are read from some tokens

@@ -1,7 +1,7 @@
 -- A tree without its directive lines is the same, whichever of them were left out before.
 use Rattle.std.specs.Prelude.{ℕ, Bool, true, false, ◌≡◌, if◌then◌else◌}
 use Rattle.std.proofs.Common.{refl, ap, ◌∙◌}
-use Rattle.semantics.specs.Tree.{Stmt, Assign, Update, If, IfElse, For, Block, Print, Items, no_items, mark, local, stmt, Kernel, strip_stmt, strip_items}
+use Rattle.semantics.specs.Tree.{Stmt, Assign, Update, If, IfElse, For, Block, Print, Items, no_items, mark, local, stmt, strip_stmt, strip_items}
 use Rattle.law_lines.specs.Without.{without_in, without_among}
 use Rattle.law_lines.specs.Laws.{StrippedTreesAreOne}
 

@@ -1,10 +1,10 @@
 -- The lines of regions, part by part.
-use Rattle.std.specs.Prelude.{ℕ, suc, ◌≡◌, ◌≤◌, ◌<◌, ◌+◌, List, [], ◌∷◌, ◌++◌, map, length, get_or, drop, Option, Some, None, codes}
+use Rattle.std.specs.Prelude.{ℕ, suc, ◌≡◌, ◌<◌, ◌+◌, List, [], ◌∷◌, ◌++◌, map, length, get_or, drop, Some, None, codes}
 use Rattle.std.proofs.Common.{refl, sym, ap, ◌∙◌, append_assoc, add-one, drop-cons, arith}
 use Rattle.pragma.specs.Clauses.{Said}
 use Rattle.pragma_region.specs.Listed.{parts_of, part_said}
 use Rattle.pragma_region.specs.declared.listing.RegionPart.{RegionPart}
-use Rattle.semantics.specs.Directives.Listing.{Lines, loop_lines, numbered, loops_text, regions_text}
+use Rattle.semantics.specs.Directives.Listing.{loop_lines, numbered, loops_text, regions_text}
 use Rattle.listing.specs.Regions.{plain_said, printed, AddsPart}
 use Rattle.listing.specs.declared.regions.Listed.{Listed}
 

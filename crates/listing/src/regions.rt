@@ -1,6 +1,6 @@
 //! The regions of a kernel.
 
-ghost use Rattle.std.specs.Prelude.{◌≡◌, ◌+◌, ◌<◌, ◌^◌, ◌++◌, ◌∷◌, [], map, option_map, OnOk, OnErr, IfOk, IfErr};
+ghost use Rattle.std.specs.Prelude.{◌≡◌, ◌+◌, ◌<◌, ◌^◌, ◌++◌, map, OnOk, OnErr, IfOk, IfErr};
 ghost use Rattle.semantics.specs.Theorems.{Begins};
 ghost use Rattle.ktree.specs.DirectiveView.{schedule_of};
 ghost use Rattle.pragma.specs.Views.{said_of};

@@ -1,6 +1,6 @@
 -- What the passes before the dependence test find out together, and which of them refuses.
 use Rattle.std.specs.Prelude.{ℕ, ◌≡◌, List, [], length, Some}
-use Rattle.std.proofs.Common.{refl, sym, ap, ◌∙◌, subst, inl, inr}
+use Rattle.std.proofs.Common.{sym, ap, ◌∙◌, subst, inr}
 use Rattle.std.proofs.Math.Path.{fun_ext}
 use Rattle.semantics.specs.Tree.{Kernel, strip}
 use Rattle.semantics.specs.Source.Grammar.{ReadsText}
@@ -11,7 +11,6 @@ use Rattle.semantics.specs.Directives.Naming.{IsAttached}
 use Rattle.semantics.specs.Theorems.{StandsFor}
 use Rattle.semantics.proofs.EraseTextLaw.{text_erased}
 use Rattle.law_lines.proofs.Stripped.{stripped_trees_are_one}
-use Rattle.ktree.specs.View.{kernel_of}
 use Rattle.ktree.specs.declared.refusal.Refusal.{Refusal}
 use Rattle.pragma_named.specs.Known.{Known, Lines, known_clauses, lines_known}
 use Rattle.pragma_region.specs.Regions.{is_region_line, alone}

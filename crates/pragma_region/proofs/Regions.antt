@@ -1,7 +1,7 @@
 -- What directive lines add to the list of regions.
-use Rattle.std.specs.Prelude.{ℕ, ◌≡◌, ◌+◌, ◌<◌, List, [], ◌∷◌, ◌++◌, map, flat_map, length, get_or, drop, Option, Some, None}
-use Rattle.std.proofs.Common.{refl, sym, ap, ◌∙◌, append_assoc}
-use Rattle.semantics.specs.Tree.{Name, Stmt, Items}
+use Rattle.std.specs.Prelude.{ℕ, ◌≡◌, ◌+◌, ◌<◌, List, [], ◌++◌, map, length, get_or, drop, Option, Some}
+use Rattle.std.proofs.Common.{sym, ap, ◌∙◌}
+use Rattle.semantics.specs.Tree.{Name, Stmt}
 use Rattle.semantics.specs.Source.Text.{line_at}
 use Rattle.semantics.specs.Directives.Directive.{Directive}
 use Rattle.semantics.specs.Directives.DirectiveGrammar.{ReadsLine}

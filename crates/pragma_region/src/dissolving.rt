@@ -3,7 +3,7 @@
 ghost use Rattle.std.specs.Prelude.{◌≡◌, Some, map, IfOk};
 ghost use Rattle.std.specs.List.{list_all};
 ghost use Rattle.ktree.specs.DirectiveView.{name_of, directive_of};
-ghost use Rattle.ktree.specs.View.{stmt_of, with_item, items_of, kernel_of};
+ghost use Rattle.ktree.specs.View.{stmt_of, items_of, kernel_of};
 ghost use Rattle.law_lines.specs.Without.{without_in, without_among};
 ghost use Rattle.pragma_clause.specs.Views.{written_clause};
 ghost use Rattle.pragma_region.specs.Regions.{is_sharing, is_region, is_region_line, alone};

@@ -1,4 +1,4 @@
-use Rattle.std.specs.Prelude.{ℕ, ◌≡◌, List}
+use Rattle.std.specs.Prelude.{ℕ, List}
 use Rattle.std.proofs.Common.{ap, ◌∙◌, subst, length}
 use Rattle.std.proofs.lemmas.Result.{IfErr-weaker}
 use Rattle.semantics.specs.Directives.Naming.{IsAttached}

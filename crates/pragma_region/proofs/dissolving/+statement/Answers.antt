@@ -1,4 +1,4 @@
-use Rattle.std.proofs.Common.{◌≡◌, ◌∷◌, refl, sym, ap, ◌∙◌}
+use Rattle.std.proofs.Common.{◌∷◌, refl, sym, ap, ◌∙◌}
 use Rattle.semantics.specs.Tree
 use Rattle.ktree.specs.View.{items_of}
 use Rattle.ktree.specs.declared.statement.Item.{Item}
