@@ -83,6 +83,11 @@ fn clauses_stand_in_any_order(rt: HostRuntime) {
             " # pragma omp\tparallel for collapse ( 3 ),schedule(dynamic ,16777216)",
             Ok((16777216, 3)),
         ),
+        ("#pragma omp for collapse(2)", Ok((0, 2))),
+        (
+            "#pragma omp for schedule(dynamic, 3) nowait private(x)",
+            Ok((3, 0)),
+        ),
     ];
     no_other(&rt, other_outcome(rt.alloc(), ROWS));
 }
@@ -102,7 +107,9 @@ fn each_clause_stands_once(rt: HostRuntime) {
             Err(11),
         ),
         ("#pragma omp parallel for nowait", Err(11)),
-        ("#pragma omp for collapse(2)", Err(11)),
+        ("#pragma omp for nowait, nowait", Err(11)),
+        ("#pragma omp for default(shared)", Err(11)),
+        ("#pragma omp parallel", Err(11)),
     ];
     no_other(&rt, other_outcome(rt.alloc(), ROWS));
 }
