@@ -269,8 +269,13 @@ class Tried:
 
     def __init__(self, rt):
         self.lock, self.rt = threading.Lock(), rt
+        self.sums = self.noted()
+
+    @staticmethod
+    def noted():
+        """The lines of the file."""
         rows = read(TRIED).splitlines() if os.path.isfile(TRIED) else []
-        self.sums = dict(row.split() for row in rows)
+        return dict(row.split() for row in rows)
 
     def sum_of(self, crate):
         """The sum of a crate's sources with its edits, of the sources of those below without their proofs, and of the toolchain."""
@@ -285,12 +290,13 @@ class Tried:
         return self.sums.get(crate.name) == self.sum_of(crate)
 
     def note(self, crate, known):
-        """Notes that all edits of a crate are refused; crates that have none any more are dropped."""
+        """Notes that all edits of a crate are refused, and gives its sum; crates that have none any more are dropped."""
         with self.lock:
-            self.sums[crate.name] = self.sum_of(crate)
+            self.sums = {**self.noted(), crate.name: self.sum_of(crate)}
             rows = [f"{name} {sum}\n" for name, sum in sorted(self.sums.items()) if name in known]
             with open(TRIED, "w", encoding="utf-8") as it:
                 it.writelines(rows)
+            return self.sums[crate.name]
 
 
 def read_all(rt):
@@ -331,9 +337,8 @@ def main(words):
         failed, shown, checks = try_crate(rt, crate, files[crate.name], was_proved)
         count = len(files[crate.name])
         took = time.time() - begun
-        print(f"edits of {crate.name}: {count - len(failed)} of {count} refused, {shown} together, {checks} checks, {took:.0f} s", flush=True)
-        if not failed:
-            tried.note(crate, files)
+        noted = "" if failed else f", noted as {tried.note(crate, files)}"
+        print(f"edits of {crate.name}: {count - len(failed)} of {count} refused, {shown} together, {checks} checks, {took:.0f} s{noted}", flush=True)
         return failed, count
 
     work = {}
