@@ -5,6 +5,7 @@ ghost use Rattle.std.specs.Arc.{arc_value};
 
 use crate::waiting::{Bell, pause};
 use std::alloc::{AllocError, Global};
+use std::marker::Model;
 use std::sync::{Arc, Mutex, Wait};
 
 /// Work that any number of threads may take part in at once, each with these tools.
@@ -13,7 +14,7 @@ pub trait Job<T> {
     fn work(&self, tools: &T);
 }
 
-/// Where the first of a crew posts a job, and so many others look for it.
+/// Where the first of a crew posts a job, and so many others look for it. Contracts see it as how many others there are.
 #[derive(Drop)]
 pub struct Crew<J: Drop> {
     others: u64,
@@ -21,9 +22,19 @@ pub struct Crew<J: Drop> {
     posted: Mutex<Option<Arc<J>>>,
 }
 
+impl<J: Drop> Model for Crew<J> {
+    ghost use Rattle.std.specs.Prelude.{ℕ};
+
+    ghost Value = { ℕ };
+
+    ghost view = { λ c. c.others };
+}
+
 impl<J: Drop> Crew<J> {
     /// A crew of so many threads beside the first.
-    pub fn new(others: u64) -> Crew<J> {
+    pub fn new(others: u64) -> Crew<J>
+        ensures { result ≡ others }
+    {
         Crew {
             others,
             bell: Bell::new(),
@@ -32,7 +43,9 @@ impl<J: Drop> Crew<J> {
     }
 
     /// How many threads there are beside the first.
-    pub fn others(&self) -> u64 {
+    pub fn others(&self) -> u64
+        ensures { result ≡ self.now }
+    {
         self.others
     }
 

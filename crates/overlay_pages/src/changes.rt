@@ -1,9 +1,10 @@
 //! The changes of a finished chunk.
 
-ghost use Rattle.std.specs.Prelude.{◌≡◌};
+ghost use Rattle.std.specs.Prelude.{◌≡◌, ◌++◌, [], length, OnOk, IfErr};
 ghost use Rattle.store.specs.Flat.{values_of, filled};
 ghost use Rattle.overlay_pages.specs.Over.{written_over, writes_of};
 
+use std::alloc::{AllocError, Global};
 use std::marker::Model;
 use store::Store;
 
@@ -35,6 +36,34 @@ impl Changes {
         ensures { result ≡ writes.items }
     {
         Changes { writes }
+    }
+
+    /// No changes.
+    pub fn none(alloc: Global) -> Changes
+        ensures { result ≡ [] }
+    {
+        Changes {
+            writes: Vec::new(alloc),
+        }
+    }
+
+    /// How many there are.
+    pub fn len(&self) -> u64
+        ensures { result ≡ length self.now }
+    {
+        self.writes.len() as u64
+    }
+
+    /// Adds later changes.
+    ///
+    /// # Errors
+    ///
+    /// Where memory runs out. The changes are then as before.
+    pub fn append(&mut self, mut later: Changes) -> Result<(), AllocError>
+        ensures added { OnOk result (self.new ≡ self.old ++ later.entry) }
+        ensures kept { IfErr result (λ refusal. self.new ≡ self.old) }
+    {
+        self.writes.append(&mut later.writes)
     }
 
     /// The changes, in no order that is told.

@@ -1,61 +1,107 @@
--- A store after one chunk's changes more.
-use Rattle.std.specs.Prelude.{ℕ, ◌≡◌, ◌<◌, ◌⊎◌, List, [], ◌∷◌, ◌++◌, length, map, drop, slice_get, Option, Some, None}
-use Rattle.std.proofs.Common.{refl, ap, ◌∙◌, inl, inr, arith}
-use Rattle.std.proofs.lemmas.Option.{slice_get_within}
-use Rattle.std.proofs.lemmas.List.Elements.{All-push}
-use Rattle.schedule.proofs.Sized.{get-append_left, get-append_seam}
+-- A store after the changes of chunks.
+use Rattle.std.specs.Prelude.{ℕ, ◌≡◌, ◌+◌, ◌<◌, ◌⊎◌, List, [], ◌∷◌, ◌++◌, length, map, take, drop, slice_get, All, Option, Some, None}
+use Rattle.std.proofs.Common.{refl, sym, ap, ◌∙◌, inl, inr, subst, arith}
+use Rattle.std.proofs.lemmas.List.{take-append-drop, length-drop}
+use Rattle.std.proofs.lemmas.Option.{slice_get_within, same_Some}
+use Rattle.std.proofs.lemmas.List.Elements.{All-nil, All-cons, All-append}
+use Rattle.schedule.proofs.Sized.{get-append_left}
 use Rattle.store.specs.Kept.{Kept}
 use Rattle.store.specs.Flat.{values_of, filled}
 use Rattle.lower_code.proofs.Keeping.{filled_values}
-use Rattle.overlay_pages.specs.Over.{writes_of, written_over}
+use Rattle.overlay_pages.specs.declared.changes.Change.{Change}
+use Rattle.overlay_pages.specs.Over.{Writes, writes_of, written_over, last_of}
 use Rattle.overlay_pages.proofs.Overlays.{length_over}
+use Rattle.team.specs.declared.log.EndedChunk.{EndedChunk}
 use Rattle.team.specs.declared.worker.ChunkChanges.{ChunkChanges}
 use Rattle.team.specs.Applied.{NoneWrites, OneWrites, AreApplied}
+use Rattle.team.specs.Logged.{changes_in, logged}
 use Rattle.team.proofs.Merging.{get_none, get_some}
 
-module _ (before now later : List ℕ) (cs : List ChunkChanges) (c : ChunkChanges) (was : AreApplied before now cs) (is : later ≡ written_over (writes_of c.changes) now) where
-  module _ (place : ℕ) (lt : place < length before) where
-    -- another chunk wrote the cell, and this one leaves it
-    still : slice_get later place ≡ slice_get now place → OneWrites cs now place → OneWrites (cs ++ c ∷ []) later place
-    still same one =
-        record {
+get-append_right : {X : Type 0} (xs ys : List X) (k : ℕ) → slice_get (xs ++ ys) (length xs + k) ≡ slice_get ys k
+get-append_right [] ys k = refl
+get-append_right (x ∷ xs) ys k = get-append_right xs ys k
+
+abbrev Left : List ℕ → List ℕ → List ChunkChanges → ℕ → Type 0
+Left before after cs place = (NoneWrites cs place × (slice_get after place ≡ slice_get before place)) ⊎ OneWrites cs after place
+
+-- the changes of some chunks, and then those of others
+pub applied_both : (before now later : List ℕ) (cs ds : List ChunkChanges) → AreApplied before now cs → AreApplied now later ds → AreApplied before later (cs ++ ds)
+applied_both before now later cs ds first second =
+    let long = first.long in
+    record { long = second.long ∙ first.long; each = λ place lt. go place (first.each place lt) (second.each place (omega arith)) }
+  where
+    go : (place : ℕ) → Left before now cs place → Left now later ds place → Left before later (cs ++ ds) place
+    go place before_is (inr one) =
+        inr (record { number = length cs + one.number; chunk = one.chunk; among = get-append_right cs ds one.number ∙ one.among; value = one.value; writes = one.writes; holds = one.holds })
+    go place (inl (none, is)) (inl (no_more, same)) = inl (All-append (λ (c : ChunkChanges). writes_of c.changes place ≡ None) cs ds none no_more, same ∙ is)
+    go place (inr one) (inl (no_more, same)) =
+        inr
+        (record {
           number = one.number;
           chunk = one.chunk;
-          among = get-append_left cs (c ∷ []) one.number (slice_get_within cs one.number one.chunk one.among) ∙ one.among;
+          among = get-append_left cs ds one.number (slice_get_within cs one.number one.chunk one.among) ∙ one.among;
           value = one.value;
           writes = one.writes;
           holds = same ∙ one.holds;
-        }
+        })
 
-    left : writes_of c.changes place ≡ None
-        → (NoneWrites cs place × (slice_get now place ≡ slice_get before place)) ⊎ OneWrites cs now place
-        → (NoneWrites (cs ++ c ∷ []) place × (slice_get later place ≡ slice_get before place)) ⊎ OneWrites (cs ++ c ∷ []) later place
-    left e (inl (none, same)) =
-        inl (All-push (λ (d : ChunkChanges). writes_of d.changes place ≡ None) cs c none e, ap (λ l. slice_get l place) is ∙ get_none (writes_of c.changes) now place e ∙ same)
-    left e (inr one) = inr (still (ap (λ l. slice_get l place) is ∙ get_none (writes_of c.changes) now place e) one)
+-- the later changes win
+writes_both : (xs ys : List Change) (p : ℕ) → writes_of (xs ++ ys) p ≡ last_of (writes_of ys p) (writes_of xs p)
+writes_both [] ys p = none (writes_of ys p)
+  where
+    none : (o : Option ℕ) → o ≡ last_of o None
+    none None = refl
+    none (Some n) = refl
+writes_both (x ∷ xs) ys p = ap (λ o. last_of o _) (writes_both xs ys p) ∙ three (writes_of ys p) (writes_of xs p) _
+  where
+    three : (a b c : Option ℕ) → last_of (last_of a b) c ≡ last_of a (last_of b c)
+    three None b c = refl
+    three (Some n) b c = refl
 
-    wrote : (n : ℕ) → writes_of c.changes place ≡ Some n → OneWrites (cs ++ c ∷ []) later place
-    wrote n e =
-        let long = was.long in
-        record {
-          number = length cs;
-          chunk = c;
-          among = get-append_seam cs c [] (length cs) refl;
-          value = n;
-          writes = e;
-          holds = ap (λ l. slice_get l place) is ∙ get_some (writes_of c.changes) now place n (omega arith) e;
-        }
+-- a chunk among those that are logged
+record IsWritten (cs : List ChunkChanges) (p n : ℕ) : Type 0 where
+  number : ℕ
+  chunk : ChunkChanges
+  among : slice_get cs number ≡ Some chunk
+  writes : writes_of chunk.changes p ≡ Some n
 
-    each : (o : Option ℕ) → writes_of c.changes place ≡ o → (NoneWrites (cs ++ c ∷ []) place × (slice_get later place ≡ slice_get before place)) ⊎ OneWrites (cs ++ c ∷ []) later place
-    each None e = left e (was.each place lt)
-    each (Some n) e = inr (wrote n e)
+module _ (p : ℕ) where
+  split : (n : ℕ) (ws : List Change) → writes_of ws p ≡ last_of (writes_of (drop n ws) p) (writes_of (take n ws) p)
+  split n ws = ap (λ (k : List Change). writes_of k p) (sym (take-append-drop n ws)) ∙ writes_both (take n ws) (drop n ws) p
 
-  pub applied_more : AreApplied before later (cs ++ c ∷ [])
-  applied_more =
-      record {
-        long = ap (λ (l : List ℕ). length l) is ∙ length_over (writes_of c.changes) now ∙ was.long;
-        each = λ place lt. each place lt (writes_of c.changes place) refl;
-      }
+  none_logged : (es : List EndedChunk) (ws : List Change) → writes_of ws p ≡ None → NoneWrites (logged es ws) p
+  none_logged [] ws none = All-nil (λ (c : ChunkChanges). writes_of c.changes p ≡ None)
+  none_logged (e ∷ es) ws none = go (writes_of (drop e.count ws) p) (writes_of (take e.count ws) p) refl refl (sym (split e.count ws) ∙ none)
+    where
+      go : (o q : Option ℕ) → writes_of (drop e.count ws) p ≡ o → writes_of (take e.count ws) p ≡ q → last_of o q ≡ None → NoneWrites (logged (e ∷ es) ws) p
+      go None q later own is = All-cons (λ (c : ChunkChanges). writes_of c.changes p ≡ None) _ _ (own ∙ is) (none_logged es (drop e.count ws) later)
+      go (Some n) q later own is = absurd (cc is)
+
+  one_logged : (es : List EndedChunk) (ws : List Change) (n : ℕ) → changes_in es ≡ length ws → writes_of ws p ≡ Some n → IsWritten (logged es ws) p n
+  one_logged [] [] n told is = absurd (cc is)
+  one_logged [] (w ∷ ws) n told is = absurd (omega arith)
+  one_logged (e ∷ es) ws n told is = go (writes_of (drop e.count ws) p) refl (sym (split e.count ws) ∙ is)
+    where
+      go : (o : Option ℕ) → writes_of (drop e.count ws) p ≡ o → last_of (writes_of (drop e.count ws) p) (writes_of (take e.count ws) p) ≡ Some n → IsWritten (logged (e ∷ es) ws) p n
+      go None later here =
+          record { number = 0; chunk = _; among = refl; writes = sym (ap (λ o. last_of o (writes_of (take e.count ws) p)) later) ∙ here }
+      go (Some m) later here =
+          let same : m ≡ n = same_Some m n (sym (ap (λ o. last_of o (writes_of (take e.count ws) p)) later) ∙ here) in
+          let left = length-drop e.count ws in
+        let r = one_logged es (drop e.count ws) n (omega arith) (later ∙ ap Some same) in
+          record { number = 1 + r.number; chunk = r.chunk; among = r.among; writes = r.writes }
+
+-- all changes at once leave what the chunks' changes leave one after another
+pub applied_log : (es : List EndedChunk) (ws : List Change) (before after : List ℕ) → changes_in es ≡ length ws → after ≡ written_over (writes_of ws) before
+    → AreApplied before after (logged es ws)
+applied_log es ws before after told is =
+    record { long = ap (λ (l : List ℕ). length l) is ∙ length_over (writes_of ws) before; each = λ place lt. go place lt (writes_of ws place) refl }
+  where
+    go : (place : ℕ) → place < length before → (o : Option ℕ) → writes_of ws place ≡ o → Left before after (logged es ws) place
+    go place lt None none = inl (none_logged place es ws none, ap (λ l. slice_get l place) is ∙ get_none (writes_of ws) before place none)
+    go place lt (Some n) some =
+        let r = one_logged place es ws n told some in
+        inr (record { number = r.number; chunk = r.chunk; among = r.among; value = n; writes = r.writes; holds = ap (λ l. slice_get l place) is ∙ get_some (writes_of ws) before place n lt some })
 
 -- a store filled with cells has the same shape
 pub same_shape : (cells : List ℕ) (ks : List Kept) → map (λ (k : Kept). k.lengths) (filled cells ks) ≡ map (λ (k : Kept). k.lengths) ks
@@ -63,6 +109,6 @@ same_shape cells [] = refl
 same_shape cells (k ∷ ks) = ap (λ l. k.lengths ∷ l) (same_shape (drop (length k.values) cells) ks)
 
 -- and these cells
-pub filled_over : (ks later : List Kept) (c : ChunkChanges) → later ≡ filled (written_over (writes_of c.changes) (values_of ks)) ks → values_of later ≡ written_over (writes_of c.changes) (values_of ks)
-filled_over ks later c e =
-    ap values_of e ∙ filled_values (written_over (writes_of c.changes) (values_of ks)) ks (length_over (writes_of c.changes) (values_of ks))
+pub filled_over : (ks later : List Kept) (ws : List Change) → later ≡ filled (written_over (writes_of ws) (values_of ks)) ks → values_of later ≡ written_over (writes_of ws) (values_of ks)
+filled_over ks later ws e =
+    ap values_of e ∙ filled_values (written_over (writes_of ws) (values_of ks)) ks (length_over (writes_of ws) (values_of ks))

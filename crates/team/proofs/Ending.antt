@@ -27,7 +27,7 @@ module _ (l : LoweredLoop) (registers : List ℕ) (ks : List Kept) (chunks : Lis
       }
 
   -- one more end
-  pub taken_more : (seats seats' : List SeatState) (cs cs' : List ChunkChanges) (f : Finished) → seats' ≡ seats ++ f.seat ∷ [] → cs' ≡ cs ++ f.changes.items
+  pub taken_more : (seats seats' : List SeatState) (cs cs' : List ChunkChanges) (f : Finished) → seats' ≡ seats ++ f.seat ∷ [] → cs' ≡ cs ++ f.changes
       → AreTaken l registers ks chunks of seats cs → IsFinished l registers ks chunks of f → AreTaken l registers ks chunks of seats' cs'
   taken_more seats seats' cs cs' f more joined was one =
       let number : ChunkChanges → ℕ = λ c. c.work.chunk.0 in
@@ -35,9 +35,9 @@ module _ (l : LoweredLoop) (registers : List ℕ) (ks : List Kept) (chunks : Lis
         named = All-same (λ (s : SeatState). s.of ≡ of) seats' (seats ++ f.seat ∷ []) more (All-push (λ (s : SeatState). s.of ≡ of) seats f.seat was.named one.seat);
         ended = All-same (λ (s : SeatState). s.ended ≡ true) seats' (seats ++ f.seat ∷ []) more (All-push (λ (s : SeatState). s.ended ≡ true) seats f.seat was.ended one.ended);
         numbers =
-            ap (λ (k : List ChunkChanges). map number k) joined ∙ map-append number cs f.changes.items ∙ (λ i. was.numbers i ++ one.numbers i)
+            ap (λ (k : List ChunkChanges). map number k) joined ∙ map-append number cs f.changes ∙ (λ i. was.numbers i ++ one.numbers i)
             ∙ sym (ap all_tickets more ∙ all_tickets-snoc seats f.seat);
-        each = All-same (IsChange l registers ks chunks) cs' (cs ++ f.changes.items) joined (All-append (IsChange l registers ks chunks) cs f.changes.items was.each one.each);
+        each = All-same (IsChange l registers ks chunks) cs' (cs ++ f.changes) joined (All-append (IsChange l registers ks chunks) cs f.changes was.each one.each);
       }
 
 -- where there is no chunk, no changes are those of all

@@ -4,3 +4,4 @@ pub mod Dealing
 pub mod Keeping
 pub mod Applying
 pub mod Merging
+pub mod Logging

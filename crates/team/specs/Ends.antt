@@ -46,8 +46,8 @@ IsChangeOf job c = IsChange job.lowered.now job.registers.now job.store.now job.
 pub record IsFinished (l : LoweredLoop) (registers : List ℕ) (ks : List Kept) (chunks : List Chunk) (of : DrawingName) (f : Finished) : Type 0 where
   pub seat : f.seat.of ≡ of
   pub ended : f.seat.ended ≡ true
-  pub numbers : map (λ c. c.work.chunk.0) f.changes.items ≡ f.seat.tickets
-  pub each : All (IsChange l registers ks chunks) f.changes.items
+  pub numbers : map (λ c. c.work.chunk.0) f.changes ≡ f.seat.tickets
+  pub each : All (IsChange l registers ks chunks) f.changes
 
 -- seats of a drawing, each of which met its end, and the changes of the chunks that they drew
 pub record AreTaken (l : LoweredLoop) (registers : List ℕ) (ks : List Kept) (chunks : List Chunk) (of : DrawingName) (seats : List SeatState) (cs : List ChunkChanges) : Type 0 where

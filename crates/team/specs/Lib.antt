@@ -3,3 +3,4 @@ pub mod Applied
 pub mod Ends
 pub mod Dealt
 pub mod Places
+pub mod Logged

@@ -29,7 +29,7 @@ pub record Aim : Type 0 where
 
 -- what this worker leaves, by the way that chunks come to it
 abbrev pub IsEndBy : Aim → Way → End → Type 0
-IsEndBy a (Dealt size) (Share cs) = IsDealt a.lowered a.registers a.store a.chunks (own_numbers size (length a.chunks) a.workers a.number) cs.items
+IsEndBy a (Dealt size) (Share cs) = IsDealt a.lowered a.registers a.store a.chunks (own_numbers size (length a.chunks) a.workers a.number) cs
 IsEndBy a (Drawn draws) (Draws f) = IsFinished a.lowered a.registers a.store a.chunks draws.drawing f
 IsEndBy a _ _ = ⊥
 

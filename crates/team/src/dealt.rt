@@ -8,12 +8,14 @@ ghost use Rattle.schedule.specs.Part.{static_kind};
 ghost use Rattle.team.specs.declared.way.Way.TheVariants.{Dealt};
 ghost use Rattle.team.specs.Ends.{IsReady};
 ghost use Rattle.team.specs.Dealt.{IsDealt, own_numbers};
+ghost use Rattle.team.specs.Logged.{joined};
 ghost use Rattle.team.specs.Places.{Aim, AreFor};
 
 use crate::gate::{Gate, Taken};
 use crate::job::Job;
+use crate::log::ChangeLog;
 use crate::place::Place;
-use crate::worker::{ChunkChanges, run_taken};
+use crate::worker::run_taken;
 use ktree::{Refusal, Workers};
 use overlay::Worker;
 use schedule::static_init;
@@ -27,7 +29,7 @@ pub(crate) fn run_own<G: Gate>(
     worker: u64,
     size: Option<u64>,
     gate: &G,
-) -> Result<Vec<ChunkChanges>, Refusal>
+) -> Result<ChangeLog, Refusal>
     requires ready { IsReady job }
     requires chunks { job.chunks.now
         ≡ cut (static_kind size) (length (vectors job.space.now)) workers }
@@ -35,12 +37,12 @@ pub(crate) fn run_own<G: Gate>(
     requires worker { worker < workers }
     ensures dealt { IfOk result (λ cs. IsDealt job.entry.lowered.now job.entry.registers.now
         job.entry.store.now job.entry.chunks.now
-        (own_numbers size (length job.entry.chunks.now) workers worker) cs.items) }
+        (own_numbers size (length job.entry.chunks.now) workers worker) cs) }
     ensures refusal { IfErr result (λ refusal. refusal ≡ Refusal.OutOfMemory) }
 {
     let part = static_init(job.space.count(), workers, worker, size);
     let mut runner = Worker::new(alloc, job.store)?;
-    let mut changes = Vec::new(alloc);
+    let mut changes = ChangeLog::new(alloc);
     let mut turn = 0;
     while let Some(number) = part.number(turn) {
         let taken = Taken {
@@ -56,19 +58,19 @@ pub(crate) fn run_own<G: Gate>(
 }
 
 /// What the own chunks of all workers change, where all of them have left that.
-pub(crate) fn gather(alloc: Global, places: Vec<Place>) -> Result<Vec<ChunkChanges>, Refusal>
+pub(crate) fn gather(alloc: Global, places: Vec<Place>) -> Result<Vec<ChangeLog>, Refusal>
     ensures dealt { (aim : Aim) (size : Option ℕ) → aim.way ≡ Dealt size → AreFor aim places.items
         → IfOk result (λ cs. IsDealt aim.lowered aim.registers aim.store aim.chunks
         (flat_map (own_numbers size (length aim.chunks) aim.workers) (below (vec_len places)))
-        cs.items) }
+        (joined cs.items)) }
     ensures refusal { IfErr result (λ refusal. refusal ≡ Refusal.OutOfMemory) }
 {
-    let mut changes = Vec::new(alloc);
+    let mut logs = Vec::new(alloc);
     for place in places {
-        let Some(mut theirs) = place.share() else {
+        let Some(log) = place.share() else {
             return Err(Refusal::OutOfMemory);
         };
-        changes.append(&mut theirs)?;
+        logs.push(log)?;
     }
-    Ok(changes)
+    Ok(logs)
 }

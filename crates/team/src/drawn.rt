@@ -7,10 +7,12 @@ ghost use Rattle.lower.specs.declared.lowered.LoweredLoop.{LoweredLoop};
 ghost use Rattle.team.specs.declared.way.Draw.{Draw};
 ghost use Rattle.team.specs.declared.way.Way.TheVariants.{Drawn};
 ghost use Rattle.team.specs.Ends.{AreTaken, AreBack, AreDrawn, AreAll};
+ghost use Rattle.team.specs.Logged.{joined};
 ghost use Rattle.team.specs.Places.{Aim, AreFor};
 
+use crate::log::ChangeLog;
 use crate::place::Place;
-use crate::worker::{ChunkChanges, Finished};
+use crate::worker::Finished;
 use draw::{DrawSeat, Drawing};
 use ktree::Refusal;
 use std::alloc::Global;
@@ -19,29 +21,23 @@ use std::alloc::Global;
 pub(crate) fn collect(
     alloc: Global,
     places: Vec<Place>,
-) -> Result<(Vec<DrawSeat>, Vec<ChunkChanges>), Refusal>
+) -> Result<(Vec<DrawSeat>, Vec<ChangeLog>), Refusal>
     ensures taken { (aim : Aim) (draw : Draw) → aim.way ≡ Drawn draw → AreFor aim places.items
         → IfOk result (λ r. AreTaken aim.lowered aim.registers aim.store aim.chunks draw.drawing
-        r.0.items r.1.items) }
+        r.0.items (joined r.1.items)) }
     ensures len { IfOk result (λ r. length r.0.items ≡ vec_len places) }
     ensures refusal { IfErr result (λ refusal. refusal ≡ Refusal.OutOfMemory) }
 {
     let mut seats = Vec::new(alloc);
-    let mut changes = Vec::new(alloc);
+    let mut logs = Vec::new(alloc);
     for place in places {
-        let Some(
-            Finished {
-                seat,
-                changes: mut theirs,
-            },
-        ) = place.draws()
-        else {
+        let Some(Finished { seat, changes }) = place.draws() else {
             return Err(Refusal::OutOfMemory);
         };
         seats.push(seat)?;
-        changes.append(&mut theirs)?;
+        logs.push(changes)?;
     }
-    Ok((seats, changes))
+    Ok((seats, logs))
 }
 
 /// What the workers of a loop leave: their drawing, the seat of each, and what the chunks that they
@@ -50,15 +46,15 @@ pub(crate) fn collect(
 pub(crate) struct TeamEnd {
     pub(crate) drawing: Drawing,
     pub(crate) seats: Vec<DrawSeat>,
-    pub(crate) changes: Vec<ChunkChanges>,
+    pub(crate) changes: Vec<ChangeLog>,
 }
 
 /// What all chunks of a loop change: where all seats are back, no chunk was left out.
-pub(crate) fn all_changes(end: TeamEnd) -> Vec<ChunkChanges>
+pub(crate) fn all_changes(end: TeamEnd) -> Vec<ChangeLog>
     requires { AreBack end.drawing end.seats.items }
     ensures { (l : LoweredLoop) (registers : List ℕ) (ks : List Kept) (chunks : List Chunk)
-        → AreDrawn l registers ks chunks end.drawing end.seats.items end.changes.items
-        → AreAll l registers ks chunks result.items }
+        → AreDrawn l registers ks chunks end.drawing end.seats.items (joined end.changes.items)
+        → AreAll l registers ks chunks (joined result.items) }
 {
     let TeamEnd {
         drawing,

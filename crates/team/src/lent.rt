@@ -5,6 +5,7 @@ ghost use Rattle.semantics.specs.Loops.Chunk.{cut};
 ghost use Rattle.nest_space.specs.Space.{Turns, vectors};
 ghost use Rattle.schedule.specs.Sched.{kind_of};
 ghost use Rattle.team.specs.Ends.{IsReady, IsSplit, AreAll};
+ghost use Rattle.team.specs.Logged.{joined};
 ghost use Rattle.team.specs.Places.{Aim, IsEnd, AreFor, AreLeft, IsWay, aim_of};
 
 use crate::dealt::{gather, run_own};
@@ -12,9 +13,10 @@ use crate::drawn::{TeamEnd, all_changes, collect};
 use crate::gate::Gate;
 use crate::grounds::Grounds;
 use crate::job::Job;
+use crate::log::ChangeLog;
 use crate::place::{End, Place, Plan};
 use crate::way::{Draw, Way, seat_of, way_of};
-use crate::worker::{ChunkChanges, Member, work};
+use crate::worker::{Member, work};
 use crew::{Crew, lend};
 use ktree::{Refusal, Workers};
 use lower::LoweredLoop;
@@ -142,10 +144,10 @@ impl<'l, G: Gate> crew::Job<G> for LentLoop<'l> {
 }
 
 /// What all chunks of a loop change, where all of its workers have left theirs.
-fn changes_left(alloc: Global, way: Way, places: Vec<Place>) -> Result<Vec<ChunkChanges>, Refusal>
+fn changes_left(alloc: Global, way: Way, places: Vec<Place>) -> Result<Vec<ChangeLog>, Refusal>
     requires { (aim : Aim) × (space : List Turns) × AreLeft aim space way places.items }
     ensures all { (aim : Aim) (space : List Turns) → AreLeft aim space way places.items
-        → IfOk result (λ cs. AreAll aim.lowered aim.registers aim.store aim.chunks cs.items) }
+        → IfOk result (λ cs. AreAll aim.lowered aim.registers aim.store aim.chunks (joined cs.items)) }
     ensures refusal { IfErr result (λ refusal. refusal ≡ Refusal.OutOfMemory) }
 {
     match way {
@@ -163,10 +165,11 @@ fn changes_left(alloc: Global, way: Way, places: Vec<Place>) -> Result<Vec<Chunk
 }
 
 /// Takes a loop back from its workers: its store, and what all chunks change.
-fn taken_back(lent: LentLoop<'_>) -> (Store, Result<Vec<ChunkChanges>, Refusal>)
+fn taken_back(lent: LentLoop<'_>) -> (Store, Result<Vec<ChangeLog>, Refusal>)
     ensures store { result.0 ≡ lent.entry.store }
     ensures all { IfOk result.1 (λ cs. AreAll lent.entry.lowered.now
-        lent.entry.grounds.registers.items lent.entry.store lent.entry.grounds.chunks cs.items) }
+        lent.entry.grounds.registers.items lent.entry.store lent.entry.grounds.chunks
+        (joined cs.items)) }
     ensures refusal { IfErr result.1 (λ refusal. refusal ≡ Refusal.OutOfMemory) }
 {
     let _count = lent.workers.get();
@@ -195,12 +198,12 @@ pub(crate) fn lent_changes<'l, R: Wait, G: Gate>(
     workers: Workers,
     sched: &Sched,
     gate: &G,
-) -> Result<Vec<ChunkChanges>, Refusal>
+) -> Result<Vec<ChangeLog>, Refusal>
     requires split { IsSplit lowered.now grounds.registers.items grounds.space grounds.chunks }
     requires chunks { grounds.chunks
         ≡ cut (kind_of sched.now) (length (vectors grounds.space)) workers }
     ensures all { IfOk result (λ cs. AreAll lowered.now grounds.registers.items store.old
-        grounds.chunks cs.items) }
+        grounds.chunks (joined cs.items)) }
     ensures store { store.new ≡ store.old }
     ensures refusal { IfErr result (λ refusal. refusal ≡ Refusal.OutOfMemory) }
 {

@@ -8,6 +8,7 @@ mod gate;
 mod grounds;
 mod job;
 mod lent;
+mod log;
 mod place;
 mod teamwork;
 mod way;

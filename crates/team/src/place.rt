@@ -5,8 +5,9 @@ ghost use Rattle.team.specs.declared.way.Draw.{Draw};
 ghost use Rattle.team.specs.declared.way.Way.TheVariants.{Dealt, Drawn};
 ghost use Rattle.team.specs.Places.{IsEnd, IsEndBy};
 
+use crate::log::ChangeLog;
 use crate::way::Way;
-use crate::worker::{ChunkChanges, Finished};
+use crate::worker::Finished;
 use atomic_table::{Play, Table, TableRule};
 use ktree::Workers;
 use lower::LoweredLoop;
@@ -19,7 +20,7 @@ use store::Store;
 /// What a worker leaves: what its own chunks change, or the chunks that it drew.
 #[derive(Drop)]
 pub enum End {
-    Share(Vec<ChunkChanges>),
+    Share(ChangeLog),
     Draws(Finished),
 }
 
@@ -170,7 +171,7 @@ impl Place {
     }
 
     /// What a worker's own chunks change, if that is here.
-    pub(crate) fn share(self) -> Option<Vec<ChunkChanges>>
+    pub(crate) fn share(self) -> Option<ChangeLog>
         ensures { IfSome result (λ cs. (size : Option ℕ) → self.way ≡ Dealt size
             → IsEndBy self (Dealt size) (End.Share cs)) }
     {

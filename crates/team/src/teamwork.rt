@@ -3,13 +3,14 @@
 ghost use Rattle.std.specs.Prelude.{◌≡◌, map, IfOk, IfErr, OnOk};
 ghost use Rattle.schedule.specs.Sched.{kind_said};
 ghost use Rattle.team.specs.Ends.{AreOfLoop};
+ghost use Rattle.team.specs.Logged.{joined};
 ghost use Rattle.team.specs.Together.{LeavesTogether, IsLeft};
 
 use crate::applied::apply_all;
 use crate::gate::Gate;
 use crate::grounds::grounds_of;
 use crate::lent::{LentLoop, lent_changes};
-use crate::worker::ChunkChanges;
+use crate::log::ChangeLog;
 use crew::{Crew, dismiss, serve_all};
 use ktree::{Refusal, Workers};
 use lower::LoweredLoop;
@@ -31,9 +32,9 @@ fn loop_changes<'l, R: Wait, G: Gate>(
     workers: Workers,
     runtime: Sched,
     gate: &G,
-) -> Result<Vec<ChunkChanges>, Refusal>
+) -> Result<Vec<ChangeLog>, Refusal>
     ensures all { IfOk result (λ cs. AreOfLoop lowered.now registers.now store.old
-        (kind_said lowered.now.schedule runtime) workers cs.items) }
+        (kind_said lowered.now.schedule runtime) workers (joined cs.items)) }
     ensures store { store.new ≡ store.old }
     ensures refusal { IfErr result (λ refusal. refusal ≡ Refusal.OutOfMemory) }
 {

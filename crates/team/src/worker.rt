@@ -6,6 +6,7 @@ ghost use Rattle.team.specs.Ends.{IsReady, IsChangeOf, IsFinished};
 
 use crate::gate::{Gate, Taken};
 use crate::job::Job;
+use crate::log::ChangeLog;
 use draw::{DrawSeat, Drawing};
 use ktree::{ChunkNo, Refusal};
 use overlay::{Work, Worker};
@@ -31,7 +32,7 @@ pub struct Member {
 #[derive(Drop)]
 pub struct Finished {
     pub seat: DrawSeat,
-    pub changes: Vec<ChunkChanges>,
+    pub changes: ChangeLog,
 }
 
 /// Runs a chunk that a worker has taken, after the gate is told of it.
@@ -83,7 +84,7 @@ pub(crate) fn work<G: Gate>(
         mut seat,
     } = member;
     let mut runner = Worker::new(alloc, job.store)?;
-    let mut changes = Vec::new(alloc);
+    let mut changes = ChangeLog::new(alloc);
     while let Some(ticket) = drawing.next(&mut seat) {
         let taken = Taken {
             worker,

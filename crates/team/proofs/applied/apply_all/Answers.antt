@@ -1,20 +1,23 @@
-use Rattle.std.proofs.Common.{List, [], ◌∷◌, ◌++◌, sym, ap, ◌∙◌, append_assoc, map}
-use Rattle.store.specs.Kept.{Kept}
+use Rattle.std.proofs.Common.{List, [], ◌∷◌, ◌++◌, sym, ap, ◌∙◌, append_assoc, subst, refl}
 use Rattle.store.specs.Flat.{values_of}
-use Rattle.overlay_pages.specs.Over.{writes_of, written_over}
 use Rattle.team.specs.declared.worker.ChunkChanges.{ChunkChanges}
-use Rattle.team.proofs.Applying.{applied_more, same_shape, filled_over}
+use Rattle.team.specs.Applied.{AreApplied}
+use Rattle.team.specs.Logged.{joined}
+use Rattle.team.proofs.Applying.{applied_both}
+use Rattle.team.proofs.Logging.{joined_more}
 use Rattle.team.proofs.applied.apply_all.Goals as goal
 
-pub loop-chunk-preserved : goal.loop-chunk-preserved
-loop-chunk-preserved c =
-    let ys = c.loop-chunk.yielded in
-    let was = c.loop-chunk.invariant in
-    let d = c.in-Some.chunk in
-    let ks = c.loop-chunk.store in
-    let now = c.apply.new.store in
+pub loop-log-preserved : goal.loop-log-preserved
+loop-log-preserved c =
+    let ys = c.loop-log.yielded in
+    let was = c.loop-log.invariant in
+    let log = c.in-Some.log in
+    let before = values_of c.args.store.now in
+    let now = values_of c.loop-log.store in
+    let later = values_of c.apply.new.store in
+    let both : AreApplied before later (joined ys ++ log) = applied_both before now later (joined ys) log was.applied c.apply.ensures.applied in
     record {
-      whole = append_assoc ys (d ∷ []) _ ∙ (ap (λ (r : List ChunkChanges). ys ++ r) (sym c.in-Some.ensures.steps.0) ∙ was.whole);
-      applied = applied_more (values_of c.args.store.now) (values_of ks) (values_of now) ys d was.applied (filled_over ks now d c.apply.ensures);
-      shape = ap (λ (k : List Kept). map (λ (j : Kept). j.lengths) k) c.apply.ensures ∙ same_shape (written_over (writes_of d.changes) (values_of ks)) ks ∙ was.shape;
+      whole = append_assoc ys (log ∷ []) _ ∙ (ap (λ (r : List (List ChunkChanges)). ys ++ r) (sym c.in-Some.ensures.steps.0) ∙ was.whole);
+      applied = subst (AreApplied before later) (sym (joined_more ys (ys ++ log ∷ []) log refl)) both;
+      shape = c.apply.ensures.shape ∙ was.shape;
     }

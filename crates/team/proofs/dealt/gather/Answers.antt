@@ -4,9 +4,11 @@ use Rattle.semantics.specs.Meaning.Places.{below}
 use Rattle.team.specs.declared.way.Way.TheVariants.{Dealt}
 use Rattle.team.specs.declared.place.End.TheVariants.{Share}
 use Rattle.team.specs.Dealt.{IsDealt, own_numbers}
+use Rattle.team.specs.Logged.{joined}
 use Rattle.team.specs.Places.{Aim, IsEndBy}
 use Rattle.team.proofs.Dealing.{dealt_more}
 use Rattle.team.proofs.Ending.{place_of}
+use Rattle.team.proofs.Logging.{joined_more}
 use Rattle.team.proofs.dealt.gather.Goals as goal
 
 pub loop-place-preserved : goal.loop-place-preserved
@@ -14,7 +16,7 @@ loop-place-preserved c =
     let ys = c.loop-place.yielded in
     let was = c.loop-place.invariant in
     let place = c.in-Some.place in
-    let theirs = c.in-Some-share.theirs in
+    let log = c.in-Some-share.log in
     let whole = ap (λ (r : List Aim). ys ++ r) (sym c.in-Some.ensures.steps.0) ∙ was.whole in
     let long : length (ys ++ place ∷ []) ≡ suc (length ys) = omega (arith, length-append ys (place ∷ [])) in
     record {
@@ -22,9 +24,9 @@ loop-place-preserved c =
       dealt = λ aim size way are.
           let here = place_of aim ys _ c.args.places.items place whole are in
           let own = own_numbers size (length aim.chunks) aim.workers in
-          let last : IsDealt aim.lowered aim.registers aim.store aim.chunks (own (length ys)) theirs.items
-          = subst (λ (a : Aim). IsEndBy a (Dealt size) (Share theirs)) here (c.in-Some-share.ensures size (ap (λ (a : Aim). a.way) here ∙ way)) in
-          dealt_more aim.lowered aim.registers aim.store aim.chunks own (length ys) (length (ys ++ place ∷ [])) c.loop-place.changes.items theirs.items _ long c.in_ok-append.ensures.items (was.dealt aim size way are) last;
+          let last : IsDealt aim.lowered aim.registers aim.store aim.chunks (own (length ys)) log
+          = subst (λ (a : Aim). IsEndBy a (Dealt size) (Share log)) here (c.in-Some-share.ensures size (ap (λ (a : Aim). a.way) here ∙ way)) in
+          dealt_more aim.lowered aim.registers aim.store aim.chunks own (length ys) (length (ys ++ place ∷ [])) (joined c.loop-place.logs.items) log _ long (joined_more c.loop-place.logs.items c.push.new.self.items log c.in_ok-push.ensures.items) (was.dealt aim size way are) last;
     }
 
 pub returns-clause-dealt : goal.returns-clause-dealt
@@ -33,4 +35,4 @@ returns-clause-dealt c = λ aim size way are.
     let same : length c.args.places.items ≡ length c.loop-place.yielded = ap (λ k. length k) whole in
     let is = c.args.places.ok.0 in
     let count : length c.loop-place.yielded ≡ vec_len c.args.places = omega arith in
-    subst (λ (n : ℕ). IsDealt aim.lowered aim.registers aim.store aim.chunks (flat_map (own_numbers size (length aim.chunks) aim.workers) (below n)) c.loop-place.changes.items) count (c.loop-place.invariant.dealt aim size way are)
+    subst (λ (n : ℕ). IsDealt aim.lowered aim.registers aim.store aim.chunks (flat_map (own_numbers size (length aim.chunks) aim.workers) (below n)) (joined c.loop-place.logs.items)) count (c.loop-place.invariant.dealt aim size way are)

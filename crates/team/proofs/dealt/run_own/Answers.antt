@@ -46,8 +46,8 @@ loop-number-preserved g c =
     let same = part_numbers c.static_init-part.result c.args.size c.count.result c.args.workers c.args.worker chunks c.static_init-part.ensures cut_is in
     let there : slice_get own c.loop-number.turn ≡ Some c.in-Some.number = ap (λ (k : List ℕ). slice_get k c.loop-number.turn) (sym same) ∙ sym c.number.ensures.number ∙ c.in-Some.is in
     let was = c.loop-number.invariant in
-    let pushed = c.in_ok-push.ensures.items in
-    let all = c.loop-number.changes.items in
+    let pushed = c.in_ok-push.ensures in
+    let all = c.loop-number.changes in
     let change = c.in_ok-run_taken.field-0 in
     let P = IsChangeOf c.args.job in
     let number : change.work.chunk.0 ≡ c.in-Some.number = c.in_ok-run_taken.ensures.number in
@@ -58,7 +58,7 @@ loop-number-preserved g c =
           ∙ map-append (λ (k : ChunkChanges). k.work.chunk.0) all (change ∷ [])
           ∙ (λ i. was.numbers i ++ number i ∷ [])
           ∙ sym (next_own own c.loop-number.turn c.in-Some.number there);
-      each = All-same P c.push.new.self.items (all ++ change ∷ []) pushed (All-push P all change was.each c.in_ok-run_taken.ensures.change);
+      each = All-same P c.push.new.self (all ++ change ∷ []) pushed (All-push P all change was.each c.in_ok-run_taken.ensures.change);
     }
 
 pub returns-clause-dealt : goal.returns-clause-dealt

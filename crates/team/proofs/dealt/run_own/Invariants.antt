@@ -8,8 +8,8 @@ abbrev pub invariant-loop-number : goal.invariant-loop-number
 invariant-loop-number g l =
     record {
       runner : l.runner ≡ l.job.store.now;
-      numbers : map (λ c. c.work.chunk.0) l.changes.items ≡ take l.turn (own_numbers l.fn.size (length l.job.chunks.now) l.workers l.worker);
-      each : All (IsChangeOf l.job) l.changes.items;
+      numbers : map (λ c. c.work.chunk.0) l.changes ≡ take l.turn (own_numbers l.fn.size (length l.job.chunks.now) l.workers l.worker);
+      each : All (IsChangeOf l.job) l.changes;
     }
 
 abbrev pub decreases-loop-number : goal.decreases-loop-number

@@ -4,6 +4,7 @@ use Rattle.semantics.specs.Loops.Arrangement.{times, once_below}
 use Rattle.draw.specs.Tickets.{SomeEnded}
 use Rattle.draw.proofs.Seats.{some_ended}
 use Rattle.team.specs.declared.worker.ChunkChanges.{ChunkChanges}
+use Rattle.team.specs.Logged.{joined}
 use Rattle.team.proofs.Cutting.{one_below}
 use Rattle.team.proofs.drawn.all_changes.Goals as goal
 
@@ -35,7 +36,7 @@ returns c = λ l registers ks chunks drawn.
     record {
       each = drawn.each;
       every = λ number less.
-          let once : times number (map (λ (d : ChunkChanges). d.work.chunk.0) c.args.end.changes.items) ≡ once_below number together.drawn
+          let once : times number (map (λ (d : ChunkChanges). d.work.chunk.0) (joined c.args.end.changes.items)) ≡ once_below number together.drawn
           = ap (times number) drawn.numbers ∙ together.each_once number in
           let one : once_below number together.drawn ≡ 1 = one_below number together.drawn (omega arith) in
           omega arith;

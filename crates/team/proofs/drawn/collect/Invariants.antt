@@ -2,6 +2,7 @@ use Rattle.std.proofs.Common.{◌≡◌, ◌++◌, length}
 use Rattle.team.specs.declared.way.Draw.{Draw}
 use Rattle.team.specs.declared.way.Way.TheVariants.{Drawn}
 use Rattle.team.specs.Ends.{AreTaken}
+use Rattle.team.specs.Logged.{joined}
 use Rattle.team.specs.Places.{Aim, AreFor}
 use Rattle.team.proofs.drawn.collect.Given as goal
 
@@ -10,6 +11,6 @@ invariant-loop-place l =
     record {
       whole : l.yielded ++ l.place-iterator.rest.items ≡ l.fn.places.items;
       taken : (aim : Aim) (draw : Draw) → aim.way ≡ Drawn draw → AreFor aim l.fn.places.items
-          → AreTaken aim.lowered aim.registers aim.store aim.chunks draw.drawing l.seats.items l.changes.items;
+          → AreTaken aim.lowered aim.registers aim.store aim.chunks draw.drawing l.seats.items (joined l.logs.items);
       len : length l.seats.items ≡ length l.yielded;
     }

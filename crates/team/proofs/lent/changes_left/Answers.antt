@@ -4,6 +4,7 @@ use Rattle.semantics.specs.Meaning.Places.{below}
 use Rattle.nest_space.specs.Space.{vectors}
 use Rattle.team.specs.Ends.{AreAll}
 use Rattle.team.specs.Dealt.{IsDealt, own_numbers}
+use Rattle.team.specs.Logged.{joined}
 use Rattle.team.proofs.Dealing.{dealt_all}
 use Rattle.team.proofs.lent.changes_left.Goals as goal
 
@@ -35,8 +36,8 @@ returns-in-Dealt-clause-all c = λ aim space left.
     let places = c.args.places.ok.0 in
     let all = left.all in
     let least = left.some in
-    IfOk-weaker c.gather.result (λ cs. IsDealt aim.lowered aim.registers aim.store aim.chunks (flat_map own (below count)) cs.items) (λ cs. AreAll aim.lowered aim.registers aim.store aim.chunks cs.items)
-    (λ cs dealt. dealt_all aim.lowered aim.registers aim.store aim.chunks size aim.workers count (length (vectors space)) cs.items (left.comes.cut size is) (omega arith) (omega arith) dealt)
+    IfOk-weaker c.gather.result (λ cs. IsDealt aim.lowered aim.registers aim.store aim.chunks (flat_map own (below count)) (joined cs.items)) (λ cs. AreAll aim.lowered aim.registers aim.store aim.chunks (joined cs.items))
+    (λ cs dealt. dealt_all aim.lowered aim.registers aim.store aim.chunks size aim.workers count (length (vectors space)) (joined cs.items) (left.comes.cut size is) (omega arith) (omega arith) dealt)
     (c.gather.ensures.dealt aim size (left.way_is ∙ is) left.made)
 
 pub returns-in_ok-seats-in-Drawn-clause-all : goal.returns-in_ok-seats-in-Drawn-clause-all

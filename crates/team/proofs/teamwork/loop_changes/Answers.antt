@@ -2,6 +2,7 @@ use Rattle.std.proofs.Common.{◌≡◌, [], length, sym, ap, ◌∙◌}
 use Rattle.semantics.specs.Loops.Chunk.{cut}
 use Rattle.nest_space.specs.Space.{vectors}
 use Rattle.schedule.specs.Sched.{kind_said}
+use Rattle.team.specs.Logged.{joined}
 use Rattle.team.proofs.Ending.{all_of_none}
 use Rattle.team.proofs.teamwork.loop_changes.Goals as goal
 
@@ -14,5 +15,5 @@ returns-then-is_empty-clause-all g c =
     record {
       space = grounds.space;
       of = c.in_ok-grounds.ensures.split.iterations;
-      all = all_of_none c.args.lowered.now c.args.registers.now c.args.store.now (cut kind (length (vectors grounds.space)) c.args.workers) c.new.result.items is c.new.ensures.items;
+      all = all_of_none c.args.lowered.now c.args.registers.now c.args.store.now (cut kind (length (vectors grounds.space)) c.args.workers) (joined c.new.result.items) is (ap joined c.new.ensures.items);
     }

@@ -18,8 +18,8 @@ pub loop-ticket-preserved : goal.loop-ticket-preserved
 loop-ticket-preserved g c =
     let told = c.in-Some.ensures in
     let was = c.loop-ticket.invariant in
-    let pushed = c.in_ok-push.ensures.items in
-    let all = c.loop-ticket.changes.items in
+    let pushed = c.in_ok-push.ensures in
+    let all = c.loop-ticket.changes in
     let change = c.in_ok-run_taken.field-0 in
     let P = IsChangeOf c.args.job in
     let number : change.work.chunk.0 ≡ c.in-Some.ticket = c.in_ok-run_taken.ensures.number in
@@ -31,5 +31,5 @@ loop-ticket-preserved g c =
           ∙ map-append (λ (k : ChunkChanges). k.work.chunk.0) all (change ∷ [])
           ∙ (λ i. was.numbers i ++ number i ∷ [])
           ∙ sym (ap (λ (s : SeatState). s.tickets) told.seat);
-      each = All-same P c.push.new.self.items (all ++ change ∷ []) pushed (All-push P all change was.each c.in_ok-run_taken.ensures.change);
+      each = All-same P c.push.new.self (all ++ change ∷ []) pushed (All-push P all change was.each c.in_ok-run_taken.ensures.change);
     }

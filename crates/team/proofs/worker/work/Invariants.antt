@@ -8,8 +8,8 @@ invariant-loop-ticket g l =
     record {
       runner : l.runner ≡ l.job.store.now;
       seat : l.seat.of ≡ l.drawing;
-      numbers : map (λ c. c.work.chunk.0) l.changes.items ≡ l.seat.tickets;
-      each : All (IsChangeOf l.job) l.changes.items;
+      numbers : map (λ c. c.work.chunk.0) l.changes ≡ l.seat.tickets;
+      each : All (IsChangeOf l.job) l.changes;
     }
 
 abbrev pub decreases-loop-ticket : goal.decreases-loop-ticket
