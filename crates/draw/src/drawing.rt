@@ -23,9 +23,14 @@ impl Model for Drawing {
 
     ghost Value = { DrawingName };
 
-    ghost view = { λ d. record { table = d.table.shared.table_id; count = d.size.count; seats = d.size.seats } };
+    ghost view = { λ d. record {
+      table = d.table.shared.table_id;
+      count = d.size.count;
+      seats = d.size.seats;
+    } };
 
-    ghost invariant = { λ d. (d.table.shared.key ≡ d.size) × (d.table.shared.table_id.words ≡ 1) × (d.table.shared.table_id.slots ≡ 0) };
+    ghost invariant = { λ d. (d.table.shared.key ≡ d.size)
+        × (d.table.shared.table_id.words ≡ 1) × (d.table.shared.table_id.slots ≡ 0) };
 }
 
 /// The right of one thread to draw. Contracts see the tickets that it drew, in order, and whether it
@@ -43,9 +48,18 @@ impl Model for DrawSeat {
 
     ghost Value = { SeatState };
 
-    ghost view = { λ s. record { of = record { table = s.seat.table_id; count = s.seat.me.0.size.count; seats = s.seat.me.0.size.seats }; tickets = s.seat.me.0.tickets; ended = s.ended } };
+    ghost view = { λ s. record {
+      of = record {
+        table = s.seat.table_id;
+        count = s.seat.me.0.size.count;
+        seats = s.seat.me.0.size.seats;
+      };
+      tickets = s.seat.me.0.tickets;
+      ended = s.ended;
+    } };
 
-    ghost invariant = { λ s. (s.seat.me.1 ≡ []) × (s.seat.me.0.parts ≡ 1) × (s.seat.me.0.ends ≡ (if s.ended then 1 else 0)) };
+    ghost invariant = { λ s. (s.seat.me.1 ≡ []) × (s.seat.me.0.parts ≡ 1)
+        × (s.seat.me.0.ends ≡ (if s.ended then 1 else 0)) };
 }
 
 /// What came of a drawing. Contracts see whether it is whole.

@@ -21,7 +21,11 @@ impl Model for FreeSeat {
 
     ghost Value = { DrawingName };
 
-    ghost view = { λ f. record { table = f.perch.table_id; count = f.perch.view.size.count; seats = f.perch.view.size.seats } };
+    ghost view = { λ f. record {
+      table = f.perch.table_id;
+      count = f.perch.view.size.count;
+      seats = f.perch.view.size.seats;
+    } };
 
     ghost invariant = { λ f. f.perch.view ≡ (record (idle f.perch.view.size) { parts = 1 }) };
 }

@@ -161,7 +161,8 @@ fn with<'a>(
     command: Command<'a>,
     added: Result<Command<'a>, AllocError>,
 ) -> Result<Command<'a>, AllocError>
-    ensures { (shape : Shape) → shape.is_plain ≡ true → IfOk added.entry (λ sub. app_of sub ≡ alone shape)
+    ensures { (shape : Shape) → shape.is_plain ≡ true
+        → IfOk added.entry (λ sub. app_of sub ≡ alone shape)
         → IfOk result (λ both. app_of both ≡ with_subcommand (app_of command.entry) shape) }
 {
     command.subcommand(added?)
@@ -218,15 +219,18 @@ impl Flaw {
 
 // The word that stands under this id.
 fn word_in<'a>(found: &ArgMatches<'a>, id: &str) -> Option<&'a str>
-    ensures { option_map (λ word. word.now) result ≡ first_of id.now (rows_of (found_of found.now)) }
+    ensures { option_map (λ word. word.now) result
+        ≡ first_of id.now (rows_of (found_of found.now)) }
 {
     found.get_str(id)
 }
 
 // The kernel's file.
 fn file_in<'a>(found: &ArgMatches<'a>) -> Result<&'a str, Flaw>
-    ensures read { IfOk result (λ file. first_of (codes "file") (rows_of (found_of found.now)) ≡ Some file.now) }
-    ensures none { IfErr result (λ _. (name : Text) (order : _) → IsReadFrom (name, rows_of (found_of found.now)) order → ⊥) }
+    ensures read { IfOk result (λ file.
+        first_of (codes "file") (rows_of (found_of found.now)) ≡ Some file.now) }
+    ensures none { IfErr result (λ _. (name : Text) (order : _)
+        → IsReadFrom (name, rows_of (found_of found.now)) order → ⊥) }
 {
     match word_in(found, "file") {
         Some(file) => Ok(file),
@@ -236,7 +240,8 @@ fn file_in<'a>(found: &ArgMatches<'a>) -> Result<&'a str, Flaw>
 
 // The number of workers.
 fn workers_in(found: &ArgMatches<'_>) -> Option<Workers>
-    ensures { Finds (λ workers. IsSomeAnd (first_of (codes "workers") (rows_of (found_of found.now)))
+    ensures { Finds (λ workers.
+        IsSomeAnd (first_of (codes "workers") (rows_of (found_of found.now)))
         (λ word. IsCount word workers)) result }
 {
     workers_of(word_in(found, "workers")?)
@@ -297,7 +302,8 @@ fn seq_in<'a>(found: &ArgMatches<'a>) -> Result<Order<'a>, Flaw>
 
 // What these words ask for.
 fn order_in<'a>(matches: &ArgMatches<'a>) -> Result<Order<'a>, Flaw>
-    ensures { Decides (λ order. IsSomeAnd (subcommand_rows_of matches.now) (λ met. IsReadFrom met order)) result }
+    ensures { Decides (λ order.
+        IsSomeAnd (subcommand_rows_of matches.now) (λ met. IsReadFrom met order)) result }
 {
     if let Some(found) = matches.subcommand_matches("check") {
         return check_in(found);
@@ -330,9 +336,11 @@ fn told(command: &mut Command<'_>, flaw: Flaw) -> Usage
 ///
 /// `Told` where they are no order, or ask for help; `OutOfMemory` where memory is refused.
 pub fn order_of<'a>(alloc: Global, words: &'a [String]) -> Result<Order<'a>, Usage>
-    ensures asked { IfOk result (λ order. AskFor (map (λ word. string_bytes word) words.entry.now) order) }
+    ensures asked { IfOk result (λ order.
+        AskFor (map (λ word. string_bytes word) words.entry.now) order) }
     ensures told { IfErr result IsTold }
-    ensures refused { IfErr result (λ usage. (order : _) → AskFor (map (λ word. string_bytes word) words.entry.now) order → usage ≡ OutOfMemory) }
+    ensures refused { IfErr result (λ usage. (order : _)
+        → AskFor (map (λ word. string_bytes word) words.entry.now) order → usage ≡ OutOfMemory) }
 {
     let mut command = command(alloc)?;
     let matches = command.try_get_matches_from_mut(words)?;

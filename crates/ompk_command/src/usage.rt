@@ -36,7 +36,8 @@ impl<T: Drop> From<AllocFailed<T>> for Usage {
 }
 
 impl From<Error> for Usage {
-    ghost from_gives = { λ error usage. (kind_of error ≡ kind.OutOfMemory → usage ≡ OutOfMemory) × IsTold usage };
+    ghost from_gives = { λ error usage.
+        (kind_of error ≡ kind.OutOfMemory → usage ≡ OutOfMemory) × IsTold usage };
 
     fn from(error: Error) -> Self {
         match error.kind() {

@@ -64,7 +64,8 @@ impl<'s> Chunk<'s> {
     /// Where memory runs out. Nothing is written then either.
     pub fn finish(&mut self, alloc: Global) -> Result<Changes, AllocError>
         ensures changes { IfOk result (λ changes. (place : ℕ)
-            → writes_of changes place ≡ changing (writes_in self.old.written) (values_of self.old.store) place) }
+            → writes_of changes place
+            ≡ changing (writes_in self.old.written) (values_of self.old.store) place) }
         ensures leave { IfOk result (λ changes.
             written_over (writes_of changes) (values_of self.old.store) ≡ cells_of self.old) }
         ensures only { IfOk result (ChangeCells (values_of self.old.store)) }

@@ -12,7 +12,8 @@ use store::Store;
 // Adds a write where the cell holds another number.
 fn add(store: &Store, change: Change, changes: &mut Vec<Change>) -> Result<(), AllocError>
     ensures { OnOk result (changes.new.items
-        ≡ cond (change.value == slice_index (values_of store.now) change.place) changes.old.items (changes.old.items ++ change ∷ [])) }
+        ≡ cond (change.value == slice_index (values_of store.now) change.place)
+        changes.old.items (changes.old.items ++ change ∷ [])) }
 {
     if change.value == store.cell(change.place) {
         return Ok(());
@@ -30,8 +31,10 @@ fn gather_page(
 ) -> Result<(), AllocError>
     requires sound { IsSound (table_of pages.now) }
     requires there { k < length pages.now.entered.items }
-    requires so_far { Gathers (values_of store.now) (table_of pages.now) (64 * suc k) changes.old.items }
-    ensures { OnOk result (Gathers (values_of store.now) (table_of pages.now) (64 * suc (suc k)) changes.new.items) }
+    requires so_far { Gathers (values_of store.now) (table_of pages.now) (64 * suc k)
+        changes.old.items }
+    ensures { OnOk result (Gathers (values_of store.now) (table_of pages.now) (64 * suc (suc k))
+        changes.new.items) }
 {
     let page = pages.entered[k];
     let start = 64 * (k as u64 + 1);

@@ -35,7 +35,8 @@ impl Model for Own {
 fn take(alloc: Global, store: &Store, pages: &mut Pages) -> Result<Changes, AllocError>
     requires { IsRoomy pages.old }
     ensures changes { IfOk result (λ changes. (place : ℕ)
-        → writes_of changes place ≡ changing (writes_in (slots (table_of pages.old))) (values_of store.now) place) }
+        → writes_of changes place
+        ≡ changing (writes_in (slots (table_of pages.old))) (values_of store.now) place) }
     ensures once { IfOk result AreOnce }
     ensures roomy { IsRoomy pages.new }
     ensures none { slots (table_of pages.new) ≡ replicate pages.old.size None }

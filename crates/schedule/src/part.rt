@@ -28,11 +28,22 @@ impl Model for StaticPart {
 
     ghost Value = { Part };
 
-    ghost view = { λ p. record { kind = static_kind p.size; iterations = p.iterations; workers = p.workers; worker = p.worker } };
+    ghost view = { λ p. record {
+      kind = static_kind p.size;
+      iterations = p.iterations;
+      workers = p.workers;
+      worker = p.worker;
+    } };
 
-    ghost invariant = { λ p. (p.iterations ≤ 2 ^ 24) × (p.worker < p.workers) × IfSome p.size (λ k. 0 < k) };
+    ghost invariant = { λ p. (p.iterations ≤ 2 ^ 24) × (p.worker < p.workers)
+        × IfSome p.size (λ k. 0 < k) };
 
-    ghost inverse = { λ p. record { iterations = p.iterations; workers = p.workers; worker = p.worker; size = size_of p.kind } };
+    ghost inverse = { λ p. record {
+      iterations = p.iterations;
+      workers = p.workers;
+      worker = p.worker;
+      size = size_of p.kind;
+    } };
 }
 
 /// The part of this worker, of so many, in a loop of `n` iterations: under `static, k` for

@@ -88,7 +88,7 @@ module _ (p : ℕ) where
       go (Some m) later here =
           let same : m ≡ n = same_Some m n (sym (ap (λ o. last_of o (writes_of (take e.count ws) p)) later) ∙ here) in
           let left = length-drop e.count ws in
-        let r = one_logged es (drop e.count ws) n (omega arith) (later ∙ ap Some same) in
+          let r = one_logged es (drop e.count ws) n (omega arith) (later ∙ ap Some same) in
           record { number = 1 + r.number; chunk = r.chunk; among = r.among; writes = r.writes }
 
 -- all changes at once leave what the chunks' changes leave one after another

@@ -45,7 +45,15 @@ impl Model for Plan {
 
     ghost coded = { Prim.hlevel (codes, block.the_row.coded) };
 
-    ghost view = { λ p. record { lowered = p.lowered.value; registers = p.registers.value.items; store = p.store.value; chunks = p.chunks.value; way = p.way.value; workers = p.workers; number = p.number } };
+    ghost view = { λ p. record {
+      lowered = p.lowered.value;
+      registers = p.registers.value.items;
+      store = p.store.value;
+      chunks = p.chunks.value;
+      way = p.way.value;
+      workers = p.workers;
+      number = p.number;
+    } };
 }
 
 impl Plan {
@@ -59,8 +67,15 @@ impl Plan {
         workers: Workers,
         number: u64,
     ) -> Plan
-        ensures { result ≡ record
-            { lowered = lowered.now; registers = registers.now.items; store = store.now; chunks = chunks.now; way = way.now; workers = workers; number = number } }
+        ensures { result ≡ record {
+          lowered = lowered.now;
+          registers = registers.now.items;
+          store = store.now;
+          chunks = chunks.now;
+          way = way.now;
+          workers = workers;
+          number = number;
+        } }
     {
         Plan {
             lowered: Snapshot::of(lowered),
@@ -130,7 +145,8 @@ impl Model for Place {
 
     ghost view = { λ p. p.table.shared.key };
 
-    ghost invariant = { λ p. (p.table.shared.table_id.words ≡ 1) × (p.table.shared.table_id.slots ≡ 1) };
+    ghost invariant = { λ p. (p.table.shared.table_id.words ≡ 1)
+        × (p.table.shared.table_id.slots ≡ 1) };
 }
 
 impl Place {
