@@ -5,9 +5,11 @@
 
 A line for each kernel: seconds from start to end (the median of five rounds, in each of which all programs run in turn), of its parallel
 loops by so many workers, of the same text without its directive lines, and of gcc with as many threads. Then chunks of one iteration:
-nanoseconds for each, and bytes of memory for each beside the store. Then a loop of 8 iterations inside 10,000 turns of a serial loop:
-microseconds a turn. Every program has to leave the same digest of all variables. The machine should be idle. The status is 1 where a
-target is missed that the machine can show: a chunk of one iteration below 500 ns, and on four processors at least 2.5 times the speed by 4 workers.
+nanoseconds for each, and bytes of memory for each beside the store, of a million chunks and of 2^24. Then a loop of 8 iterations inside 10,000
+turns of a serial loop: microseconds a turn, also by more workers than there are processors. Every program has to print the same. The machine
+should be idle. The status is 1 where a target is missed: by one worker at most 1.5 times the time of the text without directive lines; a chunk
+of one iteration below 500 ns, and at most 64 bytes for it beside the 16 of its write; and on four processors at least 2.5 times the speed by
+4 workers, and at most 3 us a turn by 4.
 """
 import os
 import pathlib
@@ -24,7 +26,10 @@ PROGRAM = TOP / "crates/ompk_cli/out/ompk_cli"
 ROUNDS = 5
 TEAMS = (1, 2, 4)
 CHUNK = 500
+HELD = 64 + 16
 FASTER = 2.5
+SLOWER = 1.5
+TURN = 3
 
 HASH = """uint64_t A[1000000];
 
@@ -159,6 +164,22 @@ def medians(runner, name, text):
     return {it: statistics.median(all_of) for it, all_of in times.items()}
 
 
+def chunks_of_one(runner, count):
+    """Times so many chunks of one iteration, and measures what they hold; gives the targets that they miss."""
+    missed = []
+    text = ONES.replace("1000000", str(count))
+    ones, empty = runner.source("ones", text), runner.source("none", text.replace(f"i < {count}", "i < 0"))
+    for workers in TEAMS:
+        took, memory, _ = runner.by_team(ones, workers)
+        start, store, _ = runner.by_team(empty, workers)
+        each, held = (took - start) * 1e9 / count, (memory - store) * 1024 / count
+        what = f"{count} chunks of 1, {workers} workers: {each:.0f} ns and {held:.0f} bytes each"
+        print(what, flush=True)
+        if each >= CHUNK or held > HELD:
+            missed.append(what)
+    return missed
+
+
 def main(program):
     missed = []
     with tempfile.TemporaryDirectory() as name:
@@ -169,17 +190,18 @@ def main(program):
             print(f"{kernel:10}" + "".join(f"{it:11.3f}" for it in found.values()), flush=True)
             if kernel != "map" and os.cpu_count() >= 4 and found["1 workers"] < FASTER * found["4 workers"]:
                 missed.append(f"{kernel}: 4 workers are {found['1 workers'] / found['4 workers']:.1f} times as fast as one")
-        ones, empty = runner.source("ones", ONES), runner.source("none", ONES.replace("i < 1000000", "i < 0"))
-        for workers in TEAMS:
-            took, memory, _ = runner.by_team(ones, workers)
-            start, store, _ = runner.by_team(empty, workers)
-            each, held = (took - start) * 1e3, (memory - store) * 1024 / 1e6
-            print(f"chunks of 1, {workers} workers: {each:.0f} ns and {held:.0f} bytes each")
-            if each >= CHUNK:
-                missed.append(f"chunks of 1, {workers} workers: {each:.0f} ns each")
+            if found["1 workers"] > SLOWER * found["serial"]:
+                missed.append(f"{kernel}: one worker takes {found['1 workers'] / found['serial']:.1f} times the time without directive lines")
+        for count in (1000000, 1 << 24):
+            missed += chunks_of_one(runner, count)
         turns = runner.source("turns", TURNS)
-        for workers in TEAMS:
-            print(f"8 iterations inside a turn, {workers} workers: {runner.by_team(turns, workers)[0] * 1e6 / 10000:.1f} us a turn", flush=True)
+        once = runner.source("once", TURNS.replace("t < 10000", "t < 1"))
+        for workers in (*TEAMS, 16, 64):
+            took = statistics.median(runner.by_team(turns, workers)[0] - runner.by_team(once, workers)[0] for _round in range(ROUNDS))
+            each = took * 1e6 / 9999
+            print(f"8 iterations inside a turn, {workers} workers: {each:.1f} us a turn", flush=True)
+            if workers == 4 <= os.cpu_count() and each > TURN:
+                missed.append(f"a turn, 4 workers: {each:.1f} us")
     for it in missed:
         print(f"missed: {it}")
     return 1 if missed else 0

@@ -10,17 +10,21 @@ use Rattle.semantics.specs.Meaning.Runs.{Effect, run}
 use Rattle.semantics.specs.Meaning.Agrees.{is_among}
 use Rattle.semantics.specs.Loops.Nest.{Loop, Vector, at_vector}
 use Rattle.semantics.specs.Loops.Arrangement.{picked}
-use Rattle.semantics.specs.Loops.Operator.{ReduceOp, combined_all}
-use Rattle.semantics.specs.Loops.Piece.{chunk_start, is_outside}
+use Rattle.semantics.specs.Loops.Operator.{ReduceOp, combined, combined_all}
+use Rattle.semantics.specs.Loops.Piece.{Roles, chunk_start, is_outside}
 use Rattle.law_nests.specs.Walks.{walk}
 use Rattle.law_nests.specs.Merging.{Cells}
 use Rattle.law_private.proofs.Alike.{Both}
-use Rattle.law_roles.specs.Updates.{operands}
-use Rattle.law_roles.specs.Sharing.{TakesOperands, role_variables, IsScalar, MergesAt, partials_of, last_filled, or_filled, SharesOut, ChunksJoinWith, RoleChunksJoin}
+use Rattle.law_roles.specs.Updates.{operator_of, operands}
+use Rattle.law_roles.specs.Reducing.{partial_of}
+use Rattle.law_roles.specs.Sharing.{TakesOperands, role_variables, IsScalar, MergesAt, last_filled, or_filled, updated_from, SharesFrom, SharesOut, IsShared, RoleChunksJoin, begins_with, unless_same, changed_from, MayStart, RoleChunksJoinInPlace}
 use Rattle.law_roles.proofs.Shadow.{hit}
 use Rattle.law_roles.proofs.Moved.{Kept, Shifted, Moved, moved_look, moved_stmt, moved_walk, moved_at, moved_iterations, moved_conflict}
-use Rattle.law_roles.proofs.Starts.{roles_with, start_moved}
-use Rattle.law_roles.proofs.Shared.{Ground, shares}
+use Rattle.law_roles.proofs.Shifting.{folded_partial}
+use Rattle.law_roles.proofs.Partials.{Counts, in_place_counts}
+use Rattle.law_roles.proofs.Starts.{roles_with, start_moved, StartsIn, start_in, identity_seen}
+use Rattle.law_roles.proofs.Chunked.{counts_of}
+use Rattle.law_roles.proofs.Shared.{Ground, CountsAs, shares}
 
 -- ---- these variables as locals
 
@@ -88,19 +92,16 @@ each_filled P (us ∷ chunks) (g ∷ fs) h f is = at us (last_filled chunks fs) 
 
 -- ---- the law from the locals' world
 
+-- partials that are the same where states behind a chunk are
+abbrev Alike : List Variable → State → State → (Effect → Variable → Option ℕ) → (Effect → Variable → Option ℕ) → Type 0
+Alike vars start start' partial partial' =
+    (f : Effect) (x : Variable) → Moved vars (overwritten start f.writes) (overwritten start' f.writes) → partial' f x ≡ partial f x
+
 module _ (ps ls : List Variable) (rs : List (Variable × ReduceOp)) (s : Stmt) (loops : List Loop) (body : Stmt) (chunks : List (List Vector)) (outer o : State) (e : Effect) (m : Moved (role_variables (roles_with ps ls rs)) outer o)
-    (ran : run s outer ≡ Some e) (inner : SharesOut (roles_with ps ls rs) s loops body chunks o e) where
+    (ran : run s outer ≡ Some e) (start start' : State) (partial partial' : Effect → Variable → Option ℕ) (begun : Moved (role_variables (roles_with ps ls rs)) start start')
+    (alike : Alike (role_variables (roles_with ps ls rs)) start start' partial partial') (inner : SharesFrom start' partial' (roles_with ps ls rs) s loops body chunks o e) where
   abbrev vars : List Variable
   vars = role_variables (roles_with ps ls rs)
-
-  abbrev start : State
-  start = chunk_start (roles_with ps ls rs) outer
-
-  abbrev start' : State
-  start' = chunk_start (roles_with ps ls rs) o
-
-  begun : Moved vars start start'
-  begun = start_moved vars ps ls rs outer o m
 
   left : Moved vars (overwritten outer e.writes) (overwritten o e.writes)
   left = (moved_stmt vars s outer o m).left e ran
@@ -134,11 +135,9 @@ module _ (ps ls : List Variable) (rs : List (Variable × ReduceOp)) (s : Stmt) (
   of_slice : (k : ℕ) (f : Effect) → slice_get inner.effects k ≡ Some f → Same f
   of_slice k f is = each_slice Same inner.effects all.same k f is
 
-  same_partials : (x : Variable) (fs : List Effect) → Each Same fs → partials_of start' fs x ≡ partials_of start fs x
+  same_partials : (x : Variable) (fs : List Effect) → Each Same fs → map (λ f. partial' f x) fs ≡ map (λ f. partial f x) fs
   same_partials x [] h = refl
-  same_partials x (f ∷ fs) h =
-      let seen : look (overwritten start f.writes) x [] ≡ look (overwritten start' f.writes) x [] = moved_look vars (overwritten start f.writes) (overwritten start' f.writes) h.0 x [] in
-      λ i. cond (hit x f.writes) (sym seen i) None ∷ same_partials x fs h.1 i
+  same_partials x (f ∷ fs) h = λ i. alike f x h.0 i ∷ same_partials x fs h.1 i
 
   merges_on : (after : Cells) (x : Variable) (is : List ℕ) → is_among vars x ≡ false → MergesAt start inner.effects after x is → MergesAt start' inner.effects after x is
   merges_on after x is h (inl none) = inl (
@@ -152,7 +151,7 @@ module _ (ps ls : List Variable) (rs : List (Variable × ReduceOp)) (s : Stmt) (
   seen_left : (x : Variable) → look (overwritten outer e.writes) x [] ≡ look (overwritten o e.writes) x []
   seen_left x = moved_look vars (overwritten outer e.writes) (overwritten o e.writes) left x []
 
-  moved_shares : SharesOut (roles_with ps ls rs) s loops body chunks outer e
+  moved_shares : SharesFrom start partial (roles_with ps ls rs) s loops body chunks outer e
   moved_shares = record {
     effects = inner.effects;
     each = all.each;
@@ -169,38 +168,104 @@ module _ (ps ls : List Variable) (rs : List (Variable × ReduceOp)) (s : Stmt) (
     quiet = inner.quiet;
   }
 
-join_with : (ps ls : List Variable) (rs : List (Variable × ReduceOp)) → ChunksJoinWith (roles_with ps ls rs)
-join_with ps ls rs n s loops body outer us chunks e nest keeps locals_alone are different turning independent whole ran =
-    let vars = role_variables (roles_with ps ls rs) in
-    let o : State = localized vars outer in
-    let m : Moved vars outer o = localized_moved vars outer keeps.scalars in
-    let ground : Ground ps ls rs n s loops body outer o us chunks e = record {
-      nest = nest;
-      keeps = keeps;
-      stands = localized_inside vars outer;
-      gone = λ x is h. ap (λ b. cond b None (outer.cells x is)) h;
-      numbers = λ x op is. let v = keeps.numbers x op is in (v.0, sym (moved_look vars outer o m x []) ∙ v.1, v.2);
-      locals_alone = λ x h. alone x (is_among vars x) (locals_alone x h);
-      are = sym (moved_iterations vars loops outer o m) ∙ are;
-      different = different;
-      turning = λ u h access there. subst (λ q. IsSome q) (moved_iterations vars access.inner (at_vector loops u outer) (at_vector loops u o) (moved_at vars loops u outer o m)) (turning u h access there);
-      independent = λ u v h k c. independent u v h k (moved_conflict vars loops body outer o m u v c);
-      whole = whole;
-      ran = sym (moved_stmt vars s outer o m).same ∙ ran;
-      taken = taken o (moved_stmt vars (operands rs s) outer o m).same keeps.taken;
-    } in
-    moved_shares ps ls rs s loops body chunks outer o e m ran (shares ps ls rs n s loops body outer o us chunks e ground)
-  where
-    taken : (o : State) → run (operands rs s) outer ≡ run (operands rs s) o → TakesOperands rs s outer → TakesOperands rs s o
-    taken o same (inl h) = inl h
-    taken o same (inr h) = inr (subst (λ q. IsSome q) same h)
+-- ---- the two laws
 
-    alone : (x : Variable) (b : Bool) → outer.cells x [] ≡ None → cond b None (outer.cells x []) ≡ None
-    alone x true h = refl
-    alone x false h = h
+abbrev SharedWith : List Variable → List Variable → List (Variable × ReduceOp) → ℕ → Stmt → List Loop → Stmt → State → List (List Vector) → Effect → Type 0
+SharedWith ps ls rs = IsShared (roles_with ps ls rs)
+
+module _ (ps ls : List Variable) (rs : List (Variable × ReduceOp)) (n : ℕ) (s : Stmt) (loops : List Loop) (body : Stmt) (outer : State) (chunks : List (List Vector)) (e : Effect) (is : SharedWith ps ls rs n s loops body outer chunks e) where
+  abbrev role_vars : List Variable
+  role_vars = role_variables (roles_with ps ls rs)
+
+  abbrev inside : State
+  inside = localized role_vars outer
+
+  moved_in : Moved role_vars outer inside
+  moved_in = localized_moved role_vars outer is.keeps.scalars
+
+  ground : Ground ps ls rs n s loops body outer inside is.vectors chunks e
+  ground = record {
+    nest = is.nest;
+    keeps = is.keeps;
+    stands = localized_inside role_vars outer;
+    gone = λ x js h. ap (λ b. cond b None (outer.cells x js)) h;
+    numbers = λ x op k. let v = is.keeps.numbers x op k in (v.0, sym (moved_look role_vars outer inside moved_in x []) ∙ v.1, v.2);
+    locals_alone = λ x h. alone x (is_among role_vars x) (is.declares x h);
+    are = sym (moved_iterations role_vars loops outer inside moved_in) ∙ is.are;
+    different = is.different;
+    turning = λ u h access there. subst (λ q. IsSome q) (moved_iterations role_vars access.inner (at_vector loops u outer) (at_vector loops u inside) (moved_at role_vars loops u outer inside moved_in)) (is.turning u h access there);
+    independent = λ u v h k c. is.independent u v h k (moved_conflict role_vars loops body outer inside moved_in u v c);
+    whole = is.whole;
+    ran = sym (moved_stmt role_vars s outer inside moved_in).same ∙ is.ran;
+    taken = taken (moved_stmt role_vars (operands rs s) outer inside moved_in).same is.keeps.taken;
+  }
+    where
+      taken : run (operands rs s) outer ≡ run (operands rs s) inside → TakesOperands rs s outer → TakesOperands rs s inside
+      taken same (inl h) = inl h
+      taken same (inr h) = inr (subst (λ q. IsSome q) same h)
+
+      alone : (x : Variable) (b : Bool) → outer.cells x [] ≡ None → cond b None (outer.cells x []) ≡ None
+      alone x true h = refl
+      alone x false h = h
+
+  -- from copies
+  by_copies : SharesOut (roles_with ps ls rs) s loops body chunks outer e
+  by_copies =
+      let start = chunk_start (roles_with ps ls rs) outer in
+      let start' = chunk_start (roles_with ps ls rs) inside in
+      moved_shares ps ls rs s loops body chunks outer inside e moved_in is.ran start start' (updated_from start) (updated_from start') (start_moved role_vars ps ls rs outer inside moved_in)
+      (λ f x m. ap (λ o. cond (hit x f.writes) o None) (sym (moved_look role_vars (overwritten start f.writes) (overwritten start' f.writes) m x [])))
+      (shares ps ls rs n s loops body outer inside is.vectors chunks e ground start' (start_in ps ls rs inside is.keeps.different) (updated_from start')
+      (λ x op v fits f shadow k holds at. counts_of rs op v fits x start' start' (overwritten start' f.writes) (overwritten start' shadow.writes) f.writes shadow.writes at k (identity_seen ps ls rs inside is.keeps.different x op k)))
+
+  -- in place
+  module _ (start : State) (may : MayStart (roles_with ps ls rs) outer start) where
+    abbrev start_inside : State
+    start_inside = localized role_vars start
+
+    moved_start : Moved role_vars start start_inside
+    moved_start = localized_moved role_vars start may.scalars
+
+    begins : (x : Variable) (op : ReduceOp) (v : ℕ) → operator_of rs x ≡ Some op → look inside x [] ≡ Some v → look start_inside x [] ≡ Some (begins_with op v)
+    begins x op v k holds = sym (moved_look role_vars start start_inside moved_start x []) ∙ may.begins x op v k (moved_look role_vars outer inside moved_in x [] ∙ holds)
+
+    in_start : StartsIn ps ls rs inside start_inside
+    in_start = record {
+      cells = λ x js. cells_same x js (is_among role_vars x) refl;
+      other = λ x h. ap (λ b. cond b (held_slot (start.locals x) (start.cells x [])) (start.locals x)) h ∙ may.locals x h ∙ sym (ap (λ b. cond b (held_slot (outer.locals x) (outer.cells x [])) (outer.locals x)) h);
+      inside = localized_inside role_vars start;
+      held = λ x op k. let v = ground.numbers x op k in subst (λ q. IsSome q) (sym (begins x op v.0 k v.1)) refl;
+    }
+      where
+        cells_same : (x : Variable) (js : List ℕ) (b : Bool) → is_among role_vars x ≡ b → cond b None (start.cells x js) ≡ cond b None (outer.cells x js)
+        cells_same x js true h = refl
+        cells_same x js false h = may.cells x js h
+
+    counts : CountsAs rs inside start_inside (changed_from start_inside)
+    counts x op v fits f shadow k holds at =
+        let b = begins_with op v in
+        let began = begins x op v k holds in
+        let p = partial_of op x None shadow.writes in
+        let now : look (overwritten start_inside f.writes) x [] ≡ Some (combined op b p) = at.values x op b k began ∙ ap Some (folded_partial op x shadow.writes b) in
+        subst (λ q. Counts op v fits q p) (λ i. unless_same (sym began i) (sym now i)) (in_place_counts op v fits p)
+
+    by_place : SharesFrom start (changed_from start) (roles_with ps ls rs) s loops body chunks outer e
+    by_place =
+        moved_shares ps ls rs s loops body chunks outer inside e moved_in is.ran start start_inside (changed_from start) (changed_from start_inside) moved_start
+        (λ f x m. λ i. unless_same (sym (moved_look role_vars start start_inside moved_start x []) i) (sym (moved_look role_vars (overwritten start f.writes) (overwritten start_inside f.writes) m x []) i))
+        (shares ps ls rs n s loops body outer inside is.vectors chunks e ground start_inside in_start (changed_from start_inside) counts)
+
+-- no variable of these roles is firstprivate or conditional
+same_roles : (roles : Roles) → roles.firsts ≡ [] → roles.conditionals ≡ [] → roles_with roles.privates roles.lasts roles.reductions ≡ roles
+same_roles roles firsts conditionals =
+    λ i. record { privates = roles.privates; firsts = sym firsts i; lasts = roles.lasts; conditionals = sym conditionals i; reductions = roles.reductions }
 
 pub join : RoleChunksJoin
-join roles n s loops body outer us chunks e nest keeps =
-    let same : roles_with roles.privates roles.lasts roles.reductions ≡ roles =
-    λ i. record { privates = roles.privates; firsts = sym keeps.no_firsts i; lasts = roles.lasts; conditionals = sym keeps.no_conditionals i; reductions = roles.reductions } in
-    subst ChunksJoinWith same (join_with roles.privates roles.lasts roles.reductions) n s loops body outer us chunks e nest keeps
+join roles n s loops body outer chunks e is =
+    subst (λ r. IsShared r n s loops body outer chunks e → SharesOut r s loops body chunks outer e) (same_roles roles is.keeps.no_firsts is.keeps.no_conditionals)
+    (by_copies roles.privates roles.lasts roles.reductions n s loops body outer chunks e) is
+
+pub join_in_place : RoleChunksJoinInPlace
+join_in_place roles n s loops body outer start chunks e is =
+    subst (λ r. IsShared r n s loops body outer chunks e → MayStart r outer start → SharesFrom start (changed_from start) r s loops body chunks outer e) (same_roles roles is.keeps.no_firsts is.keeps.no_conditionals)
+    (λ shared may. by_place roles.privates roles.lasts roles.reductions n s loops body outer chunks e shared start may) is

@@ -1,7 +1,7 @@
 -- Partials, in whatever order they are combined.
 use Rattle.std.specs.Prelude.{ℕ, zero, suc, Bool, true, false, ◌≡◌, ◌==◌, ◌&&◌, ◌||◌, ◌⊎◌, ◌+◌, ◌<◌, ◌^◌, nat_lt, List, [], ◌∷◌, length, Option, Some, None, slice_get}
 use Rattle.std.proofs.Common.{refl, sym, ap, ◌∙◌, cond, inl, inr, arith}
-use Rattle.std.proofs.lemmas.Bool.{true≢false, lt-ltb}
+use Rattle.std.proofs.lemmas.Bool.{true≢false, lt-ltb, eqb-true}
 use Rattle.std.proofs.lemmas.Bool.Decides.{nat_tests}
 use Rattle.semantics.specs.Tree.{Variable}
 use Rattle.semantics.specs.Meaning.State.{Write, Declared, Assigned}
@@ -11,6 +11,7 @@ use Rattle.semantics.specs.Loops.OperatorLaw.{operators_are_lawful}
 use Rattle.semantics.specs.Meaning.Places.{below}
 use Rattle.law_commute.proofs.Orders.{picked_all, below_once}
 use Rattle.law_roles.specs.Reducing.{joined_with, partial_of}
+use Rattle.law_roles.specs.Sharing.{begins_with, unless_same}
 use Rattle.law_roles.proofs.Shadow.{is_chosen, folded, hit}
 use Rattle.law_roles.proofs.Recorded.{assignments}
 
@@ -214,3 +215,58 @@ kept_counts op v fits p chosen same w g = sym (at g)
     at (inr h) =
         to_identity ∙ ap (λ z. apply op z (identity op)) h.1 ∙ swapped op v h.0 (identity op)
         ∙ ap (λ z. apply op z h.0) (chosen_identity op v (fits_test op v fits) chosen) ∙ sym h.1
+
+-- ---- where a chunk begins without a copy
+
+and_twice : (b c : Bool) → one_if (b && is_set (one_if (b && c))) ≡ one_if (b && c)
+and_twice true true = refl
+and_twice true false = refl
+and_twice false c = refl
+
+or_twice : (b c : Bool) → one_if (b || is_set (one_if (b || c))) ≡ one_if (b || c)
+or_twice true c = refl
+or_twice false true = refl
+or_twice false false = refl
+
+-- what it began with counts for nothing
+past_start : (op : ReduceOp) (v p : ℕ) → nat_lt v (2 ^ 64) ≡ true → apply op v (apply op (begins_with op v) p) ≡ apply op v p
+past_start Sum v p h = sym ((operators_are_lawful Sum).associative v (identity Sum) p) ∙ past_identity Sum v p h
+past_start Product v p h = sym ((operators_are_lawful Product).associative v (identity Product) p) ∙ past_identity Product v p h
+past_start And v p h = sym ((operators_are_lawful And).associative v (identity And) p) ∙ past_identity And v p h
+past_start Or v p h = sym ((operators_are_lawful Or).associative v (identity Or) p) ∙ past_identity Or v p h
+past_start Xor v p h = sym ((operators_are_lawful Xor).associative v (identity Xor) p) ∙ past_identity Xor v p h
+past_start AndAlso v p h = and_twice (is_set v) (is_set p)
+past_start OrElse v p h = or_twice (is_set v) (is_set p)
+past_start Max v p h = sym ((operators_are_lawful Max).associative v (identity Max) p) ∙ past_identity Max v p h
+past_start Min v p h = sym ((operators_are_lawful Min).associative v (identity Min) p) ∙ past_identity Min v p h
+
+-- and so does an operand that changes nothing in the chunk
+unchanged : (op : ReduceOp) (v p : ℕ) → nat_lt v (2 ^ 64) ≡ true → apply op (begins_with op v) p ≡ begins_with op v → apply op v p ≡ v
+unchanged Sum v p h e = sym (past_start Sum v p h) ∙ ap (apply Sum v) e ∙ (operators_are_lawful Sum).right v h
+unchanged Product v p h e = sym (past_start Product v p h) ∙ ap (apply Product v) e ∙ (operators_are_lawful Product).right v h
+unchanged And v p h e = sym (past_start And v p h) ∙ ap (apply And v) e ∙ (operators_are_lawful And).right v h
+unchanged Or v p h e = sym (past_start Or v p h) ∙ ap (apply Or v) e ∙ (operators_are_lawful Or).right v h
+unchanged Xor v p h e = sym (past_start Xor v p h) ∙ ap (apply Xor v) e ∙ (operators_are_lawful Xor).right v h
+unchanged AndAlso v p h e = e
+unchanged OrElse v p h e = e
+unchanged Max v p h e = sym (past_start Max v p h) ∙ ap (apply Max v) e ∙ (operators_are_lawful Max).right v h
+unchanged Min v p h e = sym (past_start Min v p h) ∙ ap (apply Min v) e ∙ (operators_are_lawful Min).right v h
+
+pub in_place_counts : (op : ReduceOp) (v : ℕ) (fits : v < 2 ^ 64) (p : Option ℕ) → Counts op v fits (unless_same (Some (begins_with op v)) (Some (combined op (begins_with op v) p))) p
+in_place_counts op v fits None = at (begins_with op v == begins_with op v) (let n : ℕ = begins_with op v in let e : (n == n) ≡ true = grind (arith, nat_tests) in e)
+  where
+    at : (b : Bool) → b ≡ true → Counts op v fits (cond b None (Some (begins_with op v))) None
+    at true e w g = refl
+    at false e w g = absurd (true≢false (sym e))
+in_place_counts op v fits (Some p) = at (apply op (begins_with op v) p == begins_with op v) refl
+  where
+    small : nat_lt v (2 ^ 64) ≡ true
+    small = fits_test op v fits
+
+    stays : apply op v p ≡ v → (w : ℕ) → Grown op v fits w → w ≡ apply op w p
+    stays e w (inl is) = is ∙ sym e ∙ sym (ap (λ z. apply op z p) is)
+    stays e w (inr h) = h.1 ∙ ap (λ z. apply op z h.0) (sym e) ∙ swapped op v p h.0 ∙ sym (ap (λ z. apply op z p) h.1)
+
+    at : (b : Bool) → (apply op (begins_with op v) p == begins_with op v) ≡ b → Counts op v fits (cond b None (Some (apply op (begins_with op v) p))) (Some p)
+    at true e w g = stays (unchanged op v p small (eqb-true (apply op (begins_with op v) p) (begins_with op v) e)) w g
+    at false e w g = from_itself op v fits (apply op (begins_with op v) p) p (past_start op v p small) w g

@@ -33,17 +33,17 @@ use Rattle.law_private.proofs.Near.{beside_first, beside_second, Found, Near, ne
 use Rattle.law_roles.specs.Updates.{operator_of, is_plain, operands}
 use Rattle.law_roles.specs.Reducing.{partial_of}
 use Rattle.law_roles.specs.Following.{IsWalked}
-use Rattle.law_roles.specs.Sharing.{TakesOperands, role_variables, HoldsNumber, KeepsRoles, MergesAt, partials_of, last_filled, SharesOut}
+use Rattle.law_roles.specs.Sharing.{TakesOperands, role_variables, HoldsNumber, KeepsRoles, MergesAt, last_filled, SharesFrom}
 use Rattle.law_roles.proofs.Seen.{look_of}
-use Rattle.law_roles.proofs.Shadow.{TakesAll, Beside, Follows, Shadows, stmt_shadow, folded}
+use Rattle.law_roles.proofs.Shadow.{TakesAll, Beside, At, Follows, Shadows, stmt_shadow, folded}
 use Rattle.law_roles.proofs.Shifting.{go}
 use Rattle.law_roles.proofs.Followed.{walked}
 use Rattle.law_roles.proofs.Recorded.{assignments, own_visible, AllClear, Good, Untouched, Ready, all_recorded, walk_recorded}
 use Rattle.law_roles.proofs.Partials.{partial_assigned, folded_assigned, in_any_order, Counts, AllCount, all_count}
 use Rattle.law_roles.proofs.Operands.{nest_operands, declared_operands, names_operands, steady_operands, Less, More, definite_operands}
-use Rattle.law_roles.proofs.Starts.{roles_with, plain_of, reduced_of, among_of, identity_held, start_cells, start_other, start_local, start_near}
+use Rattle.law_roles.proofs.Starts.{roles_with, plain_of, reduced_of, among_of, StartsIn, starts_near}
 use Rattle.law_roles.proofs.Lasts.{none_filled, KnownBehind, AllEnd, last_counts, clear_first, clear_second}
-use Rattle.law_roles.proofs.Chunked.{IsReduced, nest_reduces, nest_variables, all_values, walk_shadow, each_at, each_contains, turning_back, conflict_back, good_of, all_clear, partial_in, folded_chunks, counts_of}
+use Rattle.law_roles.proofs.Chunked.{IsReduced, nest_reduces, nest_variables, all_values, walk_shadow, each_at, each_contains, turning_back, conflict_back, good_of, all_clear, partial_in, folded_chunks}
 
 -- ---- small facts
 
@@ -112,7 +112,14 @@ pub record Ground (ps ls : List Variable) (rs : List (Variable × ReduceOp)) (n 
   pub ran : run s o ≡ Some e
   pub taken : TakesOperands rs s o
 
-module _ (ps ls : List Variable) (rs : List (Variable × ReduceOp)) (n : ℕ) (s : Stmt) (loops : List Loop) (body : Stmt) (outer o : State) (us : List Vector) (chunks : List (List Vector)) (e : Effect) (g : Ground ps ls rs n s loops body outer o us chunks e) where
+-- a partial that counts like that of the operands
+abbrev pub CountsAs : List (Variable × ReduceOp) → State → State → (Effect → Variable → Option ℕ) → Type 0
+CountsAs rs o start partial =
+    (x : Variable) (op : ReduceOp) (v : ℕ) (fits : v < 2 ^ 64) (f shadow : Effect) → operator_of rs x ≡ Some op → look o x [] ≡ Some v
+    → At rs start start (overwritten start f.writes) (overwritten start shadow.writes) f.writes shadow.writes → Counts op v fits (partial f x) (partial_of op x None shadow.writes)
+
+module _ (ps ls : List Variable) (rs : List (Variable × ReduceOp)) (n : ℕ) (s : Stmt) (loops : List Loop) (body : Stmt) (outer o : State) (us : List Vector) (chunks : List (List Vector)) (e : Effect) (g : Ground ps ls rs n s loops body outer o us chunks e)
+    (start : State) (from : StartsIn ps ls rs o start) (partial : Effect → Variable → Option ℕ) (counts : CountsAs rs o start partial) where
   abbrev vars : List Variable
   vars = role_variables (roles_with ps ls rs)
 
@@ -124,9 +131,6 @@ module _ (ps ls : List Variable) (rs : List (Variable × ReduceOp)) (n : ℕ) (s
 
   abbrev own : Stmt
   own = own_body vars body'
-
-  abbrev start : State
-  start = chunk_start (roles_with ps ls rs) o
 
   nest' : nest_of n s' ≡ Some (loops, body')
   nest' = nest_operands rs n s loops body g.nest
@@ -249,16 +253,13 @@ module _ (ps ls : List Variable) (rs : List (Variable × ReduceOp)) (n : ℕ) (s
   -- ---- chunks
 
   near_start : Near vars start o
-  near_start = start_near ps ls rs o g.stands
-
-  identity_start : (x : Variable) (op : ReduceOp) → operator_of rs x ≡ Some op → look start x [] ≡ Some (identity op)
-  identity_start x op is = ap (λ l. look_in l start x []) (identity_held rs (with_empty ls (with_empty ps o)) x op g.keeps.different is)
+  near_start = starts_near ps ls rs o start from g.stands
 
   beside_start : Beside rs start start
   beside_start = record {
     agrees = record { locals = λ x h. refl; cells = λ x is h. refl };
-    held = λ x op is. subst (λ q. IsSome q) (sym (identity_start x op is)) refl;
-    own = λ x op is. start_local ps ls rs o x (mine x op is);
+    held = from.held;
+    own = λ x op is. from.inside x (mine x op is);
   }
 
   -- a chunk's walk, that of its operands, and that of its own iterations
@@ -333,8 +334,8 @@ module _ (ps ls : List Variable) (rs : List (Variable × ReduceOp)) (n : ℕ) (s
     where
       of : is_among vars x ≡ false → MergesAt start all.effects after x is → (NoneChanges o merge.effects x is × (cond (is_among vars x) (o.cells x is) (after x is) ≡ o.cells x is)) ⊎ OneChanges o merge.effects (λ x is. cond (is_among vars x) (o.cells x is) (after x is)) x is
       of h (inl none) = inl (
-        λ k w j. let p = back chunks all.effects merge.effects all.facts k w j in sym (p.same x is h) ∙ none.0 k p.effect p.is ∙ start_cells ps ls rs o x is,
-        ap (λ b. cond b (o.cells x is) (after x is)) h ∙ none.1 ∙ start_cells ps ls rs o x is,
+        λ k w j. let p = back chunks all.effects merge.effects all.facts k w j in sym (p.same x is h) ∙ none.0 k p.effect p.is ∙ from.cells x is,
+        ap (λ b. cond b (o.cells x is) (after x is)) h ∙ none.1 ∙ from.cells x is,
       )
       of h (inr c) =
           let p = partner chunks all.effects merge.effects all.facts c.number c.effect c.among in
@@ -342,7 +343,7 @@ module _ (ps ls : List Variable) (rs : List (Variable × ReduceOp)) (n : ℕ) (s
             number = c.number;
             effect = p.effect;
             among = p.is;
-            changes = λ k. c.changes (p.same x is h ∙ k ∙ sym (start_cells ps ls rs o x is));
+            changes = λ k. c.changes (p.same x is h ∙ k ∙ sym (from.cells x is));
             leaves = ap (λ b. cond b (o.cells x is) (after x is)) h ∙ c.leaves ∙ p.same x is h;
           })
 
@@ -385,10 +386,10 @@ module _ (ps ls : List Variable) (rs : List (Variable × ReduceOp)) (n : ℕ) (s
 
   ready_start : (vs : List Vector) → Ready vars body' inside'.names known' loops o keeps_own vs start
   ready_start vs = record {
-    locals = λ y h k. start_other ps ls rs o y (own_visible vars body' inside'.names known' y h);
-    scalars = λ y h. start_cells ps ls rs o y [];
-    elements = untouched vs start (start_cells ps ls rs o);
-    inside = start_local ps ls rs o;
+    locals = λ y h k. from.other y (own_visible vars body' inside'.names known' y h);
+    scalars = λ y h. from.cells y [];
+    elements = untouched vs start from.cells;
+    inside = from.inside;
   }
 
   -- a variable with a role holds what it holds behind the walk
@@ -404,9 +405,9 @@ module _ (ps ls : List Variable) (rs : List (Variable × ReduceOp)) (n : ℕ) (s
   flat_clear : AllClear vars body' inside'.names known' loops o keeps_own (flat_map (λ vs. vs) chunks)
   flat_clear = subst (λ (vs : List Vector). AllClear vars body' inside'.names known' loops o keeps_own vs) (sym g.whole) clear
 
-  module _ (x : Variable) (op : ReduceOp) (v : ℕ) (is : operator_of rs x ≡ Some op) (fits : v < 2 ^ 64) where
+  module _ (x : Variable) (op : ReduceOp) (v : ℕ) (is : operator_of rs x ≡ Some op) (holds : look o x [] ≡ Some v) (fits : v < 2 ^ 64) where
     all_counted : (cs : List (List Vector)) (fs ws : List Effect) → AllChunks cs fs ws → Each (Good vars body' inside'.names known' loops o keeps_own) (flat_map (λ vs. vs) cs)
-        → AllClear vars body' inside'.names known' loops o keeps_own (flat_map (λ vs. vs) cs) → AllCount op v fits (partials_of start fs x) (map (partial_in rs vars body inside'.names known' loops o keeps_own op x) cs)
+        → AllClear vars body' inside'.names known' loops o keeps_own (flat_map (λ vs. vs) cs) → AllCount op v fits (map (λ f. partial f x) fs) (map (partial_in rs vars body inside'.names known' loops o keeps_own op x) cs)
     all_counted [] [] [] h good clear = tt
     all_counted (vs ∷ cs) (f ∷ fs) (w ∷ ws) h good clear =
         let c = h.0 in
@@ -416,8 +417,7 @@ module _ (ps ls : List Variable) (rs : List (Variable × ReduceOp)) (n : ℕ) (s
         ∙ ap (partial_of op x None)
         (walk_recorded vars body' inside'.names known' loops o keeps_own vs start c.shadow (each_left (Good vars body' inside'.names known' loops o keeps_own) vs rest good)
         (clear_first vars body' inside'.names known' loops o keeps_own vs rest clear) (ready_start vs) c.shadow_is) in (
-          subst (λ p. Counts op v fits (if_updated f.writes (overwritten start f.writes) x) p) same
-              (counts_of rs op v fits x start start (overwritten start f.writes) (overwritten start c.shadow.writes) f.writes c.shadow.writes c.follows.at is (identity_start x op is)),
+          subst (λ p. Counts op v fits (partial f x) p) same (counts x op v fits f c.shadow is holds c.follows.at),
           all_counted cs fs ws h.1 (each_right (Good vars body' inside'.names known' loops o keeps_own) vs rest good) (clear_second vars body' inside'.names known' loops o keeps_own vs rest clear),
         )
     all_counted _ _ _ h good clear = absurd h
@@ -428,7 +428,7 @@ module _ (ps ls : List Variable) (rs : List (Variable × ReduceOp)) (n : ℕ) (s
   same_long _ _ _ h = absurd h
 
   reductions_are : (x : Variable) (op : ReduceOp) (v : ℕ) (order : List ℕ) → operator_of rs x ≡ Some op → look o x [] ≡ Some v → EachOnceBelow (length chunks) order
-      → look (overwritten o e.writes) x [] ≡ Some (combined_all op v (picked (partials_of start all.effects x) order))
+      → look (overwritten o e.writes) x [] ≡ Some (combined_all op v (picked (map (λ f. partial f x) all.effects) order))
   reductions_are x op v order is holds once =
       let number = g.numbers x op is in
       let same : number.0 ≡ v = same_Some number.0 v (sym number.1 ∙ holds) in
@@ -436,12 +436,12 @@ module _ (ps ls : List Variable) (rs : List (Variable × ReduceOp)) (n : ℕ) (s
       let recorded : assignments shadowed.0.writes ≡ all_recorded vars body' inside'.names known' loops o keeps_own (flat_map (λ vs. vs) chunks) =
       walk_recorded vars body' inside'.names known' loops o keeps_own us o shadowed.0 good clear (ready_o us) shadowed.1
       ∙ ap (all_recorded vars body' inside'.names known' loops o keeps_own) (sym g.whole) in
-      let count : length (partials_of start all.effects x) ≡ length chunks = length-map all.effects (λ f. if_updated f.writes (overwritten start f.writes) x) ∙ same_long chunks all.effects merge.effects all.facts in
+      let count : length (map (λ f. partial f x) all.effects) ≡ length chunks = length-map all.effects (λ f. partial f x) ∙ same_long chunks all.effects merge.effects all.facts in
       look_sequence x (mine x op is) ∙ shadowed.2.at.values x op v is holds
       ∙ ap Some
       (folded_assigned op x shadowed.0.writes v ∙ ap (λ ws. folded op x ws v) recorded ∙ folded_chunks rs vars body inside'.names known' loops o keeps_own op x chunks v
-      ∙ sym (all_count op v fits (partials_of start all.effects x) (map (partial_in rs vars body inside'.names known' loops o keeps_own op x) chunks) (all_counted x op v is fits chunks all.effects merge.effects all.facts flat_good flat_clear))
-      ∙ sym (in_any_order op (partials_of start all.effects x) order v (subst (λ m. EachOnceBelow m order) (sym count) once)))
+      ∙ sym (all_count op v fits (map (λ f. partial f x) all.effects) (map (partial_in rs vars body inside'.names known' loops o keeps_own op x) chunks) (all_counted x op v is holds fits chunks all.effects merge.effects all.facts flat_good flat_clear))
+      ∙ sym (in_any_order op (map (λ f. partial f x) all.effects) order v (subst (λ m. EachOnceBelow m order) (sym count) once)))
 
   -- ---- last values
 
@@ -474,7 +474,7 @@ module _ (ps ls : List Variable) (rs : List (Variable × ReduceOp)) (n : ℕ) (s
 
   -- ---- all of it
 
-  pub shares : SharesOut (roles_with ps ls rs) s loops body chunks o e
+  pub shares : SharesFrom start partial (roles_with ps ls rs) s loops body chunks o e
   shares = record {
     effects = all.effects;
     each = all.each;

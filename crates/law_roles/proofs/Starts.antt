@@ -1,11 +1,11 @@
 -- The state in which a chunk begins, beside the one before its loop.
-use Rattle.std.specs.Prelude.{ℕ, Bool, true, false, not, ◌≡◌, ◌==◌, ◌||◌, ◌⊎◌, List, [], ◌∷◌, ◌++◌, map, Some, None, is_none}
-use Rattle.std.proofs.Common.{refl, sym, ap, ◌∙◌, cond, inl, inr}
+use Rattle.std.specs.Prelude.{ℕ, Bool, true, false, not, ◌≡◌, ◌==◌, ◌||◌, ◌⊎◌, List, [], ◌∷◌, ◌++◌, map, Some, None, is_none, IsSome}
+use Rattle.std.proofs.Common.{refl, sym, ap, ◌∙◌, subst, cond, inl, inr}
 use Rattle.std.proofs.lemmas.Bool.{true≢false, eqb-true, or_parts, or_cases}
 use Rattle.std.proofs.lemmas.List.Folds.{list_any-append}
 use Rattle.std.proofs.lemmas.Option.{none-some, same_Some}
 use Rattle.semantics.specs.Tree.{Variable}
-use Rattle.semantics.specs.Meaning.State.{State, Empty, Holds, with_local}
+use Rattle.semantics.specs.Meaning.State.{State, Empty, Holds, with_local, look, look_in}
 use Rattle.semantics.specs.Meaning.Agrees.{is_among}
 use Rattle.semantics.specs.Loops.Operator.{ReduceOp, identity}
 use Rattle.semantics.specs.Loops.Piece.{Roles, is_outside, with_empty, with_identities, chunk_start}
@@ -51,7 +51,7 @@ among_of (r ∷ rs) x op h = at (r.0 == x) h (λ k. among_of rs x op k)
     at false k rest = rest k
 
 -- each begins with its identity
-pub identity_held : (rs : List (Variable × ReduceOp)) (s : State) (x : Variable) (op : ReduceOp) → are_different (reduced rs) ≡ true → operator_of rs x ≡ Some op → (with_identities rs s).locals x ≡ Holds (identity op)
+identity_held : (rs : List (Variable × ReduceOp)) (s : State) (x : Variable) (op : ReduceOp) → are_different (reduced rs) ≡ true → operator_of rs x ≡ Some op → (with_identities rs s).locals x ≡ Holds (identity op)
 identity_held [] s x op d h = absurd (none-some op h)
 identity_held (r ∷ rs) s x op d h =
     at (r.0 == x) refl h (λ k. identity_held rs (with_local s r.0 (Holds (identity r.1))) x op (second_of (not (is_among (reduced rs) r.0)) (are_different (reduced rs)) d) k)
@@ -96,6 +96,31 @@ empty_local (y ∷ xs) s x h = at (or_cases (y == x) (is_among xs x) h) (λ k. e
 
 -- ---- the start
 
+-- a chunk begins in a state in which all is as before the loop but the locals with a role, and each reduction variable holds a number
+pub record StartsIn (ps ls : List Variable) (rs : List (Variable × ReduceOp)) (s start : State) : Type 0 where
+  pub cells : (x : Variable) (is : List ℕ) → start.cells x is ≡ s.cells x is
+  pub other : (x : Variable) → is_among (role_variables (roles_with ps ls rs)) x ≡ false → start.locals x ≡ s.locals x
+  pub inside : (x : Variable) → is_among (role_variables (roles_with ps ls rs)) x ≡ true → is_outside (start.locals x) ≡ false
+  pub held : (x : Variable) (op : ReduceOp) → operator_of rs x ≡ Some op → IsSome (look start x [])
+
+pub starts_near : (ps ls : List Variable) (rs : List (Variable × ReduceOp)) (s start : State) → StartsIn ps ls rs s start
+    → ((x : Variable) → is_among (role_variables (roles_with ps ls rs)) x ≡ true → is_outside (s.locals x) ≡ false) → Near (role_variables (roles_with ps ls rs)) start s
+starts_near ps ls rs s start from stands = record {
+  agrees = record {
+    cells = from.cells;
+    kinds = λ x h. kind x (is_among vars x) refl;
+    values = λ x h. from.other x (not_true (is_among vars x) h);
+  };
+  inside = from.inside;
+}
+  where
+    vars : List Variable
+    vars = role_variables (roles_with ps ls rs)
+
+    kind : (x : Variable) (b : Bool) → is_among vars x ≡ b → is_outside (start.locals x) ≡ is_outside (s.locals x)
+    kind x true e = from.inside x e ∙ sym (stands x e)
+    kind x false e = ap is_outside (from.other x e)
+
 module _ (ps ls : List Variable) (rs : List (Variable × ReduceOp)) (s : State) where
   abbrev vars : List Variable
   vars = role_variables (roles_with ps ls rs)
@@ -110,16 +135,16 @@ module _ (ps ls : List Variable) (rs : List (Variable × ReduceOp)) (s : State) 
   among_parts x =
       list_any-append (λ y. y == x) (ps ++ ls) (reduced rs) ∙ ap (λ b. b || is_among (reduced rs) x) (list_any-append (λ y. y == x) ps ls)
 
-  pub start_cells : (x : Variable) (is : List ℕ) → start.cells x is ≡ s.cells x is
+  start_cells : (x : Variable) (is : List ℕ) → start.cells x is ≡ s.cells x is
   start_cells x is = copies_cells rs emptied x is ∙ empty_cells ls (with_empty ps s) x is ∙ empty_cells ps s x is
 
-  pub start_other : (x : Variable) → is_among vars x ≡ false → start.locals x ≡ s.locals x
+  start_other : (x : Variable) → is_among vars x ≡ false → start.locals x ≡ s.locals x
   start_other x h =
       let outer = or_parts (is_among ps x || is_among ls x) (is_among (reduced rs) x) (sym (among_parts x) ∙ h) in
       let inner = or_parts (is_among ps x) (is_among ls x) outer.0 in
       copies_plain rs emptied x (plain_of rs x outer.1) ∙ empty_other ls (with_empty ps s) x inner.1 ∙ empty_other ps s x inner.0
 
-  pub start_local : (x : Variable) → is_among vars x ≡ true → is_outside (start.locals x) ≡ false
+  start_local : (x : Variable) → is_among vars x ≡ true → is_outside (start.locals x) ≡ false
   start_local x h = at (or_cases (is_among ps x || is_among ls x) (is_among (reduced rs) x) (sym (among_parts x) ∙ h))
     where
       first : (is_among ps x ≡ true) ⊎ (is_among ls x ≡ true) → is_outside (emptied.locals x) ≡ false
@@ -130,23 +155,16 @@ module _ (ps ls : List Variable) (rs : List (Variable × ReduceOp)) (s : State) 
       at (inl k) = copies_inside rs emptied x (first (or_cases (is_among ps x) (is_among ls x) k))
       at (inr k) = let r = reduced_of rs x k in copies_local rs emptied x r.0 r.1
 
-  pub start_near : ((x : Variable) → is_among vars x ≡ true → is_outside (s.locals x) ≡ false) → Near vars start s
-  start_near stands = record {
-    agrees = record {
-      cells = start_cells;
-      kinds = λ x h. kind x (is_among vars x) refl;
-      values = λ x h. start_other x (not_true (is_among vars x) h);
-    };
-    inside = start_local;
-  }
-    where
-      other : (b : Bool) → not b ≡ true → b ≡ false
-      other true k = absurd (true≢false (sym k))
-      other false k = refl
+  pub identity_seen : are_different (reduced rs) ≡ true → (x : Variable) (op : ReduceOp) → operator_of rs x ≡ Some op → look start x [] ≡ Some (identity op)
+  identity_seen different x op is = ap (λ l. look_in l start x []) (identity_held rs emptied x op different is)
 
-      kind : (x : Variable) (b : Bool) → is_among vars x ≡ b → is_outside (start.locals x) ≡ is_outside (s.locals x)
-      kind x true e = start_local x e ∙ sym (stands x e)
-      kind x false e = ap is_outside (start_other x e)
+  pub start_in : are_different (reduced rs) ≡ true → StartsIn ps ls rs s start
+  start_in different = record {
+    cells = start_cells;
+    other = start_other;
+    inside = start_local;
+    held = λ x op is. subst (λ q. IsSome q) (sym (identity_seen different x op is)) refl;
+  }
 
 -- ---- and where scalars at file scope are locals
 

@@ -5,7 +5,7 @@
 ghost use Rattle.law_roles.specs.Following.{NestsAreWalks};
 ghost use Rattle.law_roles.specs.Reducing.{OperandsTell, OperandsRun, ReductionsShift};
 ghost use Rattle.law_roles.specs.Rows.{UpdateRows};
-ghost use Rattle.law_roles.specs.Sharing.{RoleChunksJoin};
+ghost use Rattle.law_roles.specs.Sharing.{RoleChunksJoin, RoleChunksJoinInPlace};
 
 /// Where a statement uses its reduction variables in updates alone, what it does to each is told by the operands of these: it combines them
 /// with what the variable holds (OpenMP 5.2, 5.5).
@@ -32,6 +32,12 @@ pub fn nests_are_walks()
 /// each, and leave put together what the nest leaves: partials may be combined in any order (OpenMP 5.2, 5.4.3, 5.4.5, 5.5.5 and 11.5.3).
 pub fn role_chunks_join()
     ensures { RoleChunksJoin }
+{}
+
+/// So do chunks that begin without copies: a reduction variable then holds its identity at first, or of && and || what it held before the
+/// loop, and its partial is what it holds in the end, if that is another number (OpenMP 5.2, 5.5.2).
+pub fn role_chunks_join_in_place()
+    ensures { RoleChunksJoinInPlace }
 {}
 
 /// Worked rows: what counts as an update, and what is left of it.
