@@ -25,21 +25,21 @@ enum Outcome {
 
 use Outcome::{Other, Refused, Written};
 
-/// Whether a team of so many workers writes these bytes.
-fn is_written_by<R: Threads + Wait + Sync>(
+/// Whether a team of so many workers writes these bytes, where a schedule stands for `runtime`.
+pub(crate) fn is_written_by<R: Threads + Wait + Sync>(
     rt: &R,
     alloc: Global,
     checked: &Checked,
     count: u64,
+    runtime: Sched,
     output: &[u8],
 ) -> bool {
     let Some(workers) = Workers::new(count) else {
         return false;
     };
     let mut sink = Memory::new(alloc);
-    let sched = Sched::PlainStatic;
     run(
-        rt, alloc, checked, b"", workers, sched, &OpenGate, &mut sink,
+        rt, alloc, checked, b"", workers, runtime, &OpenGate, &mut sink,
     )
     .is_ok()
         && sink.bytes() == output
@@ -62,8 +62,8 @@ fn outcome_of_checked<R: Threads + Wait + Sync>(
         None => true,
     };
     if is_wanted
-        && is_written_by(rt, alloc, checked, 1, output)
-        && is_written_by(rt, alloc, checked, 3, output)
+        && is_written_by(rt, alloc, checked, 1, Sched::PlainStatic, output)
+        && is_written_by(rt, alloc, checked, 3, Sched::PlainStatic, output)
     {
         Written
     } else {
@@ -591,7 +591,10 @@ const AFTER_TURNS: &str =
 /// Whether a team of so many workers leaves that of a text.
 fn turns_by<R: Threads + Wait + Sync>(rt: &R, alloc: Global, text: &str, count: u64) -> bool {
     match check(alloc, text.as_bytes()) {
-        Ok(checked) => is_written_by(rt, alloc, &checked, count, AFTER_TURNS.as_bytes()),
+        Ok(checked) => {
+            let sched = Sched::PlainStatic;
+            is_written_by(rt, alloc, &checked, count, sched, AFTER_TURNS.as_bytes())
+        },
         Err(_refusal) => false,
     }
 }

@@ -13,4 +13,6 @@ mod outcome;
 #[cfg(test)]
 mod runtime_calls;
 #[cfg(test)]
+mod schedules;
+#[cfg(test)]
 mod verdicts;
