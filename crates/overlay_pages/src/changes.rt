@@ -60,7 +60,7 @@ impl Changes {
     ///
     /// Where memory runs out. The changes are then as before.
     pub fn append(&mut self, mut later: Changes) -> Result<(), AllocError>
-        ensures added { OnOk result (self.new ≡ self.old ++ later.entry) }
+        ensures added { OnOk result (self.new ≡ self.old ++ later) }
         ensures kept { IfErr result (λ refusal. self.new ≡ self.old) }
     {
         self.writes.append(&mut later.writes)

@@ -1,8 +1,8 @@
 -- A store after the changes of chunks.
-use Rattle.std.specs.Prelude.{ℕ, ◌≡◌, ◌+◌, ◌<◌, ◌⊎◌, List, [], ◌∷◌, ◌++◌, length, map, take, drop, slice_get, All, Option, Some, None}
+use Rattle.std.specs.Prelude.{ℕ, zero, suc, ◌≡◌, ◌==◌, ◌+◌, ◌<◌, ◌⊎◌, if◌then◌else◌, List, [], ◌∷◌, ◌++◌, length, map, take, drop, slice_get, All, Option, Some, None}
 use Rattle.std.proofs.Common.{refl, sym, ap, ◌∙◌, inl, inr, subst, arith}
 use Rattle.std.proofs.lemmas.List.{take-append-drop, length-drop}
-use Rattle.std.proofs.lemmas.Option.{slice_get_within, same_Some}
+use Rattle.std.proofs.lemmas.Option.{slice_get_within, same_Some, none-some}
 use Rattle.std.proofs.lemmas.List.Elements.{All-nil, All-cons, All-append}
 use Rattle.schedule.proofs.Sized.{get-append_left}
 use Rattle.store.specs.Kept.{Kept}
@@ -17,9 +17,10 @@ use Rattle.team.specs.Applied.{NoneWrites, OneWrites, AreApplied}
 use Rattle.team.specs.Logged.{changes_in, logged}
 use Rattle.team.proofs.Merging.{get_none, get_some}
 
-get-append_right : {X : Type 0} (xs ys : List X) (k : ℕ) → slice_get (xs ++ ys) (length xs + k) ≡ slice_get ys k
-get-append_right [] ys k = refl
-get-append_right (x ∷ xs) ys k = get-append_right xs ys k
+get-append_right : {X : Type 0} (xs ys : List X) (k n : ℕ) → n ≡ length xs + k → slice_get (xs ++ ys) n ≡ slice_get ys k
+get-append_right [] ys k n is = ap (slice_get ys) (let e : n ≡ k = omega arith in e)
+get-append_right (x ∷ xs) ys k zero is = absurd (omega arith)
+get-append_right (x ∷ xs) ys k (suc n) is = get-append_right xs ys k n (omega arith)
 
 abbrev Left : List ℕ → List ℕ → List ChunkChanges → ℕ → Type 0
 Left before after cs place = (NoneWrites cs place × (slice_get after place ≡ slice_get before place)) ⊎ OneWrites cs after place
@@ -32,7 +33,7 @@ applied_both before now later cs ds first second =
   where
     go : (place : ℕ) → Left before now cs place → Left now later ds place → Left before later (cs ++ ds) place
     go place before_is (inr one) =
-        inr (record { number = length cs + one.number; chunk = one.chunk; among = get-append_right cs ds one.number ∙ one.among; value = one.value; writes = one.writes; holds = one.holds })
+        inr (record { number = length cs + one.number; chunk = one.chunk; among = get-append_right cs ds one.number (length cs + one.number) refl ∙ one.among; value = one.value; writes = one.writes; holds = one.holds })
     go place (inl (none, is)) (inl (no_more, same)) = inl (All-append (λ (c : ChunkChanges). writes_of c.changes place ≡ None) cs ds none no_more, same ∙ is)
     go place (inr one) (inl (no_more, same)) =
         inr
@@ -52,7 +53,9 @@ writes_both [] ys p = none (writes_of ys p)
     none : (o : Option ℕ) → o ≡ last_of o None
     none None = refl
     none (Some n) = refl
-writes_both (x ∷ xs) ys p = ap (λ o. last_of o _) (writes_both xs ys p) ∙ three (writes_of ys p) (writes_of xs p) _
+writes_both (x ∷ xs) ys p =
+    let own : Option ℕ = if p == x.place then Some x.value else None in
+    ap (λ o. last_of o own) (writes_both xs ys p) ∙ three (writes_of ys p) (writes_of xs p) own
   where
     three : (a b c : Option ℕ) → last_of (last_of a b) c ≡ last_of a (last_of b c)
     three None b c = refl
@@ -71,25 +74,27 @@ module _ (p : ℕ) where
 
   none_logged : (es : List EndedChunk) (ws : List Change) → writes_of ws p ≡ None → NoneWrites (logged es ws) p
   none_logged [] ws none = All-nil (λ (c : ChunkChanges). writes_of c.changes p ≡ None)
-  none_logged (e ∷ es) ws none = go (writes_of (drop e.count ws) p) (writes_of (take e.count ws) p) refl refl (sym (split e.count ws) ∙ none)
+  none_logged (e ∷ es) ws none = go (writes_of (drop e.count ws) p) (writes_of (take e.count ws) p) refl refl (sym (split e.count ws) ∙ none) (λ later. none_logged es (drop e.count ws) later)
     where
-      go : (o q : Option ℕ) → writes_of (drop e.count ws) p ≡ o → writes_of (take e.count ws) p ≡ q → last_of o q ≡ None → NoneWrites (logged (e ∷ es) ws) p
-      go None q later own is = All-cons (λ (c : ChunkChanges). writes_of c.changes p ≡ None) _ _ (own ∙ is) (none_logged es (drop e.count ws) later)
-      go (Some n) q later own is = absurd (cc is)
+      go : (o q : Option ℕ) → writes_of (drop e.count ws) p ≡ o → writes_of (take e.count ws) p ≡ q → last_of (writes_of (drop e.count ws) p) (writes_of (take e.count ws) p) ≡ None
+          → (writes_of (drop e.count ws) p ≡ None → NoneWrites (logged es (drop e.count ws)) p) → NoneWrites (logged (e ∷ es) ws) p
+      go None q later own is rest = All-cons (λ (c : ChunkChanges). writes_of c.changes p ≡ None) _ _ (sym (ap (λ o. last_of o (writes_of (take e.count ws) p)) later) ∙ is) (rest later)
+      go (Some n) q later own is rest = absurd (none-some n (sym is ∙ ap (λ o. last_of o (writes_of (take e.count ws) p)) later))
 
   one_logged : (es : List EndedChunk) (ws : List Change) (n : ℕ) → changes_in es ≡ length ws → writes_of ws p ≡ Some n → IsWritten (logged es ws) p n
   one_logged [] [] n told is = absurd (cc is)
   one_logged [] (w ∷ ws) n told is = absurd (omega arith)
-  one_logged (e ∷ es) ws n told is = go (writes_of (drop e.count ws) p) refl (sym (split e.count ws) ∙ is)
+  one_logged (e ∷ es) ws n told is = go (writes_of (drop e.count ws) p) refl (sym (split e.count ws) ∙ is) (λ long later. one_logged es (drop e.count ws) n long later)
     where
-      go : (o : Option ℕ) → writes_of (drop e.count ws) p ≡ o → last_of (writes_of (drop e.count ws) p) (writes_of (take e.count ws) p) ≡ Some n → IsWritten (logged (e ∷ es) ws) p n
-      go None later here =
+      go : (o : Option ℕ) → writes_of (drop e.count ws) p ≡ o → last_of (writes_of (drop e.count ws) p) (writes_of (take e.count ws) p) ≡ Some n
+          → (changes_in es ≡ length (drop e.count ws) → writes_of (drop e.count ws) p ≡ Some n → IsWritten (logged es (drop e.count ws)) p n) → IsWritten (logged (e ∷ es) ws) p n
+      go None later here rest =
           record { number = 0; chunk = _; among = refl; writes = sym (ap (λ o. last_of o (writes_of (take e.count ws) p)) later) ∙ here }
-      go (Some m) later here =
+      go (Some m) later here rest =
           let same : m ≡ n = same_Some m n (sym (ap (λ o. last_of o (writes_of (take e.count ws) p)) later) ∙ here) in
           let left = length-drop e.count ws in
-          let r = one_logged es (drop e.count ws) n (omega arith) (later ∙ ap Some same) in
-          record { number = 1 + r.number; chunk = r.chunk; among = r.among; writes = r.writes }
+          let r = rest (omega arith) (later ∙ ap Some same) in
+          record { number = suc r.number; chunk = r.chunk; among = r.among; writes = r.writes }
 
 -- all changes at once leave what the chunks' changes leave one after another
 pub applied_log : (es : List EndedChunk) (ws : List Change) (before after : List ℕ) → changes_in es ≡ length ws → after ≡ written_over (writes_of ws) before

@@ -50,7 +50,7 @@ impl ChangeLog {
 
     /// One chunk more.
     pub(crate) fn push(&mut self, chunk: ChunkChanges) -> Result<(), AllocError>
-        ensures { OnOk result (self.new ≡ self.old ++ chunk.entry ∷ []) }
+        ensures { OnOk result (self.new ≡ self.old ++ chunk ∷ []) }
     {
         let ChunkChanges { work, changes } = chunk;
         let count = changes.len();

@@ -1,12 +1,20 @@
-use Rattle.std.proofs.Common.{◌∙◌, ap, map}
+use Rattle.std.proofs.Common.{◌∙◌, ap, subst, map, List}
 use Rattle.store.specs.Kept.{Kept}
 use Rattle.store.specs.Flat.{values_of}
 use Rattle.overlay_pages.specs.Over.{writes_of, written_over}
+use Rattle.team.specs.Applied.{AreApplied}
 use Rattle.team.proofs.Applying.{applied_log, filled_over, same_shape}
 use Rattle.team.proofs.log.ChangeLog.apply.Goals as goal
 
 pub returns-clause-applied : goal.returns-clause-applied
 returns-clause-applied c =
     let ks = c.args.store.now in
+    let later = c.apply.new.store in
     let ws = c.self.inside.changes in
-    ?
+    subst (AreApplied (values_of ks) (values_of later)) c.self.view_is
+    (applied_log c.self.inside.ended.items ws (values_of ks) (values_of later) c.self.invariant (filled_over ks later ws c.apply.ensures))
+
+pub returns-clause-shape : goal.returns-clause-shape
+returns-clause-shape c =
+    let ks = c.args.store.now in
+    ap (λ (js : List Kept). map (λ (k : Kept). k.lengths) js) c.apply.ensures ∙ same_shape (written_over (writes_of c.self.inside.changes) (values_of ks)) ks
