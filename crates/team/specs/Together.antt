@@ -1,13 +1,11 @@
 -- What a team leaves of a lowered loop. (OpenMP 5.2, 11.5 and 11.5.3)
-use Rattle.std.specs.Prelude.{ℕ, ◌≡◌, List, length, map, Some, Result, OnOk, IfErr}
+use Rattle.std.specs.Prelude.{ℕ, ◌≡◌, List, length, map, Some}
 use Rattle.semantics.specs.Tree.{Stmt}
 use Rattle.semantics.specs.Meaning.State.{State}
 use Rattle.semantics.specs.Meaning.Runs.{Effect}
 use Rattle.semantics.specs.Loops.Chunk.{Kind, cut}
 use Rattle.semantics.specs.Loops.Joined.{chunked}
 use Rattle.semantics.specs.Loops.Nest.{Loop, Vector}
-use Rattle.ktree.specs.declared.refusal.Refusal.{Refusal}
-use Rattle.ktree.specs.declared.refusal.Refusal.TheVariants.{OutOfMemory}
 use Rattle.law_nests.specs.Walks.{walk}
 use Rattle.law_nests.specs.Merging.{Merges}
 use Rattle.store.specs.Kept.{Kept}
@@ -26,9 +24,6 @@ LeavesTogether l registers ks ks' kind workers =
     → map (λ vs. walk loops body vs outer) (chunked us (cut kind (length us) workers)) ≡ map Some effects
     → Merges outer effects (λ x is. cell_at (shapes_of layout) (values_of ks') x is)
 
--- what a run of the loop comes to: where it succeeds the store is so; where it does not, memory was refused, and the store is as before; and each variable keeps its shape
-pub record RunsLoop (l : LoweredLoop) (registers : List ℕ) (ks ks' : List Kept) (kind : Kind) (workers : ℕ) (r : Result (Unit {0}) Refusal) : Type 0 where
-  pub leaves : OnOk r (LeavesTogether l registers ks ks' kind workers)
-  pub refusal : IfErr r (λ refusal. refusal ≡ OutOfMemory)
-  pub kept : IfErr r (λ refusal. ks' ≡ ks)
-  pub shape : map (λ k. k.lengths) ks' ≡ map (λ k. k.lengths) ks
+-- the same as one fact
+pub record IsLeft (l : LoweredLoop) (registers : List ℕ) (ks ks' : List Kept) (kind : Kind) (workers : ℕ) : Type 0 where
+  pub together : LeavesTogether l registers ks ks' kind workers

@@ -1,10 +1,10 @@
 //! The team.
 
-ghost use Rattle.std.specs.Prelude.{◌≡◌, IfOk, IfErr};
+ghost use Rattle.std.specs.Prelude.{◌≡◌, map, IfOk, IfErr, OnOk};
 ghost use Rattle.schedule.specs.Sched.{kind_said};
 ghost use Rattle.team.specs.Ends.{AreOfLoop};
 ghost use Rattle.team.specs.Logged.{joined};
-ghost use Rattle.team.specs.Together.{RunsLoop};
+ghost use Rattle.team.specs.Together.{LeavesTogether, IsLeft};
 
 use crate::applied::apply_all;
 use crate::gate::Gate;
@@ -64,8 +64,11 @@ pub fn share_loop<'l, R: Wait, G: Gate>(
     runtime: Sched,
     gate: &G,
 ) -> Result<(), Refusal>
-    ensures { RunsLoop lowered.now registers.now store.old store.new
-        (kind_said lowered.now.schedule runtime) workers result }
+    ensures leaves { OnOk result (LeavesTogether lowered.now registers.now store.old store.new
+        (kind_said lowered.now.schedule runtime) workers) }
+    ensures shape { map (λ k. k.lengths) store.new ≡ map (λ k. k.lengths) store.old }
+    ensures refusal { IfErr result (λ refusal. refusal ≡ Refusal.OutOfMemory) }
+    ensures kept { IfErr result (λ refusal. store.new ≡ store.old) }
 {
     let changes = loop_changes(
         rt, alloc, crew, lowered, registers, store, workers, runtime, gate,
@@ -86,8 +89,11 @@ fn lead<'l, R: Wait, G: Gate>(
     runtime: Sched,
     gate: &G,
 ) -> Result<(), Refusal>
-    ensures { RunsLoop lowered.now registers.now store.old store.new
-        (kind_said lowered.now.schedule runtime) workers result }
+    ensures leaves { OnOk result (IsLeft lowered.now registers.now store.old store.new
+        (kind_said lowered.now.schedule runtime) workers) }
+    ensures shape { map (λ k. k.lengths) store.new ≡ map (λ k. k.lengths) store.old }
+    ensures refusal { IfErr result (λ refusal. refusal ≡ Refusal.OutOfMemory) }
+    ensures kept { IfErr result (λ refusal. store.new ≡ store.old) }
 {
     let end = share_loop(
         rt, alloc, crew, lowered, registers, store, workers, runtime, gate,
@@ -108,8 +114,11 @@ fn run_led<'l, R: Threads + Wait + Sync, G: Gate + Sync>(
     runtime: Sched,
     gate: &G,
 ) -> Result<(), Refusal>
-    ensures { RunsLoop lowered.now registers.now store.old store.new
-        (kind_said lowered.now.schedule runtime) workers result }
+    ensures leaves { OnOk result (IsLeft lowered.now registers.now store.old store.new
+        (kind_said lowered.now.schedule runtime) workers) }
+    ensures shape { map (λ k. k.lengths) store.new ≡ map (λ k. k.lengths) store.old }
+    ensures refusal { IfErr result (λ refusal. refusal ≡ Refusal.OutOfMemory) }
+    ensures kept { IfErr result (λ refusal. store.new ≡ store.old) }
 {
     let (_, end) = join_mut(
         rt,
@@ -141,8 +150,11 @@ pub fn run_loop<R: Threads + Wait + Sync, G: Gate + Sync>(
     runtime: Sched,
     gate: &G,
 ) -> Result<(), Refusal>
-    ensures { RunsLoop lowered.now registers.now store.old store.new
-        (kind_said lowered.now.schedule runtime) workers result }
+    ensures leaves { OnOk result (LeavesTogether lowered.now registers.now store.old store.new
+        (kind_said lowered.now.schedule runtime) workers) }
+    ensures shape { map (λ k. k.lengths) store.new ≡ map (λ k. k.lengths) store.old }
+    ensures refusal { IfErr result (λ refusal. refusal ≡ Refusal.OutOfMemory) }
+    ensures kept { IfErr result (λ refusal. store.new ≡ store.old) }
 {
     let crew = Crew::new(workers.get() - 1);
     if crew.others() == 0 {
