@@ -7,7 +7,7 @@ ghost use Rattle.semantics.specs.Meaning.Value.{source_value};
 ghost use Rattle.lower_code.specs.Meaning.{Gives, MeansValue, MeansTest, MeansPlace};
 
 use crate::making::{
-    binary, both, comparison, conditional, either, element, negation, number, unary,
+    beside, binary, both, comparison, conditional, either, element, negation, number, unary,
 };
 use crate::running::entry;
 use crate::term::{Laid, Register, Term, Test};
@@ -29,14 +29,14 @@ pub(crate) fn value(alloc: Global, expr: &Expr, layout: &[Laid]) -> Result<Term,
         }
         Expr::Binary(op, a, b) => {
             let a = value(alloc, a, layout)?;
-            let b = value(alloc, b, layout)?;
+            let (a, b) = beside(a, value(alloc, b, layout))?;
             binary(alloc, *op, a, b)
         }
         Expr::Conditional(c, a, b) => {
             let c = test(alloc, c, layout)?;
-            let a = value(alloc, a, layout)?;
-            let b = value(alloc, b, layout)?;
-            conditional(alloc, c, a, b)
+            let (c, a) = beside(c, value(alloc, a, layout))?;
+            let (first, b) = beside((c, a), value(alloc, b, layout))?;
+            conditional(alloc, first.0, first.1, b)
         }
     }
 }
@@ -57,7 +57,7 @@ pub fn test(alloc: Global, cond: &Cond, layout: &[Laid]) -> Result<Test, AllocEr
         }
         Cond::Compare(op, a, b, _place) => {
             let a = value(alloc, a, layout)?;
-            let b = value(alloc, b, layout)?;
+            let (a, b) = beside(a, value(alloc, b, layout))?;
             comparison(alloc, *op, a, b)
         }
         Cond::Not(c) => {
@@ -66,12 +66,12 @@ pub fn test(alloc: Global, cond: &Cond, layout: &[Laid]) -> Result<Test, AllocEr
         }
         Cond::LogicalAnd(c, d) => {
             let c = test(alloc, c, layout)?;
-            let d = test(alloc, d, layout)?;
+            let (c, d) = beside(c, test(alloc, d, layout))?;
             both(alloc, c, d)
         }
         Cond::LogicalOr(c, d) => {
             let c = test(alloc, c, layout)?;
-            let d = test(alloc, d, layout)?;
+            let (c, d) = beside(c, test(alloc, d, layout))?;
             either(alloc, c, d)
         }
     }
@@ -116,7 +116,7 @@ pub(crate) fn place(
             at,
             number(entry(&laid.lengths, d as u64)),
         )?;
-        let index = value(alloc, subscript, layout)?;
+        let (row, index) = beside(row, value(alloc, subscript, layout))?;
         at = binary(alloc, BinaryOp::Plus, row, index)?;
     }
     binary(alloc, BinaryOp::Plus, number(laid.first), at)

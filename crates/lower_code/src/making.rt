@@ -1,6 +1,6 @@
 //! Terms, tests and code from their parts.
 
-ghost use Rattle.std.specs.Prelude.{IfOk, ◌≡◌, ◌&&◌, ◌||◌, not, slice_index, if◌then◌else◌};
+ghost use Rattle.std.specs.Prelude.{IfErr, IfOk, Err, Ok, ◌≡◌, ◌&&◌, ◌||◌, not, slice_index, if◌then◌else◌};
 ghost use Rattle.ktree.specs.View.{unary_of, binary_of, compare_of};
 ghost use Rattle.semantics.specs.Meaning.Value.{change, compare};
 ghost use Rattle.semantics.specs.Meaning.Runs.{greatest_trip_count};
@@ -9,6 +9,46 @@ ghost use Rattle.lower_code.specs.Machine.{Machine, Running, worth, truth, after
 use crate::term::{Code, Term, Test, Word};
 use ktree::{BinaryOp, CompareOp, UnaryOp};
 use std::alloc::{AllocError, Global};
+
+/// What is owned already, and what a further step made. The first is of any type, so that letting go of it is a call, and is not
+/// written out.
+///
+/// # Errors
+///
+/// That of the step.
+pub fn beside<A: Drop, B: Drop, E: Drop>(before: A, next: Result<B, E>) -> Result<(A, B), E>
+    ensures before { IfOk result (λ r. r.0 ≡ before) }
+    ensures next { IfOk result (λ r. next ≡ Ok r.1) }
+    ensures refusal { IfErr result (λ e. next ≡ Err e) }
+{
+    let next = next?;
+    Ok((before, next))
+}
+
+/// A value in a box, and another one that is owned meanwhile.
+fn boxed_beside<A: Drop, B: Drop>(
+    alloc: Global,
+    value: A,
+    other: B,
+) -> Result<(Box<A>, B), AllocError>
+    ensures { IfOk result (λ p. (p.0.value ≡ value) × (p.1 ≡ other)) }
+{
+    let value = Box::new(alloc, value)?;
+    Ok((value, other))
+}
+
+/// Two values in boxes.
+///
+/// # Errors
+///
+/// Where memory runs out.
+pub fn boxed<A: Drop, B: Drop>(alloc: Global, a: A, b: B) -> Result<(Box<A>, Box<B>), AllocError>
+    ensures { IfOk result (λ p. (p.0.value ≡ a) × (p.1.value ≡ b)) }
+{
+    let (a, b) = boxed_beside(alloc, a, b)?;
+    let (b, a) = boxed_beside(alloc, b, a)?;
+    Ok((a, b))
+}
 
 /// A number.
 pub(crate) fn number(n: u64) -> Term
@@ -39,8 +79,7 @@ pub(crate) fn binary(alloc: Global, op: BinaryOp, a: Term, b: Term) -> Result<Te
     ensures { IfOk result (λ t. (m : Machine)
         → worth t m ≡ operate_or_zero (binary_of op) (worth a m) (worth b m)) }
 {
-    let a = Box::new(alloc, a)?;
-    let b = Box::new(alloc, b)?;
+    let (a, b) = boxed(alloc, a, b)?;
     Ok(Term::Binary(op, a, b))
 }
 
@@ -49,9 +88,8 @@ pub(crate) fn conditional(alloc: Global, c: Test, a: Term, b: Term) -> Result<Te
     ensures { IfOk result (λ t. (m : Machine)
         → worth t m ≡ (if truth c m then worth a m else worth b m)) }
 {
-    let c = Box::new(alloc, c)?;
-    let a = Box::new(alloc, a)?;
-    let b = Box::new(alloc, b)?;
+    let (c, branches) = beside(c, boxed(alloc, a, b))?;
+    let (c, (a, b)) = boxed_beside(alloc, c, branches)?;
     Ok(Term::Conditional(c, a, b))
 }
 
@@ -60,8 +98,7 @@ pub(crate) fn comparison(alloc: Global, op: CompareOp, a: Term, b: Term) -> Resu
     ensures { IfOk result (λ t. (m : Machine)
         → truth t m ≡ compare (compare_of op) (worth a m) (worth b m)) }
 {
-    let a = Box::new(alloc, a)?;
-    let b = Box::new(alloc, b)?;
+    let (a, b) = boxed(alloc, a, b)?;
     Ok(Test::Compare(op, a, b))
 }
 
@@ -77,8 +114,7 @@ pub(crate) fn negation(alloc: Global, c: Test) -> Result<Test, AllocError>
 pub(crate) fn both(alloc: Global, c: Test, d: Test) -> Result<Test, AllocError>
     ensures { IfOk result (λ t. (m : Machine) → truth t m ≡ (truth c m && truth d m)) }
 {
-    let c = Box::new(alloc, c)?;
-    let d = Box::new(alloc, d)?;
+    let (c, d) = boxed(alloc, c, d)?;
     Ok(Test::LogicalAnd(c, d))
 }
 
@@ -86,18 +122,8 @@ pub(crate) fn both(alloc: Global, c: Test, d: Test) -> Result<Test, AllocError>
 pub(crate) fn either(alloc: Global, c: Test, d: Test) -> Result<Test, AllocError>
     ensures { IfOk result (λ t. (m : Machine) → truth t m ≡ (truth c m || truth d m)) }
 {
-    let c = Box::new(alloc, c)?;
-    let d = Box::new(alloc, d)?;
+    let (c, d) = boxed(alloc, c, d)?;
     Ok(Test::LogicalOr(c, d))
-}
-
-/// Two pieces of code in boxes.
-fn boxed(alloc: Global, a: Code, b: Code) -> Result<(Box<Code>, Box<Code>), AllocError>
-    ensures { IfOk result (λ p. (p.0.value ≡ a) × (p.1.value ≡ b)) }
-{
-    let a = Box::new(alloc, a)?;
-    let b = Box::new(alloc, b)?;
-    Ok((a, b))
 }
 
 /// The one, and then the other.

@@ -10,7 +10,7 @@ ghost use Rattle.lower_code.specs.Machine.{Running, after};
 ghost use Rattle.lower_code.specs.Meaning.{DoesAlways, Assigns, Updates, MeansPart, MeansText, MeansDeclared, MeansStmt, MeansTurns, MeansItems};
 
 use crate::expression::{object, place, source_value, test, value};
-use crate::making::{binary, branch, number, repeat, then};
+use crate::making::{beside, binary, branch, number, repeat, then};
 use crate::term::{Code, Laid, Piece, Register, Term};
 use ktree::{BinaryOp, Cond, Expr, Head, Increment, Item, PrintPart, Source, Stmt, Target, VarId};
 use std::alloc::{AllocError, Global};
@@ -169,8 +169,8 @@ fn choice(alloc: Global, c: &Cond, a: Code, b: Code, layout: &[Laid]) -> Result<
         → MeansStmt layout.now y b
         → MeansStmt layout.now (Tree.IfElse (cond_of c.now) x y) code) }
 {
-    let c = test(alloc, c, layout)?;
-    branch(alloc, c, a, b)
+    let (arms, c) = beside((a, b), test(alloc, c, layout))?;
+    branch(alloc, c, arms.0, arms.1)
 }
 
 /// The turns of a loop with a body (C11 6.8.5).
@@ -178,9 +178,9 @@ fn looped(alloc: Global, head: &Head, body: Code, layout: &[Laid]) -> Result<Cod
     ensures { IfOk result (λ code. (x : Tree.Stmt) → MeansStmt layout.now x body
         → MeansTurns layout.now (cond_of head.now.test) x (increment_of head.now.step) code) }
 {
-    let c = test(alloc, &head.test, layout)?;
-    let step = increment(alloc, &head.step, layout)?;
-    repeat(alloc, c, body, step)
+    let (body, c) = beside(body, test(alloc, &head.test, layout))?;
+    let (turn, step) = beside((c, body), increment(alloc, &head.step, layout))?;
+    repeat(alloc, turn.0, turn.1, step)
 }
 
 /// The code of a loop with a body: its variable's first value, and then the turns (C11 6.8.5.3).
@@ -190,7 +190,7 @@ fn whole_loop(alloc: Global, head: &Head, body: Code, layout: &[Laid]) -> Result
         (source_of head.now.start) (cond_of head.now.test) (increment_of head.now.step) x) code) }
 {
     let turns = looped(alloc, head, body, layout)?;
-    let start = entry(alloc, head, layout)?;
+    let (turns, start) = beside(turns, entry(alloc, head, layout))?;
     then(alloc, start, turns)
 }
 
@@ -219,7 +219,7 @@ pub fn statement(alloc: Global, stmt: &Stmt, layout: &[Laid]) -> Result<Code, Al
             match other {
                 None => choice(alloc, c, a, Code::Nothing, layout),
                 Some(b) => {
-                    let b = statement(alloc, b, layout)?;
+                    let (a, b) = beside(a, statement(alloc, b, layout))?;
                     choice(alloc, c, a, b, layout)
                 }
             }
@@ -244,8 +244,8 @@ pub fn items(alloc: Global, list: &[Item], layout: &[Laid]) -> Result<Code, Allo
 {
     let mut code = Code::Nothing;
     for entry in list {
-        let next = item(alloc, entry, layout)?;
-        code = then(alloc, code, next)?;
+        let (before, next) = beside(code, item(alloc, entry, layout))?;
+        code = then(alloc, before, next)?;
     }
     Ok(code)
 }

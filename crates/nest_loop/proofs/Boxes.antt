@@ -3,7 +3,8 @@ use Rattle.std.specs.Prelude.{ℕ, ◌≡◌, ◌≤◌, ◌<◌, ◌+◌, ◌^�
 use Rattle.std.proofs.Common.{refl, sym, ap, ◌∙◌, subst, arith}
 use Rattle.std.proofs.lemmas.Int.{ints, to_z-of_z, fits_signed_from_abs}
 use Rattle.std.proofs.Common.{to_z, of_z, w64}
-use Rattle.std.specs.Prelude.{IsTrue, ◌⊎◌}
+use Rattle.std.specs.Prelude.{IsTrue, ◌⊎◌, not}
+use Rattle.std.proofs.lemmas.Bool.{true≢false}
 use Rattle.std.proofs.Common.{⊎_elim}
 use Rattle.std.specs.Int.Signed.{le_z}
 use Rattle.nest_loop.specs.declared.stride.Direction.{Direction}
@@ -23,6 +24,15 @@ use Rattle.affine.proofs.Whole.{unsigned_abs-sum}
 use Rattle.affine.proofs.Ranges.{not_empty_inside}
 use Rattle.nest_loop.specs.Sides.{IsModest}
 use Rattle.nest_loop.specs.Whole.{IsAtLeast, IsAtMost, AreModest}
+
+-- what negation undoes
+pub true_by : (b : Bool) → not b ≡ false → b ≡ true
+true_by true e = refl
+true_by false e = absurd (true≢false e)
+
+pub false_by : (b : Bool) → not b ≡ true → b ≡ false
+false_by false e = refl
+false_by true e = absurd (true≢false (sym e))
 
 pub empty_at_least : (n : ℤ) (f : Affine) (box : List Side) → IsEmpty box → IsAtLeast n f box
 empty_at_least n f box e values inside = absurd (not_empty_inside box values inside e)

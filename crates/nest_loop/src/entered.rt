@@ -1,11 +1,12 @@
 //! Loops that a walk enters.
 
-ghost use Rattle.std.specs.Prelude.{◌≡◌, ◌⊎◌, IfOk, IfErr, OnOk, OnErr};
+ghost use Rattle.std.specs.Prelude.{◌≡◌, ◌⊎◌, Some, IfOk, IfErr, OnOk, OnErr};
 ghost use Rattle.ktree.specs.View.{source_of, cond_of, increment_of, stmt_of};
 ghost use Rattle.affine.specs.Box.{EndsFit};
 ghost use Rattle.affine.specs.declared.interval.Interval as intervals;
 ghost use Rattle.affine_expr.specs.declared.faults.Fault.TheVariants.{OutOfMemory};
 ghost use Rattle.nest_loop.specs.declared.head.Canonical as canonicals;
+ghost use Rattle.nest_loop.specs.Canonical.{canonical};
 ghost use Rattle.nest_loop.specs.Loops.{IsLoop, inside};
 ghost use Rattle.nest_loop.specs.Facts.{AreFactsOf};
 
@@ -46,6 +47,38 @@ fn first_fault(head: &Head, body: &Stmt, bounds: &VarBox, fault: Fault) -> Fault
     }
 }
 
+/// The numbers that the variable of a canonical loop may have, where neither its body nor its bounds nor the loops round it keep it from
+/// being one of a nest.
+fn numbers_of(
+    form: &Canonical,
+    head: &Head,
+    body: &Stmt,
+    bounds: &VarBox,
+) -> Result<Interval, Fault>
+    requires { canonical bounds.now head.now.variable.0 (source_of head.now.start)
+        (cond_of head.now.test) (increment_of head.now.step) ≡ Some form.now }
+    ensures ok { IfOk result (λ numbers. IsLoop bounds.now head.now.variable.0
+        (source_of head.now.start) (cond_of head.now.test) (increment_of head.now.step)
+        (stmt_of body.now) form.now numbers) }
+    ensures fits { IfOk result (λ numbers. EndsFit numbers.least numbers.greatest) }
+    ensures fault { IfErr result
+        (λ fault. (fault ≡ OutOfMemory)
+        ⊎ ((l : canonicals.Canonical) (i : intervals.Interval)
+        → IsLoop bounds.now head.now.variable.0 (source_of head.now.start)
+        (cond_of head.now.test) (increment_of head.now.step) (stmt_of body.now) l i → ⊥)) }
+{
+    if assigns(head.variable, body) {
+        return Err(Fault::NotCanonical(head.place));
+    }
+    if wraps(form, bounds, head.place)? {
+        return Err(Fault::MayWrap(head.place));
+    }
+    if bounds.len() >= NESTED_LOOPS {
+        return Err(Fault::Limit(head.place));
+    }
+    Ok(side(form, bounds))
+}
+
 /// The loop of a head inside those of a box (OpenMP 5.2, 4.4.1 and 4.4.2).
 ///
 /// # Errors
@@ -67,17 +100,10 @@ pub fn loop_of(alloc: Global, head: &Head, body: &Stmt, bounds: &VarBox) -> Resu
         Ok(canonical) => canonical,
         Err(fault) => return Err(first_fault(head, body, bounds, fault)),
     };
-    if assigns(head.variable, body) {
-        return Err(Fault::NotCanonical(head.place));
+    match numbers_of(&canonical, head, body, bounds) {
+        Ok(numbers) => Ok(Loop { canonical, numbers }),
+        Err(fault) => Err(fault),
     }
-    if wraps(&canonical, bounds, head.place)? {
-        return Err(Fault::MayWrap(head.place));
-    }
-    if bounds.len() >= NESTED_LOOPS {
-        return Err(Fault::Limit(head.place));
-    }
-    let numbers = side(&canonical, bounds);
-    Ok(Loop { canonical, numbers })
 }
 
 /// What is found of a loop: its canonical form, the numbers that its variable may have, and how often it turns at most

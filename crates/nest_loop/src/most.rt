@@ -46,6 +46,24 @@ fn apart(canonical: &Canonical, place: Place) -> Result<Form, Fault>
     }
 }
 
+/// The sum of a form and of a number that is 1 at most.
+fn with_number(alloc: Global, form: &Form, number: i128, place: Place) -> Result<Form, Fault>
+    requires within { IsWithin 1 number }
+    requires near { IsWithin (2 ^ 33) form.now.constant }
+    requires fits { Fits form.now }
+    ensures ok { IfOk result (λ sum. (values : Variable → ℤ)
+        → value sum values ≡ value form.now values +ℤ number) }
+    ensures err { IfErr result (λ fault. fault ≡ OutOfMemory) }
+{
+    let Ok(constant) = Form::constant(alloc, number, place) else {
+        unreachable!()
+    };
+    match form.add(&constant, place) {
+        Ok(sum) => Ok(sum),
+        Err(refusal) => Err(fault_of_refusal(refusal, place)),
+    }
+}
+
 /// How far the end of a loop lies behind its start, as a form in the variables round it (OpenMP 5.2, 4.4.2): below 0, there is
 /// no turn, and else as many as the steps that stay within.
 ///
@@ -59,13 +77,7 @@ pub fn distance(alloc: Global, canonical: &Canonical, place: Place) -> Result<Fo
     ensures err { IfErr result (λ fault. fault ≡ OutOfMemory) }
 {
     let apart = apart(canonical, place)?;
-    let Ok(short) = Form::constant(alloc, short(canonical.bound), place) else {
-        unreachable!()
-    };
-    match apart.add(&short, place) {
-        Ok(form) => Ok(form),
-        Err(refusal) => Err(fault_of_refusal(refusal, place)),
-    }
+    with_number(alloc, &apart, short(canonical.bound), place)
 }
 
 /// How many turns stay within a distance.

@@ -4,7 +4,7 @@ ghost use Rattle.std.specs.Prelude.{◌≡◌, ◌↔◌, IsTrue, true, false, S
 ghost use Rattle.affine_expr.specs.Forms.{kept};
 ghost use Rattle.affine_expr.specs.declared.faults.Fault.TheVariants.{OutOfMemory};
 ghost use Rattle.nest_loop.specs.Sides.{CannotWrap};
-ghost use Rattle.nest_loop.specs.Whole.{IsBelow, HasRoom, IsWell};
+ghost use Rattle.nest_loop.specs.Whole.{AreModest, IsBelow, HasRoom, IsWell};
 
 use crate::difference::difference;
 use crate::head::Canonical;
@@ -46,6 +46,14 @@ fn has_room(canonical: &Canonical, bounds: &VarBox, place: Place) -> Result<bool
     }
 }
 
+/// Whether both bounds of a loop are numbers of 0..2^32, wherever in the box.
+fn are_modest(canonical: &Canonical, bounds: &VarBox) -> bool
+    ensures { IsTrue result ↔ (AreModest canonical.now.start bounds.now
+        × AreModest canonical.now.limit bounds.now) }
+{
+    is_modest(&canonical.start, bounds) && is_modest(&canonical.limit, bounds)
+}
+
 /// Whether the variable of a loop inside those of a box may wrap, however often the loop turns (C11 6.2.5, 9).
 ///
 /// # Errors
@@ -57,7 +65,9 @@ pub fn wraps(canonical: &Canonical, bounds: &VarBox, place: Place) -> Result<boo
     ensures wraps { IfOk result (λ wraps. wraps ≡ true → CannotWrap bounds.now canonical.now → ⊥) }
     ensures err { IfErr result (λ fault. fault ≡ OutOfMemory) }
 {
-    let modest = is_modest(&canonical.start, bounds) && is_modest(&canonical.limit, bounds);
+    if !are_modest(canonical, bounds) {
+        return Ok(true);
+    }
     let room = has_room(canonical, bounds, place)?;
-    Ok(!(modest && room))
+    Ok(!room)
 }

@@ -1,5 +1,5 @@
-use Rattle.std.proofs.Common.{sym, ap, refl, subst}
-use Rattle.std.proofs.lemmas.Result.{IfOk-weaker}
+use Rattle.std.proofs.Common.{sym, ap, refl, subst, drop}
+use Rattle.std.proofs.lemmas.Result.{IfOk-weaker, IfOk-at_ok}
 use Rattle.std.specs.Prelude.{string_bytes, map}
 use Rattle.semantics.specs.Tree
 use Rattle.ktree.specs.View.{stmt_of, items_of, with_item, start_of, part_of}
@@ -7,14 +7,18 @@ use Rattle.ktree.specs.declared.statement.Stmt.{If}
 use Rattle.ktree.proofs.Trees.{block_is}
 use Rattle.lower_code.specs.declared.term.Code.{Nothing}
 use Rattle.lower_code.specs.Meaning.{MeansStmt, MeansItems}
-use Rattle.lower_code.proofs.Whole.{begun, begun_on, begun_ends, statement_alone, local_alone, line_alone}
+use Rattle.lower_code.proofs.Whole.{Begun, begun, begun_on, begun_ends, statement_alone, local_alone, line_alone}
 use Rattle.lower_code.proofs.statements.+statement.Goals as goal
 
 pub items-loop-entry-init : goal.items-loop-entry-init
 items-loop-entry-init t c = begun c.args.layout.now (items_of c.args.list.now) Nothing (λ r. refl)
 
 pub items-loop-entry-preserved : goal.items-loop-entry-preserved
-items-loop-entry-preserved t c = begun_on c.args.layout.now c.args.list.now c.loop-entry.entry-index c.entry-item.result c.loop-entry.code c.in_ok-next.next c.in_ok-code.code c.loop-entry-test.true c.entry-item.is c.loop-entry.invariant c.in_ok-next.ensures c.in_ok-code.ensures
+items-loop-entry-preserved t c =
+    let p = c.in_ok-before in
+    begun_on c.args.layout.now c.args.list.now c.loop-entry.entry-index c.entry-item.result p.before p.next c.in_ok-code.code c.loop-entry-test.true c.entry-item.is
+    (subst (Begun c.args.layout.now (items_of c.args.list.now) (items_of (drop c.loop-entry.entry-index c.args.list.now))) (sym p.ensures.before) c.loop-entry.invariant)
+    (IfOk-at_ok (MeansItems c.args.layout.now (with_item c.entry-item.result Tree.no_items)) p.ensures.next c.item.ensures) c.in_ok-code.ensures
 
 pub items-returns : goal.items-returns
 items-returns t c = begun_ends c.args.layout.now c.args.list.now c.loop-entry.entry-index c.loop-entry.code c.loop-entry-test.false c.loop-entry.invariant
@@ -49,11 +53,12 @@ statement-returns-in-None t c =
     let same = ap (λ o. stmt_of (If c.in-If.c c.in-If.a o)) c.in-None.is in
     IfOk-weaker c.choice.result _ _ (λ r chosen. subst (λ e. MeansStmt layout (stmt_of e) r) (sym c.in-If.is) (subst (λ e. MeansStmt layout e r) (sym same) (chosen (stmt_of c.in-If.a.value) a (λ r. refl)))) c.choice.ensures.alone
 
-pub statement-returns-in_ok-b-in-Some : goal.statement-returns-in_ok-b-in-Some
-statement-returns-in_ok-b-in-Some t c =
+pub statement-returns-in_ok-a-in-Some : goal.statement-returns-in_ok-a-in-Some
+statement-returns-in_ok-a-in-Some t c =
     let layout = c.args.layout.now in
-    let a = subst (λ e. MeansStmt layout (stmt_of e) c.in_ok-a-in-If.a) c.deref.ensures c.in_ok-a-in-If.ensures in
-    let b = subst (λ e. MeansStmt layout (stmt_of e) c.in_ok-b-in-Some.b) c.deref-in-Some.ensures c.in_ok-b-in-Some.ensures in
+    let p = c.in_ok-a-in-Some in
+    let a = subst (λ e. MeansStmt layout (stmt_of e) p.a) c.deref.ensures (subst (MeansStmt layout (stmt_of c.deref.result.now)) (sym p.ensures.before) c.in_ok-a-in-If.ensures) in
+    let b = subst (λ e. MeansStmt layout (stmt_of e) p.b) c.deref-in-Some.ensures (IfOk-at_ok (MeansStmt layout (stmt_of c.deref-in-Some.result.now)) p.ensures.next c.statement-in-Some.ensures) in
     let same = ap (λ o. stmt_of (If c.in-If.c c.in-If.a o)) c.in-Some.is in
     IfOk-weaker c.choice-in-Some.result _ _ (λ r chosen. subst (λ e. MeansStmt layout (stmt_of e) r) (sym c.in-If.is) (subst (λ e. MeansStmt layout e r) (sym same) (chosen (stmt_of c.in-If.a.value) (stmt_of c.in-Some.b.value) a b))) c.choice-in-Some.ensures.either
 
