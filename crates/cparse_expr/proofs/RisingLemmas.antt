@@ -1,44 +1,15 @@
--- Operators that come next, by how far they reach: reaches that have none are passed over.
-use Rattle.std.proofs.Common.{◌≡◌, ℕ, zero, suc, ◌+◌, ◌-◌, ◌<◌, ◌≤◌, ◌==◌, Bool, false, if◌then◌else◌, List, ◌∷◌, length, Option, Some, None, option_map, refl, ap, ◌∙◌, arith}
+-- Reading up to a reach is rising from an operand; reaches without an operator are passed over.
+use Rattle.std.proofs.Common.{◌≡◌, ℕ, zero, suc, ◌+◌, ◌-◌, ◌<◌, ◌≤◌, List, length, Option, Some, None, refl, ap, ◌∙◌, arith}
 use Rattle.semantics.specs.Tree.{Source}
-use Rattle.semantics.specs.Source.Token.{Token, Punctuator}
+use Rattle.semantics.specs.Source.Token.{Token}
 use Rattle.semantics.specs.Source.Scope.{Scope}
 use Rattle.cparse_grammar.specs.Reading.{Got, ◌>>=◌}
-use Rattle.cparse_grammar.specs.Operators.{Infix, precedence, infix_of}
-use Rattle.cparse_grammar.specs.ExpressionReader.{Inner, next_infix, of_precedence, unary, further, binary}
+use Rattle.cparse_grammar.specs.ExpressionReader.{Inner, unary, further, binary}
 use Rattle.cparse_cursor.specs.declared.stop.Stop.{Stop}
 use Rattle.cparse_cursor.specs.declared.stop.Stop.TheVariants.{Memory, Syntax, Limit}
 use Rattle.cparse_cursor.specs.Outcome.{Fails}
-use Rattle.cparse_operand.specs.Infixes.{next_reach}
 use Rattle.cparse_expr.specs.Rising.{rise, NoneWithin}
 use Rattle.cparse_expr.proofs.LoopLemmas.{further_ends}
-
-of_none : (k : ℕ) (ts : List Token) (o : Option Infix) → option_map precedence o ≡ None → of_precedence k ts o ≡ None
-of_none k ts None e = refl
-of_none k ts (Some op) e = absurd cc
-
-of_other : (k p : ℕ) (ts : List Token) (o : Option Infix) → option_map precedence o ≡ Some p → (p == k) ≡ false → of_precedence k ts o ≡ None
-of_other k p ts None e h = refl
-of_other k p ts (Some op) e h =
-    let is : precedence op ≡ p = cc in
-    ap (λ q. if q == k then Some (op, ts) else None) is ∙ ap (λ (b : Bool). if b then Some (op, ts) else None) h
-
--- no operator comes next
-none_next : (k : ℕ) (ts : List Token) → next_reach ts ≡ None → next_infix k ts ≡ None
-none_next k (Punctuator s ∷ ts) e = of_none k ts (infix_of s) e
-none_next k _ e = refl
-
--- one of another reach comes next
-other_next : (k p : ℕ) (ts : List Token) → next_reach ts ≡ Some p → (p == k) ≡ false → next_infix k ts ≡ None
-other_next k p (Punctuator s ∷ ts) e h = of_other k p ts (infix_of s) e h
-other_next k p _ e h = refl
-
-pub none_within : (reached limit : ℕ) (ts : List Token) → next_reach ts ≡ None → NoneWithin reached limit ts
-none_within reached limit ts e k above below = none_next k ts e
-
--- it reaches no further than this, or further than the limit
-pub other_within : (reached limit p : ℕ) (ts : List Token) → next_reach ts ≡ Some p → ((k : ℕ) → reached < k → k ≤ limit → (p == k) ≡ false) → NoneWithin reached limit ts
-other_within reached limit p ts e apart k above below = other_next k p ts e (apart k above below)
 
 module _ (scope : Scope) (inner : Inner) where
   or_nothing : (o : Option (Got Source)) → o ≡ o >>= λ a. Some a
