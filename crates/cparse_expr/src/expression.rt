@@ -1,12 +1,13 @@
 //! Expressions (C11 6.5).
 
-ghost use Rattle.std.specs.Prelude.{◌≡◌, ◌≤◌, length, suc};
+ghost use Rattle.std.specs.Prelude.{◌≡◌, ◌≤◌, ◌<◌, ◌-◌, length, suc, MatchOption};
 ghost use Rattle.cparse_grammar.specs.ExpressionReader.{subscripts, primary, unary, further, binary, whole, inside};
 ghost use Rattle.cparse_grammar.specs.ExpressionSteps.{at_name, second_arm, arms_behind};
 ghost use Rattle.cparse_cursor.specs.Names.{names_of};
 ghost use Rattle.cparse_cursor.specs.Lexemes.{tokens_of};
 ghost use Rattle.cparse_cursor.specs.Outcome.{Gives, got_of, subscripts_of};
 ghost use Rattle.cparse_operand.specs.OperandViews.{operand_of};
+ghost use Rattle.cparse_expr.specs.Rising.{rise, NoneWithin};
 
 use cparse_cursor::context::{Context, Outcome, enter_level, tighter};
 use cparse_cursor::lexeme::{Kind, Lexeme};
@@ -21,7 +22,7 @@ use cparse_operand::combining::{
 };
 use cparse_operand::leaf::{literal, named_operand};
 use cparse_operand::operand::Operand;
-use cparse_operand::operator::next_infix;
+use cparse_operand::operator::{next_infix, next_reach};
 use ctoken::Symbol;
 use ktree::{Place, UnaryOp};
 
@@ -193,11 +194,45 @@ fn binary<'s, 't>(
         (binary precedence (names_of context.entry.scope.now)
         (inside room (names_of context.entry.scope.now)) (tokens_of tokens.now)) }
 {
-    match tighter(precedence) {
-        None => unary(context, room, tokens),
+    let left = unary(context, room, tokens)?;
+    rising(context, room, 0, precedence, left)
+}
+
+/// The next tighter reach than that of the operator that comes first, if it is one behind this reach, up to a limit.
+fn next_tighter(reached: u32, limit: u32, tokens: &[Lexeme<'_>]) -> Option<u32>
+    ensures { MatchOption result (NoneWithin reached limit (tokens_of tokens.now))
+        (λ tighter. (reached ≤ tighter) × (tighter < limit)
+        × NoneWithin reached tighter (tokens_of tokens.now)) }
+{
+    let tighter = tighter(next_reach(tokens)?)?;
+    if reached <= tighter && tighter < limit {
+        Some(tighter)
+    } else {
+        None
+    }
+}
+
+/// Operators up to a reach behind a left operand that was read up to a tighter one. The operator that comes first tells which
+/// reaches have none, so that they are passed over.
+#[cycle(expression)]
+fn rising<'s, 't>(
+    context: Context<'_, 't>,
+    room: u32,
+    reached: u32,
+    precedence: u32,
+    left: Parsed<'s, 't, Operand>,
+) -> Outcome<'s, 't, Operand>
+    requires reached { reached ≤ precedence }
+    requires limit { precedence ≤ 10 }
+    ensures { Gives (got_of operand_of) result
+        (rise (precedence - reached) reached (names_of context.entry.scope.now)
+        (inside room (names_of context.entry.scope.now)) (got_of operand_of left.entry)) }
+{
+    match next_tighter(reached, precedence, left.rest) {
+        None => Ok(left),
         Some(tighter) => {
-            let left = binary(context, room, tighter, tokens)?;
-            further(context, room, tighter, left)
+            let left = further(context, room, tighter, left)?;
+            rising(context, room, tighter + 1, precedence, left)
         }
     }
 }

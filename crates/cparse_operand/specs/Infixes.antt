@@ -1,4 +1,6 @@
 -- What the code's operators stand for.
+use Rattle.std.specs.Prelude.{ℕ, List, ◌∷◌, Option, None, option_map}
+use Rattle.semantics.specs.Source.Token.{Token, Punctuator}
 use Rattle.ktree.specs.View.{binary_of, compare_of}
 use Rattle.cparse_operand.specs.declared.operator.Infix.{Infix}
 use Rattle.cparse_operand.specs.declared.operator.Infix.TheVariants.{Arithmetic, Comparing, AndAlso, OrElse}
@@ -10,3 +12,8 @@ infix_in (Arithmetic op) = meant.Arithmetic (binary_of op)
 infix_in (Comparing op) = meant.Comparing (compare_of op)
 infix_in AndAlso = meant.AndAlso
 infix_in OrElse = meant.OrElse
+
+-- how far the operator reaches that comes first, if one does
+abbrev pub next_reach : List Token → Option ℕ
+next_reach (Punctuator s ∷ ts) = option_map meant.precedence (meant.infix_of s)
+next_reach _ = None

@@ -12,11 +12,12 @@ ghost use Rattle.cparse_cursor.specs.Lexemes.{tokens_of};
 ghost use Rattle.cparse_cursor.specs.Outcome.{Gives, got_of, subscripts_of};
 ghost use Rattle.cparse_operand.specs.OperandViews.{operand_of};
 
+use crate::boxing::{both, boxed};
 use crate::joining::{Union, join_operands, truth};
 use crate::numeric::Numeric;
 use crate::operand::Operand;
 use crate::operator::Infix;
-use crate::wanted::{cond_in, number_in};
+use crate::wanted::{boxed_cond, number_in};
 use cparse_cursor::context::Outcome;
 use cparse_cursor::lexeme::Lexeme;
 use cparse_cursor::parsed::{Parsed, Subscripts};
@@ -112,7 +113,7 @@ pub fn opposite<'s, 't>(
         has_ull: tree.written.has_ull,
         place,
     };
-    let c = Box::new(alloc, cond_in(alloc, tree.source)?)?;
+    let c = boxed_cond(alloc, tree.source)?;
     Ok(Parsed {
         tree: truth(Cond::Not(c), plain, written),
         fault,
@@ -181,8 +182,9 @@ fn conditional(
     let typed = a.typed || b.typed;
     let plain = condition.plain && a.plain && b.plain;
     let written = written_choice(condition.written, a.written, b.written, place);
-    let c = Box::new(alloc, cond_in(alloc, condition.source)?)?;
-    let (a, b) = (Box::new(alloc, a.expr)?, Box::new(alloc, b.expr)?);
+    let c = boxed_cond(alloc, condition.source);
+    let arms = boxed(alloc, a.expr, b.expr);
+    let (c, (a, b)) = both(c, arms)?;
     let source = Source::Number(Expr::Conditional(c, a, b));
     Ok(Operand {
         source,

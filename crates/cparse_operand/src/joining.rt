@@ -9,12 +9,13 @@ ghost use Rattle.cparse_operand.specs.Infixes.{infix_in};
 ghost use Rattle.cparse_cursor.specs.Outcome.{Gives};
 ghost use Rattle.cparse_operand.specs.OperandViews.{operand_of, union_of};
 
+use crate::boxing::{both, boxed};
 use crate::fitting::{fit, is_typed, misfit, written_operation};
 use crate::leaf::stand_in;
 use crate::operand::Operand;
 use crate::operator::Infix;
 use crate::typing::constant;
-use crate::wanted::cond_in;
+use crate::wanted::{boxed_cond, numbers};
 use cparse_cursor::stop::{Fault, Flaw, Stop, unless};
 use cparse_cursor::written::{Sort, Written};
 use ktree::{BinaryOp, CompareOp, Cond, Expr, Place, Source};
@@ -88,13 +89,15 @@ fn arithmetic(
     let constant = constant(operator, left.constant, right.constant);
     let plain = left.plain && right.plain;
     let written = written_operation(operator, place, left.written, right.written);
-    match (left.source, right.source) {
-        (Source::Number(a), Source::Number(b)) => {
-            let source = Source::Number(Expr::Binary(
-                operator,
-                Box::new(alloc, a)?,
-                Box::new(alloc, b)?,
-            ));
+    match numbers(left.source, right.source) {
+        None => Ok(Union {
+            operand: stand_in(written),
+            fits: false,
+            misfit,
+        }),
+        Some((a, b)) => {
+            let (a, b) = boxed(alloc, a, b)?;
+            let source = Source::Number(Expr::Binary(operator, a, b));
             let operand = Operand {
                 source,
                 typed,
@@ -108,11 +111,6 @@ fn arithmetic(
                 misfit,
             })
         }
-        _ => Ok(Union {
-            operand: stand_in(written),
-            fits: false,
-            misfit,
-        }),
     }
 }
 
@@ -137,20 +135,21 @@ fn comparison(
     let holds = a.is_number() && b.is_number() && (a.is_typed() || b.is_typed());
     let misfit = unless(holds, Flaw::Operands, place);
     let written = condition(place, a, b);
-    match (left.source, right.source) {
-        (Source::Number(a), Source::Number(b)) => {
-            let cond = Cond::Compare(operator, Box::new(alloc, a)?, Box::new(alloc, b)?, begin);
+    match numbers(left.source, right.source) {
+        None => Ok(Union {
+            operand: stand_in(written),
+            fits: false,
+            misfit,
+        }),
+        Some((a, b)) => {
+            let (a, b) = boxed(alloc, a, b)?;
+            let cond = Cond::Compare(operator, a, b, begin);
             Ok(Union {
                 operand: truth(cond, plain, written),
                 fits: typed,
                 misfit,
             })
         }
-        _ => Ok(Union {
-            operand: stand_in(written),
-            fits: false,
-            misfit,
-        }),
     }
 }
 
@@ -170,8 +169,9 @@ fn logical(
 {
     let plain = left.plain && right.plain;
     let written = condition(place, left.written, right.written);
-    let c = Box::new(alloc, cond_in(alloc, left.source)?)?;
-    let d = Box::new(alloc, cond_in(alloc, right.source)?)?;
+    let c = boxed_cond(alloc, left.source);
+    let d = boxed_cond(alloc, right.source);
+    let (c, d) = both(c, d)?;
     if is_and {
         Ok(fitting_truth(Cond::LogicalAnd(c, d), plain, written))
     } else {

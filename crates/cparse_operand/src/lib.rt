@@ -1,6 +1,7 @@
 //! The operands of a C text's expressions, and what operators make of them.
 #![tactic(auto)]
 
+mod boxing;
 pub mod combining;
 mod fitting;
 mod joining;

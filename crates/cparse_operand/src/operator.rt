@@ -6,7 +6,7 @@ ghost use Rattle.ctoken.specs.Meant.{symbol_of};
 ghost use Rattle.cparse_grammar.specs.Operators.{precedence, infix_of, update_of};
 ghost use Rattle.cparse_grammar.specs.ExpressionReader.{next_infix};
 ghost use Rattle.cparse_cursor.specs.Lexemes.{tokens_of};
-ghost use Rattle.cparse_operand.specs.Infixes.{infix_in};
+ghost use Rattle.cparse_operand.specs.Infixes.{infix_in, next_reach};
 
 use cparse_cursor::lexeme::{Kind, Lexeme};
 use ctoken::Symbol;
@@ -79,6 +79,16 @@ fn precedence(operator: Infix) -> u32
         Infix::AndAlso => 9,
         Infix::OrElse => 10,
     }
+}
+
+/// How far the operator reaches that comes first, if one does.
+pub fn next_reach(tokens: &[Lexeme<'_>]) -> Option<u32>
+    ensures { result ≡ next_reach (tokens_of tokens.now) }
+{
+    let Kind::Punctuator(symbol) = tokens.first()?.kind else {
+        return None;
+    };
+    Some(precedence(infix_of(symbol)?))
 }
 
 /// An operator, its place, and the tokens behind it.

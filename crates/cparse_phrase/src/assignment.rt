@@ -11,6 +11,7 @@ ghost use Rattle.cparse_cursor.specs.Names.{entity_of, names_of};
 ghost use Rattle.cparse_cursor.specs.Lexemes.{tokens_of};
 ghost use Rattle.cparse_cursor.specs.Outcome.{Gives, got_of, subscripts_of};
 
+use crate::held::both;
 use crate::target::{target_fault, target_of};
 use cparse_cursor::context::{Context, Outcome};
 use cparse_cursor::lexeme::Lexeme;
@@ -61,7 +62,8 @@ fn assign<'s, 't>(
         rest: _,
     } = row;
     let own = target_fault(entity, &subscripts.exprs, place);
-    let Parsed { tree, fault, rest } = whole(context, room, tokens)?;
+    let (subscripts, read) = both(subscripts, whole(context, room, tokens))?;
+    let Parsed { tree, fault, rest } = read;
     let fault = earlier(row_fault, earlier(own, fault));
     Ok(Parsed {
         tree: Stmt::Assign(target(entity, place, subscripts), tree.source),
@@ -91,7 +93,8 @@ fn update<'s, 't>(
         rest: _,
     } = row;
     let own = target_fault(entity, &subscripts.exprs, place);
-    let Parsed { tree, fault, rest } = whole(context, room, sign.rest)?;
+    let (subscripts, read) = both(subscripts, whole(context, room, sign.rest))?;
+    let Parsed { tree, fault, rest } = read;
     let number = number_in(tree);
     let counts = number.written.is_number();
     let fault = told_sort(fault, number.is_number, counts, sign.place);
@@ -140,6 +143,7 @@ pub fn assignment<'s, 't>(
 {
     let entity = look_up(context.scope, name, place)?;
     let row = subscripts(context, room, place, tokens)?;
-    let sign = next_sign(row.rest, context.end)?;
+    let sign = next_sign(row.rest, context.end);
+    let (row, sign) = both(row, sign)?;
     assign_behind(context, room, entity, place, row, sign)
 }

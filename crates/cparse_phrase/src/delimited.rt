@@ -7,6 +7,7 @@ ghost use Rattle.cparse_cursor.specs.Names.{names_of};
 ghost use Rattle.cparse_cursor.specs.Lexemes.{tokens_of};
 ghost use Rattle.cparse_cursor.specs.Outcome.{Gives, got_of};
 
+use crate::held::both;
 use cparse_cursor::context::{Context, Outcome};
 use cparse_cursor::lexeme::Lexeme;
 use cparse_cursor::parsed::Parsed;
@@ -25,7 +26,7 @@ pub fn in_parens<'s, 't>(
 {
     let inner = open_paren(tokens, context.end)?;
     let Parsed { tree, fault, rest } = whole(context, room, inner)?;
-    let rest = close_paren(rest, context.end)?;
+    let (tree, rest) = both(tree, close_paren(rest, context.end))?;
     Ok(Parsed {
         tree: tree.source,
         fault,
@@ -43,7 +44,7 @@ pub fn ended_source<'s, 't>(
         (ended_source (expression room (names_of context.entry.scope.now)) (tokens_of tokens.now)) }
 {
     let Parsed { tree, fault, rest } = whole(context, room, tokens)?;
-    let rest = semicolon(rest, context.end)?;
+    let (tree, rest) = both(tree, semicolon(rest, context.end))?;
     Ok(Parsed {
         tree: tree.source,
         fault,

@@ -3,6 +3,7 @@
 
 pub mod assignment;
 pub mod delimited;
+mod held;
 pub mod loop_head;
 mod step;
 pub mod tally;

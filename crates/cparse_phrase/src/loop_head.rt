@@ -12,6 +12,7 @@ ghost use Rattle.cparse_cursor.specs.Lexemes.{tokens_of};
 ghost use Rattle.cparse_cursor.specs.Outcome.{Gives, got_of};
 
 use crate::delimited::ended_source;
+use crate::held::both;
 use crate::step::step;
 use crate::tally::Tally;
 use cparse_cursor::context::{Context, Outcome, Setting};
@@ -65,7 +66,7 @@ fn closed_step<'s, 't>(
         (names_of context.entry.scope.now) (tokens_of tokens.now)) }
 {
     let Parsed { tree, fault, rest } = step(context, room, tokens)?;
-    let rest = close_paren(rest, context.end)?;
+    let (tree, rest) = both(tree, close_paren(rest, context.end))?;
     Ok(Parsed { tree, fault, rest })
 }
 
@@ -94,8 +95,10 @@ pub fn heading<'s, 't>(
     add(scope, name.name, Entity::Variable(VarId(tally.next), 0))?;
     let context = Context { alloc, scope, end };
     let start = ended_source(context, room, behind)?;
-    let test = ended_source(context, room, start.rest)?;
-    let turn = closed_step(context, room, test.rest)?;
+    let test = ended_source(context, room, start.rest);
+    let (start, test) = both(start, test)?;
+    let turn = closed_step(context, room, test.rest);
+    let ((start, test), turn) = both((start, test), turn)?;
     let inside = earlier(start.fault, earlier(test.fault, turn.fault));
     Ok(LoopHead {
         name: name.name,

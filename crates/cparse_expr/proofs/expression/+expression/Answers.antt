@@ -1,4 +1,4 @@
-use Rattle.std.proofs.Common.{◌+◌, ◌-◌, ◌<◌, ◌≤◌, length, option_map, sym, ap, ◌∙◌, add-one, arith}
+use Rattle.std.proofs.Common.{◌+◌, ◌-◌, ◌<◌, ◌≤◌, length, option_map, sym, ap, subst, ◌∙◌, add-one, arith}
 use Rattle.std.proofs.lemmas.Result.{err_from_is_err_and}
 use Rattle.cparse_cursor.specs.Names.{names_of}
 use Rattle.std.proofs.lemmas.List.{length-map}
@@ -7,8 +7,9 @@ use Rattle.cparse_operand.specs.Infixes.{infix_in}
 use Rattle.cparse_grammar.specs.ExpressionReader.{further, subscripts, inside}
 use Rattle.cparse_grammar.specs.Reading.{Got}
 use Rattle.semantics.specs.Tree.{Exprs}
-use Rattle.cparse_cursor.specs.Outcome.{got_of, subscripts_of}
+use Rattle.cparse_cursor.specs.Outcome.{Gives, got_of, subscripts_of}
 use Rattle.cparse_operand.specs.OperandViews.{operand_of}
+use Rattle.cparse_expr.proofs.RisingLemmas.{binary_fails, binary_goes, rise_ends, rise_fails, rise_goes}
 use Rattle.cparse_expr.proofs.LoopLemmas.{in_front, same_some, further_ends, further_fails, further_goes, row_ends, row_is_done, row_fails, row_stays_open, row_goes, arms_fail, arms_go}
 use Rattle.cparse_expr.proofs.expression.+expression.Goals as goal
 
@@ -69,3 +70,29 @@ arms-returns-in_err-second t c =
 pub arms-returns : goal.arms-returns
 arms-returns t c =
     rw (arms_go (inside c.args.room (names_of c.args.context.scope.now)) (got_of operand_of c.args.condition) (tokens_of c.args.tokens.now) (got_of operand_of c.in_ok-first.first) c.in_ok-first.ensures (got_of operand_of c.in_ok-second.second) c.in_ok-second.ensures) c.choice.ensures
+
+pub binary-returns-in_err-left : goal.binary-returns-in_err-left
+binary-returns-in_err-left t c =
+    let p = err_from_is_err_and c.from_residual.result c.from_residual.ensures.1 in
+    let f = c.in_err-left.ensures in
+    rw (p.1, p.2) (binary_fails (names_of c.args.context.scope.now) (inside c.args.room (names_of c.args.context.scope.now)) _ c.args.precedence (tokens_of c.args.tokens.now) f)
+
+pub binary-returns : goal.binary-returns
+binary-returns t c =
+    let e = binary_goes (names_of c.args.context.scope.now) (inside c.args.room (names_of c.args.context.scope.now)) c.args.precedence (tokens_of c.args.tokens.now) (got_of operand_of c.in_ok-left.left) c.in_ok-left.ensures in
+    subst (Gives (got_of operand_of) c.rising.result) (sym e) c.rising.ensures
+
+pub rising-returns-in_err-left-in-Some : goal.rising-returns-in_err-left-in-Some
+rising-returns-in_err-left-in-Some t c =
+    let p = err_from_is_err_and c.from_residual.result c.from_residual.ensures.1 in
+    let here = c.in-Some.ensures in
+    rw (p.1, p.2) (rise_fails (names_of c.args.context.scope.now) (inside c.args.room (names_of c.args.context.scope.now)) c.args.reached c.args.precedence c.in-Some.tighter (got_of operand_of c.args.left) here.0 here.1 here.2 _ c.in_err-left-in-Some.ensures)
+
+pub rising-returns-in-None : goal.rising-returns-in-None
+rising-returns-in-None t c = rise_ends (names_of c.args.context.scope.now) (inside c.args.room (names_of c.args.context.scope.now)) c.args.reached c.args.precedence (got_of operand_of c.args.left) c.requires.reached c.in-None.ensures
+
+pub rising-returns-in_ok-left-in-Some : goal.rising-returns-in_ok-left-in-Some
+rising-returns-in_ok-left-in-Some t c =
+    let here = c.in-Some.ensures in
+    let e = rise_goes (names_of c.args.context.scope.now) (inside c.args.room (names_of c.args.context.scope.now)) c.args.reached c.args.precedence c.in-Some.tighter (got_of operand_of c.args.left) here.0 here.1 here.2 (got_of operand_of c.in_ok-left-in-Some.left) c.in_ok-left-in-Some.ensures in
+    subst (Gives (got_of operand_of) c.rising.result) (sym e) c.rising.ensures

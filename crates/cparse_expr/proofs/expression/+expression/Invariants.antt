@@ -10,37 +10,40 @@ use Rattle.cparse_expr.proofs.expression.+expression.Given as goal
 -- each call has less room, or is of a function further down
 
 abbrev pub decreases-arms : goal.decreases-arms
-decreases-arms l = 32 * l.room + 29
+decreases-arms l = 160 * l.room + 149
 
 abbrev pub decreases-binary : goal.decreases-binary
-decreases-binary l = 32 * l.room + (6 + 2 * l.precedence)
+decreases-binary l = 160 * l.room + (13 * l.precedence + 11)
 
 abbrev pub decreases-further : goal.decreases-further
-decreases-further l = 32 * l.room + (7 + 2 * l.tighter)
+decreases-further l = 160 * l.room + (13 * l.tighter + 12)
 
 abbrev pub decreases-name : goal.decreases-name
-decreases-name l = 32 * l.room + 3
+decreases-name l = 160 * l.room + 3
 
 abbrev pub decreases-operand_inside : goal.decreases-operand_inside
-decreases-operand_inside l = 32 * l.room
+decreases-operand_inside l = 160 * l.room
 
 abbrev pub decreases-primary : goal.decreases-primary
-decreases-primary l = 32 * l.room + 4
+decreases-primary l = 160 * l.room + 4
+
+abbrev pub decreases-rising : goal.decreases-rising
+decreases-rising l = 160 * l.room + (13 * l.precedence + (l.precedence - l.reached))
 
 abbrev pub decreases-second_arm : goal.decreases-second_arm
-decreases-second_arm l = 32 * l.room + 1
+decreases-second_arm l = 160 * l.room + 1
 
 abbrev pub decreases-subscripts : goal.decreases-subscripts
-decreases-subscripts l = 32 * l.room + 2
+decreases-subscripts l = 160 * l.room + 2
 
 abbrev pub decreases-unary : goal.decreases-unary
-decreases-unary l = 32 * l.room + 5
+decreases-unary l = 160 * l.room + 5
 
 abbrev pub decreases-whole : goal.decreases-whole
-decreases-whole l = 32 * l.room + 30
+decreases-whole l = 160 * l.room + 150
 
 abbrev pub decreases-whole_inside : goal.decreases-whole_inside
-decreases-whole_inside l = 32 * l.room
+decreases-whole_inside l = 160 * l.room
 
 -- reading on from here gives what reading from the beginning gives
 abbrev pub invariant-further-loop-turn : goal.invariant-further-loop-turn
