@@ -1,11 +1,11 @@
 -- Kernels whose parallel loops are shown to be independent, and what is kept of an accepted text. (OpenMP 5.2, 1.4.1 and 11.5; C11 5.1.2.4)
-use Rattle.std.specs.Prelude.{ℕ, ◌≡◌, true, List, [], map, Some}
+use Rattle.std.specs.Prelude.{ℕ, ◌≡◌, true, List, [], map, filter, flat_map, length, Some}
 use Rattle.semantics.specs.Tree.{Kernel, strip}
 use Rattle.semantics.specs.Source.Grammar.{ReadsText}
 use Rattle.law_lines.specs.Without.{IsTreeOf}
-use Rattle.semantics.specs.Meaning.Definite.{IsDefinite}
+use Rattle.semantics.specs.Meaning.Definite.{Privates, IsDefinite}
 use Rattle.semantics.specs.Directives.Annotated.{Directives, clauses_at}
-use Rattle.semantics.specs.Directives.Clauses.{privates_of}
+use Rattle.semantics.specs.Directives.Clauses.{private_of}
 use Rattle.semantics.specs.Directives.Naming.{IsAttached}
 use Rattle.ktree.specs.View.{kernel_of}
 use Rattle.ktree.specs.declared.statement.Kernel as code
@@ -15,8 +15,10 @@ use Rattle.nest.specs.Nests.{IsInRange}
 use Rattle.nest.specs.Perfect.{AreRightNests}
 use Rattle.pragma_named.specs.Known.{Lines, known_clauses}
 use Rattle.pragma_region.specs.Regions.{alone}
+use Rattle.pragma_region.specs.Counted.{counted_in}
 use Rattle.pragma_region.specs.Listed.{regions_of, parts_of, part_said}
 use Rattle.pragma_region.specs.declared.listing.RegionPart.{RegionPart}
+use Rattle.flow.specs.Judged.{is_local}
 use Rattle.flow.specs.Private.{ItemsPrivate}
 use Rattle.flow_clauses.specs.Fitting.{fit_clauses}
 use Rattle.flow.specs.Parallel.{AreParallelLoops}
@@ -37,7 +39,15 @@ tree_of p = strip (kernel_of p.kernel)
 abbrev pub clauses_said : Kernel → Directives → Lines
 clauses_said k ds line = known_clauses (Some (clauses_at k ds line))
 
--- what is known before the dependence test: the tree is one of the text, whose directives are attached to the whole of it; its loops are canonical and never wrap, no subscript leaves its array, each directive line left in it is that of a loop directly behind it that holds no other, with a right nest, that writes no scalar but its own and the private ones, which it assigns before it reads them, and prints nothing, and no local is read before it is assigned; the private ones are those of the clauses, and these name what they may
+-- those that count for the loop behind each line: of its own directive, and of the `parallel` round it (OpenMP 5.2, 5.1.1)
+abbrev pub clauses_counted : List ℕ → Kernel → Directives → Lines
+clauses_counted text k ds = counted_in text k (clauses_said k ds)
+
+-- the locals in the private lists among them (OpenMP 5.2, 5.4.3)
+abbrev pub privates_counted : List ℕ → Kernel → Directives → Privates
+privates_counted text k ds line = filter (is_local (length k.variables)) (flat_map private_of (clauses_counted text k ds line))
+
+-- what is known before the dependence test: the tree is one of the text, whose directives are attached to the whole of it; its loops are canonical and never wrap, no subscript leaves its array, each directive line left in it is that of a loop directly behind it that holds no other, with a right nest, that writes no scalar but its own and the private ones, which it assigns before it reads them, and prints nothing, and no local is read before it is assigned; the private ones are those of the clauses that count for a loop, and these name what they may
 pub record HasPassed (text : List ℕ) (k : Kernel) : Type 0 where
   pub reads : IsTreeOf text k
   pub directives : Directives
@@ -45,9 +55,9 @@ pub record HasPassed (text : List ℕ) (k : Kernel) : Type 0 where
   pub in_range : IsInRange k
   pub directed : IsDirected text k
   pub nested : AreRightNests text k
-  pub definite : IsDefinite (privates_of reads.whole directives) k
-  pub private : ItemsPrivate text (privates_of reads.whole directives) [] k.body
-  pub fit : fit_clauses (clauses_said reads.whole directives) k ≡ true
+  pub definite : IsDefinite (privates_counted text reads.whole directives) k
+  pub private : ItemsPrivate text (privates_counted text reads.whole directives) [] k.body
+  pub fit : fit_clauses (clauses_counted text reads.whole directives) k ≡ true
 
 -- at each turn of the serial loops round a parallel loop no two of its iterations conflict, and in any order they leave the same elements
 pub record AreIndependent (text : List ℕ) (k : Kernel) : Type 0 where

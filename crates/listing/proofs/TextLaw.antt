@@ -16,6 +16,7 @@ use Rattle.semantics.specs.Directives.Clauses.{depth_of, schedule_of, doacross_o
 use Rattle.semantics.specs.Directives.Regions as meant
 use Rattle.semantics.specs.Directives.Regions.{offsets_of, sinks_among, sinks_in}
 use Rattle.semantics.specs.Directives.Listing.{ListedLoop, listing}
+use Rattle.semantics.specs.Directives.Placed.{is_team}
 use Rattle.cparse_grammar.specs.Reading.{◌>>=◌}
 use Rattle.pragma_clause.proofs.DirectiveComplete.{line_read}
 use Rattle.law_lines.specs.Without.{without_in, without_among}
@@ -25,7 +26,7 @@ use Rattle.pragma.specs.Plain.{has_line, has_line_among, IsPlainFor, IsPlainLoop
 use Rattle.pragma_attach.specs.Standing.{directive_on}
 use Rattle.pragma_attach.specs.Attached.{directives_of}
 use Rattle.pragma_attach.proofs.LinesLaw.{Read, AllRead, both_read, Found, AllFound, found_first, found_second, all_found, are_read}
-use Rattle.pragma_region.specs.Regions.{is_region, is_region_line, alone}
+use Rattle.pragma_region.specs.Regions.{is_region_line, alone}
 use Rattle.pragma_region.specs.Listed.{one_loop, shared_line, shared_behind, shared_among, shared_in, region_line, region_behind, regions_in, regions_among, regions_of, part_said}
 use Rattle.pragma_region.specs.declared.listing.RegionPart.{RegionPart}
 use Rattle.deptest.specs.Accepted.{AreRegions}
@@ -212,14 +213,14 @@ module _ (text : List ℕ) (ds : Directives) where
   -- the line of a region has no offsets
   region_quiet : (n : ℕ) (o : Option (Directive Name)) → directive_on text n ≡ o → directive_at ds n ≡ o → out n ≡ true → offsets_of (directive_at ds n) ≡ []
   region_quiet n (Some (Parallel cs)) e f t = ap offsets_of f
-  region_quiet n None e f t = absurd (cc (sym (ap is_region e) ∙ t))
-  region_quiet n (Some (ParallelFor cs)) e f t = absurd (cc (sym (ap is_region e) ∙ t))
-  region_quiet n (Some (Worksharing cs)) e f t = absurd (cc (sym (ap is_region e) ∙ t))
-  region_quiet n (Some (ScanInclusive x)) e f t = absurd (cc (sym (ap is_region e) ∙ t))
-  region_quiet n (Some (ScanExclusive x)) e f t = absurd (cc (sym (ap is_region e) ∙ t))
-  region_quiet n (Some OrderedRegion) e f t = absurd (cc (sym (ap is_region e) ∙ t))
-  region_quiet n (Some DoacrossSource) e f t = absurd (cc (sym (ap is_region e) ∙ t))
-  region_quiet n (Some (DoacrossSink es)) e f t = absurd (cc (sym (ap is_region e) ∙ t))
+  region_quiet n None e f t = absurd (cc (sym (ap is_team e) ∙ t))
+  region_quiet n (Some (ParallelFor cs)) e f t = absurd (cc (sym (ap is_team e) ∙ t))
+  region_quiet n (Some (Worksharing cs)) e f t = absurd (cc (sym (ap is_team e) ∙ t))
+  region_quiet n (Some (ScanInclusive x)) e f t = absurd (cc (sym (ap is_team e) ∙ t))
+  region_quiet n (Some (ScanExclusive x)) e f t = absurd (cc (sym (ap is_team e) ∙ t))
+  region_quiet n (Some OrderedRegion) e f t = absurd (cc (sym (ap is_team e) ∙ t))
+  region_quiet n (Some DoacrossSource) e f t = absurd (cc (sym (ap is_team e) ∙ t))
+  region_quiet n (Some (DoacrossSink es)) e f t = absurd (cc (sym (ap is_team e) ∙ t))
 
   mutual
     -- where no line is left but those of regions
@@ -276,8 +277,8 @@ module _ (text : List ℕ) (ds : Directives) where
       alone (Some nest) = refl
 
   -- a line that is none of a region is left
-  left_in : (n : ℕ) (o : Option (Directive Name)) → directive_on text n ≡ o → is_region o ≡ false → out n ≡ false
-  left_in n o e t = ap is_region e ∙ t
+  left_in : (n : ℕ) (o : Option (Directive Name)) → directive_on text n ≡ o → is_team o ≡ false → out n ≡ false
+  left_in n o e t = ap is_team e ∙ t
 
   -- a loop of a `parallel` block
   one_shared : (before : Option ℕ) (o : Option (Directive Name)) (scope : Scope) (s : Stmt) (rest : Items) → Before before o → Behind before (stmt s rest) → AllFound text ds (lines_in scope s)
@@ -388,7 +389,7 @@ module _ (text : List ℕ) (ds : Directives) where
 module _ (text : List ℕ) where
   -- that of a region
   region_is_read : (n : ℕ) (o : Option (Directive Name)) → directive_on text n ≡ o → is_region_line text n ≡ true → Read text n
-  region_is_read n None e t = absurd (cc (sym (ap is_region e) ∙ t))
+  region_is_read n None e t = absurd (cc (sym (ap is_team e) ∙ t))
   region_is_read n (Some d) e t = (d, e)
 
   mutual

@@ -1,12 +1,12 @@
 -- What the passes before the dependence test find out together, and which of them refuses.
-use Rattle.std.specs.Prelude.{ℕ, ◌≡◌, List, [], length, Some}
+use Rattle.std.specs.Prelude.{ℕ, ◌≡◌, List, [], filter, flat_map, length, Some}
 use Rattle.std.proofs.Common.{sym, ap, ◌∙◌, subst, inr}
 use Rattle.std.proofs.Math.Path.{fun_ext}
 use Rattle.semantics.specs.Tree.{Kernel, strip}
 use Rattle.semantics.specs.Source.Grammar.{ReadsText}
 use Rattle.semantics.specs.Meaning.Definite.{Privates, IsDefinite}
 use Rattle.semantics.specs.Directives.Annotated.{Directives, clauses_at}
-use Rattle.semantics.specs.Directives.Clauses.{locals_in, privates_of}
+use Rattle.semantics.specs.Directives.Clauses.{private_of}
 use Rattle.semantics.specs.Directives.Naming.{IsAttached}
 use Rattle.semantics.specs.Theorems.{StandsFor}
 use Rattle.semantics.proofs.EraseTextLaw.{text_erased}
@@ -14,20 +14,27 @@ use Rattle.law_lines.proofs.Stripped.{stripped_trees_are_one}
 use Rattle.ktree.specs.declared.refusal.Refusal.{Refusal}
 use Rattle.pragma_named.specs.Known.{Known, Lines, known_clauses, lines_known}
 use Rattle.pragma_region.specs.Regions.{is_region_line, alone}
+use Rattle.pragma_region.specs.Counted.{counted_in}
 use Rattle.flow.specs.Private.{ItemsPrivate}
-use Rattle.flow.specs.Judged.{private_locals}
+use Rattle.flow.specs.Judged.{is_local, private_locals}
 use Rattle.flow_clauses.specs.Fitting.{fit_clauses}
-use Rattle.deptest.specs.Accepted.{Program, tree_of, clauses_said, HasPassed}
+use Rattle.deptest.specs.Accepted.{Program, tree_of, clauses_said, clauses_counted, privates_counted, HasPassed}
 use Rattle.ompk.specs.Judged.{IsLineKernel, IsOfKernel}
 use Rattle.ompk.specs.Refused.{IsJudged, RefusesAlone, RefusesKernel}
 
 -- what is said of each line is what the table knows
-module _ (k : Kernel) (ds : Directives) (known : Known) (each : (n : ℕ) → clauses_at k ds n ≡ Some (lines_known known n)) where
-  pub clauses_are : clauses_said k ds ≡ lines_known known
-  clauses_are = fun_ext (λ n. ap (λ o. known_clauses (Some o)) (each n))
+pub clauses_are : (k : Kernel) (ds : Directives) (known : Known) → ((n : ℕ) → clauses_at k ds n ≡ Some (lines_known known n)) → clauses_said k ds ≡ lines_known known
+clauses_are k ds known each = fun_ext (λ n. ap (λ o. known_clauses (Some o)) (each n))
 
-  pub privates_are : privates_of k ds ≡ private_locals known (length k.variables)
-  privates_are = fun_ext (λ n. ap (locals_in k) (each n))
+-- and what counts for each line, once it is counted
+pub counted_are : (text : List ℕ) (k : Kernel) (ds : Directives) (before after : Known) → ((n : ℕ) → clauses_at k ds n ≡ Some (lines_known before n))
+    → lines_known after ≡ counted_in text k (lines_known before) → clauses_counted text k ds ≡ lines_known after
+counted_are text k ds before after each is = ap (counted_in text k) (clauses_are k ds before each) ∙ sym is
+
+pub privates_are : (text : List ℕ) (k : Kernel) (ds : Directives) (known : Known) → clauses_counted text k ds ≡ lines_known known → privates_counted text k ds ≡ private_locals known (length k.variables)
+privates_are text k ds known is =
+    let locals : Lines → Privates = λ lines n. filter (is_local (length k.variables)) (flat_map private_of (lines n)) in
+    ap locals is
 
 -- a kernel that is judged has passed
 pub has_passed : (text : List ℕ) (k : Kernel) (known : Known) → IsLineKernel text k known → IsJudged text k (private_locals known (length k.variables)) (lines_known known) → HasPassed text k
@@ -45,8 +52,8 @@ has_passed text k known stands judged =
     }
 
 -- a kernel whose directives are attached, with its parallel regions dissolved
-pub line_kernel : (text : List ℕ) (tree k : Kernel) (ds : Directives) (known : Known) → ReadsText text tree → IsAttached text tree ds → clauses_said tree ds ≡ lines_known known
-    → privates_of tree ds ≡ private_locals known (length tree.variables) → k ≡ alone text tree → IsLineKernel text k known
+pub line_kernel : (text : List ℕ) (tree k : Kernel) (ds : Directives) (known : Known) → ReadsText text tree → IsAttached text tree ds → clauses_counted text tree ds ≡ lines_known known
+    → privates_counted text tree ds ≡ private_locals known (length tree.variables) → k ≡ alone text tree → IsLineKernel text k known
 line_kernel text tree k ds known reads attached clauses privates is =
     record {
       reads = record { whole = tree; reads = reads; left_out = is_region_line text; is = is };
@@ -57,13 +64,13 @@ line_kernel text tree k ds known reads attached clauses privates is =
     }
 
 -- it is refused
-pub alone_refused : (text : List ℕ) (tree k : Kernel) (ds : Directives) (known : Known) (r : Refusal) → IsAttached text tree ds → clauses_said tree ds ≡ lines_known known
-    → privates_of tree ds ≡ private_locals known (length tree.variables) → k ≡ alone text tree
+pub alone_refused : (text : List ℕ) (tree k : Kernel) (ds : Directives) (known : Known) (r : Refusal) → IsAttached text tree ds → clauses_counted text tree ds ≡ lines_known known
+    → privates_counted text tree ds ≡ private_locals known (length tree.variables) → k ≡ alone text tree
     → RefusesAlone text k (private_locals known (length k.variables)) (lines_known known) r → RefusesKernel text tree r
 alone_refused text tree k ds known r attached clauses privates is refused =
     let there = subst (λ (j : Kernel). RefusesAlone text j (private_locals known (length j.variables)) (lines_known known) r) is refused in
     let by_lines = subst (λ (lines : Lines). RefusesAlone text (alone text tree) (private_locals known (length tree.variables)) lines r) (sym clauses) there in
-    inr (ds, attached, subst (λ (P : Privates). RefusesAlone text (alone text tree) P (clauses_said tree ds) r) (sym privates) by_lines)
+    inr (ds, attached, subst (λ (P : Privates). RefusesAlone text (alone text tree) P (clauses_counted text tree ds) r) (sym privates) by_lines)
 
 -- what is kept stands for the text
 pub stands_for : (text : List ℕ) (tree : Kernel) (p : Program) → ReadsText text tree → IsOfKernel text tree p → StandsFor text (tree_of p)

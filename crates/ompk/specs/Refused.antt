@@ -1,5 +1,5 @@
 -- Why a text is not accepted.
-use Rattle.std.specs.Prelude.{ℕ, ◌≡◌, ◌⊎◌, true, false, List, []}
+use Rattle.std.specs.Prelude.{ℕ, ◌≡◌, ◌⊎◌, true, false, List, [], Some, None}
 use Rattle.semantics.specs.Tree.{Kernel}
 use Rattle.semantics.specs.Source.Grammar.{ReadsText}
 use Rattle.semantics.specs.Meaning.Definite.{Privates, IsDefinite}
@@ -9,7 +9,6 @@ use Rattle.ktree.specs.declared.refusal.Refusal.{Refusal}
 use Rattle.ktree.specs.declared.refusal.Refusal.TheVariants.{OutOfMemory, SubscriptOutOfRange}
 use Rattle.cparse.specs.Parsed.{RefusesTree}
 use Rattle.semantics.specs.Directives.Annotated.{Directives}
-use Rattle.semantics.specs.Directives.Clauses.{privates_of}
 use Rattle.semantics.specs.Directives.Naming.{IsAttached}
 use Rattle.pragma.specs.Plain.{IsDirected}
 use Rattle.pragma_attach.specs.Faults.{IsOfDirectives}
@@ -18,6 +17,7 @@ use Rattle.pragma.specs.declared.faults.Fault as line_faults
 use Rattle.affine_expr.specs.Faults as loops
 use Rattle.affine_expr.specs.declared.faults.Fault as loop_faults
 use Rattle.pragma_region.specs.Regions.{alone}
+use Rattle.pragma_region.specs.NotKnown.{unknown_among}
 use Rattle.nest.specs.Nests.{IsNested, IsInRange}
 use Rattle.nest.specs.Leaves.{LeavesSomewhere}
 use Rattle.nest.specs.Perfect.{AreRightNests}
@@ -25,7 +25,7 @@ use Rattle.flow.specs.Private.{ItemsPrivate, TellsOfItems, data_refusal_of}
 use Rattle.flow.specs.declared.fault.DataFault.{DataFault}
 use Rattle.pragma_named.specs.Known.{Lines}
 use Rattle.flow_clauses.specs.Fitting.{fit_clauses}
-use Rattle.deptest.specs.Accepted.{clauses_said, HasPassed}
+use Rattle.deptest.specs.Accepted.{clauses_counted, privates_counted, HasPassed}
 use Rattle.deptest.specs.Refused.{RefusesLoops}
 
 -- memory was refused, or a loop is not canonical or may wrap, or a subscript is not affine, or a parallel loop has no right nest
@@ -44,9 +44,17 @@ RefusesDirectives text tree r = IsOfDirectives r × ((ds : Directives) → IsAtt
 abbrev pub RefusesLines : List ℕ → Kernel → Refusal → Type 0
 RefusesLines text tree r = (r ≡ OutOfMemory) ⊎ RefusesDirectives text tree r
 
--- a directive line is none of a loop, with known clauses, before a loop, or stands inside a parallel loop (K11, K21)
+-- the first directive or clause that is not known so far has this number (K11, K15 to K18)
+abbrev pub RefusesUnknown : List ℕ → Kernel → Refusal → Type 0
+RefusesUnknown text tree r = unknown_among text tree.body ≡ Some (number_of r)
+
+-- there is none, and a line is none of a loop before a loop, or stands inside a parallel loop (K11, K21)
+abbrev pub RefusesPlaced : List ℕ → Kernel → Refusal → Type 0
+RefusesPlaced text tree r = (unknown_among text tree.body ≡ None) × ((f : line_faults.Fault) × (r ≡ lines.refusal_of f))
+
+-- not each directive line is that of a loop, with known clauses, before a loop and inside no parallel loop, for one of these causes
 abbrev pub RefusesPlaces : List ℕ → Kernel → Refusal → Type 0
-RefusesPlaces text tree r = (f : line_faults.Fault) × (r ≡ lines.refusal_of f) × (IsDirected text tree → ⊥)
+RefusesPlaces text tree r = (IsDirected text tree → ⊥) × (RefusesUnknown text tree r ⊎ RefusesPlaced text tree r)
 
 -- memory was refused, or a local may be read before it is assigned; or a parallel loop writes a shared scalar, or reads a private one that it has not assigned, or prints, or a line has no nest, whichever is told
 abbrev pub RefusesScalars : List ℕ → Kernel → Privates → Refusal → Type 0
@@ -94,9 +102,9 @@ RefusesPairs text tree r = HasPassed text tree × RefusesLoops text tree r
 abbrev pub RefusesAlone : List ℕ → Kernel → Privates → Lines → Refusal → Type 0
 RefusesAlone text tree P lines r = RefusesPasses text tree P lines r ⊎ RefusesPairs text tree r
 
--- the directives are attached, and the tree with its parallel regions dissolved is refused, by the clauses of its lines
+-- the directives are attached, and the tree with its parallel regions dissolved is refused, by the clauses that count for its lines
 abbrev pub RefusesAttached : List ℕ → Kernel → Refusal → Type 0
-RefusesAttached text tree r = (ds : Directives) × IsAttached text tree ds × RefusesAlone text (alone text tree) (privates_of tree ds) (clauses_said tree ds) r
+RefusesAttached text tree r = (ds : Directives) × IsAttached text tree ds × RefusesAlone text (alone text tree) (privates_counted text tree ds) (clauses_counted text tree ds) r
 
 -- the tree is none that is run
 abbrev pub RefusesKernel : List ℕ → Kernel → Refusal → Type 0

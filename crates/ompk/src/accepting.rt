@@ -6,7 +6,6 @@ ghost use Rattle.flow_clauses.specs.Fitting.{fit_clauses};
 ghost use Rattle.flow.specs.Judged.{private_locals};
 ghost use Rattle.pragma_named.specs.Known.{kept, lines_known};
 ghost use Rattle.pragma_attach.specs.Attached.{directives_of};
-ghost use Rattle.semantics.specs.Directives.Clauses.{privates_of};
 ghost use Rattle.semantics.specs.Directives.Naming.{IsAttached};
 ghost use Rattle.flow.specs.Parallel.{AreParallelLoops};
 ghost use Rattle.ktree.specs.View.{kernel_of};
@@ -17,7 +16,7 @@ ghost use Rattle.pragma.specs.Plain.{IsDirected};
 ghost use Rattle.nest.specs.Nests.{IsInRange};
 ghost use Rattle.nest.specs.Perfect.{AreRightNests};
 ghost use Rattle.nest.specs.Judged.{IsTableOf};
-ghost use Rattle.deptest.specs.Accepted.{tree_of, clauses_said, AreRegions, IsAccepted};
+ghost use Rattle.deptest.specs.Accepted.{tree_of, clauses_counted, privates_counted, AreRegions, IsAccepted};
 ghost use Rattle.ompk.specs.Judged.{IsLineKernel, IsOfKernel};
 ghost use Rattle.ompk.specs.Refused.{IsJudged, RefusesLines, RefusesPlaces, RefusesNests, RefusesRanges, RefusesScalars, RefusesClauses, RefusesPasses, RefusesAlone, RefusesKernel, RefusesText};
 
@@ -30,11 +29,11 @@ use nest::{LoopTable, nests};
 use pragma::{Directives, first_fault};
 use pragma_attach::attach;
 use pragma_named::LineClauses;
-use pragma_region::{RegionPart, dissolve_regions, regions_of};
+use pragma_region::{RegionPart, count_clauses, dissolve_regions, first_unknown, regions_of};
 use std::alloc::Global;
 
 // Refuses a kernel with a directive line that is none, does not stand where it may, names what is no variable or has one in the wrong
-// clauses; gives the clauses of each line.
+// clauses; gives the clauses that count for each line.
 fn judge_lines(
     alloc: Global,
     kernel: &Kernel,
@@ -42,22 +41,27 @@ fn judge_lines(
 ) -> Result<LineClauses, Refusal>
     ensures attached { IfOk result (λ _. IsAttached directives.now (kernel_of kernel.now)
         (directives_of directives.now (kernel_of kernel.now))) }
-    ensures clauses { IfOk result (λ lines. clauses_said (kernel_of kernel.now)
+    ensures clauses { IfOk result (λ lines. clauses_counted directives.now (kernel_of kernel.now)
         (directives_of directives.now (kernel_of kernel.now)) ≡ lines_known (kept lines)) }
-    ensures privates { IfOk result (λ lines. privates_of (kernel_of kernel.now)
-        (directives_of directives.now (kernel_of kernel.now))
+    ensures privates { IfOk result (λ lines. privates_counted directives.now
+        (kernel_of kernel.now) (directives_of directives.now (kernel_of kernel.now))
         ≡ private_locals (kept lines) (length (kernel_of kernel.now).variables)) }
     ensures refusal { IfErr result (RefusesLines directives.now (kernel_of kernel.now)) }
 {
-    let lines = attach(alloc, kernel, directives)?;
+    let mut lines = attach(alloc, kernel, directives)?;
+    count_clauses(alloc, directives, kernel, &mut lines)?;
     Ok(lines)
 }
 
-// Refuses a kernel with a line that is none of a loop, with the known clauses, before a loop, or stands inside a parallel loop.
+// Refuses a kernel with a directive or a clause that is not known so far, or a line that is none of a loop before a loop, or stands
+// inside a parallel loop.
 fn judge_places(kernel: &Kernel, directives: &Directives) -> Result<(), Refusal>
     ensures ok { OnOk result (IsDirected directives.now (kernel_of kernel.now)) }
     ensures refusal { IfErr result (RefusesPlaces directives.now (kernel_of kernel.now)) }
 {
+    if let Some(unknown) = first_unknown(kernel, directives) {
+        return Err(unknown.refusal());
+    }
     match first_fault(kernel, directives) {
         None => Ok(()),
         Some(fault) => Err(fault.refusal()),

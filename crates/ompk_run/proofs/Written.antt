@@ -6,7 +6,6 @@ use Rattle.std.proofs.lemmas.Option.{same_Some, slice_get_past}
 use Rattle.semantics.specs.Tree.{Declaration}
 use Rattle.semantics.specs.Meaning.State.{State, overwritten}
 use Rattle.semantics.specs.Meaning.Runs.{Effect, run_items}
-use Rattle.semantics.specs.Directives.Clauses.{privates_of}
 use Rattle.semantics.specs.Meaning.Output.{dump, output}
 use Rattle.semantics.specs.Theorems.{WritesABeginning, WritesAll}
 use Rattle.ktree.specs.View.{kernel_of, items_of}
@@ -19,7 +18,7 @@ use Rattle.seqrun.specs.Ran.{Ran, text_of}
 use Rattle.seqrun_io.specs.Told.{AddsBeginning}
 use Rattle.seqrun_io.specs.Reading.{IsStart}
 use Rattle.seqrun_io.proofs.Beginnings.{of_front, of_rest}
-use Rattle.deptest.specs.Accepted.{Program, tree_of, IsAccepted}
+use Rattle.deptest.specs.Accepted.{Program, tree_of, privates_counted, IsAccepted}
 use Rattle.deptest.proofs.Locals.{private_locals}
 use Rattle.ompk_run.proofs.Output.{body_run, first_state, named, body_runs, output_is, output_there, same_dump}
 use Rattle.ompk_run.proofs.Unique.{one_given}
@@ -83,7 +82,7 @@ module _ (a : Program) (input : List ℕ) (ks : List Kept) (is : IsAccepted a) (
   -- it leaves what the run leaves
   same_apart : (e : Effect) → run_items (items_of a.kernel.body.items) outset ≡ Some e → LeavesTheSame outset e apart
   same_apart e q =
-      accepted_apart a.text (kernel_of a.kernel) (privates_of is.passed.reads.whole is.passed.directives) outset e is.passed.reads is.passed.in_range is.passed.definite
+      accepted_apart a.text (kernel_of a.kernel) (privates_counted a.text is.passed.reads.whole is.passed.directives) outset e is.passed.reads is.passed.in_range is.passed.definite
       (private_locals a.text (kernel_of a.kernel) is.passed.reads is.passed.directives) is.passed.private is.independent.commute none_behind q
 
   pub runs_apart : IsSome apart

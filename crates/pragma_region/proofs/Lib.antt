@@ -1,2 +1,4 @@
 pub mod Lines
 pub mod Regions
+pub mod Counted
+pub mod NotKnown

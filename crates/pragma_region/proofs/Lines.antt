@@ -6,6 +6,7 @@ use Rattle.semantics.specs.Tree.{Name, Items}
 use Rattle.semantics.specs.Source.Text.{line_at}
 use Rattle.semantics.specs.Directives.Directive.{Directive}
 use Rattle.semantics.specs.Directives.DirectiveGrammar.{ReadsLine}
+use Rattle.semantics.specs.Directives.Placed.{is_team}
 use Rattle.ktree.specs.View.{with_item, items_of}
 use Rattle.ktree.specs.declared.statement.Item.{Item}
 use Rattle.pragma_attach.specs.Standing.{directive_on}
@@ -13,7 +14,7 @@ use Rattle.pragma_clause.proofs.DirectiveComplete.{line_read}
 use Rattle.pragma_clause.proofs.DirectiveSound.{line_sound}
 use Rattle.pragma.specs.Reading.{ReadsNone}
 use Rattle.law_lines.specs.Without.{without_among}
-use Rattle.pragma_region.specs.Regions.{is_region, is_region_line}
+use Rattle.pragma_region.specs.Regions.{is_region_line}
 
 -- a line that is read as a directive
 pub line_on : (text : List ℕ) (n : ℕ) (d : Directive Name) → ReadsLine (line_at text n) d → directive_on text n ≡ Some d
@@ -27,11 +28,11 @@ none_on text n none = go (directive_on text n) refl
     go None e = refl
     go (Some d) e = absurd (none d (line_sound (line_at text n) d e))
 
-pub region_read : (text : List ℕ) (n : ℕ) (d : Directive Name) (b : Bool) → ReadsLine (line_at text n) d → b ≡ is_region (Some d) → b ≡ is_region_line text n
-region_read text n d b read is = is ∙ ap is_region (sym (line_on text n d read))
+pub region_read : (text : List ℕ) (n : ℕ) (d : Directive Name) (b : Bool) → ReadsLine (line_at text n) d → b ≡ is_team (Some d) → b ≡ is_region_line text n
+region_read text n d b read is = is ∙ ap is_team (sym (line_on text n d read))
 
 pub region_none : (text : List ℕ) (n : ℕ) → ReadsNone (line_at text n) → false ≡ is_region_line text n
-region_none text n none = ap is_region (sym (none_on text n none))
+region_none text n none = ap is_team (sym (none_on text n none))
 
 -- these items in front of others
 abbrev pub with_items : List Item → Items → Items

@@ -1,2 +1,4 @@
 pub mod Regions
 pub mod Listed
+pub mod Counted
+pub mod NotKnown

@@ -1,56 +1,29 @@
 //! Kernels without the directive lines of their parallel regions.
 
-ghost use Rattle.std.specs.Prelude.{◌≡◌, Some, map, IfOk};
-ghost use Rattle.std.specs.List.{list_all};
+ghost use Rattle.std.specs.Prelude.{◌≡◌, Some, IfOk};
+ghost use Rattle.semantics.specs.Directives.Placed.{is_team};
 ghost use Rattle.ktree.specs.DirectiveView.{name_of, directive_of};
 ghost use Rattle.ktree.specs.View.{stmt_of, items_of, kernel_of};
 ghost use Rattle.law_lines.specs.Without.{without_in, without_among};
-ghost use Rattle.pragma_clause.specs.Views.{written_clause};
-ghost use Rattle.pragma_region.specs.Regions.{is_sharing, is_region, is_region_line, alone};
+ghost use Rattle.pragma_region.specs.Regions.{is_region_line, alone};
 
-use ktree::{Clause, Directive, Item, Kernel, Place, Stmt, Written};
+use ktree::{Directive, Item, Kernel, Place, Stmt, Written};
 use pragma::Directives;
 use std::alloc::{AllocError, Global};
 
-/// Whether a clause makes nothing private.
-fn is_sharing(clause: &Clause<Written>) -> bool
-    ensures { result ≡ is_sharing (written_clause clause.now) }
-{
-    match clause {
-        Clause::DefaultShared | Clause::DefaultNone | Clause::Shared(_) => true,
-        _ => false,
-    }
-}
-
-/// Whether all of these do so.
-fn are_sharing(clauses: &[Clause<Written>]) -> bool
-    ensures { result ≡ list_all is_sharing (map written_clause clauses.now) }
-{
-    match clauses {
-        [] => true,
-        [first, rest @ ..] => {
-            if is_sharing(first) {
-                are_sharing(rest)
-            } else {
-                false
-            }
-        }
-    }
-}
-
-/// Whether a directive is a `parallel` of known clauses.
+/// Whether a directive is a `parallel` (OpenMP 5.2, 10.1).
 fn is_parallel(directive: &Directive<Written>) -> bool
-    ensures { result ≡ is_region (Some (directive_of name_of directive.now)) }
+    ensures { result ≡ is_team (Some (directive_of name_of directive.now)) }
 {
     match directive {
-        Directive::Parallel(clauses) => are_sharing(clauses.as_slice()),
+        Directive::Parallel(_) => true,
         _ => false,
     }
 }
 
-/// Whether the line at a place is a `parallel` directive of known clauses.
+/// Whether the line at a place is a `parallel` directive.
 #[tactic(auto, using(crate::proofs::Lines::region_none))]
-fn is_region(directives: &Directives, place: Place) -> bool
+pub(crate) fn is_region(directives: &Directives, place: Place) -> bool
     ensures { result ≡ is_region_line directives.now place.line }
 {
     let Ok(directive) = directives.directive(place) else {

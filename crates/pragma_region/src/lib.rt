@@ -1,8 +1,12 @@
-//! Parallel regions that are dissolved into their loops.
+//! Parallel regions that are dissolved into their loops, and directive lines that are not known so far.
 #![tactic(auto)]
 
+mod counting;
 mod dissolving;
 mod listing;
+mod unknown;
 
+pub use counting::count_clauses;
 pub use dissolving::dissolve_regions;
 pub use listing::{RegionPart, regions_of};
+pub use unknown::{Unknown, first_unknown};

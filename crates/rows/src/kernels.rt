@@ -217,6 +217,29 @@ fn parallel_regions_run_as_those_of_c(rt: HostRuntime) {
 }
 
 #[test]
+fn private_scalars_of_regions_run_as_those_of_c(rt: HostRuntime) {
+    const ROWS: &[(&str, &str)] = &[
+        (
+            "uint64_t x;\n#pragma omp parallel private(x)\n{\n#pragma omp for\nfor (uint64_t i = 0; i < 3; i++) { x = i + 1; d[i] = x; }\n#pragma omp for schedule(dynamic)\nfor (uint64_t i = 0; i < 3; i++) { x = d[i] * 2; d[i] = x + 1; }\n}",
+            "s = 0\nd = 3 5 7\n",
+        ),
+        (
+            "uint64_t f = 4;\n#pragma omp parallel firstprivate(f)\n{\n#pragma omp for\nfor (uint64_t i = 0; i < 3; i++) { d[i] = f; }\n#pragma omp for\nfor (uint64_t i = 0; i < 3; i++) { d[i] += f; }\n}\ns = f;",
+            "s = 4\nd = 8 8 8\n",
+        ),
+        (
+            "uint64_t x;\nfor (uint64_t t = 0; t < 3; t++) {\n#pragma omp parallel private(x) firstprivate(t)\n{\n#pragma omp for schedule(dynamic)\nfor (uint64_t i = 0; i < 3; i++) { x = t + i; d[i] += x; }\n#pragma omp for nowait\nfor (uint64_t i = 0; i < 3; i++) { x = d[i]; d[i] = x * 2; }\n} }",
+            "s = 0\nd = 8 22 36\n",
+        ),
+        (
+            "uint64_t x; uint64_t y;\n#pragma omp parallel default(none) shared(d, y) private(x)\n{\n#pragma omp for private(y)\nfor (uint64_t i = 0; i < 3; i++) { y = i; x = y; d[i] = x; }\n#pragma omp for schedule(guided)\nfor (uint64_t i = 0; i < 3; i++) { x = d[i]; d[i] = x + 1; }\n}",
+            "s = 0\nd = 1 2 3\n",
+        ),
+    ];
+    no_other(&rt, first_other(&rt, rt.alloc(), ROWS));
+}
+
+#[test]
 fn private_scalars_run_as_those_of_c(rt: HostRuntime) {
     const ROWS: &[(&str, &str)] = &[
         (
@@ -349,6 +372,93 @@ fn text_is_printed_before_the_variables(rt: HostRuntime) {
 }
 
 #[test]
+fn clauses_of_regions_count_for_their_loops(rt: HostRuntime) {
+    const ROWS: &[(&str, u8)] = &[
+        (
+            "uint64_t x;\n#pragma omp parallel private(x)\n{\n#pragma omp for\nfor (uint64_t i = 0; i < 3; i++) { x = i; d[i] = x; }\n}\ns = x;",
+            10,
+        ),
+        (
+            "uint64_t x = 1;\n#pragma omp parallel private(x)\n{\n#pragma omp for\nfor (uint64_t i = 0; i < 3; i++) { x = i; d[i] = x; }\n#pragma omp for\nfor (uint64_t i = 0; i < 3; i++) { d[i] = x; }\n}",
+            10,
+        ),
+        (
+            "uint64_t x;\n#pragma omp parallel private(x)\n{\n#pragma omp for private(x)\nfor (uint64_t i = 0; i < 3; i++) { x = i; d[i] = x; }\n}",
+            13,
+        ),
+        (
+            "uint64_t x;\n#pragma omp parallel shared(x)\n{\n#pragma omp for\nfor (uint64_t i = 0; i < 3; i++) { x = i; d[i] = x; }\n}",
+            14,
+        ),
+        (
+            "uint64_t x = 1;\n#pragma omp parallel private(x)\n{\n#pragma omp for\nfor (uint64_t i = 0; i < 3; i++) { d[i] = x; x = i; }\n}",
+            15,
+        ),
+        (
+            "uint64_t f = 4;\n#pragma omp parallel firstprivate(f)\n{\n#pragma omp for\nfor (uint64_t i = 0; i < 3; i++) { d[i] = f; }\n#pragma omp for\nfor (uint64_t i = 0; i < 3; i++) { f = i; d[i] += f; }\n}",
+            15,
+        ),
+        (
+            "\n#pragma omp parallel private(s)\n{\n#pragma omp for\nfor (uint64_t i = 0; i < 3; i++) { s = i; d[i] = s; }\n}",
+            15,
+        ),
+        (
+            "\n#pragma omp parallel private(d)\n{\n#pragma omp for\nfor (uint64_t i = 0; i < 3; i++) { d[i] = i; }\n}",
+            15,
+        ),
+    ];
+    no_other(&rt, first_other_number(rt.alloc(), ROWS));
+}
+
+#[test]
+fn clauses_that_are_not_known_so_far_are_refused(rt: HostRuntime) {
+    const ROWS: &[(&str, u8)] = &[
+        (
+            "uint64_t x;\n#pragma omp parallel for lastprivate(x)\nfor (uint64_t i = 0; i < 3; i++) { x = i; d[i] = x; }",
+            15,
+        ),
+        (
+            "uint64_t x;\n#pragma omp parallel\n{\n#pragma omp for lastprivate(x)\nfor (uint64_t i = 0; i < 3; i++) { x = i; d[i] = x; }\n}",
+            15,
+        ),
+        (
+            "uint64_t x = 1;\n#pragma omp parallel for lastprivate(conditional: x)\nfor (uint64_t i = 0; i < 3; i++) { x = i; d[i] = x; }",
+            15,
+        ),
+        (
+            "\n#pragma omp parallel for reduction(+: s)\nfor (uint64_t i = 0; i < 3; i++) { s += i; }",
+            16,
+        ),
+        (
+            "\n#pragma omp parallel for reduction(inscan, +: s)\nfor (uint64_t i = 0; i < 3; i++) { s += i;\n#pragma omp scan inclusive(s)\nd[i] = s; }",
+            16,
+        ),
+        ("\n#pragma omp scan inclusive(s)\ns = 1;", 17),
+        (
+            "\n#pragma omp parallel for\nfor (uint64_t i = 0; i < 3; i++) {\n#pragma omp scan exclusive(s)\nd[i] = 1; }",
+            17,
+        ),
+        (
+            "\n#pragma omp parallel for ordered\nfor (uint64_t i = 0; i < 3; i++) {\n#pragma omp ordered\nprintf(\"1\"); }",
+            18,
+        ),
+        (
+            "\n#pragma omp parallel for\nfor (uint64_t i = 0; i < 3; i++) {\n#pragma omp ordered\nprintf(\"1\"); }",
+            18,
+        ),
+        (
+            "\n#pragma omp parallel for ordered(1)\nfor (uint64_t i = 1; i < 3; i++) {\n#pragma omp ordered doacross(sink: i-1)\nd[i] = d[i-1];\n#pragma omp ordered doacross(source:)\n}",
+            11,
+        ),
+        (
+            "\n#pragma omp parallel for\nfor (uint64_t i = 0; i < 3; i++) { d[i] = i;\n#pragma omp ordered doacross(source:)\n}",
+            11,
+        ),
+    ];
+    no_other(&rt, first_other_number(rt.alloc(), ROWS));
+}
+
+#[test]
 fn bodies_are_refused(rt: HostRuntime) {
     const ROWS: &[(&str, u8)] = &[
         ("s = 2147483647 + 1;", 2),
@@ -371,10 +481,6 @@ fn bodies_are_refused(rt: HostRuntime) {
         ),
         (
             "\n#pragma omp parallel for schedule(dynamic, 2)\ns = 1;",
-            11,
-        ),
-        (
-            "uint64_t x;\n#pragma omp parallel private(x)\n{\n#pragma omp for\nfor (uint64_t i = 0; i < 3; i++) { x = i; d[i] = x; }\n}",
             11,
         ),
         (
@@ -424,10 +530,6 @@ fn bodies_are_refused(rt: HostRuntime) {
         (
             "uint64_t x = 1;\n#pragma omp parallel for private(x)\nfor (uint64_t i = 0; i < 3; i++) { d[i] = x; x = i; }",
             15,
-        ),
-        (
-            "uint64_t x;\n#pragma omp parallel for lastprivate(x)\nfor (uint64_t i = 0; i < 3; i++) { x = i; d[i] = x; }",
-            11,
         ),
         (
             "\n#pragma omp parallel for\nfor (uint64_t i = 0; i < 16777217; i++) { d[0] = 1; }",

@@ -110,3 +110,109 @@ for (uint64_t i = 0; i < 8; i++) {
     ];
     no_other(&rt, first_other_body(rt.alloc(), ROWS));
 }
+
+#[test]
+fn first_directive_that_is_not_known_so_far_is_told(rt: HostRuntime) {
+    const ROWS: &[Row] = &[
+        Row {
+            text: "
+uint64_t x;
+#pragma omp parallel for lastprivate(x)
+for (uint64_t i = 0; i < 8; i++) {
+x = i;
+}
+#pragma omp parallel for reduction(+: s)
+for (uint64_t i = 0; i < 8; i++) {
+s += i;
+}",
+            number: 15,
+            line: 3,
+            column: 38,
+        },
+        Row {
+            text: "
+uint64_t x;
+#pragma omp parallel for reduction(+: s) lastprivate(x)
+for (uint64_t i = 0; i < 8; i++) {
+s += i; x = i;
+}",
+            number: 16,
+            line: 3,
+            column: 39,
+        },
+        Row {
+            text: "
+uint64_t x;
+#pragma omp parallel for lastprivate(x) ordered
+for (uint64_t i = 0; i < 8; i++) {
+x = i;
+}",
+            number: 18,
+            line: 3,
+            column: 1,
+        },
+        Row {
+            text: "
+uint64_t x;
+#pragma omp parallel for lastprivate(x) ordered(1)
+for (uint64_t i = 0; i < 8; i++) {
+x = i;
+}",
+            number: 11,
+            line: 3,
+            column: 1,
+        },
+        Row {
+            text: "
+#pragma omp scan inclusive(s)
+s = 1;",
+            number: 17,
+            line: 2,
+            column: 1,
+        },
+        Row {
+            text: "
+#pragma omp parallel for
+for (uint64_t i = 0; i < 8; i++) {
+#pragma omp ordered
+printf(\"1\");
+}
+#pragma omp parallel for reduction(+: s)
+for (uint64_t i = 0; i < 8; i++) {
+s += i;
+}",
+            number: 18,
+            line: 4,
+            column: 1,
+        },
+        Row {
+            text: "
+#pragma omp parallel
+{
+#pragma omp for
+for (uint64_t i = 0; i < 8; i++) {
+A[i] = i;
+}
+#pragma omp for reduction(max: s)
+for (uint64_t i = 0; i < 8; i++) {
+if (A[i] > s) s = A[i];
+}
+}",
+            number: 16,
+            line: 8,
+            column: 32,
+        },
+        Row {
+            text: "
+uint64_t x;
+#pragma omp parallel for lastprivate(y)
+for (uint64_t i = 0; i < 8; i++) {
+x = i;
+}",
+            number: 3,
+            line: 3,
+            column: 38,
+        },
+    ];
+    no_other(&rt, first_other_body(rt.alloc(), ROWS));
+}

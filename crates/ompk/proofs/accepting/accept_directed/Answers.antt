@@ -1,4 +1,4 @@
-use Rattle.std.specs.Prelude.{ℕ, List}
+use Rattle.std.specs.Prelude.{ℕ, ◌≡◌, List}
 use Rattle.std.proofs.Common.{ap, ◌∙◌, subst, length}
 use Rattle.std.proofs.lemmas.Result.{IfErr-weaker}
 use Rattle.semantics.specs.Directives.Naming.{IsAttached}
@@ -7,6 +7,7 @@ use Rattle.pragma_attach.specs.Attached.{directives_of}
 use Rattle.pragma_named.specs.Known.{kept, lines_known}
 use Rattle.pragma_region.specs.Regions.{alone}
 use Rattle.flow.specs.Judged.{private_locals}
+use Rattle.deptest.specs.Accepted.{clauses_counted, privates_counted}
 use Rattle.ompk.specs.Refused.{RefusesAlone, RefusesKernel}
 use Rattle.ompk.proofs.Judging.{line_kernel, alone_refused}
 use Rattle.ompk.proofs.accepting.accept_directed.Goals as goal
@@ -17,7 +18,9 @@ accept_alone-requires-clause-stands c =
     let tree = kernel_of c.args.kernel in
     let ds = directives_of c.args.directives.now tree in
     let said = c.in_ok-lines.ensures in
-    line_kernel text tree (kernel_of c.in_ok-kernel.kernel) ds (kept c.in_ok-lines.lines) c.requires.reads (subst (λ (t : List ℕ). IsAttached t tree ds) c.requires.lines said.attached) said.clauses said.privates
+    let known = kept c.in_ok-lines.lines in
+    line_kernel text tree (kernel_of c.in_ok-kernel.kernel) ds known c.requires.reads (subst (λ (t : List ℕ). IsAttached t tree ds) c.requires.lines said.attached) (subst (λ (t : List ℕ). clauses_counted t tree ds ≡ lines_known known) c.requires.lines said.clauses)
+    (subst (λ (t : List ℕ). privates_counted t tree ds ≡ private_locals known (length tree.variables)) c.requires.lines said.privates)
     (c.in_ok-kernel.ensures ∙ ap (λ (t : List ℕ). alone t tree) c.requires.lines)
 
 pub returns-clause-refusal : goal.returns-clause-refusal
@@ -29,5 +32,6 @@ returns-clause-refusal c =
     let known = kept c.in_ok-lines.lines in
     let said = c.in_ok-lines.ensures in
     IfErr-weaker c.accept_alone.result (RefusesAlone text k (private_locals known (length k.variables)) (lines_known known)) (RefusesKernel text tree)
-    (λ r h. alone_refused text tree k ds known r (subst (λ (t : List ℕ). IsAttached t tree ds) c.requires.lines said.attached) said.clauses said.privates
+    (λ r h. alone_refused text tree k ds known r (subst (λ (t : List ℕ). IsAttached t tree ds) c.requires.lines said.attached) (subst (λ (t : List ℕ). clauses_counted t tree ds ≡ lines_known known) c.requires.lines said.clauses)
+    (subst (λ (t : List ℕ). privates_counted t tree ds ≡ private_locals known (length tree.variables)) c.requires.lines said.privates)
     (c.in_ok-kernel.ensures ∙ ap (λ (t : List ℕ). alone t tree) c.requires.lines) h) c.accept_alone.ensures.refusal

@@ -1,0 +1,77 @@
+-- Directives and clauses that the grammar has and that are not known so far, each by the number that refuses it. (OpenMP 5.2, 4.4.4, 5.4.5, 5.5.8, 5.6, 15.9 and 15.10)
+use Rattle.std.specs.Prelude.{ℕ, List, [], ◌∷◌, Option, Some, None}
+use Rattle.semantics.specs.Tree.{Name, Stmt, Assign, Update, If, IfElse, For, Block, Print, Items, no_items, mark, local, stmt}
+use Rattle.semantics.specs.Directives.Directive.{Clause, Ordered, OrderedLoops, Lastprivate, LastConditional, Reduction, Inscan, Directive, ParallelFor, Parallel, Worksharing, ScanInclusive, ScanExclusive, OrderedRegion, DoacrossSource, DoacrossSink}
+use Rattle.pragma_attach.specs.Standing.{directive_on}
+use Rattle.pragma_region.specs.declared.unknown.Unknown.{Unknown}
+use Rattle.pragma_region.specs.declared.unknown.Unknown.TheVariants as unknown
+
+-- the first of two numbers, where one is told
+abbrev pub first_told : Option ℕ → Option ℕ → Option ℕ
+first_told None later = later
+first_told (Some n) later = Some n
+
+-- a clause that orders iterations: K18, and K11 where it makes a doacross nest (OpenMP 5.2, 4.4.4)
+abbrev pub ordering_number : Clause Name → Option ℕ
+ordering_number Ordered = Some 18
+ordering_number (OrderedLoops n) = Some 11
+ordering_number _ = None
+
+-- a clause that gives variables a value behind the loop: K15 for `lastprivate` (OpenMP 5.2, 5.4.5), K16 for `reduction` (5.5.8)
+abbrev pub value_number : Clause Name → Option ℕ
+value_number (Lastprivate xs) = Some 15
+value_number (LastConditional xs) = Some 15
+value_number (Reduction op xs) = Some 16
+value_number (Inscan op x) = Some 16
+value_number _ = None
+
+-- the first of a line's clauses that is one
+abbrev pub first_number : (Clause Name → Option ℕ) → List (Clause Name) → Option ℕ
+first_number number [] = None
+first_number number (c ∷ cs) = first_told (number c) (first_number number cs)
+
+-- of a loop's line: what orders iterations is told where the line begins, and so before what is told at a name
+abbrev pub loop_number : List (Clause Name) → Option ℕ
+loop_number cs = first_told (first_number ordering_number cs) (first_number value_number cs)
+
+-- of a directive: K17 for `scan` (OpenMP 5.2, 5.6), K18 for `ordered` (15.10.2), K11 for its doacross forms (15.9)
+abbrev pub directive_number : Directive Name → Option ℕ
+directive_number (ParallelFor cs) = loop_number cs
+directive_number (Worksharing cs) = loop_number cs
+directive_number (Parallel cs) = None
+directive_number (ScanInclusive x) = Some 17
+directive_number (ScanExclusive x) = Some 17
+directive_number OrderedRegion = Some 18
+directive_number DoacrossSource = Some 11
+directive_number (DoacrossSink es) = Some 11
+
+-- of a line, where it is a directive
+abbrev pub number_there : Option (Directive Name) → Option ℕ
+number_there None = None
+number_there (Some d) = directive_number d
+
+abbrev mutual
+  -- that of the first such line in a statement
+  pub unknown_in : List ℕ → Stmt → Option ℕ
+  unknown_in text (Assign x is e) = None
+  unknown_in text (Update x is op e) = None
+  unknown_in text (If c a) = unknown_in text a
+  unknown_in text (IfElse c a b) = first_told (unknown_in text a) (unknown_in text b)
+  unknown_in text (For x name start test step body) = unknown_in text body
+  unknown_in text (Block items) = unknown_among text items
+  unknown_in text (Print parts) = None
+
+  -- or among a block's items
+  pub unknown_among : List ℕ → Items → Option ℕ
+  unknown_among text no_items = None
+  unknown_among text (mark n rest) = first_told (number_there (directive_on text n)) (unknown_among text rest)
+  unknown_among text (local x name start rest) = unknown_among text rest
+  unknown_among text (stmt s rest) = first_told (unknown_in text s) (unknown_among text rest)
+
+-- the number of what is told
+abbrev pub number_told : Unknown → ℕ
+number_told (unknown.Lastprivate place) = 15
+number_told (unknown.Reduction place) = 16
+number_told (unknown.Scan place) = 17
+number_told (unknown.Ordered place) = 18
+number_told (unknown.Doacross place) = 11
