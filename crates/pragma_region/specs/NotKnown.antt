@@ -1,4 +1,4 @@
--- Directives and clauses that the grammar has and that are not known so far, each by the number that refuses it. (OpenMP 5.2, 4.4.4, 5.4.5, 5.5.8, 5.6, 15.9 and 15.10)
+-- Directives and clauses that the grammar has and that are not known so far, each by the number that refuses it. (OpenMP 5.2, 4.4.4, 5.4.5, 5.5.8, 5.6 and 15.10)
 use Rattle.std.specs.Prelude.{ℕ, List, [], ◌∷◌, Option, Some, None}
 use Rattle.semantics.specs.Tree.{Name, Stmt, Assign, Update, If, IfElse, For, Block, Print, Items, no_items, mark, local, stmt}
 use Rattle.semantics.specs.Directives.Directive.{Clause, Ordered, OrderedLoops, Lastprivate, LastConditional, Reduction, Inscan, Directive, ParallelFor, Parallel, Worksharing, ScanInclusive, ScanExclusive, OrderedRegion, DoacrossSource, DoacrossSink}
@@ -11,10 +11,10 @@ abbrev pub first_told : Option ℕ → Option ℕ → Option ℕ
 first_told None later = later
 first_told (Some n) later = Some n
 
--- a clause that orders iterations: K18, and K11 where it makes a doacross nest (OpenMP 5.2, 4.4.4)
+-- a clause that orders iterations: K18 (OpenMP 5.2, 4.4.4)
 abbrev pub ordering_number : Clause Name → Option ℕ
 ordering_number Ordered = Some 18
-ordering_number (OrderedLoops n) = Some 11
+ordering_number (OrderedLoops n) = Some 18
 ordering_number _ = None
 
 -- a clause that gives variables a value behind the loop: K15 for `lastprivate` (OpenMP 5.2, 5.4.5), K16 for `reduction` (5.5.8)
@@ -34,7 +34,7 @@ first_number number (c ∷ cs) = first_told (number c) (first_number number cs)
 abbrev pub loop_number : List (Clause Name) → Option ℕ
 loop_number cs = first_told (first_number ordering_number cs) (first_number value_number cs)
 
--- of a directive: K17 for `scan` (OpenMP 5.2, 5.6), K18 for `ordered` (15.10.2), K11 for its doacross forms (15.9)
+-- of a directive: K17 for `scan` (OpenMP 5.2, 5.6), K18 for `ordered` (15.10)
 abbrev pub directive_number : Directive Name → Option ℕ
 directive_number (ParallelFor cs) = loop_number cs
 directive_number (Worksharing cs) = loop_number cs
@@ -42,8 +42,8 @@ directive_number (Parallel cs) = None
 directive_number (ScanInclusive x) = Some 17
 directive_number (ScanExclusive x) = Some 17
 directive_number OrderedRegion = Some 18
-directive_number DoacrossSource = Some 11
-directive_number (DoacrossSink es) = Some 11
+directive_number DoacrossSource = Some 18
+directive_number (DoacrossSink es) = Some 18
 
 -- of a line, where it is a directive
 abbrev pub number_there : Option (Directive Name) → Option ℕ
@@ -74,4 +74,3 @@ number_told (unknown.Lastprivate place) = 15
 number_told (unknown.Reduction place) = 16
 number_told (unknown.Scan place) = 17
 number_told (unknown.Ordered place) = 18
-number_told (unknown.Doacross place) = 11

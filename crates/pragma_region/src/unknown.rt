@@ -22,10 +22,8 @@ pub enum Unknown {
     Reduction(Place),
     /// A `scan` directive: the place of its `#` (OpenMP 5.2, 5.6).
     Scan(Place),
-    /// An `ordered` clause or directive: the place of the line's `#` (OpenMP 5.2, 4.4.4 and 15.10).
+    /// An `ordered` clause or directive, of a doacross nest too: the place of the line's `#` (OpenMP 5.2, 4.4.4 and 15.10).
     Ordered(Place),
-    /// An `ordered(n)` clause or a `doacross` directive: the place of the line's `#` (OpenMP 5.2, 4.4.4 and 15.9).
-    Doacross(Place),
 }
 
 impl Unknown {
@@ -38,7 +36,6 @@ impl Unknown {
             Unknown::Reduction(place) => Refusal::Reduction(place),
             Unknown::Scan(place) => Refusal::Scan(place),
             Unknown::Ordered(place) => Refusal::Ordered(place),
-            Unknown::Doacross(place) => Refusal::Directive(place),
         }
     }
 }
@@ -49,7 +46,7 @@ fn ordering(clause: &Clause<Written>, line: Place) -> Option<Unknown>
 {
     match clause {
         Clause::Ordered => Some(Unknown::Ordered(line)),
-        Clause::OrderedLoops(_) => Some(Unknown::Doacross(line)),
+        Clause::OrderedLoops(_) => Some(Unknown::Ordered(line)),
         _ => None,
     }
 }
@@ -126,8 +123,8 @@ fn directive_unknown(directive: &Directive<Written>, line: Place) -> Option<Unkn
         Directive::ScanInclusive(_) => Some(Unknown::Scan(line)),
         Directive::ScanExclusive(_) => Some(Unknown::Scan(line)),
         Directive::Ordered => Some(Unknown::Ordered(line)),
-        Directive::DoacrossSource => Some(Unknown::Doacross(line)),
-        Directive::DoacrossSink(_) => Some(Unknown::Doacross(line)),
+        Directive::DoacrossSource => Some(Unknown::Ordered(line)),
+        Directive::DoacrossSink(_) => Some(Unknown::Ordered(line)),
     }
 }
 
@@ -196,7 +193,7 @@ fn item_unknown(directives: &Directives, item: &Item) -> Option<Unknown>
 }
 
 /// What is told of the first directive line of a kernel that is not known so far, in the order of the text: `ordered` where the line
-/// begins, `lastprivate` and `reduction` where they name a variable (OpenMP 5.2, 4.4.4, 5.4.5, 5.5.8, 5.6, 15.9 and 15.10). Where one is
+/// begins, `lastprivate` and `reduction` where they name a variable (OpenMP 5.2, 4.4.4, 5.4.5, 5.5.8, 5.6 and 15.10). Where one is
 /// told, not every line of the kernel is that of a loop of known clauses.
 pub fn first_unknown(kernel: &Kernel, directives: &Directives) -> Option<Unknown>
     ensures number { option_map number_told result

@@ -448,11 +448,11 @@ fn clauses_that_are_not_known_so_far_are_refused(rt: HostRuntime) {
         ),
         (
             "\n#pragma omp parallel for ordered(1)\nfor (uint64_t i = 1; i < 3; i++) {\n#pragma omp ordered doacross(sink: i-1)\nd[i] = d[i-1];\n#pragma omp ordered doacross(source:)\n}",
-            11,
+            18,
         ),
         (
             "\n#pragma omp parallel for\nfor (uint64_t i = 0; i < 3; i++) { d[i] = i;\n#pragma omp ordered doacross(source:)\n}",
-            11,
+            18,
         ),
     ];
     no_other(&rt, first_other_number(rt.alloc(), ROWS));

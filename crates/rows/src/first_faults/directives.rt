@@ -158,7 +158,7 @@ uint64_t x;
 for (uint64_t i = 0; i < 8; i++) {
 x = i;
 }",
-            number: 11,
+            number: 18,
             line: 3,
             column: 1,
         },
