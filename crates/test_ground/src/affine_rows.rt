@@ -22,7 +22,7 @@ fn first_other_divisor(rows: &[(u64, u64, u64)]) -> Option<usize> {
 
 #[test]
 fn gcds(rt: HostRuntime) {
-    let rows = [
+    const ROWS: &[(u64, u64, u64)] = &[
         (0, 0, 0),
         (12, 18, 6),
         (18, 12, 6),
@@ -31,7 +31,7 @@ fn gcds(rt: HostRuntime) {
         (7, 13, 1),
         (u64::MAX, 3, 3),
     ];
-    assert_eq!(rt; first_other_divisor(&rows), None);
+    assert_eq!(rt; first_other_divisor(ROWS), None);
 }
 
 /// A constant, which is within the limit.
@@ -126,8 +126,8 @@ fn has_box(alloc: Global, least: i128, greatest: i128) -> bool {
 fn ranges(rt: HostRuntime) {
     let alloc = rt.alloc();
     assert!(rt; of_two(alloc) == Some((1, 9)));
-    let rows = [(0, 4, Some((-7, 5))), (2, 2, Some((-1, -1))), (1, 0, None)];
-    assert_eq!(rt; first_other_falling(alloc, &rows), None);
+    const ROWS: &[Falling] = &[(0, 4, Some((-7, 5))), (2, 2, Some((-1, -1))), (1, 0, None)];
+    assert!(rt; first_other_falling(alloc, ROWS).is_none());
     assert!(rt; has_box(alloc, 1, 0));
 }
 
@@ -220,15 +220,18 @@ fn first_other_sum(alloc: Global, rows: &[(i64, i64, Result<usize, bool>)]) -> O
 #[test]
 fn limits(rt: HostRuntime) {
     let alloc = rt.alloc();
-    let numbers = [
+    const NUMBERS: &[(i128, Result<usize, bool>)] = &[
         (GREATEST, Ok(0)),
         (-GREATEST, Ok(0)),
         (GREATEST + 1, Err(true)),
         (-GREATEST - 1, Err(true)),
     ];
-    assert_eq!(rt; first_other_number(alloc, &numbers), None);
-    let sums = [(1 << 61, 1 << 61, Ok(1)), (1 << 62, 1, Err(true))];
-    assert_eq!(rt; first_other_sum(alloc, &sums), None);
+    const SUMS: &[(i64, i64, Result<usize, bool>)] = &[
+        (1 << 61, 1 << 61, Ok(1)),
+        (1 << 62, 1, Err(true)),
+    ];
+    assert!(rt; first_other_number(alloc, NUMBERS).is_none());
+    assert!(rt; first_other_sum(alloc, SUMS).is_none());
     assert!(rt; is_within(sum(alloc, 1 << 62, -1), 1 << 61) == Some(false));
 }
 

@@ -19,8 +19,8 @@ fn three() -> Option<u64> {
 
 #[test]
 fn teams_have_one_to_sixty_four_workers(rt: HostRuntime) {
-    let rows = [(0, false), (1, true), (64, true), (65, false)];
-    assert_eq!(rt; first_other_team(&rows), None);
+    const ROWS: &[(u64, bool)] = &[(0, false), (1, true), (64, true), (65, false)];
+    assert!(rt; first_other_team(ROWS).is_none());
     assert!(rt; three() == Some(3));
 }
 
@@ -41,8 +41,8 @@ fn largest() -> Option<u64> {
 
 #[test]
 fn chunks_have_one_to_two_to_the_24_iterations(rt: HostRuntime) {
-    let rows = [(0, false), (1, true), (16777216, true), (16777217, false)];
-    assert_eq!(rt; first_other_chunk(&rows), None);
+    const ROWS: &[(u64, bool)] = &[(0, false), (1, true), (16777216, true), (16777217, false)];
+    assert!(rt; first_other_chunk(ROWS).is_none());
     assert!(rt; largest() == Some(16777216));
 }
 

@@ -33,7 +33,7 @@ fn first_other(rows: &[(ReductionOperator, u64)]) -> Option<usize> {
 
 #[test]
 fn begins_each_copy_at_the_identity(rt: HostRuntime) {
-    let rows = [
+    const ROWS: &[(ReductionOperator, u64)] = &[
         (ReductionOperator::Sum, 0),
         (ReductionOperator::Product, 1),
         (ReductionOperator::And, 18446744073709551615),
@@ -44,5 +44,5 @@ fn begins_each_copy_at_the_identity(rt: HostRuntime) {
         (ReductionOperator::Max, 0),
         (ReductionOperator::Min, 18446744073709551615),
     ];
-    assert_eq!(rt; first_other(&rows), None);
+    assert_eq!(rt; first_other(ROWS), None);
 }

@@ -51,16 +51,31 @@ fn is_cut(alloc: Global, kind: Kind, size: u64, count: u64, team: u64, wanted: &
     }
 }
 
+/// A kind of schedule, the size of its chunks, how many iterations a loop has, how many workers there are, and the counts of the chunks.
+type Row<'a> = (Kind, u64, u8, u64, &'a [u64]);
+
+/// The number of the first row, from 0, whose loop is cut into other chunks.
+fn first_other(alloc: Global, rows: &[Row<'_>]) -> Option<usize> {
+    for (number, (kind, size, count, team, wanted)) in rows.iter().enumerate() {
+        if !is_cut(alloc, *kind, *size, u64::from(*count), *team, wanted) {
+            return Some(number);
+        }
+    }
+    None
+}
+
 #[test]
 fn cuts_by_the_schedule(rt: HostRuntime) {
-    let alloc = rt.alloc();
-    assert!(rt; is_cut(alloc, Kind::PlainStatic, 1, 10, 3, &[4, 3, 3]));
-    assert!(rt; is_cut(alloc, Kind::Guided, 1, 10, 3, &[4, 2, 2, 1, 1]));
-    assert!(rt; is_cut(alloc, Kind::Guided, 2, 10, 3, &[4, 2, 2, 2]));
-    assert!(rt; is_cut(alloc, Kind::Guided, 3, 10, 3, &[4, 3, 3]));
-    assert!(rt; is_cut(alloc, Kind::Dynamic, 3, 8, 3, &[3, 3, 2]));
-    assert!(rt; is_cut(alloc, Kind::Static, 4, 10, 2, &[4, 4, 2]));
-    assert!(rt; is_cut(alloc, Kind::Guided, 3, 0, 3, &[]));
+    const ROWS: &[Row<'static>] = &[
+        (Kind::PlainStatic, 1, 10, 3, &[4, 3, 3]),
+        (Kind::Guided, 1, 10, 3, &[4, 2, 2, 1, 1]),
+        (Kind::Guided, 2, 10, 3, &[4, 2, 2, 2]),
+        (Kind::Guided, 3, 10, 3, &[4, 3, 3]),
+        (Kind::Dynamic, 3, 8, 3, &[3, 3, 2]),
+        (Kind::Static, 4, 10, 2, &[4, 4, 2]),
+        (Kind::Guided, 3, 0, 3, &[]),
+    ];
+    assert_eq!(rt; first_other(rt.alloc(), ROWS), None);
 }
 
 /// Whether a worker's chunks of a loop are these, each with its first iteration and how many there are, and no others.

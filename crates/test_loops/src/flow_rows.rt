@@ -82,8 +82,9 @@ fn first_other<'r>(alloc: Global, rows: &[(&'r str, Option<Place>)]) -> Option<&
 }
 
 #[test]
-fn branches_both_assign(rt: HostRuntime) {
+fn locals_are_assigned_before_they_are_read(rt: HostRuntime) {
     const ROWS: &[(&str, Option<Place>)] = &[
+        // Branches both assign.
         (
             "if (s < 3) x = 1; s = x;",
             Some(Place {
@@ -92,13 +93,7 @@ fn branches_both_assign(rt: HostRuntime) {
             }),
         ),
         ("if (s < 3) x = 1; else x = 2; s = x;", None),
-    ];
-    no_other(&rt, first_other(rt.alloc(), ROWS));
-}
-
-#[test]
-fn initialisers_assign(rt: HostRuntime) {
-    const ROWS: &[(&str, Option<Place>)] = &[
+        // Initialisers assign.
         ("uint64_t y = s; s = y;", None),
         (
             "uint64_t y = y; s = y;",
@@ -107,26 +102,84 @@ fn initialisers_assign(rt: HostRuntime) {
                 column: 14,
             }),
         ),
+        // Updates read their variable first.
+        ("x += x;", Some(Place { line: 2, column: 1 })),
+        // Subscripts are read before the right side.
+        ("A[x] = x;", Some(Place { line: 2, column: 3 })),
+        // Bodies know the variable of their loop.
+        ("for (uint64_t i = 0; i < 8; i++) s = i;", None),
+        // Loops leave what was known.
+        (
+            "for (uint64_t i = 0; i < 8; i++) x = 1;\ns = x;",
+            Some(Place { line: 3, column: 5 }),
+        ),
+        // A start stands before its variable.
+        (
+            "for (uint64_t i = i; i < 8; i++) s = 1;",
+            Some(Place {
+                line: 2,
+                column: 19,
+            }),
+        ),
+        // A step stands behind the body.
+        ("for (uint64_t i = 0; i < 8; i += x) x = 1;", None),
+        (
+            "\nfor (uint64_t i = 0; i < 8; x++) s = 1;",
+            Some(Place { line: 3, column: 1 }),
+        ),
+        // Arguments are read.
+        (
+            "printf(\"%\" PRIu64 \" %\" PRIu64 \"\\n\", s, x);",
+            Some(Place {
+                line: 2,
+                column: 40,
+            }),
+        ),
+        // Names are read whatever guards them.
+        (
+            "s = s < 3 ? 1 : x;",
+            Some(Place {
+                line: 2,
+                column: 17,
+            }),
+        ),
+        (
+            "if (s < 3 && x < 3) x = 1;",
+            Some(Place {
+                line: 2,
+                column: 14,
+            }),
+        ),
+        // Blocks hand on what is known.
+        (
+            "{\n#pragma omp parallel for\nfor (uint64_t i = 0; i < 8; i++) A[i] = 1;\nx = 1; }\ns = x;",
+            None,
+        ),
+        // Private locals are unassigned behind their construct.
+        (
+            "x = 1;\n#pragma omp parallel for private(x)\nfor (uint64_t i = 0; i < 8; i++) { x = i; A[i] = x; }\ns = x;",
+            Some(Place { line: 5, column: 5 }),
+        ),
+        (
+            "x = 1;\n#pragma omp parallel for private(x)\nfor (uint64_t i = 0; i < 8; i++) { x = i; A[i] = x; }\nx = 2; s = x;",
+            None,
+        ),
+        (
+            "x = 1;\nfor (uint64_t t = 0; t < 2; t++) { s = x;\n#pragma omp parallel for private(x)\nfor (uint64_t i = 0; i < 8; i++) { x = i; A[i] = x; } }",
+            Some(Place {
+                line: 3,
+                column: 40,
+            }),
+        ),
+        (
+            "x = 1;\nfor (uint64_t t = 0; t < 2; t++) {\n#pragma omp parallel for private(x)\nfor (uint64_t i = 0; i < 8; i++) { x = i; A[i] = x; } }\ns = x;",
+            Some(Place { line: 6, column: 5 }),
+        ),
+        (
+            "x = 1;\n#pragma omp parallel for firstprivate(x)\nfor (uint64_t i = 0; i < 8; i++) A[i] = x;\ns = x;",
+            None,
+        ),
     ];
-    no_other(&rt, first_other(rt.alloc(), ROWS));
-}
-
-#[test]
-fn updates_read_their_variable_first(rt: HostRuntime) {
-    const ROWS: &[(&str, Option<Place>)] = &[("x += x;", Some(Place { line: 2, column: 1 }))];
-    no_other(&rt, first_other(rt.alloc(), ROWS));
-}
-
-#[test]
-fn subscripts_are_read_before_the_right_side(rt: HostRuntime) {
-    const ROWS: &[(&str, Option<Place>)] = &[("A[x] = x;", Some(Place { line: 2, column: 3 }))];
-    no_other(&rt, first_other(rt.alloc(), ROWS));
-}
-
-#[test]
-fn bodies_know_the_variable_of_their_loop(rt: HostRuntime) {
-    const LINES: &str = "for (uint64_t i = 0; i < 8; i++) s = i;";
-    const ROWS: &[(&str, Option<Place>)] = &[(LINES, None)];
     no_other(&rt, first_other(rt.alloc(), ROWS));
 }
 
@@ -159,78 +212,8 @@ fn unassigned_behind(alloc: Global, lines: &str) -> Result<Option<Place>, u8> {
 
 #[test]
 fn loops_leave_what_was_known(rt: HostRuntime) {
-    const LINES: &str = "for (uint64_t i = 0; i < 8; i++) x = 1;\ns = x;";
-    const ROWS: &[(&str, Option<Place>)] = &[(LINES, Some(Place { line: 3, column: 5 }))];
-    no_other(&rt, first_other(rt.alloc(), ROWS));
     let lines = "for (uint64_t i = 0; i < 8; i++) x = 1;";
     assert!(rt; unassigned_behind(rt.alloc(), lines) == Ok(Some(at(3, 5))));
-}
-
-#[test]
-fn a_start_stands_before_its_variable(rt: HostRuntime) {
-    const LINES: &str = "for (uint64_t i = i; i < 8; i++) s = 1;";
-    const ROWS: &[(&str, Option<Place>)] = &[(
-        LINES,
-        Some(Place {
-            line: 2,
-            column: 19,
-        }),
-    )];
-    no_other(&rt, first_other(rt.alloc(), ROWS));
-}
-
-#[test]
-fn a_step_stands_behind_the_body(rt: HostRuntime) {
-    const ROWS: &[(&str, Option<Place>)] = &[
-        ("for (uint64_t i = 0; i < 8; i += x) x = 1;", None),
-        (
-            "\nfor (uint64_t i = 0; i < 8; x++) s = 1;",
-            Some(Place { line: 3, column: 1 }),
-        ),
-    ];
-    no_other(&rt, first_other(rt.alloc(), ROWS));
-}
-
-#[test]
-fn arguments_are_read(rt: HostRuntime) {
-    const LINES: &str = "printf(\"%\" PRIu64 \" %\" PRIu64 \"\\n\", s, x);";
-    const ROWS: &[(&str, Option<Place>)] = &[(
-        LINES,
-        Some(Place {
-            line: 2,
-            column: 40,
-        }),
-    )];
-    no_other(&rt, first_other(rt.alloc(), ROWS));
-}
-
-#[test]
-fn names_are_read_whatever_guards_them(rt: HostRuntime) {
-    const ROWS: &[(&str, Option<Place>)] = &[
-        (
-            "s = s < 3 ? 1 : x;",
-            Some(Place {
-                line: 2,
-                column: 17,
-            }),
-        ),
-        (
-            "if (s < 3 && x < 3) x = 1;",
-            Some(Place {
-                line: 2,
-                column: 14,
-            }),
-        ),
-    ];
-    no_other(&rt, first_other(rt.alloc(), ROWS));
-}
-
-#[test]
-fn blocks_hand_on_what_is_known(rt: HostRuntime) {
-    const LINES: &str =
-        "{\n#pragma omp parallel for\nfor (uint64_t i = 0; i < 8; i++) A[i] = 1;\nx = 1; }\ns = x;";
-    const ROWS: &[(&str, Option<Place>)] = &[(LINES, None)];
-    no_other(&rt, first_other(rt.alloc(), ROWS));
 }
 
 /// What is told of a parallel loop with four private variables.
@@ -349,8 +332,9 @@ fn first_other_data<'r>(alloc: Global, rows: &[(&'r str, Option<DataFault>)]) ->
 }
 
 #[test]
-fn scalars_from_outside_are_shared(rt: HostRuntime) {
+fn data_of_parallel_loops(rt: HostRuntime) {
     const ROWS: &[(&str, Option<DataFault>)] = &[
+        // Scalars from outside are shared.
         (
             "#pragma omp parallel for\nfor (uint64_t i = 0; i < 8; i++) s = i;",
             Some(DataFault::Written(Place {
@@ -365,13 +349,7 @@ fn scalars_from_outside_are_shared(rt: HostRuntime) {
                 column: 34,
             })),
         ),
-    ];
-    no_other(&rt, first_other_data(rt.alloc(), ROWS));
-}
-
-#[test]
-fn private_scalars_may_be_written(rt: HostRuntime) {
-    const ROWS: &[(&str, Option<DataFault>)] = &[
+        // Private scalars may be written.
         (
             "#pragma omp parallel for private(x)\nfor (uint64_t i = 0; i < 8; i++) { x = i; A[i] = x; }",
             None,
@@ -387,13 +365,7 @@ fn private_scalars_may_be_written(rt: HostRuntime) {
                 column: 34,
             })),
         ),
-    ];
-    no_other(&rt, first_other_data(rt.alloc(), ROWS));
-}
-
-#[test]
-fn private_scalars_are_assigned_before_they_are_read(rt: HostRuntime) {
-    const ROWS: &[(&str, Option<DataFault>)] = &[
+        // Private scalars are assigned before they are read.
         (
             "#pragma omp parallel for private(x)\nfor (uint64_t i = 0; i < 8; i++) { A[i] = x; x = i; }",
             Some(DataFault::Unassigned(Place {
@@ -415,13 +387,7 @@ fn private_scalars_are_assigned_before_they_are_read(rt: HostRuntime) {
                 column: 36,
             })),
         ),
-    ];
-    no_other(&rt, first_other_data(rt.alloc(), ROWS));
-}
-
-#[test]
-fn copies_are_not_written(rt: HostRuntime) {
-    const ROWS: &[(&str, Option<DataFault>)] = &[
+        // Copies are not written.
         (
             "#pragma omp parallel for firstprivate(s)\nfor (uint64_t i = 0; i < 8; i++) A[i] = s;",
             None,
@@ -433,43 +399,7 @@ fn copies_are_not_written(rt: HostRuntime) {
                 column: 34,
             })),
         ),
-    ];
-    no_other(&rt, first_other_data(rt.alloc(), ROWS));
-}
-
-#[test]
-fn private_locals_are_unassigned_behind_their_construct(rt: HostRuntime) {
-    const ROWS: &[(&str, Option<Place>)] = &[
-        (
-            "x = 1;\n#pragma omp parallel for private(x)\nfor (uint64_t i = 0; i < 8; i++) { x = i; A[i] = x; }\ns = x;",
-            Some(Place { line: 5, column: 5 }),
-        ),
-        (
-            "x = 1;\n#pragma omp parallel for private(x)\nfor (uint64_t i = 0; i < 8; i++) { x = i; A[i] = x; }\nx = 2; s = x;",
-            None,
-        ),
-        (
-            "x = 1;\nfor (uint64_t t = 0; t < 2; t++) { s = x;\n#pragma omp parallel for private(x)\nfor (uint64_t i = 0; i < 8; i++) { x = i; A[i] = x; } }",
-            Some(Place {
-                line: 3,
-                column: 40,
-            }),
-        ),
-        (
-            "x = 1;\nfor (uint64_t t = 0; t < 2; t++) {\n#pragma omp parallel for private(x)\nfor (uint64_t i = 0; i < 8; i++) { x = i; A[i] = x; } }\ns = x;",
-            Some(Place { line: 6, column: 5 }),
-        ),
-        (
-            "x = 1;\n#pragma omp parallel for firstprivate(x)\nfor (uint64_t i = 0; i < 8; i++) A[i] = x;\ns = x;",
-            None,
-        ),
-    ];
-    no_other(&rt, first_other(rt.alloc(), ROWS));
-}
-
-#[test]
-fn locals_and_elements_may_be_written(rt: HostRuntime) {
-    const ROWS: &[(&str, Option<DataFault>)] = &[
+        // Locals and elements may be written.
         (
             "#pragma omp parallel for\nfor (uint64_t i = 0; i < 8; i++) { uint64_t y; y = i; }",
             None,
@@ -478,6 +408,38 @@ fn locals_and_elements_may_be_written(rt: HostRuntime) {
             "#pragma omp parallel for\nfor (uint64_t i = 0; i < 8; i++) A[i] = 1;",
             None,
         ),
+        // Parallel loops print nothing.
+        (
+            PRINTS,
+            Some(DataFault::Printed(Place { line: 4, column: 1 })),
+        ),
+        // Other loops may share.
+        (
+            "for (uint64_t i = 0; i < 8; i++) s = i;\nprintf(\"%\" PRIu64 \" %\" PRIu64 \"\\n\", s, x);",
+            None,
+        ),
+        // Steps are no assignments.
+        (
+            "#pragma omp parallel for\nfor (uint64_t i = 0; i < 8; i++)\nfor (uint64_t j = 0; j < 8; j++) A[j] = 1;",
+            None,
+        ),
+        // Collapsed loops run the innermost body.
+        (
+            "#pragma omp parallel for collapse(2)\nfor (uint64_t i = 0; i < 8; i++)\nfor (uint64_t j = 0; j < 8; j++) { uint64_t y; y = j; }",
+            None,
+        ),
+        (
+            "\n#pragma omp parallel for collapse(2)\nfor (uint64_t i = 0; i < 8; i++) A[i] = 1;",
+            Some(DataFault::Directive(Place { line: 3, column: 1 })),
+        ),
+        // Serial loops are looked into.
+        (
+            "for (uint64_t i = 0; i < 8; i++) {\n#pragma omp parallel for\nfor (uint64_t j = 0; j < 8; j++) s = i; }",
+            Some(DataFault::Written(Place {
+                line: 4,
+                column: 34,
+            })),
+        ),
     ];
     no_other(&rt, first_other_data(rt.alloc(), ROWS));
 }
@@ -485,40 +447,6 @@ fn locals_and_elements_may_be_written(rt: HostRuntime) {
 /// A parallel loop that prints two numbers.
 const PRINTS: &str =
     "#pragma omp parallel for\nfor (uint64_t i = 0; i < 8; i++)\nprintf(\"%\" PRIu64 \" %\" PRIu64 \"\\n\", s, x);";
-
-#[test]
-fn parallel_loops_print_nothing(rt: HostRuntime) {
-    const FAULT: DataFault = DataFault::Printed(Place { line: 4, column: 1 });
-    const ROWS: &[(&str, Option<DataFault>)] = &[(PRINTS, Some(FAULT))];
-    no_other(&rt, first_other_data(rt.alloc(), ROWS));
-}
-
-#[test]
-fn other_loops_may_share(rt: HostRuntime) {
-    const LINES: &str =
-        "for (uint64_t i = 0; i < 8; i++) s = i;\nprintf(\"%\" PRIu64 \" %\" PRIu64 \"\\n\", s, x);";
-    const ROWS: &[(&str, Option<DataFault>)] = &[(LINES, None)];
-    no_other(&rt, first_other_data(rt.alloc(), ROWS));
-}
-
-#[test]
-fn steps_are_no_assignments(rt: HostRuntime) {
-    const LINES: &str =
-        "#pragma omp parallel for\nfor (uint64_t i = 0; i < 8; i++)\nfor (uint64_t j = 0; j < 8; j++) A[j] = 1;";
-    const ROWS: &[(&str, Option<DataFault>)] = &[(LINES, None)];
-    no_other(&rt, first_other_data(rt.alloc(), ROWS));
-}
-
-#[test]
-fn collapsed_loops_run_the_innermost_body(rt: HostRuntime) {
-    const NEST: &str =
-        "#pragma omp parallel for collapse(2)\nfor (uint64_t i = 0; i < 8; i++)\nfor (uint64_t j = 0; j < 8; j++) { uint64_t y; y = j; }";
-    const ALONE: &str =
-        "\n#pragma omp parallel for collapse(2)\nfor (uint64_t i = 0; i < 8; i++) A[i] = 1;";
-    const FAULT: DataFault = DataFault::Directive(Place { line: 3, column: 1 });
-    const ROWS: &[(&str, Option<DataFault>)] = &[(NEST, None), (ALONE, Some(FAULT))];
-    no_other(&rt, first_other_data(rt.alloc(), ROWS));
-}
 
 /// The only parallel loop of the text with these lines.
 fn only_loop(alloc: Global, lines: &str) -> Result<Option<Seen>, u8> {
@@ -569,18 +497,6 @@ for (uint64_t k = 0; k < 8; k++) A[i] = 1;
 #[test]
 fn parallel_loops_come_in_the_order_of_the_text(rt: HostRuntime) {
     assert!(rt; lines_of_two(rt.alloc(), TWO_LOOPS) == Ok(Some([2, 4])));
-}
-
-#[test]
-fn serial_loops_are_looked_into(rt: HostRuntime) {
-    const LINES: &str =
-        "for (uint64_t i = 0; i < 8; i++) {\n#pragma omp parallel for\nfor (uint64_t j = 0; j < 8; j++) s = i; }";
-    const FAULT: DataFault = DataFault::Written(Place {
-        line: 4,
-        column: 34,
-    });
-    const ROWS: &[(&str, Option<DataFault>)] = &[(LINES, Some(FAULT))];
-    no_other(&rt, first_other_data(rt.alloc(), ROWS));
 }
 
 /// The number of the refusal that tells a fault.

@@ -52,9 +52,11 @@ fn first_other<'r>(alloc: Global, rows: &[(&'r str, Entered)]) -> Option<&'r str
 }
 
 #[test]
-fn falling_loops(rt: HostRuntime) {
+fn loops(rt: HostRuntime) {
     const WRAPS: Entered = Err(Fault::MayWrap(Place { line: 2, column: 1 }));
+    const OTHER: Entered = Err(Fault::NotCanonical(Place { line: 2, column: 1 }));
     const ROWS: &[(&str, Entered)] = &[
+        // Falling loops.
         ("for (uint64_t i = 10; i > 2; i -= 3) { }", Ok((1, 4, 10))),
         ("for (uint64_t i = 7; i != 3; i--) { }", Ok((1, 4, 7))),
         ("for (uint64_t i = 9; i >= 0; i--) { }", WRAPS),
@@ -62,43 +64,25 @@ fn falling_loops(rt: HostRuntime) {
         ("for (uint64_t i = 10; i > 1; i -= 3) { }", WRAPS),
         ("for (uint64_t i = 3; i != 7; i--) { }", WRAPS),
         ("for (uint64_t i = 6; i >= 2; i -= 2) { }", Ok((1, 2, 6))),
-    ];
-    no_other(&rt, first_other(rt.alloc(), ROWS));
-}
-
-#[test]
-fn rising_loops(rt: HostRuntime) {
-    const LINES: &str = "for (uint64_t i = 0; i < 4294967297ull; i++) { }";
-    const LIMIT: Entered = Err(Fault::Limit(Place {
-        line: 2,
-        column: 26,
-    }));
-    const ROWS: &[(&str, Entered)] = &[
+        // Rising loops.
         ("for (uint64_t i = 1; i <= 10; i += 4) { }", Ok((1, 1, 9))),
         ("for (uint64_t i = 0; i < 8; i++) { }", Ok((1, 0, 7))),
         ("for (uint64_t i = 5; i < 5; i++) { }", Ok((1, 5, 4))),
         ("for (uint64_t i = 2; i != 6; i++) { }", Ok((1, 2, 5))),
-        (LINES, LIMIT),
-    ];
-    no_other(&rt, first_other(rt.alloc(), ROWS));
-}
-
-#[test]
-fn other_heads(rt: HostRuntime) {
-    const OTHER: Entered = Err(Fault::NotCanonical(Place { line: 2, column: 1 }));
-    const ROWS: &[(&str, Entered)] = &[
+        (
+            "for (uint64_t i = 0; i < 4294967297ull; i++) { }",
+            Err(Fault::Limit(Place {
+                line: 2,
+                column: 26,
+            })),
+        ),
+        // Other heads.
         ("for (uint64_t i = 0; i < 8; i--) { }", OTHER),
         ("for (uint64_t i = 0; i == 8; i++) { }", OTHER),
         ("for (uint64_t i = 0; i < 8; x++) { }", OTHER),
         ("for (uint64_t i = 9; i != 3; i -= 2) { }", OTHER),
         ("for (uint64_t i = 9; i > 3; i -= 0) { }", OTHER),
-    ];
-    no_other(&rt, first_other(rt.alloc(), ROWS));
-}
-
-#[test]
-fn bounds_with_variables(rt: HostRuntime) {
-    const ROWS: &[(&str, Entered)] = &[
+        // Bounds with variables.
         (
             "for (uint64_t i = 0; i < 8; i++)\nfor (uint64_t j = 0; j < i - 1; j++) { }",
             Err(Fault::MayWrap(Place { line: 3, column: 1 })),
@@ -116,6 +100,12 @@ fn bounds_with_variables(rt: HostRuntime) {
         ),
         (
             "for (uint64_t i = 0; i < i; i++) { }",
+            Err(Fault::NotCanonical(Place { line: 2, column: 1 })),
+        ),
+        // Bodies.
+        ("for (uint64_t i = 0; i < 8; i++) { x = 0; }", Ok((1, 0, 7))),
+        (
+            "for (uint64_t i = 0; i < 8; i++) { i = 0; }",
             Err(Fault::NotCanonical(Place { line: 2, column: 1 })),
         ),
     ];
@@ -152,11 +142,6 @@ fn first_other_body<'r>(alloc: Global, rows: &[(&'r str, bool)]) -> Option<&'r s
 fn bodies(rt: HostRuntime) {
     const OTHER: &str = "for (uint64_t i = 0; i < 8; i++) { x = 0; }";
     const OWN: &str = "for (uint64_t i = 0; i < 8; i++) { i = 0; }";
-    const ROWS: &[(&str, Entered)] = &[
-        (OTHER, Ok((1, 0, 7))),
-        (OWN, Err(Fault::NotCanonical(Place { line: 2, column: 1 }))),
-    ];
-    no_other(&rt, first_other(rt.alloc(), ROWS));
     const BODIES: &[(&str, bool)] = &[(OTHER, false), (OWN, true)];
     no_other(&rt, first_other_body(rt.alloc(), BODIES));
 }

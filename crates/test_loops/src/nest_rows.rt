@@ -61,8 +61,10 @@ fn first_other<'r>(alloc: Global, rows: &[(&'r str, Told)]) -> Option<&'r str> {
 }
 
 #[test]
-fn subscripts_of_one_loop(rt: HostRuntime) {
+fn subscripts_in_loops(rt: HostRuntime) {
+    const OTHER: Told = Err(Fault::NotAffine(Place { line: 3, column: 3 }));
     const ROWS: &[(&str, Told)] = &[
+        // Subscripts of one loop.
         ("for (uint64_t i = 0; i < 8; i += 1)\nA[i + 0] = 1;", FINE),
         (
             "for (uint64_t i = 0; i < 8; i += 1)\nA[i + 1] = 1;",
@@ -74,13 +76,7 @@ fn subscripts_of_one_loop(rt: HostRuntime) {
             "for (uint64_t i = 0; i < 8; i += 4)\nA[i + 4] = 1;",
             Ok(Some(Place { line: 3, column: 3 })),
         ),
-    ];
-    no_other(&rt, first_other(rt.alloc(), ROWS));
-}
-
-#[test]
-fn the_first_subscript_is_told(rt: HostRuntime) {
-    const ROWS: &[(&str, Told)] = &[
+        // The first subscript is told.
         (
             "for (uint64_t i = 0; i < 8; i++)\nA[i + 1] = A[i + 2];",
             Ok(Some(Place { line: 3, column: 3 })),
@@ -95,6 +91,80 @@ fn the_first_subscript_is_told(rt: HostRuntime) {
         (
             "for (uint64_t i = 0; i < 8; i++) { A[i + 1] = 1; }\nA[s] = 1;",
             Err(Fault::NotAffine(Place { line: 3, column: 3 })),
+        ),
+        // Falling loops.
+        (
+            "for (uint64_t i = 8; i > 0; i--)\nA[i - 0] = 1;",
+            Ok(Some(Place { line: 3, column: 3 })),
+        ),
+        ("for (uint64_t i = 8; i > 0; i--)\nA[i - 1] = 1;", FINE),
+        (
+            "for (uint64_t i = 8; i > 0; i--)\nA[i - 2] = 1;",
+            Ok(Some(Place { line: 3, column: 3 })),
+        ),
+        // Subscripts by other names.
+        ("for (uint64_t i = 0; i < 8; i++)\nA[x] = 1;", OTHER),
+        ("for (uint64_t i = 0; i < 8; i++)\nA[s] = 1;", OTHER),
+        ("for (uint64_t i = 0; i < 8; i++)\nA[i] = 1;", FINE),
+        // Two dimensions.
+        (
+            "for (uint64_t i = 0; i < 2; i++)\nfor (uint64_t j = 0; j < 3; j++)\nB[i][j] = 1;",
+            FINE,
+        ),
+        (
+            "for (uint64_t i = 0; i < 2; i++)\nfor (uint64_t j = 0; j < 4; j++)\nB[i][j] = 1;",
+            Ok(Some(Place { line: 4, column: 6 })),
+        ),
+        (
+            "for (uint64_t i = 0; i < 3; i++)\nfor (uint64_t j = 0; j < 3; j++)\nB[i][j] = 1;",
+            Ok(Some(Place { line: 4, column: 3 })),
+        ),
+        (
+            "for (uint64_t i = 0; i < 2; i++)\nfor (uint64_t j = 0; j < 3; j++)\nB[j][i] = 1;",
+            Ok(Some(Place { line: 4, column: 3 })),
+        ),
+        // Bounds with the outer variable.
+        (
+            "for (uint64_t i = 0; i < 8; i++)\nfor (uint64_t j = 0; j <= i; j++)\nA[j + 0] = 1;",
+            FINE,
+        ),
+        (
+            "for (uint64_t i = 0; i < 8; i++)\nfor (uint64_t j = 0; j <= i; j++)\nA[j + 1] = 1;",
+            Ok(Some(Place { line: 4, column: 3 })),
+        ),
+        (
+            "for (uint64_t i = 0; i < 8; i++)\nfor (uint64_t j = 0; j < i - 1; j++)\nA[j] = 1;",
+            Err(Fault::MayWrap(Place { line: 3, column: 1 })),
+        ),
+        // Bodies that assign.
+        (
+            "for (uint64_t i = 0; i < 8; i++) i = 1;",
+            Err(Fault::NotCanonical(Place { line: 2, column: 1 })),
+        ),
+        ("for (uint64_t i = 0; i < 8; i++) s = 1;", FINE),
+        // Other statements.
+        (
+            "for (uint64_t i = 0; i < 8; i++)\nif (i < 8) A[i + 0] = 1; else A[i + 0] = 1;",
+            FINE,
+        ),
+        (
+            "for (uint64_t i = 0; i < 8; i++)\nif (i < 8) A[i + 1] = 1; else A[i + 0] = 1;",
+            Ok(Some(Place {
+                line: 3,
+                column: 14,
+            })),
+        ),
+        (
+            "for (uint64_t i = 0; i < 8; i++)\nif (i < 8) A[i + 0] = 1; else A[i + 1] = 1;",
+            Ok(Some(Place {
+                line: 3,
+                column: 33,
+            })),
+        ),
+        ("for (uint64_t i = 0; i < 8; i++) { }\nA[7] = 1;", FINE),
+        (
+            "for (uint64_t i = 0; i < 8; i++) { }\nA[8] = 1;",
+            Ok(Some(Place { line: 3, column: 3 })),
         ),
     ];
     no_other(&rt, first_other(rt.alloc(), ROWS));
@@ -135,86 +205,6 @@ fn tables_have_the_loops_in_the_order_of_the_text(rt: HostRuntime) {
     let lines =
         "for (uint64_t i = 0; i < 8; i++) for (uint64_t j = 0; j <= i; j += 2) { }\nfor (uint64_t k = 0; k < 3; k++) { }";
     assert!(rt; trip_counts(rt.alloc(), lines) == Some([Some(8), Some(4), Some(3)]));
-}
-
-#[test]
-fn falling_loops(rt: HostRuntime) {
-    const ROWS: &[(&str, Told)] = &[
-        (
-            "for (uint64_t i = 8; i > 0; i--)\nA[i - 0] = 1;",
-            Ok(Some(Place { line: 3, column: 3 })),
-        ),
-        ("for (uint64_t i = 8; i > 0; i--)\nA[i - 1] = 1;", FINE),
-        (
-            "for (uint64_t i = 8; i > 0; i--)\nA[i - 2] = 1;",
-            Ok(Some(Place { line: 3, column: 3 })),
-        ),
-    ];
-    no_other(&rt, first_other(rt.alloc(), ROWS));
-}
-
-#[test]
-fn subscripts_by_other_names(rt: HostRuntime) {
-    const OTHER: Told = Err(Fault::NotAffine(Place { line: 3, column: 3 }));
-    const ROWS: &[(&str, Told)] = &[
-        ("for (uint64_t i = 0; i < 8; i++)\nA[x] = 1;", OTHER),
-        ("for (uint64_t i = 0; i < 8; i++)\nA[s] = 1;", OTHER),
-        ("for (uint64_t i = 0; i < 8; i++)\nA[i] = 1;", FINE),
-    ];
-    no_other(&rt, first_other(rt.alloc(), ROWS));
-}
-
-#[test]
-fn two_dimensions(rt: HostRuntime) {
-    const ROWS: &[(&str, Told)] = &[
-        (
-            "for (uint64_t i = 0; i < 2; i++)\nfor (uint64_t j = 0; j < 3; j++)\nB[i][j] = 1;",
-            FINE,
-        ),
-        (
-            "for (uint64_t i = 0; i < 2; i++)\nfor (uint64_t j = 0; j < 4; j++)\nB[i][j] = 1;",
-            Ok(Some(Place { line: 4, column: 6 })),
-        ),
-        (
-            "for (uint64_t i = 0; i < 3; i++)\nfor (uint64_t j = 0; j < 3; j++)\nB[i][j] = 1;",
-            Ok(Some(Place { line: 4, column: 3 })),
-        ),
-        (
-            "for (uint64_t i = 0; i < 2; i++)\nfor (uint64_t j = 0; j < 3; j++)\nB[j][i] = 1;",
-            Ok(Some(Place { line: 4, column: 3 })),
-        ),
-    ];
-    no_other(&rt, first_other(rt.alloc(), ROWS));
-}
-
-#[test]
-fn bounds_with_the_outer_variable(rt: HostRuntime) {
-    const WRAPS: Told = Err(Fault::MayWrap(Place { line: 3, column: 1 }));
-    const ROWS: &[(&str, Told)] = &[
-        (
-            "for (uint64_t i = 0; i < 8; i++)\nfor (uint64_t j = 0; j <= i; j++)\nA[j + 0] = 1;",
-            FINE,
-        ),
-        (
-            "for (uint64_t i = 0; i < 8; i++)\nfor (uint64_t j = 0; j <= i; j++)\nA[j + 1] = 1;",
-            Ok(Some(Place { line: 4, column: 3 })),
-        ),
-        (
-            "for (uint64_t i = 0; i < 8; i++)\nfor (uint64_t j = 0; j < i - 1; j++)\nA[j] = 1;",
-            WRAPS,
-        ),
-    ];
-    no_other(&rt, first_other(rt.alloc(), ROWS));
-}
-
-#[test]
-fn bodies_that_assign(rt: HostRuntime) {
-    const ASSIGNS: Told = Err(Fault::NotCanonical(Place { line: 2, column: 1 }));
-    const ROWS: &[(&str, Told)] = &[
-        ("for (uint64_t i = 0; i < 8; i++) i = 1;", ASSIGNS),
-        ("for (uint64_t i = 0; i < 8; i++) s = 1;", FINE),
-    ];
-    no_other(&rt, first_other(rt.alloc(), ROWS));
 }
 
 /// The first faults of so many loops, one in the other.
@@ -285,32 +275,6 @@ fn faults_behind(alloc: Global, lines: &str) -> Result<Told, u8> {
 
 #[test]
 fn other_statements(rt: HostRuntime) {
-    const ROWS: &[(&str, Told)] = &[
-        (
-            "for (uint64_t i = 0; i < 8; i++)\nif (i < 8) A[i + 0] = 1; else A[i + 0] = 1;",
-            FINE,
-        ),
-        (
-            "for (uint64_t i = 0; i < 8; i++)\nif (i < 8) A[i + 1] = 1; else A[i + 0] = 1;",
-            Ok(Some(Place {
-                line: 3,
-                column: 14,
-            })),
-        ),
-        (
-            "for (uint64_t i = 0; i < 8; i++)\nif (i < 8) A[i + 0] = 1; else A[i + 1] = 1;",
-            Ok(Some(Place {
-                line: 3,
-                column: 33,
-            })),
-        ),
-        ("for (uint64_t i = 0; i < 8; i++) { }\nA[7] = 1;", FINE),
-        (
-            "for (uint64_t i = 0; i < 8; i++) { }\nA[8] = 1;",
-            Ok(Some(Place { line: 3, column: 3 })),
-        ),
-    ];
-    no_other(&rt, first_other(rt.alloc(), ROWS));
     let lines = "for (uint64_t i = 0; i < 8; i++) { }";
     let other = Err(Fault::NotAffine(at(3, 3)));
     assert!(rt; faults_behind(rt.alloc(), lines) == Ok(other));
@@ -335,9 +299,11 @@ fn first_other_nest<'r>(alloc: Global, rows: &[(&'r str, Option<Fault>)]) -> Opt
 }
 
 #[test]
-fn iterations_have_a_limit(rt: HostRuntime) {
+fn nests_of_directives(rt: HostRuntime) {
     const LIMIT: Option<Fault> = Some(Fault::Limit(Place { line: 3, column: 1 }));
+    const IMPERFECT: Option<Fault> = Some(Fault::NotPerfect(Place { line: 3, column: 1 }));
     const ROWS: &[(&str, Option<Fault>)] = &[
+        // Iterations have a limit.
         (
             "#pragma omp parallel for collapse(2)\nfor (uint64_t i = 0; i < 3; i++)\nfor (uint64_t j = 0; j < 4; j++) { }",
             None,
@@ -362,30 +328,16 @@ fn iterations_have_a_limit(rt: HostRuntime) {
             "#pragma omp parallel for collapse(2)\nfor (uint64_t i = 0; i < 4294967296ull; i++)\nfor (uint64_t j = 0; j < 0; j++) { }",
             None,
         ),
-    ];
-    no_other(&rt, first_other_nest(rt.alloc(), ROWS));
-}
-
-#[test]
-fn nests_are_rectangular(rt: HostRuntime) {
-    const INNER: Option<Fault> = Some(Fault::NotPerfect(Place { line: 4, column: 1 }));
-    const ROWS: &[(&str, Option<Fault>)] = &[
+        // Nests are rectangular.
         (
             "#pragma omp parallel for\nfor (uint64_t i = 0; i < 3; i++)\nfor (uint64_t j = 0; j <= i; j++) { }",
             None,
         ),
         (
             "#pragma omp parallel for collapse(2)\nfor (uint64_t i = 0; i < 3; i++)\nfor (uint64_t j = 0; j <= i; j++) { }",
-            INNER,
+            Some(Fault::NotPerfect(Place { line: 4, column: 1 })),
         ),
-    ];
-    no_other(&rt, first_other_nest(rt.alloc(), ROWS));
-}
-
-#[test]
-fn nests_are_perfect(rt: HostRuntime) {
-    const IMPERFECT: Option<Fault> = Some(Fault::NotPerfect(Place { line: 3, column: 1 }));
-    const ROWS: &[(&str, Option<Fault>)] = &[
+        // Nests are perfect.
         (
             "#pragma omp parallel for\nfor (uint64_t i = 0; i < 3; i++) { uint64_t y; for (uint64_t j = 0; j < 4; j++) { } }",
             None,
@@ -402,21 +354,19 @@ fn nests_are_perfect(rt: HostRuntime) {
             "#pragma omp parallel for collapse(2)\nfor (uint64_t i = 0; i < 3; i++) { }",
             IMPERFECT,
         ),
-    ];
-    no_other(&rt, first_other_nest(rt.alloc(), ROWS));
-}
-
-#[test]
-fn nests_in_loops_that_never_turn(rt: HostRuntime) {
-    const LIMIT: Option<Fault> = Some(Fault::Limit(Place { line: 4, column: 1 }));
-    const ROWS: &[(&str, Option<Fault>)] = &[
+        // Nests in loops that never turn.
         (
             "for (uint64_t i = 0; i < 0; i++) {\n#pragma omp parallel for\nfor (uint64_t j = 0; j < 16777217; j++) { } }",
             None,
         ),
         (
             "for (uint64_t i = 0; i < 1; i++) {\n#pragma omp parallel for\nfor (uint64_t j = 0; j < 16777217; j++) { } }",
-            LIMIT,
+            Some(Fault::Limit(Place { line: 4, column: 1 })),
+        ),
+        // The first fault is told.
+        (
+            "#pragma omp parallel for\nfor (uint64_t i = 0; i < 16777217; i++)\nfor (uint64_t j = 0; j <= s; j++) { }",
+            Some(Fault::Limit(Place { line: 3, column: 1 })),
         ),
     ];
     no_other(&rt, first_other_nest(rt.alloc(), ROWS));
@@ -465,13 +415,4 @@ fn iterations_of(alloc: Global, lines: &str) -> Option<u64> {
 fn nests_have_spaces(rt: HostRuntime) {
     let lines = "for (uint64_t i = 0; i < 3; i++) for (uint64_t j = 0; j < x; j++) { }";
     assert!(rt; iterations_of(rt.alloc(), lines) == Some(15));
-}
-
-#[test]
-fn the_first_fault_is_told(rt: HostRuntime) {
-    const LINES: &str =
-        "#pragma omp parallel for\nfor (uint64_t i = 0; i < 16777217; i++)\nfor (uint64_t j = 0; j <= s; j++) { }";
-    const LIMIT: Option<Fault> = Some(Fault::Limit(Place { line: 3, column: 1 }));
-    const ROWS: &[(&str, Option<Fault>)] = &[(LINES, LIMIT)];
-    no_other(&rt, first_other_nest(rt.alloc(), ROWS));
 }

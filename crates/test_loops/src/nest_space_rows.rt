@@ -25,28 +25,15 @@ struct Shape {
     limit: i128,
 }
 
-/// `for (v = start; v op limit; v += by)`.
-fn rising(variable: VarId, by: u32, bound: Bound, start: i128, limit: i128) -> Shape {
+/// A direction, a step, a bound, a start and a limit.
+type Run = (Direction, u32, Bound, i128, i128);
+
+/// `for (v = start; v op limit; v += by)`, or with `-=` where it falls.
+fn shaped(variable: VarId, run: Run) -> Shape {
+    let (direction, by, bound, start, limit) = run;
     Shape {
         variable,
-        stride: Stride {
-            direction: Direction::Rising,
-            by,
-        },
-        bound,
-        start,
-        limit,
-    }
-}
-
-/// `for (i = start; i op limit; i -= by)`.
-fn falling(by: u32, bound: Bound, start: i128, limit: i128) -> Shape {
-    Shape {
-        variable: I,
-        stride: Stride {
-            direction: Direction::Falling,
-            by,
-        },
+        stride: Stride { direction, by },
         bound,
         start,
         limit,
@@ -99,28 +86,37 @@ fn are_values(turns: LoopTurns, values: &[u64]) -> bool {
 }
 
 /// Whether these are the values of the loop's variable.
-fn has_values(alloc: Global, shape: Shape, values: &[u64]) -> bool {
-    match turns(alloc, shape) {
+fn has_values(alloc: Global, run: Run, values: &[u64]) -> bool {
+    match turns(alloc, shaped(I, run)) {
         Some(turns) => are_values(turns, values),
         None => false,
     }
 }
 
+/// The first of some loops whose variable has other values.
+fn first_other_values(alloc: Global, rows: &[(Run, &[u64])]) -> Option<usize> {
+    for (i, (run, values)) in rows.iter().enumerate() {
+        if !has_values(alloc, *run, values) {
+            return Some(i);
+        }
+    }
+    None
+}
+
 #[test]
 fn falling_loops(rt: HostRuntime) {
-    let heap = rt.alloc();
-    let by_three = falling(3, Bound::Strict, 10, 2);
-    assert!(rt; has_values(heap, by_three, &[10, 7, 4]));
-    let unequal = falling(1, Bound::Unequal, 7, 3);
-    assert!(rt; has_values(heap, unequal, &[7, 6, 5, 4]));
-    let to_the_end = falling(2, Bound::Inclusive, 6, 2);
-    assert!(rt; has_values(heap, to_the_end, &[6, 4, 2]));
+    const ROWS: &[(Run, &[u64])] = &[
+        ((Direction::Falling, 3, Bound::Strict, 10, 2), &[10, 7, 4]),
+        ((Direction::Falling, 1, Bound::Unequal, 7, 3), &[7, 6, 5, 4]),
+        ((Direction::Falling, 2, Bound::Inclusive, 6, 2), &[6, 4, 2]),
+    ];
+    no_other(&rt, first_other_values(rt.alloc(), ROWS));
 }
 
 /// The first of some loops that does not turn so often.
-fn first_other(alloc: Global, rows: &[(Shape, Option<u64>)]) -> Option<usize> {
-    for (i, (shape, expected)) in rows.iter().enumerate() {
-        if count(alloc, *shape) != *expected {
+fn first_other(alloc: Global, rows: &[(Run, Option<u64>)]) -> Option<usize> {
+    for (i, (run, expected)) in rows.iter().enumerate() {
+        if count(alloc, shaped(I, *run)) != *expected {
             return Some(i);
         }
     }
@@ -132,30 +128,31 @@ fn no_other(rt: &impl Abort, other: Option<usize>) {
     assert_eq!(rt; other, None);
 }
 
-#[test]
-fn empty_loops(rt: HostRuntime) {
-    let rows = [
-        (rising(I, 1, Bound::Strict, 3, 3), Some(0)),
-        (rising(I, 1, Bound::Inclusive, 5, 4), Some(0)),
-        (rising(I, 1, Bound::Unequal, 5, 5), Some(0)),
-        (rising(I, 1, Bound::Strict, 0, 0), Some(0)),
-        (falling(1, Bound::Strict, 2, 5), Some(0)),
-    ];
-    no_other(&rt, first_other(rt.alloc(), &rows));
-}
-
 /// A loop whose variable would wrap, or whose bounds are too large, has no turns.
 #[test]
-fn loops_that_do_not_stay(rt: HostRuntime) {
-    let rows = [
-        (falling(1, Bound::Inclusive, 9, 0), None),
-        (falling(3, Bound::Strict, 5, 1), None),
-        (rising(I, 1, Bound::Unequal, 5, 4), None),
-        (rising(I, 1, Bound::Strict, -1, 4), None),
-        (rising(I, 1, Bound::Strict, 0, 1 << 32), Some(1 << 32)),
-        (rising(I, 1, Bound::Strict, 0, (1 << 32) + 1), None),
+fn counts_of_turns(rt: HostRuntime) {
+    const ROWS: &[(Run, Option<u64>)] = &[
+        // Empty loops.
+        ((Direction::Rising, 1, Bound::Strict, 3, 3), Some(0)),
+        ((Direction::Rising, 1, Bound::Inclusive, 5, 4), Some(0)),
+        ((Direction::Rising, 1, Bound::Unequal, 5, 5), Some(0)),
+        ((Direction::Rising, 1, Bound::Strict, 0, 0), Some(0)),
+        ((Direction::Falling, 1, Bound::Strict, 2, 5), Some(0)),
+        // Loops that do not stay.
+        ((Direction::Falling, 1, Bound::Inclusive, 9, 0), None),
+        ((Direction::Falling, 3, Bound::Strict, 5, 1), None),
+        ((Direction::Rising, 1, Bound::Unequal, 5, 4), None),
+        ((Direction::Rising, 1, Bound::Strict, -1, 4), None),
+        (
+            (Direction::Rising, 1, Bound::Strict, 0, 4_294_967_296),
+            Some(4_294_967_296),
+        ),
+        (
+            (Direction::Rising, 1, Bound::Strict, 0, 4_294_967_297),
+            None,
+        ),
     ];
-    no_other(&rt, first_other(rt.alloc(), &rows));
+    no_other(&rt, first_other(rt.alloc(), ROWS));
 }
 
 /// `2 * n`.
@@ -221,14 +218,14 @@ fn first_other_value(alloc: Global, rows: &[(Option<u64>, u64, Option<u64>)]) ->
 
 #[test]
 fn bounds_with_variables(rt: HostRuntime) {
-    let rows = [
+    const ROWS: &[(Option<u64>, u64, Option<u64>)] = &[
         (Some(4), 1, Some(7)),
         (Some(4), 2, None),
         (Some(6), 2, Some(12)),
         (None, 0, Some(0)),
         (None, 1, None),
     ];
-    no_other(&rt, first_other_value(rt.alloc(), &rows));
+    no_other(&rt, first_other_value(rt.alloc(), ROWS));
     assert!(rt; turns_by_variable(rt.alloc(), Some(1 << 34)).is_none());
 }
 
@@ -243,8 +240,8 @@ fn two_heads(alloc: Global, outer: Shape, inner: Shape) -> Result<[Canonical; 2]
 fn collapsed(alloc: Global) -> Option<Space>
     ensures { IfSome result (λ ts. length ts ≡ 2) }
 {
-    let outer = falling(2, Bound::Strict, 5, 1);
-    let inner = rising(J, 2, Bound::Inclusive, 0, 4);
+    let outer = shaped(I, (Direction::Falling, 2, Bound::Strict, 5, 1));
+    let inner = shaped(J, (Direction::Rising, 2, Bound::Inclusive, 0, 4));
     match two_heads(alloc, outer, inner) {
         Ok(loops) => Space::at(alloc, &loops, &[]),
         Err(_refusal) => None,
@@ -307,33 +304,29 @@ fn first_other_number(alloc: Global, rows: &[([u64; 2], Option<u64>)]) -> Option
 
 #[test]
 fn vectors_of_two_loops(rt: HostRuntime) {
-    let vectors = [
+    const VECTORS: &[(u64, Option<[u64; 2]>)] = &[
         (0, Some([5, 0])),
         (1, Some([5, 2])),
         (3, Some([3, 0])),
         (5, Some([3, 4])),
         (6, None),
     ];
-    assert!(rt; collapsed_count(rt.alloc()) == Some(6));
-    no_other(&rt, first_other_vector(rt.alloc(), &vectors));
-}
-
-#[test]
-fn numbers_of_two_loops(rt: HostRuntime) {
-    let numbers = [
+    const NUMBERS: &[([u64; 2], Option<u64>)] = &[
         ([5, 2], Some(1)),
         ([3, 4], Some(5)),
         ([4, 0], None),
         ([5, 1], None),
     ];
-    no_other(&rt, first_other_number(rt.alloc(), &numbers));
+    assert!(rt; collapsed_count(rt.alloc()) == Some(6));
+    assert!(rt; first_other_vector(rt.alloc(), VECTORS).is_none());
+    assert!(rt; first_other_number(rt.alloc(), NUMBERS).is_none());
     assert!(rt; number(rt.alloc(), &[5]).is_none());
 }
 
 /// How many vectors a nest of two loops has that turn so often, or the number of a refusal.
 fn rectangle(alloc: Global, outer: i128, inner: i128) -> Result<Option<u64>, u8> {
-    let outer = rising(I, 1, Bound::Strict, 0, outer);
-    let inner = rising(J, 1, Bound::Strict, 0, inner);
+    let outer = shaped(I, (Direction::Rising, 1, Bound::Strict, 0, outer));
+    let inner = shaped(J, (Direction::Rising, 1, Bound::Strict, 0, inner));
     match two_heads(alloc, outer, inner) {
         Ok(loops) => Ok(Space::at(alloc, &loops, &[]).map(|space| space.count())),
         Err(refusal) => Err(refusal.number()),
@@ -373,7 +366,10 @@ fn fifth_is_too_many(alloc: Global, head: &Canonical) -> bool {
 
 /// Whether it is so of five loops that turn once.
 fn five(alloc: Global) -> bool {
-    match head(alloc, rising(I, 1, Bound::Strict, 0, 1)) {
+    match head(
+        alloc,
+        shaped(I, (Direction::Rising, 1, Bound::Strict, 0, 1)),
+    ) {
         Ok(head) => fifth_is_too_many(alloc, &head),
         Err(_refusal) => false,
     }

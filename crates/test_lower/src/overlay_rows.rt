@@ -284,8 +284,9 @@ const SUMS: &str =
 const SQUARES: &str = "for (uint64_t i = 7; i >= 2; i -= 2) A[i] = i * i;";
 
 #[test]
-fn chunks_run_bodies_with_loops_and_locals(rt: HostRuntime) {
+fn chunks_of_one_loop(rt: HostRuntime) {
     const ROWS: &[Row] = &[
+        // Chunks run bodies with loops and locals.
         (
             SUMS,
             (0, 8, 3),
@@ -306,19 +307,7 @@ fn chunks_run_bodies_with_loops_and_locals(rt: HostRuntime) {
             (1, 2, 1),
             [0, 0, 0, 0, 0, 25, 0, 0, 0, 0, 0, 0, 0, 0, 0],
         ),
-    ];
-    no_other(&rt, first_other(rt.alloc(), ROWS));
-}
-
-const TWICE: &str = "for (uint64_t i = 0; i < 8; i++) { A[i] = i; A[i] = A[i] + 1; }";
-
-const COUNT: &str = "for (uint64_t i = 0; i < 6; i++) s = s + 1;";
-
-const CHAIN: &str = "for (uint64_t i = 1; i < 8; i++) A[i] = A[i - 1] + 1;";
-
-#[test]
-fn chunks_see_their_own_writes_and_no_others(rt: HostRuntime) {
-    const ROWS: &[Row] = &[
+        // Chunks see their own writes and no others.
         (
             TWICE,
             (0, 8, 4),
@@ -342,6 +331,12 @@ fn chunks_see_their_own_writes_and_no_others(rt: HostRuntime) {
     ];
     no_other(&rt, first_other(rt.alloc(), ROWS));
 }
+
+const TWICE: &str = "for (uint64_t i = 0; i < 8; i++) { A[i] = i; A[i] = A[i] + 1; }";
+
+const COUNT: &str = "for (uint64_t i = 0; i < 6; i++) s = s + 1;";
+
+const CHAIN: &str = "for (uint64_t i = 1; i < 8; i++) A[i] = A[i - 1] + 1;";
 
 const TABLE: &str =
     "for (uint64_t i = 0; i < 2; i++) for (uint64_t j = 0; j < 3; j++) B[i][j] = 10 * i + j + 1;";

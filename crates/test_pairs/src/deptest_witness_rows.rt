@@ -219,28 +219,17 @@ fn no_other(rt: &impl Abort, other: Option<usize>) {
 }
 
 #[test]
-fn shifted(rt: HostRuntime) {
+fn meetings_in_one_loop(rt: HostRuntime) {
     const ROWS: &[Row] = &[
+        // Shifted.
         (1, 8, (1, 0), (1, -1), Some((0, 1, Some(1)))),
         (0, 4, (3, 0), (3, 6), Some((0, 2, Some(6)))),
         (0, 4, (1, -1), (0, 0), Some((0, 1, Some(0)))),
-    ];
-    no_other(&rt, first_other(rt.alloc(), ROWS));
-}
-
-#[test]
-fn mirrored(rt: HostRuntime) {
-    const ROWS: &[Row] = &[
+        // Mirrored.
         (0, 16, (1, 0), (-1, 15), Some((7, 8, Some(7)))),
         (0, 8, (1, 0), (-1, 15), None),
         (0, 2, (1, 0), (-1, 1), Some((0, 1, Some(0)))),
-    ];
-    no_other(&rt, first_other(rt.alloc(), ROWS));
-}
-
-#[test]
-fn far_apart(rt: HostRuntime) {
-    const ROWS: &[Row] = &[
+        // Far apart.
         (0, 200, (1, 0), (1, 63), Some((0, 63, Some(63)))),
         (0, 200, (1, 0), (1, 64), None),
         (0, 200, (1, 0), (1, 100), None),

@@ -114,8 +114,9 @@ fn no_other(rt: &impl Abort, other: Option<usize>) {
 }
 
 #[test]
-fn one_loop(rt: HostRuntime) {
+fn pairs_in_one_loop(rt: HostRuntime) {
     const ROWS: &[Row] = &[
+        // One loop.
         (8, (2, 0), (2, 1), Some(true)),
         (7, (1, 1), (1, 0), Some(false)),
         (4, (3, 0), (3, 6), Some(false)),
@@ -123,25 +124,11 @@ fn one_loop(rt: HostRuntime) {
         (16, (1, 0), (-1, 15), Some(false)),
         (8, (1, 0), (-1, 15), Some(false)),
         (200, (1, 100), (1, 0), Some(false)),
-    ];
-    no_other(&rt, first_other(rt.alloc(), ROWS));
-}
-
-#[test]
-fn few_turns(rt: HostRuntime) {
-    const ROWS: &[Row] = &[
+        // Few turns.
         (2, (0, 0), (0, 0), Some(false)),
         (1, (0, 0), (0, 0), Some(true)),
         (0, (0, 0), (0, 0), Some(true)),
-    ];
-    no_other(&rt, first_other(rt.alloc(), ROWS));
-}
-
-const GREATEST: i64 = 1 << 62;
-
-#[test]
-fn limits(rt: HostRuntime) {
-    const ROWS: &[Row] = &[
+        // Limits.
         (9, (GREATEST, 0), (GREATEST, 0), Some(true)),
         (9, (GREATEST, 0), (-1, 0), None),
         (9, (0, GREATEST), (0, -1), None),
@@ -149,6 +136,8 @@ fn limits(rt: HostRuntime) {
     ];
     no_other(&rt, first_other(rt.alloc(), ROWS));
 }
+
+const GREATEST: i64 = 1 << 62;
 
 /// Whether this is said of a form with itself, where these loops are round it.
 fn is_said_of_itself(

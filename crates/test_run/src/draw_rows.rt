@@ -45,14 +45,16 @@ fn is_whole(alloc: Global, tickets: u64, count: u64, rows: &[Row], back: usize) 
 
 #[test]
 fn draws_each_once(rt: HostRuntime) {
-    let rows = [
+    const ROWS: &[Row] = &[
         (0, Some(0)),
         (0, Some(1)),
         (1, Some(2)),
         (1, None),
         (1, None),
     ];
-    assert!(rt; is_whole(rt.alloc(), 3, 2, &rows, 2) == Some(true));
+    const NONE: &[Row] = &[(0, None), (1, None), (2, None)];
+    assert!(rt; is_whole(rt.alloc(), 3, 2, ROWS, 2) == Some(true));
+    assert!(rt; is_whole(rt.alloc(), 0, 3, NONE, 3) == Some(true));
 }
 
 #[test]
@@ -60,12 +62,6 @@ fn the_end_is_met_once(rt: HostRuntime) {
     let mut rows = [(0, None); 1002];
     rows[0] = (0, Some(0));
     assert!(rt; is_whole(rt.alloc(), 1, 1, &rows, 1) == Some(true));
-}
-
-#[test]
-fn no_tickets(rt: HostRuntime) {
-    let rows = [(0, None), (1, None), (2, None)];
-    assert!(rt; is_whole(rt.alloc(), 0, 3, &rows, 3) == Some(true));
 }
 
 #[test]

@@ -25,16 +25,6 @@ pub(crate) struct Site<'t> {
     pub(crate) turn: Option<u64>,
 }
 
-/// The last statement of a text with eight elements in `A`, one loop with none round it.
-pub(crate) fn one_loop(lines: &str) -> Site<'_> {
-    Site {
-        length: 8,
-        lines,
-        depth: 1,
-        turn: None,
-    }
-}
-
 /// A block's last statement.
 fn last_statement(items: &[Item]) -> Option<&Stmt> {
     match items.last() {

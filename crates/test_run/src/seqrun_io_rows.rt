@@ -115,33 +115,79 @@ fn first_other(alloc: Global, length: u64, rows: &[(&str, Option<InputFault>)]) 
     None
 }
 
-/// A fault in a line.
-fn at(line: u64, cause: Cause) -> Option<InputFault> {
-    Some(InputFault { line, cause })
-}
-
 #[test]
 fn names_the_first_fault(rt: HostRuntime) {
-    let heap = rt.alloc();
-    let large = "A 1 2 18446744073709551616\n";
-    let twice = "A 1 2 18446744073709551615\nA 1 2 3\n";
-    let rows = [
-        ("A 1 2\n", at(1, Cause::Count)),
-        (large, at(1, Cause::Number)),
-        (twice, at(2, Cause::Twice)),
+    const OF_THREE: &[(&str, Option<InputFault>)] = &[
+        (
+            "A 1 2\n",
+            Some(InputFault {
+                line: 1,
+                cause: Cause::Count,
+            }),
+        ),
+        (
+            "A 1 2 18446744073709551616\n",
+            Some(InputFault {
+                line: 1,
+                cause: Cause::Number,
+            }),
+        ),
+        (
+            "A 1 2 18446744073709551615\nA 1 2 3\n",
+            Some(InputFault {
+                line: 2,
+                cause: Cause::Twice,
+            }),
+        ),
     ];
-    assert!(rt; first_other(heap, 3, &rows).is_none());
-    let rows = [
-        ("A 1  2\n", at(1, Cause::Form)),
-        ("A 1 2", at(1, Cause::Form)),
-        ("B 1 2\n", at(1, Cause::Name)),
-        ("A\n", at(1, Cause::Count)),
-        ("A 1 02\n", at(1, Cause::Number)),
-        ("A 1 02 3\n", at(1, Cause::Count)),
+    const OF_TWO: &[(&str, Option<InputFault>)] = &[
+        (
+            "A 1  2\n",
+            Some(InputFault {
+                line: 1,
+                cause: Cause::Form,
+            }),
+        ),
+        (
+            "A 1 2",
+            Some(InputFault {
+                line: 1,
+                cause: Cause::Form,
+            }),
+        ),
+        (
+            "B 1 2\n",
+            Some(InputFault {
+                line: 1,
+                cause: Cause::Name,
+            }),
+        ),
+        (
+            "A\n",
+            Some(InputFault {
+                line: 1,
+                cause: Cause::Count,
+            }),
+        ),
+        (
+            "A 1 02\n",
+            Some(InputFault {
+                line: 1,
+                cause: Cause::Number,
+            }),
+        ),
+        (
+            "A 1 02 3\n",
+            Some(InputFault {
+                line: 1,
+                cause: Cause::Count,
+            }),
+        ),
         ("A 1 0\n", None),
         ("", None),
     ];
-    assert_eq!(rt; first_other(heap, 2, &rows), None);
+    assert!(rt; first_other(rt.alloc(), 3, OF_THREE).is_none());
+    assert_eq!(rt; first_other(rt.alloc(), 2, OF_TWO), None);
 }
 
 /// The number of the refusal of a dump of `A = 1 2 3 4 5 6 7 8`, or 0, and how often the sink fails, over a writer that takes one

@@ -1,17 +1,19 @@
 //! Loops that a team runs: what they leave under every schedule, by one worker, three and 64; the values are C's, or counted by hand.
 
-use crate::lowering::{Site, left_by, lowered, one_loop};
+use crate::lowering::{Site, left_by, lowered};
 use ktree::{ChunkSize, Schedule};
 use lower::LoweredLoop;
 use schedule::Sched;
 use std::alloc::Global;
-use std::process::Abort;
 use std::sync::Wait;
 use std::thread::Threads;
 use team::OpenGate;
 
-/// A loop, and what it leaves in `A`, `B` and `s`.
-type Row<'t> = (Site<'t>, [u64; 15]);
+/// How many loops a nest has, and at which turn the loop round it is, if there is one; its lines, and what it leaves in `A`, `B` and `s`.
+type Row<'t> = ((u64, Option<u64>), &'t str, [u64; 15]);
+
+/// One loop with none round it.
+const ONE: (u64, Option<u64>) = (1, None);
 
 /// The schedules of a clause, by numbers from 0; from 6 on it is `runtime`.
 fn clause(number: u64, size: ChunkSize) -> Option<Schedule> {
@@ -60,14 +62,20 @@ fn leaves_by_all<R: Threads + Wait + Sync>(
     number: u64,
     size: ChunkSize,
 ) -> bool {
-    let (site, values) = row;
-    let Some(lowered) = lowered(alloc, *site, clause(number, size)) else {
+    let ((depth, turn), lines, values) = row;
+    let site = Site {
+        length: 8,
+        lines: *lines,
+        depth: *depth,
+        turn: *turn,
+    };
+    let Some(lowered) = lowered(alloc, site, clause(number, size)) else {
         return false;
     };
     let mut same = true;
     for count in [1, 3, 64] {
         let runtime = runtime(number, size);
-        same &= leaves(rt, alloc, &lowered, *site, count, runtime, values);
+        same &= leaves(rt, alloc, &lowered, site, count, runtime, values);
     }
     same
 }
@@ -94,11 +102,6 @@ fn first_other<R: Threads + Wait + Sync>(rt: &R, alloc: Global, rows: &[Row]) ->
     None
 }
 
-/// Ends a test where there is a row that leaves something else, and gives its number.
-fn no_other(rt: &impl Abort, other: Option<usize>) {
-    assert_eq!(rt; other, None);
-}
-
 const SUMS: &str =
     "for (uint64_t i = 0; i < 8; i++) { uint64_t t = i; for (uint64_t k = 0; k < i; k++) t += k; A[i] = t; }";
 
@@ -109,23 +112,30 @@ const TWICE: &str = "for (uint64_t i = 0; i < 8; i++) { A[i] = i; A[i] = A[i] + 
 
 const WRAPS: &str = "for (uint64_t i = 0; i < 5; i++) A[i] = i - A[i];";
 
+const FALLS: &str = "for (uint64_t i = 7; i >= 2; i -= 2) A[i] = i * i;";
+
+const TABLE: &str =
+    "for (uint64_t i = 0; i < 2; i++) for (uint64_t j = 0; j < 3; j++) B[i][j] = 10 * i + j + A[j];";
+
+const INNER: &str =
+    "for (uint64_t j = 0; j < 8; j++) for (uint64_t i = 0; i < j; i++) A[i] = i + j;";
+
+const NEVER: &str = "for (uint64_t i = 3; i < 3; i++) A[i] = 7;";
+
 #[test]
-fn bodies_of_every_form_are_run(rt: HostRuntime) {
-    let rows = [
+fn loops_of_every_form_are_run(rt: HostRuntime) {
+    const ROWS: &[Row<'static>] = &[
+        // Bodies.
+        (ONE, SUMS, [0, 1, 3, 6, 10, 15, 21, 28, 0, 0, 0, 0, 0, 0, 0]),
         (
-            one_loop(SUMS),
-            [0, 1, 3, 6, 10, 15, 21, 28, 0, 0, 0, 0, 0, 0, 0],
-        ),
-        (
-            one_loop(BRANCHES),
+            ONE,
+            BRANCHES,
             [5, 99, 7, 97, 9, 95, 11, 93, 0, 0, 0, 0, 0, 0, 0],
         ),
+        (ONE, TWICE, [1, 2, 3, 4, 5, 6, 7, 8, 0, 0, 0, 0, 0, 0, 0]),
         (
-            one_loop(TWICE),
-            [1, 2, 3, 4, 5, 6, 7, 8, 0, 0, 0, 0, 0, 0, 0],
-        ),
-        (
-            one_loop(WRAPS),
+            ONE,
+            WRAPS,
             [
                 18446744073709551615,
                 0,
@@ -144,41 +154,19 @@ fn bodies_of_every_form_are_run(rt: HostRuntime) {
                 0,
             ],
         ),
-    ];
-    no_other(&rt, first_other(&rt, rt.alloc(), &rows));
-}
-
-const FALLS: &str = "for (uint64_t i = 7; i >= 2; i -= 2) A[i] = i * i;";
-
-const TABLE: &str =
-    "for (uint64_t i = 0; i < 2; i++) for (uint64_t j = 0; j < 3; j++) B[i][j] = 10 * i + j + A[j];";
-
-const INNER: &str =
-    "for (uint64_t j = 0; j < 8; j++) for (uint64_t i = 0; i < j; i++) A[i] = i + j;";
-
-const NEVER: &str = "for (uint64_t i = 3; i < 3; i++) A[i] = 7;";
-
-#[test]
-fn nests_of_every_form_are_run(rt: HostRuntime) {
-    let nest = Site {
-        depth: 2,
-        ..one_loop(TABLE)
-    };
-    let turn = Site {
-        turn: Some(3),
-        ..one_loop(INNER)
-    };
-    let rows = [
+        // Nests.
+        (ONE, FALLS, [1, 1, 1, 9, 1, 25, 1, 49, 0, 0, 0, 0, 0, 0, 0]),
         (
-            one_loop(FALLS),
-            [1, 1, 1, 9, 1, 25, 1, 49, 0, 0, 0, 0, 0, 0, 0],
+            (2, None),
+            TABLE,
+            [1, 1, 1, 1, 1, 1, 1, 1, 1, 2, 3, 11, 12, 13, 0],
         ),
-        (nest, [1, 1, 1, 1, 1, 1, 1, 1, 1, 2, 3, 11, 12, 13, 0]),
-        (turn, [3, 4, 5, 1, 1, 1, 1, 1, 0, 0, 0, 0, 0, 0, 0]),
         (
-            one_loop(NEVER),
-            [1, 1, 1, 1, 1, 1, 1, 1, 0, 0, 0, 0, 0, 0, 0],
+            (1, Some(3)),
+            INNER,
+            [3, 4, 5, 1, 1, 1, 1, 1, 0, 0, 0, 0, 0, 0, 0],
         ),
+        (ONE, NEVER, [1, 1, 1, 1, 1, 1, 1, 1, 0, 0, 0, 0, 0, 0, 0]),
     ];
-    no_other(&rt, first_other(&rt, rt.alloc(), &rows));
+    assert_eq!(rt; first_other(&rt, rt.alloc(), ROWS), None);
 }
