@@ -278,12 +278,13 @@ class Tried:
         return dict(row.split() for row in rows)
 
     def sum_of(self, crate):
-        """The sum of a crate's sources with its edits, of the sources of those below without their proofs, and of the toolchain."""
+        """The sum of a crate's sources with its edits, of what those below promise, and of the toolchain."""
         found = hashlib.sha256(read(f"{self.rt.KIT}/KIT-ID").encode())
-        parts = [(crate, it) for it in ("src", "specs", "proofs", "edits")]
-        for owner, part in parts + [(dep, it) for dep in crate.below() for it in ("src", "specs")]:
+        own = [(crate, it, str) for it in ("src", "specs", "proofs", "edits")]
+        below = [(dep, part, seen) for dep in crate.below() for part, seen in (("src", promises), ("specs", str))]
+        for owner, part, seen in own + below:
             for file in sorted(glob.glob(f"{owner.folder}/{part}/**/*.*", recursive=True)):
-                found.update(f"{owner.name}/{os.path.relpath(file, owner.folder)}\n{read(file)}\n".encode())
+                found.update(f"{owner.name}/{os.path.relpath(file, owner.folder)}\n{seen(read(file))}\n".encode())
         return found.hexdigest()[:32]
 
     def has(self, crate):
@@ -297,6 +298,28 @@ class Tried:
             with open(TRIED, "w", encoding="utf-8") as it:
                 it.writelines(rows)
             return self.sums[crate.name]
+
+
+def promises(text):
+    """What crates above rest on of a source file, as `rt fmt` lays it out: neither comments nor the bodies of functions, nor functions at its left edge that are not public."""
+    kept, indent, in_head, is_seen = [], None, False, True
+    for row in text.split("\n"):
+        if row.lstrip().startswith("//"):
+            continue
+        head = HEAD.match(row) if indent is None else None
+        if head:
+            indent, in_head, is_seen = head[1], True, bool(head[1]) or row.startswith("pub ")
+        if is_seen and (indent is None or in_head):
+            kept.append(row)
+        if in_head:
+            opens = row == f"{indent}{{" or row.endswith(" {") and (head or row.startswith(f"{indent})"))
+            is_whole = not opens and row.endswith((";", "{}"))
+            in_head = not opens and not is_whole
+            if is_whole:
+                indent, is_seen = None, True
+        elif row == f"{indent}}}":
+            indent, is_seen = None, True
+    return "\n".join(kept)
 
 
 def read_all(rt):
