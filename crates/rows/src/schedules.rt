@@ -3,7 +3,7 @@
 use crate::kernels::is_written_by;
 use crate::outcome::no_other;
 use ktree::ChunkSize;
-use ompk::{Sched, check};
+use ompk::{Checked, Sched, check};
 use std::alloc::{AllocError, Global};
 use std::sync::Wait;
 use std::thread::Threads;
@@ -114,7 +114,23 @@ fn text(alloc: Global, row: Row, schedule: &str) -> Result<String, AllocError> {
     )
 }
 
-/// Whether 1, 3 and 64 workers write a text's output, where a schedule stands for `runtime`.
+/// Whether 1, 3 and 64 workers write a kernel's output, where a schedule stands for `runtime`.
+fn is_written_by_all<R: Threads + Wait + Sync>(
+    rt: &R,
+    alloc: Global,
+    checked: &Checked,
+    runtime: Sched,
+    output: &[u8],
+) -> bool {
+    for count in [1, 3, 64] {
+        if !is_written_by(rt, alloc, checked, count, runtime, output) {
+            return false;
+        }
+    }
+    true
+}
+
+/// Whether they write that of a text.
 fn is_written<R: Threads + Wait + Sync>(
     rt: &R,
     alloc: Global,
@@ -122,15 +138,10 @@ fn is_written<R: Threads + Wait + Sync>(
     runtime: Sched,
     output: &str,
 ) -> bool {
-    let Ok(checked) = check(alloc, text.as_bytes()) else {
-        return false;
-    };
-    for count in [1, 3, 64] {
-        if !is_written_by(rt, alloc, &checked, count, runtime, output.as_bytes()) {
-            return false;
-        }
+    match check(alloc, text.as_bytes()) {
+        Ok(checked) => is_written_by_all(rt, alloc, &checked, runtime, output.as_bytes()),
+        Err(_refusal) => false,
     }
-    true
 }
 
 /// Whether a row's output is written under a schedule.
