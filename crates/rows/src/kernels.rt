@@ -31,7 +31,7 @@ pub(crate) fn is_written_by<R: Threads + Wait + Sync>(
     alloc: Global,
     checked: &Checked,
     count: u64,
-    runtime: Sched,
+    runtime: &Sched,
     output: &[u8],
 ) -> bool {
     let Some(workers) = Workers::new(count) else {
@@ -39,7 +39,7 @@ pub(crate) fn is_written_by<R: Threads + Wait + Sync>(
     };
     let mut sink = Memory::new(alloc);
     run(
-        rt, alloc, checked, b"", workers, runtime, &OpenGate, &mut sink,
+        rt, alloc, checked, b"", workers, *runtime, &OpenGate, &mut sink,
     )
     .is_ok()
         && sink.bytes() == output
@@ -61,9 +61,10 @@ fn outcome_of_checked<R: Threads + Wait + Sync>(
         Some(wanted) => output == wanted,
         None => true,
     };
+    let plain = Sched::PlainStatic;
     if is_wanted
-        && is_written_by(rt, alloc, checked, 1, Sched::PlainStatic, output)
-        && is_written_by(rt, alloc, checked, 3, Sched::PlainStatic, output)
+        && is_written_by(rt, alloc, checked, 1, &plain, output)
+        && is_written_by(rt, alloc, checked, 3, &plain, output)
     {
         Written
     } else {
@@ -694,8 +695,8 @@ const AFTER_TURNS: &str =
 fn turns_by<R: Threads + Wait + Sync>(rt: &R, alloc: Global, text: &str, count: u64) -> bool {
     match check(alloc, text.as_bytes()) {
         Ok(checked) => {
-            let sched = Sched::PlainStatic;
-            is_written_by(rt, alloc, &checked, count, sched, AFTER_TURNS.as_bytes())
+            let plain = Sched::PlainStatic;
+            is_written_by(rt, alloc, &checked, count, &plain, AFTER_TURNS.as_bytes())
         },
         Err(_refusal) => false,
     }

@@ -119,7 +119,7 @@ fn is_written_by_all<R: Threads + Wait + Sync>(
     rt: &R,
     alloc: Global,
     checked: &Checked,
-    runtime: Sched,
+    runtime: &Sched,
     output: &[u8],
 ) -> bool {
     for count in [1, 3, 64] {
@@ -135,7 +135,7 @@ fn is_written<R: Threads + Wait + Sync>(
     rt: &R,
     alloc: Global,
     text: &str,
-    runtime: Sched,
+    runtime: &Sched,
     output: &str,
 ) -> bool {
     match check(alloc, text.as_bytes()) {
@@ -150,7 +150,7 @@ fn holds<R: Threads + Wait + Sync>(rt: &R, alloc: Global, row: Row, schedule: &s
         return false;
     };
     match text(alloc, row, schedule) {
-        Ok(text) => is_written(rt, alloc, text.as_str(), Sched::Guided(size), row.output),
+        Ok(text) => is_written(rt, alloc, text.as_str(), &Sched::Guided(size), row.output),
         Err(_error) => false,
     }
 }
