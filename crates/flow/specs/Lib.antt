@@ -1,3 +1,4 @@
 pub mod Judged
 pub mod Private
 pub mod Parallel
+pub mod Roles

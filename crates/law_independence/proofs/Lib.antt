@@ -25,3 +25,4 @@ pub mod Affinity
 pub mod RefusedNests
 pub mod RefusedKernels
 pub mod PrivateNests
+pub mod RoleNests

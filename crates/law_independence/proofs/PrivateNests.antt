@@ -136,16 +136,16 @@ more_first a xs k d none =
         at true e = absurd (true≢false (sym h ∙ none x e))
         at false e = refl
 
--- a nest's targets, and its body's
-pub nest_first : (ps : List Variable) (s : Stmt) → is_private_body ps s ≡ true → IsSome (definite no_privates s (λ x. not (is_among ps x))) → AssignsFirst (targets_outside s) s
-nest_first ps s h d = more_first s (targets_outside s) (λ x. not (is_among ps x)) d (λ x t. not_from_true (is_among ps x) (private_target ps s h x t))
+-- so a nest and its body assign first of these what the nest does, of what the nest assigns
+pub nest_first : (ps xs : List Variable) (s : Stmt) → ((x : Variable) → is_among xs x ≡ true → is_among ps x ≡ true) → IsSome (definite no_privates s (λ x. not (is_among ps x))) → AssignsFirst xs s
+nest_first ps xs s among d = more_first s xs (λ x. not (is_among ps x)) d (λ x t. not_from_true (is_among ps x) (among x t))
 
-pub body_first : (ps : List Variable) (n : ℕ) (s : Stmt) (loops : List Loop) (body : Stmt) → nest_of n s ≡ Some (loops, body) → is_private_body ps s ≡ true
-    → ((x : Variable) → is_among (targets_outside body) x ≡ true → is_among (targets_outside s) x ≡ true) → IsSome (definite no_privates s (λ x. not (is_among ps x))) → AssignsFirst (targets_outside body) body
-body_first ps n s loops body is h more d =
+pub body_first : (ps xs : List Variable) (n : ℕ) (s : Stmt) (loops : List Loop) (body : Stmt) → nest_of n s ≡ Some (loops, body) → ((x : Variable) → is_among xs x ≡ true → (is_among ps x ≡ true) × (visible_behind s x ≡ true))
+    → IsSome (definite no_privates s (λ x. not (is_among ps x))) → AssignsFirst xs body
+body_first ps xs n s loops body is among d =
     let inside = nest_entered n s loops body (λ x. not (is_among ps x)) is d in
-    more_first body (targets_outside body) inside.known inside.there (λ x t. at inside x (more x t) (inside.known x) refl)
+    more_first body xs inside.known inside.there (λ x t. at inside x t (inside.known x) refl)
   where
-    at : (inside : IsEntered s body (λ x. not (is_among ps x))) (x : Variable) → is_among (targets_outside s) x ≡ true → (b : Bool) → inside.known x ≡ b → inside.known x ≡ false
-    at inside x t true e = absurd (true≢false (sym (inside.from x (outside_visible s x t) e) ∙ not_from_true (is_among ps x) (private_target ps s h x t)))
+    at : (inside : IsEntered s body (λ x. not (is_among ps x))) (x : Variable) → is_among xs x ≡ true → (b : Bool) → inside.known x ≡ b → inside.known x ≡ false
+    at inside x t true e = let told = among x t in absurd (true≢false (sym (inside.from x told.1 e) ∙ not_from_true (is_among ps x) told.0))
     at inside x t false e = e

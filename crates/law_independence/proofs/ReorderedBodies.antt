@@ -27,7 +27,7 @@ use Rattle.law_commute.specs.Targets.{targets, targets_among, KeepsApart}
 use Rattle.law_independence.proofs.Numbering.{undeclared, IsPlace, place_inside}
 use Rattle.law_independence.proofs.Starts.{StartsNameOthers, AllNameOthers}
 use Rattle.law_independence.proofs.Naming.{IsNamed, stmt_named}
-use Rattle.law_independence.proofs.Steadiness.{stmt_steady}
+use Rattle.law_independence.proofs.Steadiness.{IsArray, array_below, stmt_steady}
 use Rattle.law_independence.proofs.Targeted.{Spares, spares_left, spares_inside, loop_visible, nest_targets}
 
 -- a statement of the text at some place of a kernel, inside the loops of a box, whose variables it does not assign
@@ -44,10 +44,10 @@ pub record IsStmtRead (ds : List Declaration) (box : List Side) (s : Stmt) : Typ
 
 -- ---- what a body names and assigns
 
--- it assigns these and what it declares, which are neither of the file nor variables of the loops round it
+-- it assigns these and what it declares, which are neither arrays nor variables of the loops round it
 pub record AreItsOwn (ds : List Declaration) (box : List Side) (body : Stmt) (xs : List Variable) : Type 0 where
   pub all : (y : Variable) → is_among (targets body) y ≡ true → visible_behind body y ≡ true → is_among xs y ≡ true
-  pub file : (y : Variable) → y < length ds → is_among xs y ≡ false
+  pub arrays : (y : Variable) → IsArray ds y → is_among xs y ≡ false
   pub counters : Spares box xs
 
 pub body_keeps : (ds : List Declaration) (box : List Side) (body : Stmt) (own : Variable → Bool) (xs : List Variable) → IsStmtRead ds box body → Has (StaysInside ds) box body → keeps own body ≡ true
@@ -59,7 +59,10 @@ body_keeps ds box body own xs read has kept its =
           stmt_steady ds own read.reads box fixed
           (record {
             counters = λ y c. and_from (visible_behind body y) (not (is_among xs y)) (below y (read.place.counters y c)) (not_from_false (is_among xs y) (its.counters y c));
-            file = λ y less. let room = read.place.room in and_from (visible_behind body y) (not (is_among xs y)) (below y (omega arith)) (not_from_false (is_among xs y) (its.file y less));
+            arrays = λ y array.
+                let room = read.place.room in
+                let less = array_below ds y array in
+                and_from (visible_behind body y) (not (is_among xs y)) (below y (omega arith)) (not_from_false (is_among xs y) (its.arrays y array));
             fresh = λ y h. ap (λ b. b && not (is_among xs y)) (not_from_true (is_among (declared_in body) y) h);
             scalars = λ y h. assigned y h (visible_behind body y) refl;
           }) has kept;

@@ -7,12 +7,12 @@ use Rattle.semantics.specs.Source.Token.{Token}
 use Rattle.semantics.specs.Source.Scope.{Scope, AVariable}
 use Rattle.semantics.specs.Source.Statements.{ReadsStmt, assign, update, if_only, if_else, for_loop, block, print, ReadsItems, no_more, line, empty_local, first_local, statement}
 use Rattle.semantics.specs.Source.Text.{line_at}
-use Rattle.semantics.specs.Meaning.Definite.{Privates, no_privates, definite_items, known_at_start}
+use Rattle.semantics.specs.Meaning.Definite.{no_privates, definite_items, known_at_start}
 use Rattle.semantics.specs.Loops.Nest.{Loop}
 use Rattle.law_lines.proofs.Kept.{kept_lines_are_read}
 use Rattle.nest_loop.specs.Loops.{inside}
 use Rattle.pairtest_counter.specs.Levels.{Nesting}
-use Rattle.pragma.specs.Parallel.{associated, FirstHas, LineHas, LoopsHave, ItemsHave}
+use Rattle.pragma.specs.Parallel.{associated, FirstHas, LineHas}
 use Rattle.pragma.proofs.LoopLaw.{read_once}
 use Rattle.nest.specs.Nests.{Has, Have, StaysInside}
 use Rattle.deptest_verdict.specs.Shown.{ShownFirst, LineShown, LoopsShown, ItemsShown, no_loops}
@@ -26,38 +26,38 @@ use Rattle.law_independence.proofs.IndependentNests.{body_there}
 use Rattle.law_independence.proofs.Grammar.{decls_small, decls_short, items_read}
 use Rattle.law_commute.specs.Targets.{targets, targets_among}
 use Rattle.law_private.proofs.More.{more_known}
-use Rattle.flow.specs.Private.{IsPrivate, LoopsPrivate, ItemsPrivate}
-use Rattle.law_independence.specs.OrderLaws.{CommutesAsNest, AcceptedLoopsCommute}
+use Rattle.flow.specs.Roles.{LineRoles, privates_by, KeepsRolesThere, LoopsHaveBy, ItemsHaveBy, LoopsKeepRoles, ItemsKeepRoles}
+use Rattle.law_independence.specs.OrderLaws.{CommutesBy, AcceptedLoopsCommute}
 use Rattle.law_independence.proofs.Targeted.{Spares, spares_left, spares_right, spares_inside}
 use Rattle.law_independence.proofs.Numbering.{IsPlace, place_later, place_behind, place_inside}
 use Rattle.law_independence.proofs.Starts.{StartsNameOthers, AllNameOthers, all_start}
-use Rattle.law_independence.proofs.ReorderedNests.{AreBehind, loop_commutes}
+use Rattle.law_independence.proofs.ReorderedNests.{loop_commutes}
 
 -- ---- the walk
 
-module _ (text : List ℕ) (ds : List Declaration) (short : HaveShort ds) (P : Privates) (behind : (line : ℕ) → AreBehind ds (P line)) where
+module _ (text : List ℕ) (ds : List Declaration) (short : HaveShort ds) (R : LineRoles) where
   first_commutes : {scope : Scope} {o next next' : ℕ} {ts : List Token} {items : Items} → ReadsItems scope o next ts items next' → (round : Nesting) (serial : List Loop) (n : ℕ) → AreEntered no_loops serial round
-      → IsPlace ds round.box scope next → AllNameOthers items → Spares round.box (targets_among items) → (line : ℕ) → ShownFirst round n items → FirstHas (IsPrivate (P line)) serial n items → ItemsAreRead round.box items → Have (StaysInside ds) round.box items
-      → FirstHas CommutesAsNest serial n items
+      → IsPlace ds round.box scope next → AllNameOthers items → Spares round.box (targets_among items) → (line : ℕ) → ShownFirst round n items → FirstHas (KeepsRolesThere (R line)) serial n items → ItemsAreRead round.box items → Have (StaysInside ds) round.box items
+      → FirstHas (CommutesBy R line) serial n items
   first_commutes no_more round serial n entered at starts spares line' shown private read has = shown
   first_commutes (line r) round serial n entered at starts spares line' shown private read has = shown
   first_commutes (empty_local free r) round serial n entered at starts spares line' shown private read has = shown
   first_commutes (first_local free e r) round serial n entered at starts spares line' shown private read has = shown
   first_commutes {scope} (statement {open' = open'} {next = next} {next' = middle} {s = s} {items = rest} {ts = ts} ra r) round serial n entered at starts spares line' shown private read has =
       loop_commutes ds serial round n s short entered read.0 has.0
-      (record { scope = scope; order = open'; next = next; after = middle; tokens = ts; reads = ra; place = at; starts = starts.0; spares = spares_left round.box (targets s) (targets_among rest) spares }) (P line') (behind line') private shown
+      (record { scope = scope; order = open'; next = next; after = middle; tokens = ts; reads = ra; place = at; starts = starts.0; spares = spares_left round.box (targets s) (targets_among rest) spares }) (R line') private shown
 
   line_commutes : {scope : Scope} {o next next' : ℕ} {ts : List Token} {items : Items} → ReadsItems scope o next ts items next' → (round : Nesting) (serial : List Loop) (n : ℕ) → AreEntered no_loops serial round
-      → IsPlace ds round.box scope next → AllNameOthers items → Spares round.box (targets_among items) → LineShown text round n items → LineHas text (IsPrivate (P n)) serial n items → ItemsAreRead round.box items → Have (StaysInside ds) round.box items
-      → LineHas text CommutesAsNest serial n items
+      → IsPlace ds round.box scope next → AllNameOthers items → Spares round.box (targets_among items) → LineShown text round n items → LineHas text (KeepsRolesThere (R n)) serial n items → ItemsAreRead round.box items → Have (StaysInside ds) round.box items
+      → LineHas text (CommutesBy R n) serial n items
   line_commutes {items = items} r round serial n entered at starts spares (k, c, reads, first) (k', c', reads', private) read has =
       let same = (read_once (line_at text n) k' c' k c reads' reads).1 in
-      (k, c, reads, first_commutes r round serial (associated c) entered at starts spares n first (subst (λ d. FirstHas (IsPrivate (P n)) serial (associated d) items) same private) read has)
+      (k, c, reads, first_commutes r round serial (associated c) entered at starts spares n first (subst (λ d. FirstHas (KeepsRolesThere (R n)) serial (associated d) items) same private) read has)
 
   mutual
     stmt_commutes : {scope : Scope} {o next next' : ℕ} {ts : List Token} {s : Stmt} → ReadsStmt scope o next ts s next' → (round : Nesting) (serial : List Loop) → AreEntered no_loops serial round
-        → IsPlace ds round.box scope next → StartsNameOthers s → Spares round.box (targets s) → LoopsShown text round s → LoopsPrivate text P serial s → LoopsAreRead round.box s → Has (StaysInside ds) round.box s
-        → LoopsHave text CommutesAsNest serial s
+        → IsPlace ds round.box scope next → StartsNameOthers s → Spares round.box (targets s) → LoopsShown text round s → LoopsKeepRoles text R serial s → LoopsAreRead round.box s → Has (StaysInside ds) round.box s
+        → LoopsHaveBy text (CommutesBy R) serial s
     stmt_commutes (assign t e) round serial entered at starts spares shown private read has = tt
     stmt_commutes (update t u e) round serial entered at starts spares shown private read has = tt
     stmt_commutes (if_only less rc ra) round serial entered at starts spares shown private read has = stmt_commutes ra round serial entered at starts spares shown private read has.1
@@ -77,8 +77,8 @@ module _ (text : List ℕ) (ds : List Declaration) (short : HaveShort ds) (P : P
     stmt_commutes (print less f r fill) round serial entered at starts spares shown private read has = tt
 
     items_commute : {scope : Scope} {o next next' : ℕ} {ts : List Token} {items : Items} → ReadsItems scope o next ts items next' → (round : Nesting) (serial : List Loop) → AreEntered no_loops serial round
-        → IsPlace ds round.box scope next → AllNameOthers items → Spares round.box (targets_among items) → ItemsShown text round items → ItemsPrivate text P serial items → ItemsAreRead round.box items → Have (StaysInside ds) round.box items
-        → ItemsHave text CommutesAsNest serial items
+        → IsPlace ds round.box scope next → AllNameOthers items → Spares round.box (targets_among items) → ItemsShown text round items → ItemsKeepRoles text R serial items → ItemsAreRead round.box items → Have (StaysInside ds) round.box items
+        → ItemsHaveBy text (CommutesBy R) serial items
     items_commute no_more round serial entered at starts spares shown private read has = tt
     items_commute (line {n = n} r) round serial entered at starts spares shown private read has =
         (line_commutes r round serial n entered at starts spares shown.0 private.0 read has, items_commute r round serial entered at starts spares shown.1 private.1 read has)
@@ -94,13 +94,13 @@ module _ (text : List ℕ) (ds : List Declaration) (short : HaveShort ds) (P : P
 -- ---- a kernel
 
 pub accepted_loops_commute : AcceptedLoopsCommute
-accepted_loops_commute text k P reads in_range definite locals private shown =
+accepted_loops_commute text k R reads in_range definite private shown =
     let ds = k.variables in
     let read = (kept_lines_are_read text k reads).reads in
-    let left = some_there (definite_items P [] k.body (known_at_start ds)) definite in
-    let plain = more_known.items P no_privates [] [] k.body (known_at_start ds) left.0 (known_at_start ds) (λ line x h. absurd (cc h)) (λ x h. h) (λ x h. h) left.1 in
+    let left = some_there (definite_items (privates_by R) [] k.body (known_at_start ds)) definite in
+    let plain = more_known.items (privates_by R) no_privates [] [] k.body (known_at_start ds) left.0 (known_at_start ds) (λ line x h. absurd (cc h)) (λ x h. h) (λ x h. h) left.1 in
     let below = decls_below (length ds) read.declared (omega arith) tt in
-    items_commute text ds (decls_short read.declared tt) P locals read.items no_loops [] refl
+    items_commute text ds (decls_short read.declared tt) R read.items no_loops [] refl
     (record { visible = below; counters = λ y c. absurd cc; room = omega arith })
     (all_start read.items (known_at_start ds) plain.known below (λ y e. ltb-true y (length ds) e) plain.is) (λ y c. absurd (cc c)) shown private
     (items_read [] read.items (decls_small read.declared tt) (λ y c. absurd cc)) in_range

@@ -1,54 +1,59 @@
--- The iterations of a nest that is shown to be independent commute.
-use Rattle.std.specs.Prelude.{ℕ, Bool, true, false, not, ◌≡◌, ◌≢◌, ◌<◌, ◌≤◌, ℤ, pos, List, [], ◌∷◌, ◌++◌, length, map, Contains, Some, IsSome}
+-- The iterations of a nest that is shown to be independent commute, and its chunks share out what it does.
+use Rattle.std.specs.Prelude.{ℕ, Bool, true, false, not, ◌≡◌, ◌≢◌, ◌<◌, ◌≤◌, ◌&&◌, ◌||◌, ℤ, pos, List, [], ◌∷◌, ◌++◌, length, map, Contains, Some, IsSome}
 use Rattle.std.specs.List.{AllPairs}
-use Rattle.std.proofs.Common.{refl, sym, ap, ◌∙◌, subst, arith}
+use Rattle.std.proofs.Common.{refl, sym, ap, ◌∙◌, subst}
+use Rattle.std.proofs.lemmas.Bool.{true≢false, and_from, or_cases}
 use Rattle.std.proofs.lemmas.Option.{same_Some}
 use Rattle.semantics.specs.Tree.{Variable, Stmt, Declaration}
 use Rattle.semantics.specs.Meaning.State.{State}
-use Rattle.semantics.specs.Meaning.Agrees.{is_among, declared_in}
+use Rattle.semantics.specs.Meaning.Agrees.{is_among, declared_in, visible_behind}
 use Rattle.semantics.specs.Meaning.Definite.{no_privates, definite}
 use Rattle.semantics.specs.Loops.Nest.{Loop, Vector, nest_of, iterations, at_vector}
+use Rattle.semantics.specs.Loops.Access.{accesses}
+use Rattle.semantics.specs.Loops.Operator.{ReduceOp}
+use Rattle.semantics.specs.Loops.Piece.{Roles}
+use Rattle.semantics.specs.Theorems.{IsTurn}
 use Rattle.nest_loop.specs.Turn.{AtTurn}
 use Rattle.pairtest_counter.specs.Levels.{Nesting, values_at}
 use Rattle.nest.specs.Nests.{Has, StaysInside}
 use Rattle.pairtest_access.specs.Found.{inner_loops}
+use Rattle.flow.specs.Private.{is_private_body}
+use Rattle.flow.specs.Roles.{KeepsItsRoles}
+use Rattle.flow.proofs.PrivateLemmas.{among_both}
 use Rattle.deptest_verdict.specs.Shown.{IsShownLoop, no_loops}
 use Rattle.law_turns.specs.Turns.{AreEntered}
 use Rattle.law_turns.proofs.Laws.{outside_is_a_turn, iterations_are_there, iterations_are_turns, iterations_differ}
-use Rattle.law_independence.specs.Inside.{LoopsAreRead, HaveShort}
-use Rattle.law_independence.specs.IndependenceLaws.{IsIndependentNest}
-use Rattle.semantics.specs.Loops.Access.{accesses}
-use Rattle.law_independence.proofs.Links.{linked_site, linked}
-use Rattle.law_independence.proofs.IndependentNests.{IsNestThere, shown_loops_are_independent}
 use Rattle.law_commute.specs.Commuting.{InnerLoopsTurn}
 use Rattle.law_commute.specs.Targets.{targets, targets_outside, KeepsApart, AssignsFirst}
 use Rattle.law_commute.specs.Joining.{plain_loop}
-use Rattle.flow.specs.Private.{is_private_body, IsPrivateNest}
-use Rattle.law_private.proofs.Chunks.{private_merge}
+use Rattle.law_commute.proofs.Values.{first_of, second_of}
 use Rattle.law_private.proofs.Orders.{private_commute}
-use Rattle.law_independence.proofs.Targeted.{is_outside_target, outside_visible, outside_target, no_outside_target, nest_targets}
+use Rattle.law_private.proofs.More.{more_known}
+use Rattle.law_roles.specs.Updates.{reduces}
+use Rattle.law_roles.specs.Sharing.{assigned_first, role_variables, are_different, AssignsAll, KeepsRoles}
+use Rattle.law_roles.proofs.Joining.{join_in_place}
+use Rattle.law_roles.proofs.Keeping.{steady_keeps}
+use Rattle.law_independence.specs.Inside.{LoopsAreRead, HaveShort}
+use Rattle.law_independence.specs.IndependenceLaws.{IsIndependentNest}
+use Rattle.law_independence.specs.OrderLaws.{used_roles, AreStepsRead, AreAtHand, CommutesAsNest}
+use Rattle.law_independence.proofs.IndependentNests.{IsNestThere, shown_loops_are_independent}
+use Rattle.law_independence.proofs.Links.{linked_site, linked}
 use Rattle.law_independence.proofs.PrivateNests.{private_nest, private_target, nest_first, body_first}
-use Rattle.semantics.specs.Theorems.{IsTurn}
-use Rattle.law_independence.specs.OrderLaws.{AreStepsRead, CommutesAsNest}
 use Rattle.law_independence.proofs.ReorderedBodies.{IsStmtRead, AreItsOwn, body_keeps, IsNestRead, nest_read}
+use Rattle.law_independence.proofs.RoleNests.{used_variables, used_first, used_last, used_different, used_apart, used_updates, scalar_assigned}
+use Rattle.law_independence.proofs.Steadiness.{IsArray}
+use Rattle.law_independence.proofs.Targeted.{is_outside_target, outside_visible, outside_target, no_outside_target, nest_targets}
 
--- what the laws of private iterations ask of a nest's body
-record IsApart (s body : Stmt) : Type 0 where
-  keeps : KeepsApart (targets_outside body) body
-  first : AssignsFirst (targets_outside body) body
-  whole : KeepsApart (targets_outside s) body
+-- ---- at a turn of the loops round a nest
 
--- and at a turn of the loops round it
-record IsReady (s : Stmt) (loops : List Loop) (body : Stmt) (outer : State) (us : List Vector) : Type 0 where
-  body_is : IsApart s body
+record IsReady (loops : List Loop) (body : Stmt) (outer : State) (us : List Vector) : Type 0 where
   differ : AllPairs (λ u v. u ≢ v) us
   turn : (u : Vector) → Contains us u → InnerLoopsTurn loops body outer u
 
 nest_ready : (ds : List Declaration) (round : Nesting) (outer : ℕ) (serial : List ℕ) (n : ℕ) (s : Stmt) (nest : IsNestThere ds round outer serial n s) (steps : ℕ → ℤ) (state : State) (us : List Vector)
-    → IsApart s nest.body → AtTurn round.box (values_at round.levels steps) state → iterations nest.loops state ≡ Some us → IsReady s nest.loops nest.body state us
-nest_ready ds round outer serial n s nest steps state us is at are =
+    → AtTurn round.box (values_at round.levels steps) state → iterations nest.loops state ≡ Some us → IsReady nest.loops nest.body state us
+nest_ready ds round outer serial n s nest steps state us at are =
     record {
-      body_is = is;
       differ = iterations_differ round nest.inner nest.loops steps state us nest.entered at are;
       turn = λ u among access there.
           let it = iterations_are_turns round nest.inner nest.loops steps state us u nest.entered at are among in
@@ -62,72 +67,163 @@ steps_read before [] after e = tt
 steps_read before (h ∷ hs) after (s, v, head, level, rest) =
     (record { scope = head.scope; order = head.order; tokens = head.tokens; small = head.small; reads = head.reads }, steps_read (record { box = s ∷ before.box; levels = v ∷ before.levels }) hs after rest)
 
--- the private scalars of a line are none of the file's variables
-abbrev pub AreBehind : List Declaration → List Variable → Type 0
-AreBehind ds ps = (x : Variable) → is_among ps x ≡ true → length ds ≤ x
-
--- a nest and its body assign private scalars from outside alone, and these first
+-- a nest and its body assign of scalars from outside those alone that have a role, each as its role allows
 module _ (ds : List Declaration) (round : Nesting) (outer : ℕ) (serial : List ℕ) (n : ℕ) (s : Stmt) (found : IsNestRead ds round outer serial n s) (stmt : IsStmtRead ds round.box s) (stays : Has (StaysInside ds) round.box s)
-    (ps : List Variable) (behind : AreBehind ds ps) (private : is_private_body ps found.nest.body ≡ true) (first : IsSome (definite no_privates s (λ x. not (is_among ps x)))) where
+    (roles : Roles) (private : is_private_body (role_variables roles) found.nest.body ≡ true) (different : are_different (role_variables roles) ≡ true) (first : IsSome (definite no_privates s (λ x. not (is_among (assigned_first roles) x))))
+    (last : AssignsAll (assigned_first roles) roles.lasts found.nest.body) (updates : reduces roles.reductions s ≡ true) where
   abbrev body : Stmt
   body = found.nest.body
+
+  abbrev ps : List Variable
+  ps = role_variables roles
+
+  abbrev used : Roles
+  used = used_roles s roles
+
+  abbrev xs : List Variable
+  xs = role_variables used
 
   abbrev whole : is_private_body ps s ≡ true
   whole = private_nest ps n s found.nest.loops body found.nest.is private
 
   same : (y : Variable) → is_among (targets s) y ≡ is_among (targets body) y
-  same y = ap (λ xs. is_among xs y) (nest_targets n s found.nest.loops body found.nest.is)
+  same y = ap (λ zs. is_among zs y) (nest_targets n s found.nest.loops body found.nest.is)
 
-  fewer : (x : Variable) → is_among (targets_outside body) x ≡ true → is_among (targets_outside s) x ≡ true
-  fewer x t = let own = outside_target body x t in is_outside_target s x (found.outside x own (outside_visible body x t)) (same x ∙ own)
+  -- what the nest assigns from outside has a role, and a role that is used is of such a scalar
+  assigned_used : (x : Variable) → is_among (targets_outside s) x ≡ true → is_among xs x ≡ true
+  assigned_used x t = used_variables s roles x ∙ and_from (is_among (targets_outside s) x) (is_among ps x) t (private_target ps s whole x t)
 
-  -- these have numbers behind the file's variables
-  none_of_file : (a : Stmt) → is_private_body ps a ≡ true → (y : Variable) → y < length ds → is_among (targets_outside a) y ≡ false
-  none_of_file a h y less = at (is_among (targets_outside a) y) refl
+  used_assigned : (x : Variable) → is_among xs x ≡ true → is_among (targets_outside s) x ≡ true
+  used_assigned x h = first_of (is_among (targets_outside s) x) (is_among ps x) (sym (used_variables s roles x) ∙ h)
+
+  assigned : (x : Variable) → is_among (targets_outside s) x ≡ is_among xs x
+  assigned x = at (is_among (targets_outside s) x) refl (is_among xs x) refl
     where
-      at : (b : Bool) → is_among (targets_outside a) y ≡ b → b ≡ false
-      at true e = let le = behind y (private_target ps a h y e) in absurd (omega arith)
+      at : (a : Bool) → is_among (targets_outside s) x ≡ a → (b : Bool) → is_among xs x ≡ b → a ≡ b
+      at true e true f = refl
+      at true e false f = absurd (true≢false (sym (assigned_used x e) ∙ f))
+      at false e true f = absurd (true≢false (sym (used_assigned x f) ∙ e))
+      at false e false f = refl
+
+  inside_used : (y : Variable) → is_among (targets body) y ≡ true → visible_behind body y ≡ true → is_among xs y ≡ true
+  inside_used y t v = assigned_used y (is_outside_target s y (found.outside y t v) (same y ∙ t))
+
+  -- none of them is an array, nor a variable of a loop
+  none_of_arrays : (zs : List Variable) → ((y : Variable) → is_among zs y ≡ true → is_among (targets s) y ≡ true) → (y : Variable) → IsArray ds y → is_among zs y ≡ false
+  none_of_arrays zs among y array = at (is_among zs y) refl
+    where
+      at : (b : Bool) → is_among zs y ≡ b → b ≡ false
+      at true e = absurd (array (scalar_assigned ds y round.box s stays (among y e)))
       at false e = refl
 
-  nest_keeps_apart : KeepsApart (targets_outside s) s
+  no_array : (y : Variable) → IsArray ds y → is_among xs y ≡ false
+  no_array = none_of_arrays xs (λ y e. outside_target s y (used_assigned y e))
+
+  none_spared : (y : Variable) → is_among (targets s) y ≡ false → is_among xs y ≡ false
+  none_spared y none = sym (assigned y) ∙ no_outside_target s y none
+
+  nest_keeps_apart : KeepsApart xs s
   nest_keeps_apart =
-      body_keeps ds round.box s (is_among (declared_in s ++ ps)) (targets_outside s) stmt stays whole
-      (record { all = λ y t v. is_outside_target s y v t; file = none_of_file s whole; counters = λ y c. no_outside_target s y (stmt.spares y c) })
+      body_keeps ds round.box s (is_among (declared_in s ++ ps)) xs stmt stays whole
+      (record { all = λ y t v. assigned_used y (is_outside_target s y v t); arrays = no_array; counters = λ y c. none_spared y (stmt.spares y c) })
 
-  body_keeps_apart : (xs : List Variable) → AreItsOwn ds found.nest.inner.box body xs → KeepsApart xs body
-  body_keeps_apart xs its = body_keeps ds found.nest.inner.box body (is_among (declared_in body ++ ps)) xs found.inner found.nest.there.stays private its
+  body_keeps_apart : (zs : List Variable) → AreItsOwn ds found.nest.inner.box body zs → KeepsApart zs body
+  body_keeps_apart zs its = body_keeps ds found.nest.inner.box body (is_among (declared_in body ++ ps)) zs found.inner found.nest.there.stays private its
 
-  nest_is_apart : IsApart s body
-  nest_is_apart =
+  -- private and lastprivate variables are assigned before they are read
+  first_used : (x : Variable) → is_among (assigned_first used) x ≡ true → is_among (assigned_first roles) x ≡ true
+  first_used x h = second_of (is_among (targets_outside s) x) (is_among (assigned_first roles) x) (sym (used_first s roles x) ∙ h)
+
+  -- more is known from the start, and so in the end
+  last_assigned : AssignsAll (assigned_first used) used.lasts body
+  last_assigned =
+      let more = more_known.statements no_privates no_privates body (λ x. not (is_among (assigned_first roles) x)) last.known (λ x. not (is_among (assigned_first used) x)) (λ line x h. h) wider last.is in
+      record { known = more.known; is = more.is; each = λ x h. more.more x (last.each x (used_last s roles x h)) }
+    where
+      wider : (x : Variable) → not (is_among (assigned_first roles) x) ≡ true → not (is_among (assigned_first used) x) ≡ true
+      wider x h = at (is_among (assigned_first used) x) refl
+        where
+          at : (b : Bool) → is_among (assigned_first used) x ≡ b → not b ≡ true
+          at true e = absurd (true≢false (sym h ∙ ap not (first_used x e)))
+          at false e = refl
+
+  keeps_roles : (outside : State) → AreAtHand used s outside → KeepsRoles used s body outside
+  keeps_roles outside at =
       record {
-        keeps = body_keeps_apart (targets_outside body)
-            (record { all = λ y t v. is_outside_target body y v t; file = none_of_file body private; counters = λ y c. no_outside_target body y (found.inner.spares y c) });
-        first = body_first ps n s found.nest.loops body found.nest.is whole fewer first;
-        whole = body_keeps_apart (targets_outside s)
-            (record {
-              all = λ y t v. is_outside_target s y (found.outside y t v) (same y ∙ t);
-              file = none_of_file s whole;
-              counters = λ y c. no_outside_target s y (same y ∙ found.inner.spares y c);
-            });
+        no_firsts = refl;
+        no_conditionals = refl;
+        whole = nest_keeps_apart;
+        inside = body_keeps_apart xs (record { all = inside_used; arrays = no_array; counters = λ y c. none_spared y (same y ∙ found.inner.spares y c) });
+        declares_none = λ x h. outside_visible s x (used_assigned x h);
+        scalars = at.scalars;
+        apart = used_apart s roles different;
+        first = nest_first (assigned_first roles) (assigned_first used) s first_used first;
+        last = last_assigned;
+        updates = used_updates s roles updates;
+        different = used_different s roles different;
+        taken = at.taken;
+        numbers = at.numbers;
       }
 
+  -- without reductions the body keeps to scalars that it assigns first
+  plain_keeps : KeepsApart (targets_outside body) body
+  plain_keeps =
+      body_keeps_apart (targets_outside body)
+      (record {
+        all = λ y t v. is_outside_target body y v t;
+        arrays = none_of_arrays (targets_outside body) (λ y e. same y ∙ outside_target body y e);
+        counters = λ y c. no_outside_target body y (found.inner.spares y c);
+      })
+
+  plain_first : used.reductions ≡ [] → AssignsFirst (targets_outside body) body
+  plain_first none = body_first (assigned_first roles) (targets_outside body) n s found.nest.loops body found.nest.is among first
+    where
+      there : (x : Variable) → is_among xs x ≡ true → is_among (assigned_first used) x ≡ true
+      there x h = sym (or_false (is_among (assigned_first used) x)) ∙ sym (among_both (assigned_first used) [] x) ∙ sym (ap (λ (rs : List (Variable × ReduceOp)). is_among (assigned_first used ++ map (λ r. r.0) rs) x) none) ∙ h
+        where
+          or_false : (b : Bool) → (b || false) ≡ b
+          or_false true = refl
+          or_false false = refl
+
+      among : (x : Variable) → is_among (targets_outside body) x ≡ true → (is_among (assigned_first roles) x ≡ true) × (visible_behind s x ≡ true)
+      among x t =
+          let used_there = inside_used x (outside_target body x t) (outside_visible body x t) in
+          (first_used x (there x used_there), outside_visible s x (used_assigned x used_there))
+
   -- so it commutes, where its iterations are independent
-  commutes : (around : List Loop) → AreEntered no_loops around round → IsIndependentNest around n s → CommutesAsNest around n s
+  commutes : (around : List Loop) → AreEntered no_loops around round → IsIndependentNest around n s → CommutesAsNest used around n s
   commutes around entered independent =
       record {
         nest = independent.0;
         round = λ t. iterations_are_there no_loops round around (λ j. pos 0) t entered (outside_is_a_turn (λ j. pos 0) t);
         steps = λ loops inside is. same_nest (λ ls b. AreStepsRead ls) loops inside is (steps_read round found.nest.loops found.nest.inner found.nest.entered);
-        order = λ loop outside us is none turn locals are.
+        assigned = assigned;
+        order = λ plain loop outside us is none turn locals are.
             let r = ready loop.loops loop.body outside us is turn are in
-            private_commute loop outside us none r.body_is.keeps r.body_is.first locals r.differ r.turn (λ u v in_u in_v. independent.1 loop is outside us u v turn are in_u in_v);
+            private_commute loop outside us none (same_nest (λ ls b. KeepsApart (targets_outside b) b) loop.loops loop.body is plain_keeps)
+            (same_nest (λ ls b. AssignsFirst (targets_outside b) b) loop.loops loop.body is (plain_first plain)) locals r.differ r.turn (λ u v in_u in_v. independent.1 loop is outside us u v turn are in_u in_v);
         there = λ loops inside outside is turn.
             let at = at_turn outside turn in
             same_nest (λ ls b. IsSome (iterations ls outside)) loops inside is (iterations_are_there round found.nest.inner found.nest.loops at.0 outside found.nest.entered at.1);
-        chunks = λ loops inside outside us chunks e is turn alone locals are all ran.
+        leaves = λ outside e ran x seen other.
+            sym (steady_keeps (λ y. visible_behind s y && not (is_among xs y)) s nest_keeps_apart.steady outside e ran x
+            (and_from (visible_behind s x) (not (is_among xs x)) seen (ap not (sym (assigned x) ∙ other)))).locals;
+        chunks = λ loops inside outside start us chunks e is turn alone at may are all ran.
             let r = ready loops inside outside us is turn are in
-            private_merge n s loops inside outside us chunks e is nest_keeps_apart r.body_is.whole (nest_first ps s whole first) locals alone are r.differ r.turn
-            (λ u v in_u in_v. independent.1 (plain_loop loops inside) is outside us u v turn are in_u in_v) all ran;
+            join_in_place used n s loops inside outside start chunks e
+            (record {
+              nest = is;
+              keeps = same_nest (λ ls b. KeepsRoles used s b outside) loops inside is (keeps_roles outside at);
+              declares = alone;
+              vectors = us;
+              are = are;
+              different = r.differ;
+              turning = r.turn;
+              independent = λ u v in_u in_v. independent.1 (plain_loop loops inside) is outside us u v turn are in_u in_v;
+              whole = all;
+              ran = ran;
+            })
+            may;
       }
     where
       same_nest : (Q : List Loop → Stmt → Type 0) (loops : List Loop) (inside : Stmt) → nest_of n s ≡ Some (loops, inside) → Q found.nest.loops body → Q loops inside
@@ -138,15 +234,15 @@ module _ (ds : List Declaration) (round : Nesting) (outer : ℕ) (serial : List 
           let it = iterations_are_turns no_loops round around (λ j. pos 0) outside turn.turns turn.turn entered (outside_is_a_turn (λ j. pos 0) outside) turn.are turn.among in
           (it.0, subst (AtTurn round.box (values_at round.levels it.0)) (sym turn.is) it.1.at)
 
-      ready : (loops : List Loop) (inside : Stmt) (outside : State) (us : List Vector) → nest_of n s ≡ Some (loops, inside) → IsTurn around outside → iterations loops outside ≡ Some us → IsReady s loops inside outside us
+      ready : (loops : List Loop) (inside : Stmt) (outside : State) (us : List Vector) → nest_of n s ≡ Some (loops, inside) → IsTurn around outside → iterations loops outside ≡ Some us → IsReady loops inside outside us
       ready loops inside outside us is turn are =
           let at = at_turn outside turn in
-          same_nest (λ ls b. iterations ls outside ≡ Some us → IsReady s ls b outside us) loops inside is (λ are'. nest_ready ds round outer serial n s found.nest at.0 outside us nest_is_apart at.1 are') are
+          same_nest (λ ls b. iterations ls outside ≡ Some us → IsReady ls b outside us) loops inside is (λ are'. nest_ready ds round outer serial n s found.nest at.0 outside us at.1 are') are
 
 pub loop_commutes : (ds : List Declaration) (serial : List Loop) (round : Nesting) (n : ℕ) (s : Stmt) → HaveShort ds → AreEntered no_loops serial round → LoopsAreRead round.box s → Has (StaysInside ds) round.box s
-    → IsStmtRead ds round.box s → (ps : List Variable) → AreBehind ds ps → IsPrivateNest ps n s → IsShownLoop round n s → CommutesAsNest serial n s
-loop_commutes ds serial round n s short entered read stays stmt ps behind private shown =
+    → IsStmtRead ds round.box s → (roles : Roles) → KeepsItsRoles roles n s → IsShownLoop round n s → CommutesAsNest (used_roles s roles) serial n s
+loop_commutes ds serial round n s short entered read stays stmt roles kept shown =
     let found = nest_read n ds round (length round.levels) (map (λ v. v.most) (inner_loops 0 round.levels)) s shown (record { read = read; stays = stays }) stmt in
-    let body_is : private.body ≡ found.nest.body = ap (λ (p : List Loop × Stmt). p.1) (same_Some (private.loops, private.body) (found.nest.loops, found.nest.body) (sym private.nest ∙ found.nest.is)) in
-    commutes ds round (length round.levels) (map (λ v. v.most) (inner_loops 0 round.levels)) n s found stmt stays ps behind (subst (λ b. is_private_body ps b ≡ true) body_is private.keeps) private.first
-    serial entered (shown_loops_are_independent ds serial round n s short entered read stays shown)
+    let body_is : kept.body ≡ found.nest.body = ap (λ (p : List Loop × Stmt). p.1) (same_Some (kept.loops, kept.body) (found.nest.loops, found.nest.body) (sym kept.nest ∙ found.nest.is)) in
+    commutes ds round (length round.levels) (map (λ v. v.most) (inner_loops 0 round.levels)) n s found stmt stays roles (subst (λ b. is_private_body (role_variables roles) b ≡ true) body_is kept.keeps) kept.different kept.first
+    (subst (λ b. AssignsAll (assigned_first roles) roles.lasts b) body_is kept.last) kept.updates serial entered (shown_loops_are_independent ds serial round n s short entered read stays shown)

@@ -25,12 +25,19 @@ use Rattle.law_independence.proofs.Fixed.{form_fixed, own_fixed, step_fixed}
 use Rattle.law_independence.proofs.Naming.{NamesCounters, counters_inside}
 use Rattle.law_independence.proofs.Targeted.{no_target}
 
--- an array of the file
-array_below : (ds : List Declaration) (box : List Side) (x : ℕ) (i : Expr) (is : Exprs) → StaysInside ds box x (more_exprs i is) → x < length ds
-array_below ds box x i is h = go (slice_get ds x) refl h
+-- a variable with subscripts
+abbrev pub IsArray : List Declaration → Variable → Type 0
+IsArray ds x = lengths_of (slice_get ds x) ≡ [] → ⊥
+
+array_there : (ds : List Declaration) (box : List Side) (x : ℕ) (i : Expr) (is : Exprs) → StaysInside ds box x (more_exprs i is) → IsArray ds x
+array_there ds box x i is h none = subst (λ ns. AllStay box ns (more_exprs i is)) none h
+
+-- is one of the file
+pub array_below : (ds : List Declaration) (x : ℕ) → IsArray ds x → x < length ds
+array_below ds x array = go (slice_get ds x) refl array
   where
-    go : (o : Option Declaration) → slice_get ds x ≡ o → AllStay box (lengths_of o) (more_exprs i is) → x < length ds
-    go None e q = absurd q
+    go : (o : Option Declaration) → slice_get ds x ≡ o → (lengths_of o ≡ [] → ⊥) → x < length ds
+    go None e q = absurd (q refl)
     go (Some d) e q = slice_get_within ds x d e
 
 -- ---- expressions
@@ -78,10 +85,10 @@ module _ (ds : List Declaration) (box : List Side) (fixed : Variable → Bool) (
 
 -- ---- statements
 
--- what is fixed in a statement: the variables of the loops round it and of the file, and none that it declares or assigns
+-- what is fixed in a statement: the variables of the loops round it and arrays, and none that it declares or assigns
 pub record IsFixing (ds : List Declaration) (box : List Side) (fixed : Variable → Bool) (declared assigned : List Variable) : Type 0 where
   pub counters : NamesCounters fixed box
-  pub file : (y : Variable) → y < length ds → fixed y ≡ true
+  pub arrays : (y : Variable) → IsArray ds y → fixed y ≡ true
   pub fresh : (y : Variable) → is_among declared y ≡ true → fixed y ≡ false
   pub scalars : (y : Variable) → is_among assigned y ≡ true → fixed y ≡ false
 
@@ -97,7 +104,7 @@ module _ (ds : List Declaration) (own : Variable → Bool) where
   left_fixing box fixed xs ys zs ws is =
       record {
         counters = is.counters;
-        file = is.file;
+        arrays = is.arrays;
         fresh = λ y h. is.fresh y (among_both xs ys y ∙ or_left (is_among xs y) (is_among ys y) h);
         scalars = λ y h. is.scalars y (among_both zs ws y ∙ or_left (is_among zs y) (is_among ws y) h);
       }
@@ -106,7 +113,7 @@ module _ (ds : List Declaration) (own : Variable → Bool) where
   right_fixing box fixed xs ys zs ws is =
       record {
         counters = is.counters;
-        file = is.file;
+        arrays = is.arrays;
         fresh = λ y h. is.fresh y (among_both xs ys y ∙ or_right (is_among xs y) (is_among ys y) h);
         scalars = λ y h. is.scalars y (among_both zs ws y ∙ or_right (is_among zs y) (is_among ws y) h);
       }
@@ -114,7 +121,7 @@ module _ (ds : List Declaration) (own : Variable → Bool) where
   -- the others behind a local
   later_fixing : (box : List Side) (fixed : Variable → Bool) (x : Variable) (xs zs : List Variable) → IsFixing ds box fixed (x ∷ xs) zs → IsFixing ds box fixed xs zs
   later_fixing box fixed x xs zs is =
-      record { counters = is.counters; file = is.file; fresh = λ y h. is.fresh y (or_right (x == y) (is_among xs y) h); scalars = is.scalars }
+      record { counters = is.counters; arrays = is.arrays; fresh = λ y h. is.fresh y (or_right (x == y) (is_among xs y) h); scalars = is.scalars }
 
   first_fresh : (box : List Side) (fixed : Variable → Bool) (x : Variable) (xs zs : List Variable) → IsFixing ds box fixed (x ∷ xs) zs → fixed x ≡ false
   first_fresh box fixed x xs zs is = is.fresh x (or_left (x == x) (is_among xs x) (eq-eqb x x refl))
@@ -125,7 +132,7 @@ module _ (ds : List Declaration) (own : Variable → Bool) where
   inner_fixing box fixed x xs zs i is above kept =
       record {
         counters = counters_inside fixed box x i is.counters;
-        file = λ y less. or_right (y == x) (fixed y) (is.file y less);
+        arrays = λ y array. or_right (y == x) (fixed y) (is.arrays y array);
         fresh = λ y h. or_from (y == x) (fixed y) (apart y (λ e. let le = above y h in omega arith)) (is.fresh y (or_right (x == y) (is_among xs y) h));
         scalars = λ y h. or_from (y == x) (fixed y) (apart y (λ e. true≢false (sym h ∙ ap (is_among zs) e ∙ kept))) (is.scalars y h);
       }
@@ -139,7 +146,7 @@ module _ (ds : List Declaration) (own : Variable → Bool) where
 
   target_steady : (box : List Side) (fixed : Variable → Bool) (x : Variable) (is : Exprs) → IsFixing ds box fixed [] (scalar x is) → StaysInside ds box x is → IsSteadyTarget fixed x is
   target_steady box fixed x no_exprs fixing h = fixing.scalars x (or_left (x == x) false (eq-eqb x x refl))
-  target_steady box fixed x (more_exprs i is) fixing h = (fixing.file x (array_below ds box x i is h), object_fixed ds box fixed fixing.counters x (more_exprs i is) h)
+  target_steady box fixed x (more_exprs i is) fixing h = (fixing.arrays x (array_there ds box x i is h), object_fixed ds box fixed fixing.counters x (more_exprs i is) h)
 
   mutual
     pub stmt_steady : {scope : Scope} {o next next' : ℕ} {ts : List Token} {a : Stmt} → ReadsStmt scope o next ts a next' → (box : List Side) (fixed : Variable → Bool) → Fixing box fixed a

@@ -1,26 +1,27 @@
 -- The iterations of parallel loops that are accepted may run in any order. (OpenMP 5.2, 1.4.1 and 11.5)
-use Rattle.std.specs.Prelude.{ℕ, true, ◌≡◌, ◌≤◌, List, [], ◌∷◌, length, flat_map, Some, IsSome}
+use Rattle.std.specs.Prelude.{ℕ, Bool, true, false, ◌≡◌, ◌≤◌, List, [], ◌∷◌, length, filter, flat_map, Some, IsSome}
 use Rattle.std.specs.List.{list_all}
-use Rattle.semantics.specs.Tree.{Variable, Stmt, Kernel}
+use Rattle.semantics.specs.Tree.{Variable, Stmt, Declaration, Kernel}
 use Rattle.semantics.specs.Source.Token.{Token}
 use Rattle.semantics.specs.Source.Scope.{Scope}
 use Rattle.semantics.specs.Source.Statements.{ReadsIncrement}
 use Rattle.law_lines.specs.Without.{IsTreeOf}
-use Rattle.semantics.specs.Meaning.State.{State}
-use Rattle.semantics.specs.Meaning.Agrees.{is_among}
+use Rattle.semantics.specs.Meaning.State.{State, overwritten}
+use Rattle.semantics.specs.Meaning.Agrees.{is_among, visible_behind}
 use Rattle.semantics.specs.Meaning.Definite.{Privates, IsDefinite}
 use Rattle.semantics.specs.Loops.Nest.{Loop, Vector, nest_of, iterations}
 use Rattle.semantics.specs.Meaning.Runs.{Effect, run}
-use Rattle.semantics.specs.Loops.Piece.{SharedLoop}
+use Rattle.semantics.specs.Loops.Operator.{ReduceOp}
+use Rattle.semantics.specs.Loops.Piece.{Roles, SharedLoop}
 use Rattle.semantics.specs.Theorems.{IsTurn, CommutesInAnyOrder}
 use Rattle.law_commute.specs.Joining.{DeclaresLocals}
 use Rattle.law_commute.specs.Targets.{targets_outside, is_local}
-use Rattle.law_nests.specs.Merging.{WalkApart}
+use Rattle.law_roles.specs.Updates.{operator_of}
+use Rattle.law_roles.specs.Sharing.{role_variables, IsScalar, HoldsNumber, TakesOperands, MayStart, changed_from, SharesFrom}
 use Rattle.nest_loop.specs.Constants.{Each, IsSmall}
-use Rattle.pragma.specs.Parallel.{ItemsHave}
 use Rattle.nest.specs.Nests.{IsInRange}
 use Rattle.deptest_verdict.specs.Shown.{AreShownLoops}
-use Rattle.flow.specs.Private.{ItemsPrivate}
+use Rattle.flow.specs.Roles.{LineRoles, privates_by, AskedByLine, LoopsHaveBy, ItemsHaveBy, ItemsKeepRoles}
 
 -- at each turn of the serial loops round a nest of so many loops at which the scalars that its body assigns from outside are locals, its iterations leave the same elements in any order
 abbrev pub CommutesAtTurns : List Loop → ℕ → Stmt → Type 0
@@ -52,28 +53,58 @@ HasStepsRead n s = (loops : List Loop) (body : Stmt) → nest_of n s ≡ Some (l
 abbrev pub IterateAtTurns : List Loop → ℕ → Stmt → Type 0
 IterateAtTurns serial n s = (loops : List Loop) (body : Stmt) (outer : State) → nest_of n s ≡ Some (loops, body) → IsTurn serial outer → IsSome (iterations loops outer)
 
--- and wherever it has a run there, and the scalars that it assigns from outside are locals, chunks of them, each from the state before the nest, have a run each, and what they change, put together, is what it leaves
-abbrev pub WalkApartAtTurns : List Loop → ℕ → Stmt → Type 0
-WalkApartAtTurns serial n s =
-    (loops : List Loop) (body : Stmt) (outer : State) (us : List Vector) (chunks : List (List Vector)) (e : Effect)
-    → nest_of n s ≡ Some (loops, body) → IsTurn serial outer → DeclaresLocals s outer → list_all (is_local outer) (targets_outside s) ≡ true
-    → iterations loops outer ≡ Some us → flat_map (λ vs. vs) chunks ≡ us → run s outer ≡ Some e → WalkApart s loops body chunks outer e
+-- the roles of the scalars from outside that a loop assigns; firstprivate ones are none of them
+abbrev pub used_roles : Stmt → Roles → Roles
+used_roles s roles =
+    record {
+      privates = filter (is_among (targets_outside s)) roles.privates;
+      firsts = [];
+      lasts = filter (is_among (targets_outside s)) roles.lasts;
+      conditionals = [];
+      reductions = filter (λ r. is_among (targets_outside s) r.0) roles.reductions;
+    }
 
--- a statement is a nest of so many loops, whose iterations may be run in any order and in chunks
-pub record CommutesAsNest (serial : List Loop) (n : ℕ) (s : Stmt) : Type 0 where
+-- variables with a role are scalars that stand where a loop is reached, reduction variables hold numbers, and their operands have values
+pub record AreAtHand (roles : Roles) (s : Stmt) (outer : State) : Type 0 where
+  pub scalars : (x : Variable) → is_among (role_variables roles) x ≡ true → IsScalar outer x
+  pub numbers : (x : Variable) (op : ReduceOp) → operator_of roles.reductions x ≡ Some op → HoldsNumber outer x
+  pub taken : TakesOperands roles.reductions s outer
+
+-- and wherever it has a run there, and these are at hand, chunks of them, each from a state in which it may start, have a run each, and what they leave, put together, is what it leaves
+abbrev pub SharesAtTurns : Roles → List Loop → ℕ → Stmt → Type 0
+SharesAtTurns roles serial n s =
+    (loops : List Loop) (body : Stmt) (outer start : State) (us : List Vector) (chunks : List (List Vector)) (e : Effect)
+    → nest_of n s ≡ Some (loops, body) → IsTurn serial outer → DeclaresLocals s outer → AreAtHand roles s outer → MayStart roles outer start
+    → iterations loops outer ≡ Some us → flat_map (λ vs. vs) chunks ≡ us → run s outer ≡ Some e
+    → SharesFrom start (changed_from start) roles s loops body chunks outer e
+
+-- wherever it has a run it leaves what is visible round it as it was, but for the scalars that it assigns
+abbrev pub LeavesOthers : Stmt → Type 0
+LeavesOthers s =
+    (outer : State) (e : Effect) → run s outer ≡ Some e
+    → (x : Variable) → visible_behind s x ≡ true → is_among (targets_outside s) x ≡ false → (overwritten outer e.writes).locals x ≡ outer.locals x
+
+-- a statement is a nest of so many loops, whose iterations may be run in any order and in chunks, with these roles of what it assigns
+pub record CommutesAsNest (roles : Roles) (serial : List Loop) (n : ℕ) (s : Stmt) : Type 0 where
   pub nest : IsSome (nest_of n s)
   pub round : HaveTurns serial
   pub steps : HasStepsRead n s
-  pub order : CommutesAtTurns serial n s
+  pub assigned : (x : Variable) → is_among (targets_outside s) x ≡ is_among (role_variables roles) x
+  pub order : roles.reductions ≡ [] → CommutesAtTurns serial n s
   pub there : IterateAtTurns serial n s
-  pub chunks : WalkApartAtTurns serial n s
+  pub leaves : LeavesOthers s
+  pub chunks : SharesAtTurns roles serial n s
+
+-- so the loop behind each directive line, with the roles that the line gives
+abbrev pub CommutesBy : LineRoles → AskedByLine
+CommutesBy R line serial n s = CommutesAsNest (used_roles s (R line)) serial n s
 
 -- the private scalars of parallel loops are locals, which have the numbers behind the variables of the file
 abbrev pub ArePrivateLocals : Kernel → Privates → Type 0
 ArePrivateLocals k P = (line : ℕ) (x : Variable) → is_among (P line) x ≡ true → length k.variables ≤ x
 
--- so each parallel loop of a kernel of the grammar, where no subscript leaves its dimension, no local is read before it is assigned, parallel loops keep to their own scalars and their private ones, print nothing and assign each private one before they read it, and the test of pairs shows all of them to be independent
+-- so each parallel loop of a kernel of the grammar, where no subscript leaves its dimension, no local is read before it is assigned, parallel loops print nothing and keep the roles of the scalars that they assign, and the test of pairs shows all of them to be independent
 abbrev pub AcceptedLoopsCommute : Type 0
 AcceptedLoopsCommute =
-    (text : List ℕ) (k : Kernel) (P : Privates) → IsTreeOf text k → IsInRange k → IsDefinite P k → ArePrivateLocals k P → ItemsPrivate text P [] k.body
-    → AreShownLoops text k → ItemsHave text CommutesAsNest [] k.body
+    (text : List ℕ) (k : Kernel) (R : LineRoles) → IsTreeOf text k → IsInRange k → IsDefinite (privates_by R) k → ItemsKeepRoles text R [] k.body
+    → AreShownLoops text k → ItemsHaveBy text (CommutesBy R) [] k.body

@@ -1,0 +1,63 @@
+-- What the clauses of parallel loops say of their scalars, and loops that keep to it. (OpenMP 5.2, 5.1.1, 5.4.3, 5.4.5 and 5.5.8)
+use Rattle.std.specs.Prelude.{ℕ, true, ◌≡◌, List, [], ◌∷◌, ◌++◌, Some, IsSome}
+use Rattle.semantics.specs.Tree.{Variable, Stmt, Assign, Update, If, IfElse, For, Block, Print, Items, no_items, mark, local, stmt}
+use Rattle.semantics.specs.Meaning.Definite.{Privates, no_privates, definite}
+use Rattle.semantics.specs.Loops.Nest.{Loop, nest_of}
+use Rattle.semantics.specs.Loops.Piece.{Roles}
+use Rattle.law_roles.specs.Updates.{reduces}
+use Rattle.law_roles.specs.Sharing.{assigned_first, role_variables, are_different, AssignsAll}
+use Rattle.pragma.specs.Parallel.{AskedOfLoop, LineHas}
+use Rattle.flow.specs.Private.{is_private_body, all_but}
+
+-- the roles that the clauses of each directive line give, by its number
+abbrev pub LineRoles : Type 0
+LineRoles = ℕ → Roles
+
+-- the private locals of each line
+abbrev pub privates_by : LineRoles → Privates
+privates_by R line = (R line).privates
+
+-- a nest of so many loops whose body prints nothing and assigns of scalars those alone that it declares and those with a role: private and lastprivate ones before it reads them, lastprivate ones on every path, and reduction variables in updates alone; no variable has two roles
+pub record KeepsItsRoles (roles : Roles) (n : ℕ) (s : Stmt) : Type 0 where
+  pub loops : List Loop
+  pub body : Stmt
+  pub nest : nest_of n s ≡ Some (loops, body)
+  pub keeps : is_private_body (role_variables roles) body ≡ true
+  pub different : are_different (role_variables roles) ≡ true
+  pub first : IsSome (definite no_privates s (all_but (assigned_first roles)))
+  pub last : AssignsAll (assigned_first roles) roles.lasts body
+  pub updates : reduces roles.reductions s ≡ true
+
+-- so is the loop behind a directive
+abbrev pub KeepsRolesThere : Roles → AskedOfLoop
+KeepsRolesThere roles serial n s = KeepsItsRoles roles n s
+
+-- what is asked of a parallel loop by the number of its line
+abbrev pub AskedByLine : Type 1
+AskedByLine = ℕ → AskedOfLoop
+
+abbrev mutual
+  -- each parallel loop in a statement inside these loops is so
+  pub LoopsHaveBy : List ℕ → AskedByLine → List Loop → Stmt → Type 0
+  LoopsHaveBy text Q serial (Assign x is e) = Unit {0}
+  LoopsHaveBy text Q serial (Update x is op e) = Unit {0}
+  LoopsHaveBy text Q serial (If c a) = LoopsHaveBy text Q serial a
+  LoopsHaveBy text Q serial (IfElse c a b) = LoopsHaveBy text Q serial a × LoopsHaveBy text Q serial b
+  LoopsHaveBy text Q serial (For x name start test step body) =
+      LoopsHaveBy text Q (serial ++ record { variable = x; start = start; test = test; step = step } ∷ []) body
+  LoopsHaveBy text Q serial (Block items) = ItemsHaveBy text Q serial items
+  LoopsHaveBy text Q serial (Print parts) = Unit {0}
+
+  -- of a block's items
+  pub ItemsHaveBy : List ℕ → AskedByLine → List Loop → Items → Type 0
+  ItemsHaveBy text Q serial no_items = Unit {0}
+  ItemsHaveBy text Q serial (mark line rest) = LineHas text (Q line) serial line rest × ItemsHaveBy text Q serial rest
+  ItemsHaveBy text Q serial (local x name start rest) = ItemsHaveBy text Q serial rest
+  ItemsHaveBy text Q serial (stmt s rest) = LoopsHaveBy text Q serial s × ItemsHaveBy text Q serial rest
+
+-- each parallel loop among these items keeps the roles of its line
+abbrev pub ItemsKeepRoles : List ℕ → LineRoles → List Loop → Items → Type 0
+ItemsKeepRoles text R serial items = ItemsHaveBy text (λ line. KeepsRolesThere (R line)) serial items
+
+abbrev pub LoopsKeepRoles : List ℕ → LineRoles → List Loop → Stmt → Type 0
+LoopsKeepRoles text R serial s = LoopsHaveBy text (λ line. KeepsRolesThere (R line)) serial s
