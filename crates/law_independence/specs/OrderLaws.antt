@@ -1,19 +1,19 @@
 -- The iterations of parallel loops that are accepted may run in any order. (OpenMP 5.2, 1.4.1 and 11.5)
-use Rattle.std.specs.Prelude.{ℕ, Bool, true, false, ◌≡◌, ◌≤◌, List, [], ◌∷◌, length, filter, flat_map, Some, IsSome}
+use Rattle.std.specs.Prelude.{ℕ, Bool, true, false, ◌≡◌, ◌≤◌, ◌<◌, List, [], ◌∷◌, length, filter, flat_map, Some, IsSome, slice_get}
 use Rattle.std.specs.List.{list_all}
 use Rattle.semantics.specs.Tree.{Variable, Stmt, Declaration, Kernel}
 use Rattle.semantics.specs.Source.Token.{Token}
 use Rattle.semantics.specs.Source.Scope.{Scope}
 use Rattle.semantics.specs.Source.Statements.{ReadsIncrement}
 use Rattle.law_lines.specs.Without.{IsTreeOf}
-use Rattle.semantics.specs.Meaning.State.{State, overwritten}
-use Rattle.semantics.specs.Meaning.Agrees.{is_among, visible_behind}
-use Rattle.semantics.specs.Meaning.Definite.{Privates, IsDefinite}
+use Rattle.semantics.specs.Meaning.State.{State, Outside, Holds, is_there, overwritten}
+use Rattle.semantics.specs.Meaning.Agrees.{is_among, visible_behind, names_only}
+use Rattle.semantics.specs.Meaning.Definite.{no_privates, definite, IsDefinite}
 use Rattle.semantics.specs.Loops.Nest.{Loop, Vector, nest_of, iterations}
 use Rattle.semantics.specs.Meaning.Runs.{Effect, run}
 use Rattle.semantics.specs.Loops.Operator.{ReduceOp}
-use Rattle.semantics.specs.Loops.Piece.{Roles, SharedLoop}
-use Rattle.semantics.specs.Theorems.{IsTurn, CommutesInAnyOrder}
+use Rattle.semantics.specs.Loops.Piece.{Roles, SharedLoop, is_outside}
+use Rattle.semantics.specs.Theorems.{is_declared, IsTurn, CommutesInAnyOrder}
 use Rattle.law_commute.specs.Joining.{DeclaresLocals}
 use Rattle.law_commute.specs.Targets.{targets_outside, is_local}
 use Rattle.law_roles.specs.Updates.{operator_of}
@@ -99,12 +99,30 @@ pub record CommutesAsNest (roles : Roles) (serial : List Loop) (n : ℕ) (s : St
 abbrev pub CommutesBy : LineRoles → AskedByLine
 CommutesBy R line serial n s = CommutesAsNest (used_roles s (R line)) serial n s
 
--- the private scalars of parallel loops are locals, which have the numbers behind the variables of the file
-abbrev pub ArePrivateLocals : Kernel → Privates → Type 0
-ArePrivateLocals k P = (line : ℕ) (x : Variable) → is_among (P line) x ≡ true → length k.variables ≤ x
+-- the objects of the declarations are there and no other, and no local hides them; of each visible local one stands, and each that is known holds a number
+pub record StandsThere (ds : List Declaration) (visible known : Variable → Bool) (s : State) : Type 0 where
+  pub there : (x : Variable) (is : List ℕ) → is_there (s.cells x is) ≡ is_declared (slice_get ds x) is
+  pub outside : (x : Variable) → x < length ds → s.locals x ≡ Outside
+  pub inside : (x : Variable) → visible x ≡ true → length ds ≤ x → is_outside (s.locals x) ≡ false
+  pub held : (x : Variable) → known x ≡ true → length ds ≤ x → (v : ℕ) × (s.locals x ≡ Holds v)
+
+-- where a nest stands so at a turn of the serial loops round it, and reads what is known, its operands are taken
+abbrev pub TakesAtTurns : List Declaration → Roles → List Loop → Stmt → Type 0
+TakesAtTurns ds roles serial s =
+    (visible known : Variable → Bool) (outer : State) → IsTurn serial outer → names_only visible s ≡ true → StandsThere ds visible known outer
+    → IsSome (definite no_privates s known) → TakesOperands roles.reductions s outer
+
+abbrev pub TakesBy : List Declaration → LineRoles → AskedByLine
+TakesBy ds R line serial n s = TakesAtTurns ds (used_roles s (R line)) serial s
 
 -- so each parallel loop of a kernel of the grammar, where no subscript leaves its dimension, no local is read before it is assigned, parallel loops print nothing and keep the roles of the scalars that they assign, and the test of pairs shows all of them to be independent
 abbrev pub AcceptedLoopsCommute : Type 0
 AcceptedLoopsCommute =
     (text : List ℕ) (k : Kernel) (R : LineRoles) → IsTreeOf text k → IsInRange k → IsDefinite (privates_by R) k → ItemsKeepRoles text R [] k.body
     → AreShownLoops text k → ItemsHaveBy text (CommutesBy R) [] k.body
+
+-- and takes its operands
+abbrev pub AcceptedLoopsTakeOperands : Type 0
+AcceptedLoopsTakeOperands =
+    (text : List ℕ) (k : Kernel) (R : LineRoles) → IsTreeOf text k → IsInRange k → IsDefinite (privates_by R) k → ItemsKeepRoles text R [] k.body
+    → AreShownLoops text k → ItemsHaveBy text (TakesBy k.variables R) [] k.body
