@@ -26,3 +26,4 @@ pub mod RefusedNests
 pub mod RefusedKernels
 pub mod PrivateNests
 pub mod RoleNests
+pub mod Taking

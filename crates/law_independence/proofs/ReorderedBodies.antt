@@ -1,7 +1,7 @@
 -- The body of a nest, as the grammar reads it, keeps to its own scalars.
 use Rattle.std.specs.Prelude.{ℕ, zero, suc, Bool, true, false, ◌≡◌, ◌<◌, ◌==◌, ◌&&◌, ◌||◌, not, List, [], ◌∷◌, length, Some}
 use Rattle.std.proofs.Common.{refl, sym, ap, ◌∙◌, subst, cond, arith}
-use Rattle.std.proofs.lemmas.Bool.{and_from, not_from_true, not_from_false, true≢false}
+use Rattle.std.proofs.lemmas.Bool.{or_parts, and_from, not_from_true, not_from_false, true≢false}
 use Rattle.std.proofs.lemmas.Option.{none-some, same_Some}
 use Rattle.semantics.specs.Tree.{Variable, Stmt, Items, Declaration}
 use Rattle.semantics.specs.Source.Token.{Token}
@@ -19,6 +19,8 @@ use Rattle.nest.specs.Nests.{Has, Have, StaysInside}
 use Rattle.flow.specs.Private.{keeps}
 use Rattle.deptest_verdict.specs.Shown.{IsShownNest}
 use Rattle.law_runs.proofs.Points.{IsBelow}
+use Rattle.law_runs.proofs.StatementsRun.{Keeps, AllKeep, keeps_inside}
+use Rattle.nest_loop.specs.Canonical.{stepped, assigns, assigns_among}
 use Rattle.law_turns.proofs.Laws.{entered_join}
 use Rattle.law_independence.specs.Inside.{LoopsAreRead, ItemsAreRead}
 use Rattle.law_independence.proofs.Links.{one_entered}
@@ -28,7 +30,7 @@ use Rattle.law_independence.proofs.Numbering.{undeclared, IsPlace, place_inside}
 use Rattle.law_independence.proofs.Starts.{StartsNameOthers, AllNameOthers}
 use Rattle.law_independence.proofs.Naming.{IsNamed, stmt_named}
 use Rattle.law_independence.proofs.Steadiness.{IsArray, array_below, stmt_steady}
-use Rattle.law_independence.proofs.Targeted.{Spares, spares_left, spares_inside, loop_visible, nest_targets}
+use Rattle.law_independence.proofs.Targeted.{Spares, no_target, loop_visible, nest_targets}
 
 -- a statement of the text at some place of a kernel, inside the loops of a box, whose variables it does not assign
 pub record IsStmtRead (ds : List Declaration) (box : List Side) (s : Stmt) : Type 0 where
@@ -40,7 +42,7 @@ pub record IsStmtRead (ds : List Declaration) (box : List Side) (s : Stmt) : Typ
   pub reads : ReadsStmt scope order next tokens s after
   pub place : IsPlace ds box scope next
   pub starts : StartsNameOthers s
-  pub spares : Spares box (targets s)
+  pub kept : Keeps box s
 
 -- ---- what a body names and assigns
 
@@ -91,13 +93,13 @@ record IsLoopRead (ds : List Declaration) (box : List Side) (h : Loop) (body : S
 
 module _ (ds : List Declaration) (box : List Side) (h : Loop) (body : Stmt) where
   mutual
-    loop_read : {scope : Scope} {o next next' : ℕ} {ts : List Token} {s : Stmt} → ReadsStmt scope o next ts s next' → IsPlace ds box scope next → StartsNameOthers s → Spares box (targets s) → LoopsAreRead box s → Has (StaysInside ds) box s
+    loop_read : {scope : Scope} {o next next' : ℕ} {ts : List Token} {s : Stmt} → ReadsStmt scope o next ts s next' → IsPlace ds box scope next → StartsNameOthers s → Keeps box s → LoopsAreRead box s → Has (StaysInside ds) box s
         → as_loop s ≡ Some (h, body) → IsLoopRead ds box h body
-    loop_read (assign t e) at starts spares read has same = absurd (none-some (h, body) same)
-    loop_read (update t u e) at starts spares read has same = absurd (none-some (h, body) same)
-    loop_read (if_only less rc ra) at starts spares read has same = absurd (none-some (h, body) same)
-    loop_read (if_else less rc closed ra rb) at starts spares read has same = absurd (none-some (h, body) same)
-    loop_read {scope} (for_loop {open' = open'} {next = next} {next' = next'} {name = name} {start = start} {test = test} {step = step} {body = inner} {ws = ws} less free rs rt ru r) at starts spares read has same =
+    loop_read (assign t e) at starts kept read has same = absurd (none-some (h, body) same)
+    loop_read (update t u e) at starts kept read has same = absurd (none-some (h, body) same)
+    loop_read (if_only less rc ra) at starts kept read has same = absurd (none-some (h, body) same)
+    loop_read (if_else less rc closed ra rb) at starts kept read has same = absurd (none-some (h, body) same)
+    loop_read {scope} (for_loop {open' = open'} {next = next} {next' = next'} {name = name} {start = start} {test = test} {step = step} {body = inner} {ws = ws} less free rs rt ru r) at starts kept read has same =
         subst (λ (p : Loop × Stmt). IsLoopRead ds box p.0 p.1) (same_Some (record { variable = next; start = start; test = test; step = step }, inner) (h, body) same)
         (record {
           there = record { read = read.0; each = read.1; loop = has.0; numbers = has.1; is = has.2; stays = has.3 };
@@ -110,20 +112,20 @@ module _ (ds : List Declaration) (box : List Side) (h : Loop) (body : Stmt) wher
             reads = r;
             place = place_inside ds box scope name next i at;
             starts = starts;
-            spares = spares_inside box next i inner spares has.2.kept;
+            kept = keeps_inside box next i inner (λ y q. (or_parts (stepped step == y) (assigns y inner) (kept y q)).1) has.2.kept;
           };
         })
-    loop_read (block less items) at starts spares read has same = only_read items at starts spares read has same
-    loop_read (print less f r fill) at starts spares read has same = absurd (none-some (h, body) same)
+    loop_read (block less items) at starts kept read has same = only_read items at starts kept read has same
+    loop_read (print less f r fill) at starts kept read has same = absurd (none-some (h, body) same)
 
-    only_read : {scope : Scope} {o next next' : ℕ} {ts : List Token} {items : Items} → ReadsItems scope o next ts items next' → IsPlace ds box scope next → AllNameOthers items → Spares box (targets_among items) → ItemsAreRead box items
+    only_read : {scope : Scope} {o next next' : ℕ} {ts : List Token} {items : Items} → ReadsItems scope o next ts items next' → IsPlace ds box scope next → AllNameOthers items → AllKeep box items → ItemsAreRead box items
         → Have (StaysInside ds) box items → only_loop items ≡ Some (h, body) → IsLoopRead ds box h body
-    only_read no_more at starts spares read has same = absurd (none-some (h, body) same)
-    only_read (line r) at starts spares read has same = absurd (none-some (h, body) same)
-    only_read (empty_local free r) at starts spares read has same = absurd (none-some (h, body) same)
-    only_read (first_local free e r) at starts spares read has same = absurd (none-some (h, body) same)
-    only_read (statement {s = s} {items = rest} ra r) at starts spares read has same =
-        loop_read ra at starts.0 (spares_left box (targets s) (targets_among rest) spares) read.0 has.0 (some_alone (holds_none rest) (as_loop s) (h, body) same)
+    only_read no_more at starts kept read has same = absurd (none-some (h, body) same)
+    only_read (line r) at starts kept read has same = absurd (none-some (h, body) same)
+    only_read (empty_local free r) at starts kept read has same = absurd (none-some (h, body) same)
+    only_read (first_local free e r) at starts kept read has same = absurd (none-some (h, body) same)
+    only_read (statement {s = s} {items = rest} ra r) at starts kept read has same =
+        loop_read ra at starts.0 (λ y q. (or_parts (assigns y s) (assigns_among y rest) (kept y q)).0) read.0 has.0 (some_alone (holds_none rest) (as_loop s) (h, body) same)
 
 -- a nest with its body, which assigns none of the loops' variables
 pub record IsNestRead (ds : List Declaration) (now : Nesting) (outer : ℕ) (serial : List ℕ) (n : ℕ) (s : Stmt) : Type 0 where
@@ -145,7 +147,7 @@ pub nest_read : (n : ℕ) (ds : List Declaration) (now : Nesting) (outer : ℕ) 
 nest_read zero ds now outer serial s shown there read =
     record { nest = record { loops = []; body = s; inner = now; is = refl; entered = refl; shown = shown; there = there }; inner = read; outside = λ x t v. v }
 nest_read (suc n) ds now outer serial s (h, body, is, inner, into, shown) there read =
-    let loop = loop_read ds now.box h body read.reads read.place read.starts read.spares there.read there.stays is in
+    let loop = loop_read ds now.box h body read.reads read.place read.starts read.kept there.read there.stays is in
     let box : inside now.box h.variable into.numbers ≡ inner.box = ap (λ (m : Nesting). m.box) (sym into.now) in
     let rest = nest_read n ds inner outer serial body shown (body_there ds now inner h body into loop.there) (subst (λ b. IsStmtRead ds b body) box (loop.inner into.numbers)) in
     record {
@@ -159,5 +161,5 @@ nest_read (suc n) ds now outer serial s (h, body, is, inner, into, shown) there 
         there = rest.nest.there;
       };
       inner = rest.inner;
-      outside = λ x t v. seen_outside s h body now.box into.numbers is (loop.inner into.numbers).spares x (ap (λ xs. is_among xs x) (nest_targets n body rest.nest.loops rest.nest.body rest.nest.is) ∙ t) (rest.outside x t v);
+      outside = λ x t v. seen_outside s h body now.box into.numbers is (λ y c. no_target y body ((loop.inner into.numbers).kept y c)) x (ap (λ xs. is_among xs x) (nest_targets n body rest.nest.loops rest.nest.body rest.nest.is) ∙ t) (rest.outside x t v);
     }

@@ -1,7 +1,7 @@
 -- The parallel loops of a kernel, one after another.
-use Rattle.std.specs.Prelude.{ℕ, suc, ◌≡◌, List, [], ◌∷◌, ◌++◌, length}
+use Rattle.std.specs.Prelude.{ℕ, suc, ◌==◌, ◌≡◌, List, [], ◌∷◌, ◌++◌, length}
 use Rattle.std.proofs.Common.{refl, sym, ap, subst, arith}
-use Rattle.std.proofs.lemmas.Bool.{ltb-true}
+use Rattle.std.proofs.lemmas.Bool.{ltb-true, or_parts}
 use Rattle.semantics.specs.Tree.{Stmt, Items, Declaration}
 use Rattle.semantics.specs.Source.Token.{Token}
 use Rattle.semantics.specs.Source.Scope.{Scope, AVariable}
@@ -17,6 +17,8 @@ use Rattle.pragma.proofs.LoopLaw.{read_once}
 use Rattle.nest.specs.Nests.{Has, Have, StaysInside}
 use Rattle.deptest_verdict.specs.Shown.{ShownFirst, LineShown, LoopsShown, ItemsShown, no_loops}
 use Rattle.law_runs.proofs.Points.{rises}
+use Rattle.law_runs.proofs.StatementsRun.{Keeps, AllKeep, keeps_inside}
+use Rattle.nest_loop.specs.Canonical.{stepped, assigns, assigns_among}
 use Rattle.law_runs.proofs.Nested.{decls_below, some_there}
 use Rattle.law_turns.specs.Turns.{AreEntered}
 use Rattle.law_turns.proofs.Laws.{entered_join}
@@ -24,11 +26,9 @@ use Rattle.law_independence.specs.Inside.{LoopsAreRead, ItemsAreRead, HaveShort}
 use Rattle.law_independence.proofs.Links.{one_entered}
 use Rattle.law_independence.proofs.IndependentNests.{body_there}
 use Rattle.law_independence.proofs.Grammar.{decls_small, decls_short, items_read}
-use Rattle.law_commute.specs.Targets.{targets, targets_among}
 use Rattle.law_private.proofs.More.{more_known}
 use Rattle.flow.specs.Roles.{LineRoles, privates_by, KeepsRolesThere, LoopsHaveBy, ItemsHaveBy, LoopsKeepRoles, ItemsKeepRoles}
 use Rattle.law_independence.specs.OrderLaws.{CommutesBy, AcceptedLoopsCommute}
-use Rattle.law_independence.proofs.Targeted.{Spares, spares_left, spares_right, spares_inside}
 use Rattle.law_independence.proofs.Numbering.{IsPlace, place_later, place_behind, place_inside}
 use Rattle.law_independence.proofs.Starts.{StartsNameOthers, AllNameOthers, all_start}
 use Rattle.law_independence.proofs.ReorderedNests.{loop_commutes}
@@ -37,58 +37,58 @@ use Rattle.law_independence.proofs.ReorderedNests.{loop_commutes}
 
 module _ (text : List ℕ) (ds : List Declaration) (short : HaveShort ds) (R : LineRoles) where
   first_commutes : {scope : Scope} {o next next' : ℕ} {ts : List Token} {items : Items} → ReadsItems scope o next ts items next' → (round : Nesting) (serial : List Loop) (n : ℕ) → AreEntered no_loops serial round
-      → IsPlace ds round.box scope next → AllNameOthers items → Spares round.box (targets_among items) → (line : ℕ) → ShownFirst round n items → FirstHas (KeepsRolesThere (R line)) serial n items → ItemsAreRead round.box items → Have (StaysInside ds) round.box items
-      → FirstHas (CommutesBy R line) serial n items
-  first_commutes no_more round serial n entered at starts spares line' shown private read has = shown
-  first_commutes (line r) round serial n entered at starts spares line' shown private read has = shown
-  first_commutes (empty_local free r) round serial n entered at starts spares line' shown private read has = shown
-  first_commutes (first_local free e r) round serial n entered at starts spares line' shown private read has = shown
-  first_commutes {scope} (statement {open' = open'} {next = next} {next' = middle} {s = s} {items = rest} {ts = ts} ra r) round serial n entered at starts spares line' shown private read has =
+      → IsPlace ds round.box scope next → AllNameOthers items → AllKeep round.box items → (line : ℕ) → ShownFirst round n items → FirstHas (KeepsRolesThere (R line)) serial n items → ItemsAreRead round.box items → Have (StaysInside ds) round.box items
+      → FirstHas (CommutesBy ds R line) serial n items
+  first_commutes no_more round serial n entered at starts kept line' shown private read has = shown
+  first_commutes (line r) round serial n entered at starts kept line' shown private read has = shown
+  first_commutes (empty_local free r) round serial n entered at starts kept line' shown private read has = shown
+  first_commutes (first_local free e r) round serial n entered at starts kept line' shown private read has = shown
+  first_commutes {scope} (statement {open' = open'} {next = next} {next' = middle} {s = s} {items = rest} {ts = ts} ra r) round serial n entered at starts kept line' shown private read has =
       loop_commutes ds serial round n s short entered read.0 has.0
-      (record { scope = scope; order = open'; next = next; after = middle; tokens = ts; reads = ra; place = at; starts = starts.0; spares = spares_left round.box (targets s) (targets_among rest) spares }) (R line') private shown
+      (record { scope = scope; order = open'; next = next; after = middle; tokens = ts; reads = ra; place = at; starts = starts.0; kept = λ y q. (or_parts (assigns y s) (assigns_among y rest) (kept y q)).0 }) (R line') private shown
 
   line_commutes : {scope : Scope} {o next next' : ℕ} {ts : List Token} {items : Items} → ReadsItems scope o next ts items next' → (round : Nesting) (serial : List Loop) (n : ℕ) → AreEntered no_loops serial round
-      → IsPlace ds round.box scope next → AllNameOthers items → Spares round.box (targets_among items) → LineShown text round n items → LineHas text (KeepsRolesThere (R n)) serial n items → ItemsAreRead round.box items → Have (StaysInside ds) round.box items
-      → LineHas text (CommutesBy R n) serial n items
-  line_commutes {items = items} r round serial n entered at starts spares (k, c, reads, first) (k', c', reads', private) read has =
+      → IsPlace ds round.box scope next → AllNameOthers items → AllKeep round.box items → LineShown text round n items → LineHas text (KeepsRolesThere (R n)) serial n items → ItemsAreRead round.box items → Have (StaysInside ds) round.box items
+      → LineHas text (CommutesBy ds R n) serial n items
+  line_commutes {items = items} r round serial n entered at starts kept (k, c, reads, first) (k', c', reads', private) read has =
       let same = (read_once (line_at text n) k' c' k c reads' reads).1 in
-      (k, c, reads, first_commutes r round serial (associated c) entered at starts spares n first (subst (λ d. FirstHas (KeepsRolesThere (R n)) serial (associated d) items) same private) read has)
+      (k, c, reads, first_commutes r round serial (associated c) entered at starts kept n first (subst (λ d. FirstHas (KeepsRolesThere (R n)) serial (associated d) items) same private) read has)
 
   mutual
     stmt_commutes : {scope : Scope} {o next next' : ℕ} {ts : List Token} {s : Stmt} → ReadsStmt scope o next ts s next' → (round : Nesting) (serial : List Loop) → AreEntered no_loops serial round
-        → IsPlace ds round.box scope next → StartsNameOthers s → Spares round.box (targets s) → LoopsShown text round s → LoopsKeepRoles text R serial s → LoopsAreRead round.box s → Has (StaysInside ds) round.box s
-        → LoopsHaveBy text (CommutesBy R) serial s
-    stmt_commutes (assign t e) round serial entered at starts spares shown private read has = tt
-    stmt_commutes (update t u e) round serial entered at starts spares shown private read has = tt
-    stmt_commutes (if_only less rc ra) round serial entered at starts spares shown private read has = stmt_commutes ra round serial entered at starts spares shown private read has.1
-    stmt_commutes {scope} (if_else {next = next} {next' = middle} {a = a} {b = b} less rc closed ra rb) round serial entered at starts spares shown private read has = (
-      stmt_commutes ra round serial entered at starts.0 (spares_left round.box (targets a) (targets b) spares) shown.0 private.0 read.0 has.1,
-      stmt_commutes rb round serial entered (place_later ds round.box scope next middle (rises ra) at) starts.1 (spares_right round.box (targets a) (targets b) spares) shown.1 private.1 read.1 has.2,
+        → IsPlace ds round.box scope next → StartsNameOthers s → Keeps round.box s → LoopsShown text round s → LoopsKeepRoles text R serial s → LoopsAreRead round.box s → Has (StaysInside ds) round.box s
+        → LoopsHaveBy text (CommutesBy ds R) serial s
+    stmt_commutes (assign t e) round serial entered at starts kept shown private read has = tt
+    stmt_commutes (update t u e) round serial entered at starts kept shown private read has = tt
+    stmt_commutes (if_only less rc ra) round serial entered at starts kept shown private read has = stmt_commutes ra round serial entered at starts kept shown private read has.1
+    stmt_commutes {scope} (if_else {next = next} {next' = middle} {a = a} {b = b} less rc closed ra rb) round serial entered at starts kept shown private read has = (
+      stmt_commutes ra round serial entered at starts.0 (λ y q. (or_parts (assigns y a) (assigns y b) (kept y q)).0) shown.0 private.0 read.0 has.1,
+      stmt_commutes rb round serial entered (place_later ds round.box scope next middle (rises ra) at) starts.1 (λ y q. (or_parts (assigns y a) (assigns y b) (kept y q)).1) shown.1 private.1 read.1 has.2,
     )
-    stmt_commutes {scope} (for_loop {next = next} {name = name} {start = start} {test = test} {step = step} {body = body} less free rs rt ru r) round serial entered at starts spares (inner, into, shown) private read has =
+    stmt_commutes {scope} (for_loop {next = next} {name = name} {start = start} {test = test} {step = step} {body = body} less free rs rt ru r) round serial entered at starts kept (inner, into, shown) private read has =
         let h : Loop = record { variable = next; start = start; test = test; step = step } in
         let there = body_there ds round inner h body into (record { read = read.0; each = read.1; loop = has.0; numbers = has.1; is = has.2; stays = has.3 }) in
         let box : inside round.box next into.numbers ≡ inner.box = ap (λ (m : Nesting). m.box) (sym into.now) in
         stmt_commutes r inner (serial ++ (h ∷ []))
         (entered_join no_loops round inner serial (h ∷ []) entered (one_entered round inner next start test step body into read.0))
         (subst (λ b. IsPlace ds b ((name, AVariable next 0) ∷ scope) (suc next)) box (place_inside ds round.box scope name next into.numbers at))
-        starts (subst (λ b. Spares b (targets body)) box (spares_inside round.box next into.numbers body spares has.2.kept)) shown private there.read there.stays
-    stmt_commutes (block less items) round serial entered at starts spares shown private read has = items_commute items round serial entered at starts spares shown private read has
-    stmt_commutes (print less f r fill) round serial entered at starts spares shown private read has = tt
+        starts (subst (λ b. Keeps b body) box (keeps_inside round.box next into.numbers body (λ y q. (or_parts (stepped step == y) (assigns y body) (kept y q)).1) has.2.kept)) shown private there.read there.stays
+    stmt_commutes (block less items) round serial entered at starts kept shown private read has = items_commute items round serial entered at starts kept shown private read has
+    stmt_commutes (print less f r fill) round serial entered at starts kept shown private read has = tt
 
     items_commute : {scope : Scope} {o next next' : ℕ} {ts : List Token} {items : Items} → ReadsItems scope o next ts items next' → (round : Nesting) (serial : List Loop) → AreEntered no_loops serial round
-        → IsPlace ds round.box scope next → AllNameOthers items → Spares round.box (targets_among items) → ItemsShown text round items → ItemsKeepRoles text R serial items → ItemsAreRead round.box items → Have (StaysInside ds) round.box items
-        → ItemsHaveBy text (CommutesBy R) serial items
-    items_commute no_more round serial entered at starts spares shown private read has = tt
-    items_commute (line {n = n} r) round serial entered at starts spares shown private read has =
-        (line_commutes r round serial n entered at starts spares shown.0 private.0 read has, items_commute r round serial entered at starts spares shown.1 private.1 read has)
-    items_commute {scope} (empty_local {next = next} {name = name} free r) round serial entered at starts spares shown private read has =
-        items_commute r round serial entered (place_behind ds round.box scope name next at) starts.1 spares shown private read has.1
-    items_commute {scope} (first_local {next = next} {name = name} free e r) round serial entered at starts spares shown private read has =
-        items_commute r round serial entered (place_behind ds round.box scope name next at) starts.1 spares shown private read has.1
-    items_commute {scope} (statement {next = next} {next' = middle} {s = a} {items = items} ra r) round serial entered at starts spares shown private read has = (
-      stmt_commutes ra round serial entered at starts.0 (spares_left round.box (targets a) (targets_among items) spares) shown.0 private.0 read.0 has.0,
-      items_commute r round serial entered (place_later ds round.box scope next middle (rises ra) at) starts.1 (spares_right round.box (targets a) (targets_among items) spares) shown.1 private.1 read.1 has.1,
+        → IsPlace ds round.box scope next → AllNameOthers items → AllKeep round.box items → ItemsShown text round items → ItemsKeepRoles text R serial items → ItemsAreRead round.box items → Have (StaysInside ds) round.box items
+        → ItemsHaveBy text (CommutesBy ds R) serial items
+    items_commute no_more round serial entered at starts kept shown private read has = tt
+    items_commute (line {n = n} r) round serial entered at starts kept shown private read has =
+        (line_commutes r round serial n entered at starts kept shown.0 private.0 read has, items_commute r round serial entered at starts kept shown.1 private.1 read has)
+    items_commute {scope} (empty_local {next = next} {name = name} free r) round serial entered at starts kept shown private read has =
+        items_commute r round serial entered (place_behind ds round.box scope name next at) starts.1 kept shown private read has.1
+    items_commute {scope} (first_local {next = next} {name = name} free e r) round serial entered at starts kept shown private read has =
+        items_commute r round serial entered (place_behind ds round.box scope name next at) starts.1 kept shown private read has.1
+    items_commute {scope} (statement {next = next} {next' = middle} {s = a} {items = items} ra r) round serial entered at starts kept shown private read has = (
+      stmt_commutes ra round serial entered at starts.0 (λ y q. (or_parts (assigns y a) (assigns_among y items) (kept y q)).0) shown.0 private.0 read.0 has.0,
+      items_commute r round serial entered (place_later ds round.box scope next middle (rises ra) at) starts.1 (λ y q. (or_parts (assigns y a) (assigns_among y items) (kept y q)).1) shown.1 private.1 read.1 has.1,
     )
 
 -- ---- a kernel

@@ -42,7 +42,8 @@ use Rattle.law_independence.proofs.PrivateNests.{private_nest, private_target, n
 use Rattle.law_independence.proofs.ReorderedBodies.{IsStmtRead, AreItsOwn, body_keeps, IsNestRead, nest_read}
 use Rattle.law_independence.proofs.RoleNests.{used_variables, used_first, used_last, used_different, used_apart, used_updates, scalar_assigned}
 use Rattle.law_independence.proofs.Steadiness.{IsArray}
-use Rattle.law_independence.proofs.Targeted.{is_outside_target, outside_visible, outside_target, no_outside_target, nest_targets}
+use Rattle.law_independence.proofs.Taking.{operands_taken}
+use Rattle.law_independence.proofs.Targeted.{no_target, is_outside_target, outside_visible, outside_target, no_outside_target, nest_targets}
 
 -- ---- at a turn of the loops round a nest
 
@@ -68,7 +69,7 @@ steps_read before (h ∷ hs) after (s, v, head, level, rest) =
     (record { scope = head.scope; order = head.order; tokens = head.tokens; small = head.small; reads = head.reads }, steps_read (record { box = s ∷ before.box; levels = v ∷ before.levels }) hs after rest)
 
 -- a nest and its body assign of scalars from outside those alone that have a role, each as its role allows
-module _ (ds : List Declaration) (round : Nesting) (outer : ℕ) (serial : List ℕ) (n : ℕ) (s : Stmt) (found : IsNestRead ds round outer serial n s) (stmt : IsStmtRead ds round.box s) (stays : Has (StaysInside ds) round.box s)
+module _ (ds : List Declaration) (short : HaveShort ds) (round : Nesting) (outer : ℕ) (serial : List ℕ) (n : ℕ) (s : Stmt) (found : IsNestRead ds round outer serial n s) (stmt : IsStmtRead ds round.box s) (stays : Has (StaysInside ds) round.box s)
     (roles : Roles) (private : is_private_body (role_variables roles) found.nest.body ≡ true) (different : are_different (role_variables roles) ≡ true) (first : IsSome (definite no_privates s (λ x. not (is_among (assigned_first roles) x))))
     (last : AssignsAll (assigned_first roles) roles.lasts found.nest.body) (updates : reduces roles.reductions s ≡ true) where
   abbrev body : Stmt
@@ -125,7 +126,7 @@ module _ (ds : List Declaration) (round : Nesting) (outer : ℕ) (serial : List 
   nest_keeps_apart : KeepsApart xs s
   nest_keeps_apart =
       body_keeps ds round.box s (is_among (declared_in s ++ ps)) xs stmt stays whole
-      (record { all = λ y t v. assigned_used y (is_outside_target s y v t); arrays = no_array; counters = λ y c. none_spared y (stmt.spares y c) })
+      (record { all = λ y t v. assigned_used y (is_outside_target s y v t); arrays = no_array; counters = λ y c. none_spared y (no_target y s (stmt.kept y c)) })
 
   body_keeps_apart : (zs : List Variable) → AreItsOwn ds found.nest.inner.box body zs → KeepsApart zs body
   body_keeps_apart zs its = body_keeps ds found.nest.inner.box body (is_among (declared_in body ++ ps)) zs found.inner found.nest.there.stays private its
@@ -153,7 +154,7 @@ module _ (ds : List Declaration) (round : Nesting) (outer : ℕ) (serial : List 
         no_firsts = refl;
         no_conditionals = refl;
         whole = nest_keeps_apart;
-        inside = body_keeps_apart xs (record { all = inside_used; arrays = no_array; counters = λ y c. none_spared y (same y ∙ found.inner.spares y c) });
+        inside = body_keeps_apart xs (record { all = inside_used; arrays = no_array; counters = λ y c. none_spared y (same y ∙ no_target y body (found.inner.kept y c)) });
         declares_none = λ x h. outside_visible s x (used_assigned x h);
         scalars = at.scalars;
         apart = used_apart s roles different;
@@ -172,7 +173,7 @@ module _ (ds : List Declaration) (round : Nesting) (outer : ℕ) (serial : List 
       (record {
         all = λ y t v. is_outside_target body y v t;
         arrays = none_of_arrays (targets_outside body) (λ y e. same y ∙ outside_target body y e);
-        counters = λ y c. no_outside_target body y (found.inner.spares y c);
+        counters = λ y c. no_outside_target body y (no_target y body (found.inner.kept y c));
       })
 
   plain_first : used.reductions ≡ [] → AssignsFirst (targets_outside body) body
@@ -191,7 +192,7 @@ module _ (ds : List Declaration) (round : Nesting) (outer : ℕ) (serial : List 
           (first_used x (there x used_there), outside_visible s x (used_assigned x used_there))
 
   -- so it commutes, where its iterations are independent
-  commutes : (around : List Loop) → AreEntered no_loops around round → IsIndependentNest around n s → CommutesAsNest used around n s
+  commutes : (around : List Loop) → AreEntered no_loops around round → IsIndependentNest around n s → CommutesAsNest ds used around n s
   commutes around entered independent =
       record {
         nest = independent.0;
@@ -205,6 +206,9 @@ module _ (ds : List Declaration) (round : Nesting) (outer : ℕ) (serial : List 
         there = λ loops inside outside is turn.
             let at = at_turn outside turn in
             same_nest (λ ls b. IsSome (iterations ls outside)) loops inside is (iterations_are_there round found.nest.inner found.nest.loops at.0 outside found.nest.entered at.1);
+        takes = λ scope order next next' tokens known outside reads turn met determined.
+            let at = at_turn outside turn in
+            operands_taken ds round around used.reductions s (at.0) short entered stays stmt.kept (used_updates s roles updates) scope order next next' tokens known outside reads at.1 met determined;
         leaves = λ outside e ran x seen other.
             sym (steady_keeps (λ y. visible_behind s y && not (is_among xs y)) s nest_keeps_apart.steady outside e ran x
             (and_from (visible_behind s x) (not (is_among xs x)) seen (ap not (sym (assigned x) ∙ other)))).locals;
@@ -240,9 +244,9 @@ module _ (ds : List Declaration) (round : Nesting) (outer : ℕ) (serial : List 
           same_nest (λ ls b. iterations ls outside ≡ Some us → IsReady ls b outside us) loops inside is (λ are'. nest_ready ds round outer serial n s found.nest at.0 outside us at.1 are') are
 
 pub loop_commutes : (ds : List Declaration) (serial : List Loop) (round : Nesting) (n : ℕ) (s : Stmt) → HaveShort ds → AreEntered no_loops serial round → LoopsAreRead round.box s → Has (StaysInside ds) round.box s
-    → IsStmtRead ds round.box s → (roles : Roles) → KeepsItsRoles roles n s → IsShownLoop round n s → CommutesAsNest (used_roles s roles) serial n s
+    → IsStmtRead ds round.box s → (roles : Roles) → KeepsItsRoles roles n s → IsShownLoop round n s → CommutesAsNest ds (used_roles s roles) serial n s
 loop_commutes ds serial round n s short entered read stays stmt roles kept shown =
     let found = nest_read n ds round (length round.levels) (map (λ v. v.most) (inner_loops 0 round.levels)) s shown (record { read = read; stays = stays }) stmt in
     let body_is : kept.body ≡ found.nest.body = ap (λ (p : List Loop × Stmt). p.1) (same_Some (kept.loops, kept.body) (found.nest.loops, found.nest.body) (sym kept.nest ∙ found.nest.is)) in
-    commutes ds round (length round.levels) (map (λ v. v.most) (inner_loops 0 round.levels)) n s found stmt stays roles (subst (λ b. is_private_body (role_variables roles) b ≡ true) body_is kept.keeps) kept.different kept.first
+    commutes ds short round (length round.levels) (map (λ v. v.most) (inner_loops 0 round.levels)) n s found stmt stays roles (subst (λ b. is_private_body (role_variables roles) b ≡ true) body_is kept.keeps) kept.different kept.first
     (subst (λ b. AssignsAll (assigned_first roles) roles.lasts b) body_is kept.last) kept.updates serial entered (shown_loops_are_independent ds serial round n s short entered read stays shown)

@@ -137,17 +137,3 @@ loop_visible s l b h x = ap (λ xs. not (is_among xs x)) (nest_declares 1 s (l �
 -- their variables are none of these
 abbrev pub Spares : List Side → List Variable → Type 0
 Spares box xs = (y : Variable) → is_counter box y ≡ true → is_among xs y ≡ false
-
-pub spares_left : (box : List Side) (xs ys : List Variable) → Spares box (xs ++ ys) → Spares box xs
-spares_left box xs ys h y c = (in_neither y xs ys (h y c)).0
-
-pub spares_right : (box : List Side) (xs ys : List Variable) → Spares box (xs ++ ys) → Spares box ys
-spares_right box xs ys h y c = (in_neither y xs ys (h y c)).1
-
--- nor is that of one loop more, which its body does not assign
-pub spares_inside : (box : List Side) (x : Variable) (i : Interval) (body : Stmt) → Spares box (targets body) → assigns x body ≡ false → Spares (inside box x i) (targets body)
-spares_inside box x i body h kept y c = at (x == y) refl c
-  where
-    at : (b : Bool) → (x == y) ≡ b → cond b true (is_counter box y) ≡ true → is_among (targets body) y ≡ false
-    at true e q = ap (is_among (targets body)) (sym (eqb-true x y e)) ∙ no_target x body kept
-    at false e q = h y q

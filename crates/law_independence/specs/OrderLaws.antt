@@ -1,13 +1,13 @@
 -- The iterations of parallel loops that are accepted may run in any order. (OpenMP 5.2, 1.4.1 and 11.5)
 use Rattle.std.specs.Prelude.{ℕ, Bool, true, false, ◌≡◌, ◌≤◌, ◌<◌, List, [], ◌∷◌, length, filter, flat_map, Some, IsSome, slice_get}
-use Rattle.std.specs.List.{list_all}
+use Rattle.std.specs.List.{list_all, AllByRecursion}
 use Rattle.semantics.specs.Tree.{Variable, Stmt, Declaration, Kernel}
 use Rattle.semantics.specs.Source.Token.{Token}
-use Rattle.semantics.specs.Source.Scope.{Scope}
-use Rattle.semantics.specs.Source.Statements.{ReadsIncrement}
+use Rattle.semantics.specs.Source.Scope.{Scope, Entity, AVariable, AConstant}
+use Rattle.semantics.specs.Source.Statements.{ReadsIncrement, ReadsStmt}
 use Rattle.law_lines.specs.Without.{IsTreeOf}
 use Rattle.semantics.specs.Meaning.State.{State, Outside, Holds, is_there, overwritten}
-use Rattle.semantics.specs.Meaning.Agrees.{is_among, visible_behind, names_only}
+use Rattle.semantics.specs.Meaning.Agrees.{is_among, visible_behind}
 use Rattle.semantics.specs.Meaning.Definite.{no_privates, definite, IsDefinite}
 use Rattle.semantics.specs.Loops.Nest.{Loop, Vector, nest_of, iterations}
 use Rattle.semantics.specs.Meaning.Runs.{Effect, run}
@@ -84,21 +84,6 @@ LeavesOthers s =
     (outer : State) (e : Effect) → run s outer ≡ Some e
     → (x : Variable) → visible_behind s x ≡ true → is_among (targets_outside s) x ≡ false → (overwritten outer e.writes).locals x ≡ outer.locals x
 
--- a statement is a nest of so many loops, whose iterations may be run in any order and in chunks, with these roles of what it assigns
-pub record CommutesAsNest (roles : Roles) (serial : List Loop) (n : ℕ) (s : Stmt) : Type 0 where
-  pub nest : IsSome (nest_of n s)
-  pub round : HaveTurns serial
-  pub steps : HasStepsRead n s
-  pub assigned : (x : Variable) → is_among (targets_outside s) x ≡ is_among (role_variables roles) x
-  pub order : roles.reductions ≡ [] → CommutesAtTurns serial n s
-  pub there : IterateAtTurns serial n s
-  pub leaves : LeavesOthers s
-  pub chunks : SharesAtTurns roles serial n s
-
--- so the loop behind each directive line, with the roles that the line gives
-abbrev pub CommutesBy : LineRoles → AskedByLine
-CommutesBy R line serial n s = CommutesAsNest (used_roles s (R line)) serial n s
-
 -- the objects of the declarations are there and no other, and no local hides them; of each visible local one stands, and each that is known holds a number
 pub record StandsThere (ds : List Declaration) (visible known : Variable → Bool) (s : State) : Type 0 where
   pub there : (x : Variable) (is : List ℕ) → is_there (s.cells x is) ≡ is_declared (slice_get ds x) is
@@ -106,23 +91,45 @@ pub record StandsThere (ds : List Declaration) (visible known : Variable → Boo
   pub inside : (x : Variable) → visible x ≡ true → length ds ≤ x → is_outside (s.locals x) ≡ false
   pub held : (x : Variable) → known x ≡ true → length ds ≤ x → (v : ℕ) × (s.locals x ≡ Holds v)
 
--- where a nest stands so at a turn of the serial loops round it, and reads what is known, its operands are taken
+-- a name's variable has a number below the next one, and a local of it stands (C11 6.2.1)
+abbrev pub IsSeen : List Declaration → ℕ → State → Entity → Type 0
+IsSeen ds next s (AVariable x n) = (x < next) × (length ds ≤ x → is_outside (s.locals x) ≡ false)
+IsSeen ds next s (AConstant n) = Unit {0}
+
+-- a nest is read in this scope inside serial loops, and all that it may name stands there
+pub record IsMet (ds : List Declaration) (scope : Scope) (next : ℕ) (known : Variable → Bool) (serial : List Loop) (outer : State) : Type 0 where
+  pub small : Each IsSmall scope
+  pub seen : Each (IsSeen ds next outer) scope
+  pub room : length ds ≤ next
+  pub below : (x : Variable) → known x ≡ true → x < next
+  pub loops : AllByRecursion (λ l. l.variable < next) serial
+  pub stands : StandsThere ds (λ x. false) known outer
+
+-- where it is met so at a turn of the serial loops round it, and reads what is known, its operands are taken
 abbrev pub TakesAtTurns : List Declaration → Roles → List Loop → Stmt → Type 0
 TakesAtTurns ds roles serial s =
-    (visible known : Variable → Bool) (outer : State) → IsTurn serial outer → names_only visible s ≡ true → StandsThere ds visible known outer
+    (scope : Scope) (order next next' : ℕ) (tokens : List Token) (known : Variable → Bool) (outer : State)
+    → ReadsStmt scope order next tokens s next' → IsTurn serial outer → IsMet ds scope next known serial outer
     → IsSome (definite no_privates s known) → TakesOperands roles.reductions s outer
 
-abbrev pub TakesBy : List Declaration → LineRoles → AskedByLine
-TakesBy ds R line serial n s = TakesAtTurns ds (used_roles s (R line)) serial s
+-- a statement is a nest of so many loops, whose iterations may be run in any order and in chunks, with these roles of what it assigns
+pub record CommutesAsNest (ds : List Declaration) (roles : Roles) (serial : List Loop) (n : ℕ) (s : Stmt) : Type 0 where
+  pub nest : IsSome (nest_of n s)
+  pub round : HaveTurns serial
+  pub steps : HasStepsRead n s
+  pub assigned : (x : Variable) → is_among (targets_outside s) x ≡ is_among (role_variables roles) x
+  pub order : roles.reductions ≡ [] → CommutesAtTurns serial n s
+  pub there : IterateAtTurns serial n s
+  pub leaves : LeavesOthers s
+  pub takes : TakesAtTurns ds roles serial s
+  pub chunks : SharesAtTurns roles serial n s
+
+-- so the loop behind each directive line, with the roles that the line gives
+abbrev pub CommutesBy : List Declaration → LineRoles → AskedByLine
+CommutesBy ds R line serial n s = CommutesAsNest ds (used_roles s (R line)) serial n s
 
 -- so each parallel loop of a kernel of the grammar, where no subscript leaves its dimension, no local is read before it is assigned, parallel loops print nothing and keep the roles of the scalars that they assign, and the test of pairs shows all of them to be independent
 abbrev pub AcceptedLoopsCommute : Type 0
 AcceptedLoopsCommute =
     (text : List ℕ) (k : Kernel) (R : LineRoles) → IsTreeOf text k → IsInRange k → IsDefinite (privates_by R) k → ItemsKeepRoles text R [] k.body
-    → AreShownLoops text k → ItemsHaveBy text (CommutesBy R) [] k.body
-
--- and takes its operands
-abbrev pub AcceptedLoopsTakeOperands : Type 0
-AcceptedLoopsTakeOperands =
-    (text : List ℕ) (k : Kernel) (R : LineRoles) → IsTreeOf text k → IsInRange k → IsDefinite (privates_by R) k → ItemsKeepRoles text R [] k.body
-    → AreShownLoops text k → ItemsHaveBy text (TakesBy k.variables R) [] k.body
+    → AreShownLoops text k → ItemsHaveBy text (CommutesBy k.variables R) [] k.body

@@ -9,5 +9,6 @@ pub mod Growing
 pub mod Turning
 pub mod Inside
 pub mod Loops
+pub mod Operands
 pub mod StatementsRun
 pub mod Nested

@@ -1,6 +1,6 @@
 -- What is visible behind the declarations, and the law of nested kernels.
 use Rattle.std.specs.Prelude.{ℕ, suc, true, ◌≡◌, ◌<◌, ◌≤◌, ◌+◌, ℤ, pos, List, [], ◌∷◌, length, Option, Some, None, is_some}
-use Rattle.std.proofs.Common.{refl, inl, ap, arith}
+use Rattle.std.proofs.Common.{refl, sym, inl, ap, ◌∙◌, arith}
 use Rattle.std.proofs.lemmas.Bool.{ltb-true}
 use Rattle.std.proofs.lemmas.Int.{ints}
 use Rattle.semantics.specs.Tree.{Name, Variable, Declaration}
@@ -17,6 +17,7 @@ use Rattle.nest_loop.proofs.Visible.{each_weaker, constant_there}
 use Rattle.law_runs.proofs.There.{There}
 use Rattle.law_runs.proofs.Values.{AreShort, HaveShort}
 use Rattle.law_runs.proofs.Points.{IsBelow, below_more, IsPoint, CanBeSet}
+use Rattle.law_runs.proofs.Operands.{all_plain_reduce, all_plain_operands}
 use Rattle.law_runs.proofs.StatementsRun.{items_go}
 
 -- enum constants are small
@@ -85,5 +86,5 @@ nested_kernels_run text k s reads in_range definite state outside =
         turn = record { inside = λ x. record { above = omega (arith, ints); below = omega (arith, ints) }; counters = λ y e. absurd cc };
       };
     } in
-    let ran = items_go ds (decls_short s read.declared tt) [] no_values read.items (known_at_start ds) left.0 s in_range (λ y e. absurd cc) point left.1 in
-    there_some (run_items k.body s) ran.effect ran.is
+    let ran = items_go ds (decls_short s read.declared tt) [] [] no_values read.items (known_at_start ds) left.0 s in_range (λ y e. absurd cc) (all_plain_reduce k.body) point left.1 in
+    there_some (run_items k.body s) ran.effect (ap (λ items. run_items items s) (sym (all_plain_operands k.body)) ∙ ran.is)
