@@ -34,10 +34,9 @@ use Rattle.law_private.proofs.Alike.{Both, both_some, Meet, meet_less, may_names
 use Rattle.law_roles.specs.Updates.{operands}
 use Rattle.law_roles.specs.Reducing.{takes_all}
 use Rattle.law_roles.specs.Sharing.{assigned_first, role_variables, TakesOperands}
-use Rattle.law_independence.specs.OrderLaws.{HaveTurns, LeavesOthers, StandsThere, TakesAtTurns, used_roles}
+use Rattle.law_independence.specs.OrderLaws.{HaveTurns, LeavesOthers, StandsThere, used_roles}
 use Rattle.law_independence.proofs.Targeted.{in_either, outside_visible, outside_target}
 use Rattle.law_scopes.specs.Apart.{left_slot, left_effect, LeavesApart, told_apart, stands_there, is_at_hand, handed, apart, apart_items, apart_behind, is_at_turn}
-use Rattle.law_scopes.proofs.Turning.{at_turns}
 use Rattle.law_scopes.proofs.Shared.{there_same, still_inside, same_kind, left_apart}
 use Rattle.law_scopes.proofs.Named.{target_named, all_among}
 use Rattle.law_scopes.proofs.Undeclared.{runs_outside, runs_held}
@@ -211,10 +210,9 @@ module _ (ds : List Declaration) where
       pub round : HaveTurns serial
       pub assigned : (x : Variable) → is_among (targets_outside a) x ≡ is_among (role_variables roles) x
       pub leaves : LeavesOthers a
-      pub takes : TakesAtTurns ds roles serial a
+      pub takes : (t : State) → Spot F serial t → StandsThere ds V k t → TakesOperands roles.reductions a t
       pub known : Variable → Bool
       pub is : definite P a k ≡ Some known
-      pub reads : IsSome (definite no_privates a k)
       pub seen : IsWithin V (visible_behind a)
       pub still : (x : Variable) → j x ≡ true → (known x ≡ true) × (k x ≡ true) × (visible_behind a x ≡ true) × (is_among roles.privates x ≡ false)
       pub scalars : (x : Variable) → is_among (targets_outside a) x ≡ true → lengths_of (slice_get ds x) ≡ []
@@ -343,7 +341,7 @@ module _ (ds : List Declaration) where
             and_from (list_all (stands_there t) (role_variables roles) && list_all (λ (r : Variable × ReduceOp). is_some (look t r.0 [])) roles.reductions) (takes_all roles.reductions || is_some (run (operands roles.reductions a) t))
             (and_from (list_all (stands_there t) (role_variables roles)) (list_all (λ (r : Variable × ReduceOp). is_some (look t r.0 [])) roles.reductions)
             (all_among (stands_there t) (role_variables roles) scalar_there) (all_numbers roles.reductions number_there))
-            (taken_there (its.takes V k t (at_turns serial t turn) named stand its.reads))
+            (taken_there (its.takes t spot stand))
 
         -- what it leaves of a local
         module _ (e : Effect) (ran : run a t ≡ Some e) where

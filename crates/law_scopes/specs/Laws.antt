@@ -8,7 +8,7 @@ use Rattle.semantics.specs.Meaning.Runs.{Effect, run_items}
 use Rattle.semantics.specs.Theorems.{is_declared}
 use Rattle.nest.specs.Nests.{IsInRange}
 use Rattle.flow.specs.Roles.{LineRoles, privates_by, ItemsHaveBy, ItemsKeepRoles}
-use Rattle.law_independence.specs.OrderLaws.{CommutesBy, TakesBy}
+use Rattle.law_independence.specs.OrderLaws.{CommutesBy}
 use Rattle.law_scopes.specs.Apart.{apart_items}
 
 -- no local stands yet, and the objects of the declarations are there and no other
@@ -23,10 +23,10 @@ pub record LeavesTheSame (s : State) (e : Effect) (o : Option Effect) : Type 0 w
   pub text : effect.text ≡ e.text
   pub cells : (x : Variable) (is : List ℕ) → (overwritten s effect.writes).cells x is ≡ (overwritten s e.writes).cells x is
 
--- so it is of each kernel of the grammar with subscripts in range, in which no local is read before it is assigned, and whose parallel loops commute, keep the roles of the scalars that they assign, and take their operands
+-- so it is of each kernel of the grammar with subscripts in range, in which no local is read before it is assigned, and whose parallel loops commute and keep the roles of the scalars that they assign
 abbrev pub AcceptedKernelsRunApart : Type 0
 AcceptedKernelsRunApart =
     (text : List ℕ) (k : Kernel) (R : LineRoles) (s : State) (e : Effect) → IsTreeOf text k → IsInRange k → IsDefinite (privates_by R) k
-    → ItemsKeepRoles text R [] k.body → ItemsHaveBy text (CommutesBy R) [] k.body → ItemsHaveBy text (TakesBy k.variables R) [] k.body
+    → ItemsKeepRoles text R [] k.body → ItemsHaveBy text (CommutesBy k.variables R) [] k.body
     → StartsWith k.variables s → run_items k.body s ≡ Some e
     → LeavesTheSame s e (apart_items R [] k.body s)
