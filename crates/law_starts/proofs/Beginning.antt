@@ -25,6 +25,12 @@ reduced rs = map (λ r. r.0) rs
 abbrev pub first_value : Variable × ReduceOp → State → Option ℕ
 first_value r s = map_option (begins_with r.1) (look s r.0 [])
 
+pub first_apart : (r : Variable × ReduceOp) (rs : List (Variable × ReduceOp)) → are_different (reduced (r ∷ rs)) ≡ true → is_among (reduced rs) r.0 ≡ false
+first_apart r rs d = not_true (is_among (reduced rs) r.0) (first_of (not (is_among (reduced rs) r.0)) (are_different (reduced rs)) d)
+
+pub others_apart : (r : Variable × ReduceOp) (rs : List (Variable × ReduceOp)) → are_different (reduced (r ∷ rs)) ≡ true → are_different (reduced rs) ≡ true
+others_apart r rs d = second_of (not (is_among (reduced rs) r.0)) (are_different (reduced rs)) d
+
 -- ---- a scalar stays one
 
 local_scalar : (s : State) (x v : ℕ) (y : Variable) → IsScalar s y → IsScalar (with_local s x (Holds v)) y
@@ -91,7 +97,7 @@ taken_value s r v h = ap (λ o. look (given s r.0 (map_option (begins_with r.1) 
 pub begun_holds : (rs : List (Variable × ReduceOp)) (s : State) (x : Variable) (op : ReduceOp) (v : ℕ) → are_different (reduced rs) ≡ true → operator_of rs x ≡ Some op → look s x [] ≡ Some v
     → look (begun_with rs s) x [] ≡ Some (begins_with op v)
 begun_holds [] s x op v d is h = absurd (none-some op is)
-begun_holds (r ∷ rs) s x op v d is h = at (r.0 == x) refl is (λ k g. begun_holds rs next x op v (second_of (not (is_among (reduced rs) r.0)) (are_different (reduced rs)) d) k g)
+begun_holds (r ∷ rs) s x op v d is h = at (r.0 == x) refl is (λ k g. begun_holds rs next x op v (others_apart r rs d) k g)
   where
     next : State
     next = given s r.0 (first_value r s)
@@ -101,7 +107,7 @@ begun_holds (r ∷ rs) s x op v d is h = at (r.0 == x) refl is (λ k g. begun_ho
         → look (begun_with rs next) x [] ≡ Some (begins_with op v)
     at true e k rest =
         let same : r.0 ≡ x = eqb-true r.0 x e in
-        let gone : is_among (reduced rs) x ≡ false = ap (is_among (reduced rs)) (sym same) ∙ not_true (is_among (reduced rs) r.0) (first_of (not (is_among (reduced rs) r.0)) (are_different (reduced rs)) d) in
+        let gone : is_among (reduced rs) x ≡ false = ap (is_among (reduced rs)) (sym same) ∙ first_apart r rs d in
         look_of x (begun_with rs next) next (begun_locals rs next x gone) (λ is. begun_cells rs next x is gone) []
         ∙ ap (λ y. look next y []) (sym same) ∙ taken_value s r v (ap (λ y. look s y []) same ∙ h) ∙ ap (λ o. Some (begins_with o v)) (same_Some r.1 op k)
     at false e k rest = rest k (only_look r.0 s next (given_only s r.0 (first_value r s)) x (apart_back r.0 x e) [] ∙ h)

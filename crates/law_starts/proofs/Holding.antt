@@ -10,6 +10,7 @@ use Rattle.semantics.specs.Meaning.Value.{map_option, by_test, both_then, operat
 use Rattle.semantics.specs.Meaning.Runs.{Effect, nothing, one_write, joined, then_from, declares, declared, assigned, updated, incremented, turns, greatest_trip_count, run, run_items, print_text}
 use Rattle.semantics.specs.Meaning.Agrees.{is_among, declared_in, declared_among}
 use Rattle.semantics.specs.Loops.Nest.{Loop, Vector}
+use Rattle.semantics.specs.Loops.Joined.{given}
 use Rattle.law_commute.proofs.Matched.{overwritten-append}
 use Rattle.law_private.proofs.Chunks.{not_true}
 use Rattle.law_nests.specs.Walks.{entered, enters, walk}
@@ -93,6 +94,10 @@ module _ (x : Variable) where
       at Outside = cell_lasts s y is n h
       at Empty = local_lasts s y n h
       at (Holds m) = local_lasts s y n h
+
+  pub given_lasts : (s : State) (y : Variable) (o : Option ℕ) → IsSome (look s x []) → IsSome (look (given s y o) x [])
+  given_lasts s y None h = h
+  given_lasts s y (Some n) h = assigned_lasts s y [] n h
 
   keeps_assigned : (s : State) (y : Variable) (ks : Option (List ℕ)) (o : Option ℕ) → Keeps s (assigned s y ks o)
   keeps_assigned s y None o = keeps_none s
