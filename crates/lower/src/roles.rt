@@ -14,6 +14,7 @@ pub enum Spot {
 pub struct LoweredReduction {
     /// What its updates are combined by (OpenMP 5.2, 5.5.1).
     pub operator: ReductionOperator,
+    /// Where it stands.
     pub spot: Spot,
 }
 
@@ -21,6 +22,8 @@ pub struct LoweredReduction {
 /// ones (OpenMP 5.2, 5.4.5).
 #[derive(Drop)]
 pub struct LoweredRoles {
+    /// The reduction variables, in the order in which partials of them are told.
     pub reductions: Vec<LoweredReduction>,
+    /// The lastprivate ones, in the order in which values of them are told.
     pub lasts: Vec<Spot>,
 }

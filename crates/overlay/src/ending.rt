@@ -82,7 +82,8 @@ fn last_values(
     cells: &Chunk<'_>,
 ) -> Result<Vec<u64>, AllocError>
     ensures { IfOk result (λ values. values.items ≡ if has_last
-        then map (λ at. held_at at (machine registers.now (cells_of cells.now))) spots.now else []) }
+        then map (λ at. held_at at (machine registers.now (cells_of cells.now))) spots.now
+        else []) }
 {
     if has_last {
         return values(alloc, spots, registers, cells);
@@ -128,7 +129,8 @@ fn put_each_back(spots: &[Spot], cells: &mut Chunk<'_>)
 // So do reduction variables.
 fn put_reductions_back(reductions: &[LoweredReduction], cells: &mut Chunk<'_>)
     ensures back { cells_of cells.new
-        ≡ back_at_each (values_of cells.old.store) (reduced_at reductions.now) (cells_of cells.old) }
+        ≡ back_at_each (values_of cells.old.store) (reduced_at reductions.now)
+        (cells_of cells.old) }
     ensures store { cells.new.store ≡ cells.old.store }
 {
     let Some((reduction, rest)) = reductions.split_first() else {
@@ -140,7 +142,8 @@ fn put_reductions_back(reductions: &[LoweredReduction], cells: &mut Chunk<'_>)
 
 /// The variables with a role that stand at file scope hold again what they held before the loop, so that no change of them is told.
 pub fn put_roles_back(roles: &LoweredRoles, cells: &mut Chunk<'_>)
-    ensures back { cells_of cells.new ≡ back_at_each (values_of cells.old.store) (reduced_at roles.now.reductions.items)
+    ensures back { cells_of cells.new
+        ≡ back_at_each (values_of cells.old.store) (reduced_at roles.now.reductions.items)
         (back_at_each (values_of cells.old.store) roles.now.lasts.items (cells_of cells.old)) }
     ensures store { cells.new.store ≡ cells.old.store }
 {

@@ -61,8 +61,8 @@ impl<'s> Model for Worker<'s> {
 
 // Ends a chunk of which this is told.
 fn finish(alloc: Global, told: Told, cells: &mut Chunk<'_>) -> Result<Piece, AllocError>
-    ensures leave { IfOk result (λ piece. written_over (writes_of piece.changes) (values_of cells.old.store)
-        ≡ cells_of cells.old) }
+    ensures leave { IfOk result (λ piece.
+        written_over (writes_of piece.changes) (values_of cells.old.store) ≡ cells_of cells.old) }
     ensures only { IfOk result (λ piece. ChangeOnly cells.old.store piece.changes) }
     ensures once { IfOk result (λ piece. AreOnce piece.changes) }
     ensures partials { IfOk result (λ piece. piece.partials ≡ told.partials) }
