@@ -27,7 +27,7 @@ or_nothing (Some vs) = vs
 
 pub space_of : (l : LoweredLoop) (registers : List ℕ) (ts : List Turns) → HasIterations l.loops.items (given (values_in l.around.items registers)) ts → IsSpaceOf l registers ts
 unfolding or_nothing
-space_of l registers ts has layout mark loops body outer us ks r =
+space_of l registers ts has layout mark roles loops body outer us ks r =
     let counters : HoldCounters r.box (given (values_in l.around.items registers)) outer = λ x is.
     let held = r.counters x is in
     let there : slice_index registers x ≡ held.0 = r.stand.machine.local x held.0 held.1 in

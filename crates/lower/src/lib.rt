@@ -2,5 +2,7 @@
 #![tactic(auto)]
 
 mod lowered;
+mod roles;
 
 pub use lowered::LoweredLoop;
+pub use roles::{LoweredReduction, LoweredRoles, Spot};

@@ -4,6 +4,7 @@ ghost use Rattle.std.specs.Prelude.{◌≡◌, length, IfOk, IfErr};
 ghost use Rattle.ktree.specs.declared.refusal.Refusal.TheVariants.{OutOfMemory};
 ghost use Rattle.lower.specs.Lowered.{IsSpaceOf, values_in};
 
+use crate::roles::LoweredRoles;
 use ktree::{Refusal, Schedule, VarId};
 use lower_block::Compiled;
 use nest_loop::Canonical;
@@ -21,6 +22,8 @@ pub struct LoweredLoop {
     pub body: Compiled,
     /// What its directive's `schedule` says (OpenMP 5.2, 11.5.3).
     pub schedule: Option<Schedule>,
+    /// What its directive's clauses say of variables that leave something behind it.
+    pub roles: LoweredRoles,
 }
 
 // What these variables' registers hold.

@@ -11,7 +11,7 @@ use crate::shape::TeamLoop;
 use affine::VarBox;
 use flow::ParallelLoop;
 use ktree::{Place, Refusal, Schedule, Stmt, VarId};
-use lower::LoweredLoop;
+use lower::{LoweredLoop, LoweredRoles};
 use lower_block::Compiled;
 use nest::{Nest, as_loop};
 use nest_loop::Canonical;
@@ -127,6 +127,10 @@ fn lower(
         loops,
         body,
         schedule,
+        roles: LoweredRoles {
+            reductions: Vec::new(alloc),
+            lasts: Vec::new(alloc),
+        },
     })
 }
 

@@ -1,21 +1,84 @@
--- What a chunk changed, by where its iterations ended.
-use Rattle.std.proofs.Common.{ℕ, ◌≡◌, List, take, drop, Some, ap, ◌∙◌, subst}
+-- What a chunk leaves, by how its iterations were run.
+use Rattle.std.proofs.Common.{ℕ, ◌≡◌, ◌+◌, Bool, true, false, cond, List, [], length, take, drop, map, Some, refl, sym, ap, ◌∙◌, subst}
+use Rattle.std.specs.Prelude.{◌==◌}
+use Rattle.std.proofs.lemmas.Bool.{eqb-true, eq-eqb}
+use Rattle.semantics.specs.Tree.{Variable, Stmt}
+use Rattle.semantics.specs.Meaning.State.{State, overwritten}
+use Rattle.semantics.specs.Meaning.Runs.{Effect}
+use Rattle.semantics.specs.Loops.Nest.{Loop, Vector}
+use Rattle.semantics.specs.Loops.Piece.{Roles}
 use Rattle.law_nests.specs.Walks.{walk}
+use Rattle.law_starts.specs.Begun.{begun}
 use Rattle.nest_space.specs.Space.{Turns, vectors}
 use Rattle.store.specs.Kept.{Kept}
 use Rattle.store.specs.Flat.{values_of}
+use Rattle.lower_code.specs.declared.term.Laid.{Laid}
 use Rattle.lower_code.specs.Layout.{shapes_of, cell_at}
 use Rattle.lower_code.specs.Machine.{machine}
+use Rattle.lower_code.specs.Meaning.{Represents}
 use Rattle.overlay_pages.specs.Over.{writes_of, written_over}
-use Rattle.overlay_pages.specs.declared.changes.Change.{Change}
 use Rattle.lower.specs.declared.lowered.LoweredLoop.{LoweredLoop}
-use Rattle.lower.specs.Lowered.{IsSpaceOf}
+use Rattle.lower.specs.Lowered.{IsReached, IsSpaceOf}
+use Rattle.overlay.specs.declared.ending.Told.{Told}
+use Rattle.overlay.specs.declared.worker.Piece.{Piece}
 use Rattle.overlay.specs.declared.worker.Work.{Work}
-use Rattle.overlay.specs.Chunks.{IsChunkOf}
-use Rattle.overlay.specs.Walking.{EndsIn}
+use Rattle.overlay.specs.Chunks.{IsChunkOf, IsLastOf, AreLasts}
+use Rattle.overlay.specs.Running.{IsRunOver}
+use Rattle.reduce.specs.Partial.{partial_of}
+use Rattle.overlay.specs.Spots.{held_at}
+use Rattle.overlay.proofs.Going.{as_copied}
+use Rattle.overlay.proofs.Standing.{begun_stands}
+use Rattle.overlay.proofs.Back.{all_back}
+use Rattle.overlay.proofs.Telling.{all_partials, lasts_are}
 
-pub chunk_of : (l : LoweredLoop) (registers : List ℕ) (ks : List Kept) (ts : List Turns) (work : Work) (cells : List ℕ) (cs : List Change) → IsSpaceOf l registers ts → EndsIn l (take work.count (drop work.first (vectors ts))) (machine registers (values_of ks)) cells → written_over (writes_of cs) (values_of ks) ≡ cells → IsChunkOf l registers ks work cs
-chunk_of l registers ks ts work cells cs space ends left layout mark loops body outer us e r is x js =
-    let all : us ≡ vectors ts = space layout mark loops body outer us ks r in
-    ap (λ ms. cell_at (shapes_of layout) ms x js) left
-    ∙ ends layout mark r.box loops body outer e r.lowered r.stand.machine (subst (λ vs. walk loops body (take work.count (drop work.first vs)) outer ≡ Some e) all is) x js
+module _ (l : LoweredLoop) (registers : List ℕ) (ks : List Kept) (ts : List Turns) (work : Work) (told : Told) (cells : List ℕ) (space : IsSpaceOf l registers ts)
+    (ran : IsRunOver l ts work (machine registers (values_of ks)) told cells) where
+  -- the machine behind the iterations stands for the state that they leave
+  behind_stands : (layout : List Laid) (mark : ℕ) (roles : Roles) (loops : List Loop) (body : Stmt) (outer : State) (us : List Vector) (e : Effect) → IsReached layout mark roles loops body outer us l registers ks → walk loops body (take work.count (drop work.first us)) (begun roles outer) ≡ Some e
+      → Represents layout mark (overwritten (begun roles outer) e.writes) ran.runs.behind
+  behind_stands layout mark roles loops body outer us e r is =
+      let all : us ≡ vectors ts = space layout mark roles loops body outer us ks r in
+      ran.runs.walks layout mark r.box roles loops body r.lowered (begun roles outer) e
+      (begun_stands layout mark roles.reductions l.roles.reductions.items outer ran.start r.lowered.roles_at.reductions r.held (as_copied layout mark outer (machine registers (values_of ks)) ran.start ran.copied r.stand.machine))
+      (subst (λ vs. walk loops body (take work.count (drop work.first vs)) (begun roles outer) ≡ Some e) all is)
+
+  pub chunk_of : (p : Piece) → written_over (writes_of p.changes) (values_of ks) ≡ cells → p.partials ≡ told.partials → IsChunkOf l registers ks work p
+  chunk_of p left partials layout mark roles loops body outer us e r is =
+      let stands = behind_stands layout mark roles loops body outer us e r is in
+      let at = r.lowered.roles_at in
+      let leaves = λ (x : Variable) (js : List ℕ). ap (λ ms. cell_at (shapes_of layout) ms x js) (left ∙ ran.runs.back) in
+      let back = all_back layout mark (values_of ks) roles.lasts roles.reductions l.roles.lasts.items l.roles.reductions.items ran.runs.behind.cells at.lasts at.reductions ran.runs.room in
+      record {
+        changes = λ x js h. leaves x js ∙ (back x js).others h ∙ sym (stands.cell x js);
+        unchanged = λ x js h. leaves x js ∙ (back x js).these h ∙ sym (r.stand.machine.cell x js);
+        partials = λ held.
+            ap (λ ps. map partial_of ps.items) partials ∙ ran.runs.told_of.partials
+            ∙ all_partials layout mark roles.reductions outer e (machine registers (values_of ks)) ran.runs.behind r.stand.machine stands r.different r.held held l.roles.reductions.items at.reductions;
+      }
+
+  pub last_of : (p : Piece) → p.lasts ≡ told.lasts → IsLastOf l registers ks work p
+  last_of p lasts layout mark roles loops body outer us e r is =
+      record {
+        last = λ h. subst (λ vs. AreLasts roles.lasts behind vs) (sym (told_is ∙ ap (λ b. cond b values []) (eq-eqb (work.first + work.count) (length (vectors ts)) (h ∙ count))))
+            (lasts_are layout mark behind ran.runs.behind roles.lasts l.roles.lasts.items stands r.lowered.roles_at.lasts);
+        other = λ h. told_is ∙ ap (λ b. cond b values []) (not_last h (work.first + work.count == length (vectors ts)) refl);
+      }
+    where
+      behind : State
+      behind = overwritten (begun roles outer) e.writes
+
+      stands : Represents layout mark behind ran.runs.behind
+      stands = behind_stands layout mark roles loops body outer us e r is
+
+      values : List ℕ
+      values = map (λ at. held_at at ran.runs.behind) l.roles.lasts.items
+
+      told_is : p.lasts.items ≡ cond (work.first + work.count == length (vectors ts)) values []
+      told_is = ap (λ vs. vs.items) lasts ∙ ran.runs.told_of.lasts
+
+      count : length us ≡ length (vectors ts)
+      count = ap (λ (vs : List Vector). length vs) (space layout mark roles loops body outer us ks r)
+
+      not_last : (work.first + work.count ≡ length us → ⊥) → (b : Bool) → (work.first + work.count == length (vectors ts)) ≡ b → (work.first + work.count == length (vectors ts)) ≡ false
+      not_last h true e = absurd (h (eqb-true (work.first + work.count) (length (vectors ts)) e ∙ sym count))
+      not_last h false e = e

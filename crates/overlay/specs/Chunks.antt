@@ -1,10 +1,16 @@
--- What a chunk of a lowered loop changes. (OpenMP 5.2, 11.5; C11 6.8.5.3)
-use Rattle.std.specs.Prelude.{ℕ, ◌≡◌, ◌<◌, List, length, take, drop, Some, slice_index}
+-- What a chunk of a lowered loop leaves. (OpenMP 5.2, 5.4.5, 5.5.2 and 11.5; C11 6.8.5.3)
+use Rattle.std.specs.Prelude.{ℕ, true, false, ◌≡◌, ◌+◌, ◌<◌, List, [], ◌++◌, map, length, take, drop, Some, slice_get, slice_index}
 use Rattle.semantics.specs.Tree.{Variable, Stmt}
-use Rattle.semantics.specs.Meaning.State.{State, overwritten}
+use Rattle.semantics.specs.Meaning.State.{State, overwritten, look}
 use Rattle.semantics.specs.Meaning.Runs.{Effect}
+use Rattle.semantics.specs.Meaning.Agrees.{is_among}
 use Rattle.semantics.specs.Loops.Nest.{Loop, Vector}
+use Rattle.semantics.specs.Loops.Piece.{Roles}
 use Rattle.law_nests.specs.Walks.{walk}
+use Rattle.law_roles.specs.Reducing.{AreHeld}
+use Rattle.law_roles.specs.Sharing.{changed_from}
+use Rattle.law_starts.specs.Begun.{begun}
+use Rattle.reduce.specs.Partial.{partial_of}
 use Rattle.store.specs.Kept.{Kept}
 use Rattle.store.specs.Flat.{values_of}
 use Rattle.lower_code.specs.declared.term.Laid.{Laid}
@@ -13,20 +19,45 @@ use Rattle.overlay_pages.specs.Over.{writes_of, written_over}
 use Rattle.overlay_pages.specs.declared.changes.Change.{Change}
 use Rattle.lower.specs.declared.lowered.LoweredLoop.{LoweredLoop}
 use Rattle.lower.specs.Lowered.{IsReached}
+use Rattle.overlay.specs.declared.worker.Piece.{Piece}
 use Rattle.overlay.specs.declared.worker.Work.{Work}
 
 -- changes of these cells: each is one of them, and holds another number then
 abbrev pub ChangeOnly : List Kept → List Change → Type 0
 ChangeOnly ks cs = (place n : ℕ) → writes_of cs place ≡ Some n → (place < length (values_of ks)) × (slice_index (values_of ks) place ≡ n → ⊥)
 
--- written over the store, they leave the objects at file scope as an effect does
-abbrev pub LeaveAs : List Laid → List Kept → State → Effect → List Change → Type 0
-LeaveAs layout ks outer e cs =
-    (x : Variable) (is : List ℕ) → cell_at (shapes_of layout) (written_over (writes_of cs) (values_of ks)) x is ≡ (overwritten outer e.writes).cells x is
+-- the variables of which a chunk tells apart what it leaves
+abbrev pub told_apart : Roles → List Variable
+told_apart roles = roles.lasts ++ map (λ r. r.0) roles.reductions
 
--- wherever the loop is reached with these registers and this store, and the iterations of a chunk have a run one after another from there, the changes leave what that leaves
-abbrev pub IsChunkOf : LoweredLoop → List ℕ → List Kept → Work → List Change → Type 0
-IsChunkOf l registers ks work cs =
-    (layout : List Laid) (mark : ℕ) (loops : List Loop) (body : Stmt) (outer : State) (us : List Vector) (e : Effect)
-    → IsReached layout mark loops body outer us l registers ks → walk loops body (take work.count (drop work.first us)) outer ≡ Some e
-    → LeaveAs layout ks outer e cs
+-- an effect from this state is told: written over the store, the changes leave all other objects at file scope as it does, and those that are told apart as before the loop; and a partial of each reduction variable is told, where each holds a number behind it
+pub record LeavesPiece (layout : List Laid) (roles : Roles) (outer start : State) (ks : List Kept) (e : Effect) (p : Piece) : Type 0 where
+  pub changes : (x : Variable) (is : List ℕ) → is_among (told_apart roles) x ≡ false
+      → cell_at (shapes_of layout) (written_over (writes_of p.changes) (values_of ks)) x is ≡ (overwritten start e.writes).cells x is
+  pub unchanged : (x : Variable) (is : List ℕ) → is_among (told_apart roles) x ≡ true
+      → cell_at (shapes_of layout) (written_over (writes_of p.changes) (values_of ks)) x is ≡ outer.cells x is
+  pub partials : AreHeld roles.reductions (overwritten start e.writes) → map partial_of p.partials.items ≡ map (λ r. changed_from start e r.0) roles.reductions
+
+-- wherever the loop is reached with these registers and this store, and the iterations of a chunk have a run one after another from where it may begin there, its effect is told
+abbrev pub IsChunkOf : LoweredLoop → List ℕ → List Kept → Work → Piece → Type 0
+IsChunkOf l registers ks work p =
+    (layout : List Laid) (mark : ℕ) (roles : Roles) (loops : List Loop) (body : Stmt) (outer : State) (us : List Vector) (e : Effect)
+    → IsReached layout mark roles loops body outer us l registers ks → walk loops body (take work.count (drop work.first us)) (begun roles outer) ≡ Some e
+    → LeavesPiece layout roles outer (begun roles outer) ks e p
+
+-- of each lastprivate variable what it holds behind an effect, where it holds a number
+pub record AreLasts (xs : List Variable) (behind : State) (lasts : List ℕ) : Type 0 where
+  pub count : length lasts ≡ length xs
+  pub each : (k : ℕ) (x : Variable) (v : ℕ) → slice_get xs k ≡ Some x → look behind x [] ≡ Some v → slice_get lasts k ≡ Some v
+
+-- a chunk with the last iteration tells these, and another one none
+pub record TellsLasts (roles : Roles) (behind : State) (us : List Vector) (work : Work) (lasts : List ℕ) : Type 0 where
+  pub last : work.first + work.count ≡ length us → AreLasts roles.lasts behind lasts
+  pub other : (work.first + work.count ≡ length us → ⊥) → lasts ≡ []
+
+-- so it does wherever the loop is reached
+abbrev pub IsLastOf : LoweredLoop → List ℕ → List Kept → Work → Piece → Type 0
+IsLastOf l registers ks work p =
+    (layout : List Laid) (mark : ℕ) (roles : Roles) (loops : List Loop) (body : Stmt) (outer : State) (us : List Vector) (e : Effect)
+    → IsReached layout mark roles loops body outer us l registers ks → walk loops body (take work.count (drop work.first us)) (begun roles outer) ≡ Some e
+    → TellsLasts roles (overwritten (begun roles outer) e.writes) us work p.lasts.items

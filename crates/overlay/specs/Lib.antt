@@ -1,2 +1,5 @@
 pub mod Chunks
+pub mod Ending
+pub mod Running
+pub mod Spots
 pub mod Walking

@@ -1,7 +1,11 @@
 //! Chunks of a lowered loop: each run from the store before the loop, over what it writes itself.
 #![tactic(auto)]
 
+mod beginning;
+mod ending;
+mod running;
+mod spots;
 mod walking;
 mod worker;
 
-pub use worker::{Work, Worker};
+pub use worker::{Piece, Work, Worker};

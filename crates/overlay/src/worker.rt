@@ -4,16 +4,18 @@ ghost use Rattle.std.specs.Prelude.{◌≡◌, ◌+◌, ◌≤◌, length, IfOk,
 ghost use Rattle.ktree.specs.declared.refusal.Refusal.TheVariants.{OutOfMemory};
 ghost use Rattle.nest_space.specs.Space.{vectors};
 ghost use Rattle.store.specs.Flat.{values_of};
-ghost use Rattle.overlay_pages.specs.Over.{AreOnce};
+ghost use Rattle.overlay_pages.specs.Over.{writes_of, written_over, AreOnce};
 ghost use Rattle.overlay_pages.specs.Seen.{cells_of};
 ghost use Rattle.lower.specs.Lowered.{IsSpaceOf};
-ghost use Rattle.overlay.specs.Chunks.{IsChunkOf, ChangeOnly};
+ghost use Rattle.overlay.specs.Chunks.{IsChunkOf, IsLastOf, ChangeOnly};
 
-use crate::walking::run_copied;
+use crate::ending::Told;
+use crate::running::run_copied;
 use ktree::{ChunkNo, Refusal};
 use lower::LoweredLoop;
 use nest_space::Space;
 use overlay_pages::{Changes, Chunk, Own};
+use reduce::Partial;
 use std::alloc::{AllocError, Global};
 use std::marker::Model;
 use store::Store;
@@ -24,6 +26,17 @@ pub struct Work {
     pub chunk: ChunkNo,
     pub first: u64,
     pub count: u64,
+}
+
+/// What a chunk leaves (OpenMP 5.2, 5.4.5, 5.5.2 and 11.5).
+#[derive(Drop)]
+pub struct Piece {
+    /// What it changed of the store, but for reduction and lastprivate variables.
+    pub changes: Changes,
+    /// For each reduction variable what its iterations are combined to.
+    pub partials: Vec<Partial>,
+    /// What each lastprivate variable holds, where the chunk has the last iteration; no values where it has not.
+    pub lasts: Vec<u64>,
 }
 
 /// What a worker keeps from chunk to chunk, over the store before the loop.
@@ -46,6 +59,27 @@ impl<'s> Model for Worker<'s> {
     ghost invariant = { λ w. cells_of w.cells ≡ values_of w.cells.store };
 }
 
+// Ends a chunk of which this is told.
+fn finish(alloc: Global, told: Told, cells: &mut Chunk<'_>) -> Result<Piece, AllocError>
+    ensures leave { IfOk result (λ piece.
+        written_over (writes_of piece.changes) (values_of cells.old.store) ≡ cells_of cells.old) }
+    ensures only { IfOk result (λ piece. ChangeOnly cells.old.store piece.changes) }
+    ensures once { IfOk result (λ piece. AreOnce piece.changes) }
+    ensures partials { IfOk result (λ piece. piece.partials ≡ told.partials) }
+    ensures lasts { IfOk result (λ piece. piece.lasts ≡ told.lasts) }
+    ensures store { cells.new.store ≡ cells.old.store }
+    ensures unwritten { cells_of cells.new ≡ values_of cells.new.store }
+{
+    match cells.finish(alloc) {
+        Ok(changes) => Ok(Piece {
+            changes,
+            partials: told.partials,
+            lasts: told.lasts,
+        }),
+        Err(AllocError) => Err(AllocError),
+    }
+}
+
 // Runs a chunk over a worker's own registers and cells, of which none is written before and behind it.
 fn run_whole(
     alloc: Global,
@@ -55,20 +89,21 @@ fn run_whole(
     work: Work,
     own: &mut Vec<u64>,
     cells: &mut Chunk<'_>,
-) -> Result<Changes, Refusal>
+) -> Result<Piece, Refusal>
     requires loops { length space.now ≡ length lowered.now.loops.items }
     requires space { IsSpaceOf lowered.now registers.now space.now }
     requires work { work.first + work.count ≤ length (vectors space.now) }
     requires unwritten { cells_of cells.old ≡ values_of cells.old.store }
-    ensures changes { IfOk result (IsChunkOf lowered.now registers.now cells.old.store work) }
-    ensures only { IfOk result (ChangeOnly cells.old.store) }
-    ensures once { IfOk result AreOnce }
+    ensures leaves { IfOk result (IsChunkOf lowered.now registers.now cells.old.store work) }
+    ensures last { IfOk result (IsLastOf lowered.now registers.now cells.old.store work) }
+    ensures only { IfOk result (λ piece. ChangeOnly cells.old.store piece.changes) }
+    ensures once { IfOk result (λ piece. AreOnce piece.changes) }
     ensures refusal { IfErr result (λ refusal. refusal ≡ OutOfMemory) }
     ensures store { cells.new.store ≡ cells.old.store }
     ensures unwritten { cells_of cells.new ≡ values_of cells.new.store }
 {
     match run_copied(alloc, lowered, registers, space, work, own, cells) {
-        Ok(()) => Ok(cells.finish(alloc)?),
+        Ok(told) => Ok(finish(alloc, told, cells)?),
         Err(AllocError) => {
             cells.clear();
             Err(Refusal::OutOfMemory)
@@ -93,7 +128,10 @@ impl<'s> Worker<'s> {
         })
     }
 
-    /// Runs a chunk from the store before the loop and from registers that stand as before it, and tells what it changed.
+    /// Runs a chunk from the store before the loop and from registers that stand as before it, and tells what it leaves.
+    ///
+    /// A reduction variable begins with its operator's identity, or of && and || with what it held before the loop, and its partial is
+    /// what it holds in the end, unless that is what it began with.
     ///
     /// # Errors
     ///
@@ -105,14 +143,15 @@ impl<'s> Worker<'s> {
         registers: &[u64],
         space: &Space,
         work: Work,
-    ) -> Result<Changes, Refusal>
+    ) -> Result<Piece, Refusal>
         requires loops { length space.now ≡ length lowered.now.loops.items }
         requires space { IsSpaceOf lowered.now registers.now space.now }
         requires work { work.first + work.count ≤ length (vectors space.now) }
         ensures store { self.new ≡ self.old }
-        ensures changes { IfOk result (IsChunkOf lowered.now registers.now self.old work) }
-        ensures only { IfOk result (ChangeOnly self.old) }
-        ensures once { IfOk result AreOnce }
+        ensures leaves { IfOk result (IsChunkOf lowered.now registers.now self.old work) }
+        ensures last { IfOk result (IsLastOf lowered.now registers.now self.old work) }
+        ensures only { IfOk result (λ piece. ChangeOnly self.old piece.changes) }
+        ensures once { IfOk result (λ piece. AreOnce piece.changes) }
         ensures refusal { IfErr result (λ refusal. refusal ≡ OutOfMemory) }
     {
         run_whole(

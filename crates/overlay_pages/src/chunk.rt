@@ -1,6 +1,6 @@
 //! A chunk that runs over a store.
 
-ghost use Rattle.std.specs.Prelude.{◌≡◌, ℕ, ◌<◌, ◌^◌, length, replicate, IfOk, None};
+ghost use Rattle.std.specs.Prelude.{◌≡◌, ℕ, ◌<◌, ◌^◌, length, replicate, slice_index, IfOk, None};
 ghost use Rattle.store.specs.Flat.{values_of};
 ghost use Rattle.lower_code.specs.Machine.{Fits, machine};
 ghost use Rattle.overlay_pages.specs.Over.{writes_of, writes_in, changing, written_over, ChangeCells, AreOnce};
@@ -55,6 +55,13 @@ impl<'s> Chunk<'s> {
     {
         self.own.are_words();
         fit(registers, self.store.cells());
+    }
+
+    /// What the store holds at a place, and 0 outside.
+    pub fn held(&self, place: u64) -> u64
+        ensures { result ≡ slice_index (values_of self.now.store) place }
+    {
+        self.store.cell(place)
     }
 
     /// Ends a chunk: what it changed, which is each place where it wrote another number than the store holds. Nothing is written then, and the next chunk may run. This takes time for the pages with written cells alone.

@@ -12,4 +12,6 @@ mod overlay_pages_rows;
 #[cfg(test)]
 mod overlay_rows;
 #[cfg(test)]
+mod role_rows;
+#[cfg(test)]
 mod stores;

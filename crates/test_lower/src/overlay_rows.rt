@@ -4,12 +4,12 @@ use crate::stores::two_arrays_and_a_scalar;
 use affine::VarBox;
 use cparse::parse;
 use ktree::{ChunkNo, Item, Kernel, Stmt, VarId};
-use lower::LoweredLoop;
+use lower::{LoweredLoop, LoweredRoles};
 use lower_block::{Compiled, compile};
 use lower_code::{Code, layout_of, mark_among, statement};
 use nest_loop::{Canonical, canonical_of};
 use nest_space::Space;
-use overlay::{Work, Worker};
+use overlay::{Piece, Work, Worker};
 use overlay_pages::Changes;
 use std::alloc::Global;
 use std::process::Abort;
@@ -17,7 +17,7 @@ use store::Store;
 
 /// How many loops lie round a nest, each at this turn, how many loops it has, and which of its iterations are run, in chunks of so many.
 #[derive(Clone, Copy)]
-struct Part {
+pub(crate) struct Part {
     around: u64,
     turn: u64,
     depth: u64,
@@ -27,7 +27,7 @@ struct Part {
 }
 
 /// Iterations of one loop, with none round it.
-fn one_loop(first: u64, end: u64, cut: u64) -> Part {
+pub(crate) fn one_loop(first: u64, end: u64, cut: u64) -> Part {
     Part {
         around: 0,
         turn: 0,
@@ -97,8 +97,8 @@ fn body_of(alloc: Global, kernel: &Kernel, part: Part, nest: &mut Nest) -> Optio
     code_of(alloc, kernel, inner)
 }
 
-/// A nest with its body.
-fn loop_of(nest: Nest, body: Compiled) -> LoweredLoop {
+/// A nest with its body, of whose variables none has a role.
+fn loop_of(alloc: Global, nest: Nest, body: Compiled) -> LoweredLoop {
     let Nest {
         bounds: _,
         around,
@@ -109,6 +109,10 @@ fn loop_of(nest: Nest, body: Compiled) -> LoweredLoop {
         loops,
         body,
         schedule: None,
+        roles: LoweredRoles {
+            reductions: Vec::new(alloc),
+            lasts: Vec::new(alloc),
+        },
     }
 }
 
@@ -120,7 +124,7 @@ fn lowered_of(alloc: Global, kernel: &Kernel, part: Part) -> Option<LoweredLoop>
         loops: Vec::new(alloc),
     };
     match body_of(alloc, kernel, part, &mut nest) {
-        Some(body) => Some(loop_of(nest, body)),
+        Some(body) => Some(loop_of(alloc, nest, body)),
         None => None,
     }
 }
@@ -134,7 +138,7 @@ fn lowered_in(alloc: Global, text: &[u8], part: Part) -> Option<LoweredLoop> {
 }
 
 /// The nest at the end of the kernel with these lines.
-fn lowered(alloc: Global, lines: &str, part: Part) -> Option<LoweredLoop> {
+pub(crate) fn lowered(alloc: Global, lines: &str, part: Part) -> Option<LoweredLoop> {
     match format!(in alloc;
         "#include <stdint.h>\nuint64_t A[8]; uint64_t B[2][3]; uint64_t s; void kernel(void) {{\n{lines}\n}}\n"
     ) {
@@ -143,14 +147,14 @@ fn lowered(alloc: Global, lines: &str, part: Part) -> Option<LoweredLoop> {
     }
 }
 
-/// What a worker's chunk changes, if the space has its iterations.
-fn chunk(
+/// What a worker's chunk leaves, if the space has its iterations.
+pub(crate) fn chunk(
     alloc: Global,
     lowered: &LoweredLoop,
     registers: &[u64],
     worker: &mut Worker<'_>,
     work: Work,
-) -> Option<Changes> {
+) -> Option<Piece> {
     let Ok(space) = lowered.space(alloc, registers) else {
         return None;
     };
@@ -172,8 +176,8 @@ fn add_chunk(
     work: Work,
     all: &mut Vec<Changes>,
 ) -> Option<()> {
-    let changes = chunk(alloc, lowered, registers, worker, work)?;
-    all.push(changes).ok()
+    let piece = chunk(alloc, lowered, registers, worker, work)?;
+    all.push(piece.changes).ok()
 }
 
 /// What the chunks change, all run by one worker.

@@ -4,7 +4,7 @@ use crate::stores::shape;
 use affine::VarBox;
 use cparse::parse;
 use ktree::{Item, Kernel, Place, Schedule, Stmt, Workers};
-use lower::LoweredLoop;
+use lower::{LoweredLoop, LoweredRoles};
 use lower_block::{Compiled, compile};
 use lower_code::{Code, layout_of, mark_among, statement};
 use nest::{Nest, as_loop};
@@ -69,6 +69,10 @@ fn nest_of(
             loops: nest.loops,
             body,
             schedule: None,
+            roles: LoweredRoles {
+                reductions: Vec::new(alloc),
+                lasts: Vec::new(alloc),
+            },
         }),
         Err(_fault) => None,
     }

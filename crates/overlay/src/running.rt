@@ -1,0 +1,85 @@
+//! A chunk's iterations, from what its reduction variables begin with to what is told of them.
+
+ghost use Rattle.std.specs.Prelude.{◌≡◌, ◌+◌, ◌≤◌, ◌==◌, length, IfOk};
+ghost use Rattle.store.specs.Flat.{values_of};
+ghost use Rattle.nest_space.specs.Space.{vectors};
+ghost use Rattle.lower_code.specs.Machine.{machine};
+ghost use Rattle.overlay_pages.specs.Seen.{cells_of};
+ghost use Rattle.overlay.specs.Running.{IsRun, IsRunOver};
+
+use crate::beginning::begin;
+use crate::ending::{Told, put_roles_back, tell};
+use crate::walking::{copy_registers, end_of, run_iterations};
+use crate::worker::Work;
+use lower::LoweredLoop;
+use nest_space::Space;
+use overlay_pages::Chunk;
+use std::alloc::{AllocError, Global};
+
+// Whether a chunk has the last iteration.
+fn has_last(space: &Space, work: Work) -> bool
+    requires { work.first + work.count ≤ length (vectors space.now) }
+    ensures { result ≡ (work.first + work.count == length (vectors space.now)) }
+{
+    end_of(space, work) == space.count()
+}
+
+// Runs a chunk over registers that hold what others did before the loop.
+fn run_from(
+    alloc: Global,
+    lowered: &LoweredLoop,
+    before: &[u64],
+    space: &Space,
+    work: Work,
+    registers: &mut [u64],
+    cells: &mut Chunk<'_>,
+) -> Result<Told, AllocError>
+    requires loops { length space.now ≡ length lowered.now.loops.items }
+    requires work { work.first + work.count ≤ length (vectors space.now) }
+    requires wide { lowered.now.body.registers ≤ length registers.old }
+    ensures ran { IfOk result (λ told. IsRun lowered.now space.now work
+        (machine before.now (values_of cells.old.store))
+        (machine registers.old (cells_of cells.old)) told (cells_of cells.new)) }
+    ensures store { cells.new.store ≡ cells.old.store }
+{
+    begin(lowered.roles.reductions.as_slice(), registers, cells);
+    run_iterations(alloc, lowered, space, work, registers, cells)?;
+    let has_last = has_last(space, work);
+    let told = tell(alloc, &lowered.roles, has_last, before, registers, cells)?;
+    put_roles_back(&lowered.roles, cells);
+    Ok(told)
+}
+
+/// Runs a chunk over a worker's own registers, which are first made what these are, and the cells of a chunk, of which none is written before;
+/// behind it none is that a reduction or lastprivate variable has.
+///
+/// # Errors
+///
+/// Where memory runs out; cells may be written then.
+pub fn run_copied(
+    alloc: Global,
+    lowered: &LoweredLoop,
+    registers: &[u64],
+    space: &Space,
+    work: Work,
+    own: &mut Vec<u64>,
+    cells: &mut Chunk<'_>,
+) -> Result<Told, AllocError>
+    requires loops { length space.now ≡ length lowered.now.loops.items }
+    requires work { work.first + work.count ≤ length (vectors space.now) }
+    requires unwritten { cells_of cells.old ≡ values_of cells.old.store }
+    ensures ran { IfOk result (λ told. IsRunOver lowered.now space.now work
+        (machine registers.now (values_of cells.old.store)) told (cells_of cells.new)) }
+    ensures store { cells.new.store ≡ cells.old.store }
+{
+    copy_registers(own, registers, lowered.body.registers)?;
+    run_from(
+        alloc,
+        lowered,
+        registers,
+        space,
+        work,
+        own.as_mut_slice(),
+        cells,
+    )
+}
