@@ -156,7 +156,7 @@ pub fn run_loop<R: Threads + Wait + Sync, G: Gate + Sync>(
     ensures refusal { IfErr result (λ refusal. refusal ≡ Refusal.OutOfMemory) }
     ensures kept { IfErr result (λ refusal. store.new ≡ store.old) }
 {
-    let crew = Crew::new(workers.get() - 1);
+    let crew = Crew::new(alloc, workers.get() - 1)?;
     if crew.others() == 0 {
         return share_loop(
             rt, alloc, &crew, lowered, registers, store, workers, runtime, gate,
