@@ -63,6 +63,10 @@ impl Changes {
         ensures added { OnOk result (self.new ≡ self.old ++ later) }
         ensures kept { IfErr result (λ refusal. self.new ≡ self.old) }
     {
+        if self.writes.is_empty() {
+            *self = later;
+            return Ok(());
+        }
         self.writes.append(&mut later.writes)
     }
 
