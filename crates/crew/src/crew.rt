@@ -9,23 +9,32 @@ use std::alloc::{AllocError, Global};
 use std::marker::Model;
 use std::sync::{Arc, Mutex, Wait};
 
-/// Work that any number of threads may take part in at once, each with these tools.
-pub trait Job<T> {
-    /// Does what nobody else has taken up yet.
-    fn work(&self, tools: &T);
+/// A part of a job: its number, and how many parts there are, which is one for each of a crew.
+#[derive(Clone, Copy, Debug, PartialEq, Eq)]
+pub struct Part {
+    pub number: u64,
+    pub of: u64,
+}
+
+/// Work in parts. Threads do these at once, each with these tools and with what it keeps from job to job.
+pub trait Job<T, K> {
+    /// Does a part.
+    fn work(&self, part: Part, tools: &T, kept: &mut K);
 }
 
 /// Where a job lies for one thread, on cache lines of its own.
 type Place<J> = CachePadded<Mutex<Option<Arc<J>>>>;
 
-/// Where the first of a crew puts a job for each of so many others, who take it there. Contracts see it as how many others there are.
+/// Where the first of a crew puts a job for each of so many others, who take it there, and what the first keeps from job to job.
+/// Contracts see it as how many others there are.
 #[derive(Drop)]
-pub struct Crew<J: Drop> {
+pub struct Crew<J: Drop, K: Drop> {
     bell: Bell,
     places: Vec<Place<J>>,
+    kept: CachePadded<Mutex<K>>,
 }
 
-impl<J: Drop> Model for Crew<J> {
+impl<J: Drop, K: Drop> Model for Crew<J, K> {
     ghost use Rattle.std.specs.Prelude.{ℕ, vec_len};
 
     ghost Value = { ℕ };
@@ -44,18 +53,19 @@ fn empty_places<J: Drop>(alloc: Global, count: u64) -> Result<Vec<Place<J>>, All
     Ok(places)
 }
 
-impl<J: Drop> Crew<J> {
+impl<J: Drop, K: Default + Drop> Crew<J, K> {
     /// A crew of so many threads beside the first.
     ///
     /// # Errors
     ///
     /// Where memory is refused.
-    pub fn new(alloc: Global, others: u64) -> Result<Crew<J>, AllocError>
+    pub fn new(alloc: Global, others: u64) -> Result<Crew<J, K>, AllocError>
         ensures { IfOk result (λ crew. crew ≡ others) }
     {
         Ok(Crew {
             bell: Bell::new(),
             places: empty_places(alloc, others)?,
+            kept: CachePadded::new(Mutex::new(K::default())),
         })
     }
 
@@ -66,13 +76,30 @@ impl<J: Drop> Crew<J> {
         self.places.len() as u64
     }
 
+    /// How many parts a job has.
+    fn parts(&self) -> u64 {
+        self.others().saturating_add(1)
+    }
+
+    /// The part of the thread at this place.
+    pub(crate) fn part_at(&self, place: usize) -> Part {
+        Part {
+            number: (place as u64).saturating_add(1),
+            of: self.parts(),
+        }
+    }
+
     pub(crate) fn bell(&self) -> &Bell {
         &self.bell
     }
 }
 
 /// Takes the job that lies for the thread of a number, if any does.
-pub(crate) fn take_job<R: Wait, J: Drop>(rt: &R, crew: &Crew<J>, number: usize) -> Option<Arc<J>> {
+pub(crate) fn take_job<R: Wait, J: Drop, K: Default + Drop>(
+    rt: &R,
+    crew: &Crew<J, K>,
+    number: usize,
+) -> Option<Arc<J>> {
     let mut place = crew.places.get(number)?.lock(rt);
     place.take()
 }
@@ -84,18 +111,11 @@ fn put<R: Wait, J: Drop>(rt: &R, place: &Mutex<Option<Arc<J>>>, job: Arc<J>) {
 }
 
 /// Puts a job where each of the others finds it.
-fn post<R: Wait, J: Drop>(rt: &R, crew: &Crew<J>, job: &Arc<J>) {
+fn post<R: Wait, J: Drop, K: Default + Drop>(rt: &R, crew: &Crew<J, K>, job: &Arc<J>) {
     for place in &crew.places {
         if let Ok(lent) = Arc::try_clone(job) {
             put(rt, place, lent);
         }
-    }
-}
-
-/// Takes back what nobody has taken.
-fn take_back<R: Wait, J: Drop>(rt: &R, crew: &Crew<J>) {
-    for number in 0..crew.places.len() {
-        drop(take_job(rt, crew, number));
     }
 }
 
@@ -115,32 +135,44 @@ fn own_again<R: Wait, J: Drop>(rt: &R, job: Arc<J>) -> J
     unreachable!()
 }
 
-/// Puts a job that is shared before the others, and takes part in it.
-fn share<R: Wait, T, J: Job<T> + Drop>(rt: &R, crew: &Crew<J>, tools: &T, job: &Arc<J>) {
-    post(rt, crew, job);
-    crew.bell().ring();
-    job.work(tools);
-    take_back(rt, crew);
+/// Does the first's part of a job, and the parts of those who have not come for theirs by then.
+fn lead<R: Wait, T, K: Default + Drop, J: Job<T, K> + Drop>(
+    rt: &R,
+    crew: &Crew<J, K>,
+    tools: &T,
+    kept: &mut K,
+    job: &J,
+) {
+    let of = crew.parts();
+    job.work(Part { number: 0, of }, tools, kept);
+    for place in 0..crew.places.len() {
+        if let Some(left) = take_job(rt, crew, place) {
+            left.work(crew.part_at(place), tools, kept);
+        }
+    }
 }
 
-/// Lends a job to a crew, and takes part in it; who comes while there is work takes part too. It comes back as it was lent, once all
-/// are done with it. Where memory is refused nobody works on it.
-pub fn lend<R: Wait, T, J: Job<T> + Drop>(
+/// Lends a job to a crew, each of whom does a part of it; the first also does the parts of those who come too late. It comes back as it
+/// was lent, once all are done with it. Where memory is refused nobody works on it.
+pub fn lend<R: Wait, T, K: Default + Drop, J: Job<T, K> + Drop>(
     rt: &R,
     alloc: Global,
-    crew: &Crew<J>,
+    crew: &Crew<J, K>,
     tools: &T,
     job: J,
 ) -> J
     ensures { result ≡ job }
 {
+    let mut kept = crew.kept.lock(rt);
     if crew.places.is_empty() {
-        job.work(tools);
+        lead(rt, crew, tools, &mut kept, &job);
         return job;
     }
     match Arc::new(alloc, job) {
         Ok(shared) => {
-            share(rt, crew, tools, &shared);
+            post(rt, crew, &shared);
+            crew.bell().ring();
+            lead(rt, crew, tools, &mut kept, &shared);
             own_again(rt, shared)
         }
         Err(refused) => refused.value,

@@ -4,4 +4,4 @@
 mod walking;
 mod worker;
 
-pub use worker::{Work, Worker};
+pub use worker::{Bench, Work, Worker};

@@ -9,7 +9,7 @@ ghost use Rattle.team.specs.Together.{LeavesTogether, IsLeft};
 use crate::applied::apply_all;
 use crate::gate::Gate;
 use crate::grounds::grounds_of;
-use crate::lent::{LentLoop, lent_changes};
+use crate::lent::{LoopCrew, lent_changes};
 use crate::log::ChangeLog;
 use crew::{Crew, dismiss, serve_all};
 use ktree::{Refusal, Workers};
@@ -25,7 +25,7 @@ use store::Store;
 fn loop_changes<'l, R: Wait, G: Gate>(
     rt: &R,
     alloc: Global,
-    crew: &Crew<LentLoop<'l>>,
+    crew: &LoopCrew<'l>,
     lowered: &'l LoweredLoop,
     registers: &[u64],
     store: &mut Store,
@@ -56,7 +56,7 @@ fn loop_changes<'l, R: Wait, G: Gate>(
 pub fn share_loop<'l, R: Wait, G: Gate>(
     rt: &R,
     alloc: Global,
-    crew: &Crew<LentLoop<'l>>,
+    crew: &LoopCrew<'l>,
     lowered: &'l LoweredLoop,
     registers: &[u64],
     store: &mut Store,
@@ -81,7 +81,7 @@ pub fn share_loop<'l, R: Wait, G: Gate>(
 fn lead<'l, R: Wait, G: Gate>(
     rt: &R,
     alloc: Global,
-    crew: &Crew<LentLoop<'l>>,
+    crew: &LoopCrew<'l>,
     lowered: &'l LoweredLoop,
     registers: &[u64],
     store: &mut Store,
@@ -106,7 +106,7 @@ fn lead<'l, R: Wait, G: Gate>(
 fn run_led<'l, R: Threads + Wait + Sync, G: Gate + Sync>(
     rt: &R,
     alloc: Global,
-    crew: &Crew<LentLoop<'l>>,
+    crew: &LoopCrew<'l>,
     lowered: &'l LoweredLoop,
     registers: &[u64],
     store: &mut Store,
