@@ -1,52 +1,92 @@
 //! A crew, and what is lent to it.
 
-ghost use Rattle.std.specs.Prelude.{◌≡◌};
+ghost use Rattle.std.specs.Prelude.{◌≡◌, IfOk, vec_len};
 ghost use Rattle.std.specs.Arc.{arc_value};
 
 use crate::waiting::{Bell, pause};
+use crossbeam_utils::CachePadded;
 use std::alloc::{AllocError, Global};
 use std::marker::Model;
 use std::sync::{Arc, Mutex, Wait};
 
-/// Work that any number of threads may take part in at once, each with these tools.
-pub trait Job<T> {
-    /// Does what nobody else has taken up yet.
-    fn work(&self, tools: &T);
+/// A part of a job: its number, and how many parts there are, which is one for each of a crew.
+#[derive(Clone, Copy, Debug, PartialEq, Eq)]
+pub struct Part {
+    pub number: u64,
+    pub of: u64,
 }
 
-/// Where the first of a crew posts a job, and so many others look for it. Contracts see it as how many others there are.
+/// Work in parts. Threads do these at once, each with these tools and with what it keeps from job to job.
+pub trait Job<T, K> {
+    /// Does a part.
+    fn work(&self, part: Part, tools: &T, kept: &mut K);
+}
+
+/// Where a job lies for one thread, on cache lines of its own.
+type Place<J> = CachePadded<Mutex<Option<Arc<J>>>>;
+
+/// Where the first of a crew puts a job for each of so many others, who take it there, and what the first keeps from job to job.
+/// Contracts see it as how many others there are.
 #[derive(Drop)]
-pub struct Crew<J: Drop> {
-    others: u64,
+pub struct Crew<J: Drop, K: Drop> {
     bell: Bell,
-    posted: Mutex<Option<Arc<J>>>,
+    places: Vec<Place<J>>,
+    kept: CachePadded<Mutex<K>>,
 }
 
-impl<J: Drop> Model for Crew<J> {
-    ghost use Rattle.std.specs.Prelude.{ℕ};
+impl<J: Drop, K: Drop> Model for Crew<J, K> {
+    ghost use Rattle.std.specs.Prelude.{ℕ, vec_len};
 
     ghost Value = { ℕ };
 
-    ghost view = { λ c. c.others };
+    ghost view = { λ c. vec_len c.places };
 }
 
-impl<J: Drop> Crew<J> {
+/// So many places in which nothing lies.
+fn empty_places<J: Drop>(alloc: Global, count: u64) -> Result<Vec<Place<J>>, AllocError>
+    ensures { IfOk result (λ places. vec_len places ≡ count) }
+{
+    let mut places = Vec::with_capacity(alloc, count as usize)?;
+    for _place in 0..count {
+        places.push(CachePadded::new(Mutex::new(None)))?;
+    }
+    Ok(places)
+}
+
+impl<J: Drop, K: Default + Drop> Crew<J, K> {
     /// A crew of so many threads beside the first.
-    pub fn new(others: u64) -> Crew<J>
-        ensures { result ≡ others }
+    ///
+    /// # Errors
+    ///
+    /// Where memory is refused.
+    pub fn new(alloc: Global, others: u64) -> Result<Crew<J, K>, AllocError>
+        ensures { IfOk result (λ crew. crew ≡ others) }
     {
-        Crew {
-            others,
+        Ok(Crew {
             bell: Bell::new(),
-            posted: Mutex::new(None),
-        }
+            places: empty_places(alloc, others)?,
+            kept: CachePadded::new(Mutex::new(K::default())),
+        })
     }
 
     /// How many threads there are beside the first.
     pub fn others(&self) -> u64
         ensures { result ≡ self.now }
     {
-        self.others
+        self.places.len() as u64
+    }
+
+    /// How many parts a job has.
+    fn parts(&self) -> u64 {
+        self.others().saturating_add(1)
+    }
+
+    /// The part of the thread at this place.
+    pub(crate) fn part_at(&self, place: usize) -> Part {
+        Part {
+            number: (place as u64).saturating_add(1),
+            of: self.parts(),
+        }
     }
 
     pub(crate) fn bell(&self) -> &Bell {
@@ -54,18 +94,29 @@ impl<J: Drop> Crew<J> {
     }
 }
 
-/// The job that is posted, if any.
-pub(crate) fn posted_job<R: Wait, J: Drop>(rt: &R, crew: &Crew<J>) -> Option<Arc<J>> {
-    match &*crew.posted.lock(rt) {
-        Some(job) => Arc::try_clone(job).ok(),
-        None => None,
-    }
+/// Takes the job that lies for the thread of a number, if any does.
+pub(crate) fn take_job<R: Wait, J: Drop, K: Default + Drop>(
+    rt: &R,
+    crew: &Crew<J, K>,
+    number: usize,
+) -> Option<Arc<J>> {
+    let mut place = crew.places.get(number)?.lock(rt);
+    place.take()
 }
 
-/// Posts a job, or none.
-fn post<R: Wait, J: Drop>(rt: &R, crew: &Crew<J>, job: Option<Arc<J>>) {
-    let mut posted = crew.posted.lock(rt);
-    *posted = job;
+/// Puts a job where a thread finds it.
+fn put<R: Wait, J: Drop>(rt: &R, place: &Mutex<Option<Arc<J>>>, job: Arc<J>) {
+    let mut place = place.lock(rt);
+    *place = Some(job);
+}
+
+/// Puts a job where each of the others finds it.
+fn post<R: Wait, J: Drop, K: Default + Drop>(rt: &R, crew: &Crew<J, K>, job: &Arc<J>) {
+    for place in &crew.places {
+        if let Ok(lent) = Arc::try_clone(job) {
+            put(rt, place, lent);
+        }
+    }
 }
 
 /// Waits until all others have given a job back.
@@ -84,35 +135,44 @@ fn own_again<R: Wait, J: Drop>(rt: &R, job: Arc<J>) -> J
     unreachable!()
 }
 
-/// Posts a job that is shared, takes part in it, and takes it down again.
-fn share<R: Wait, T, J: Job<T> + Drop>(rt: &R, crew: &Crew<J>, tools: &T, job: &Arc<J>) {
-    let Ok(lent) = Arc::try_clone(job) else {
-        return;
-    };
-    post(rt, crew, Some(lent));
-    crew.bell().ring();
-    job.work(tools);
-    post(rt, crew, None);
+/// Does the first's part of a job, and the parts of those who have not come for theirs by then.
+fn lead<R: Wait, T, K: Default + Drop, J: Job<T, K> + Drop>(
+    rt: &R,
+    crew: &Crew<J, K>,
+    tools: &T,
+    kept: &mut K,
+    job: &J,
+) {
+    let of = crew.parts();
+    job.work(Part { number: 0, of }, tools, kept);
+    for place in 0..crew.places.len() {
+        if let Some(left) = take_job(rt, crew, place) {
+            left.work(crew.part_at(place), tools, kept);
+        }
+    }
 }
 
-/// Lends a job to a crew, and takes part in it; who comes while there is work takes part too. It comes back as it was lent, once all
-/// are done with it. Where memory is refused nobody works on it.
-pub fn lend<R: Wait, T, J: Job<T> + Drop>(
+/// Lends a job to a crew, each of whom does a part of it; the first also does the parts of those who come too late. It comes back as it
+/// was lent, once all are done with it. Where memory is refused nobody works on it.
+pub fn lend<R: Wait, T, K: Default + Drop, J: Job<T, K> + Drop>(
     rt: &R,
     alloc: Global,
-    crew: &Crew<J>,
+    crew: &Crew<J, K>,
     tools: &T,
     job: J,
 ) -> J
     ensures { result ≡ job }
 {
-    if crew.others == 0 {
-        job.work(tools);
+    let mut kept = crew.kept.lock(rt);
+    if crew.places.is_empty() {
+        lead(rt, crew, tools, &mut kept, &job);
         return job;
     }
     match Arc::new(alloc, job) {
         Ok(shared) => {
-            share(rt, crew, tools, &shared);
+            post(rt, crew, &shared);
+            crew.bell().ring();
+            lead(rt, crew, tools, &mut kept, &shared);
             own_again(rt, shared)
         }
         Err(refused) => refused.value,

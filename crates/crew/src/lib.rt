@@ -5,5 +5,5 @@ mod crew;
 mod serving;
 mod waiting;
 
-pub use crew::{Crew, Job, lend};
+pub use crew::{Crew, Job, Part, lend};
 pub use serving::{dismiss, serve_all};

@@ -96,7 +96,7 @@ pub(crate) fn run_body<'l, R: Threads + Wait + Sync, G: Gate + Sync, S: Sink>(
     ensures refusal { IfErr result (Refuses (S.failed sink.old) (S.failed sink.new)) }
     ensures shape { lengths_of store.new ≡ lengths_of store.old }
 {
-    let crew = Crew::new(others);
+    let crew = Crew::new(alloc, others)?;
     let team = Teaming {
         rt,
         alloc,

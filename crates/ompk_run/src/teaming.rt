@@ -15,7 +15,6 @@ ghost use Rattle.lower_code.specs.declared.term.Laid.{Laid};
 ghost use Rattle.lower_code.specs.Machine.{machine, truth};
 ghost use Rattle.lower_run.specs.Walk.{Walks, Begins, stage};
 
-use crew::Crew;
 use ktree::{Refusal, Schedule, Workers};
 use lower_code::{Test, truth};
 use lower_run::{confirm_words, perform};
@@ -26,14 +25,14 @@ use std::alloc::Global;
 use std::sync::Wait;
 use std::thread::Threads;
 use store::Store;
-use team::{Gate, LentLoop, share_loop};
+use team::{Gate, LoopCrew, share_loop};
 
 // A team of so many workers for each parallel loop, in the threads of a crew; the gate is told of the chunks that they take.
 #[derive(Drop)]
 pub(crate) struct Teaming<'r, 'g, 'c, 'l, R: Threads + Wait + Sync, G: Gate> {
     pub(crate) rt: &'r R,
     pub(crate) alloc: Global,
-    pub(crate) crew: &'c Crew<LentLoop<'l>>,
+    pub(crate) crew: &'c LoopCrew<'l>,
     pub(crate) workers: Workers,
     pub(crate) sched: Sched,
     pub(crate) gate: &'g G,

@@ -8,4 +8,4 @@ mod spots;
 mod walking;
 mod worker;
 
-pub use worker::{Piece, Work, Worker};
+pub use worker::{Bench, Piece, Work, Worker};

@@ -1,6 +1,6 @@
 //! A worker's chunks.
 
-ghost use Rattle.std.specs.Prelude.{◌≡◌, ◌+◌, ◌≤◌, length, IfOk, IfErr};
+ghost use Rattle.std.specs.Prelude.{◌≡◌, ◌+◌, ◌≤◌, length, replicate, None, IfOk, IfErr};
 ghost use Rattle.ktree.specs.declared.refusal.Refusal.TheVariants.{OutOfMemory};
 ghost use Rattle.nest_space.specs.Space.{vectors};
 ghost use Rattle.store.specs.Flat.{values_of};
@@ -39,6 +39,14 @@ pub struct Piece {
     pub lasts: Vec<u64>,
 }
 
+/// What a worker leaves to one of a later loop: memory, in which nothing is written.
+#[derive(Drop)]
+pub struct Bench {
+    own: Own,
+    registers: Vec<u64>,
+    pub ghost unwritten: { own ≡ replicate (length own) None },
+}
+
 /// What a worker keeps from chunk to chunk, over the store before the loop.
 #[derive(Drop)]
 pub struct Worker<'s> {
@@ -47,16 +55,16 @@ pub struct Worker<'s> {
 }
 
 impl<'s> Model for Worker<'s> {
-    ghost use Rattle.std.specs.Prelude.{◌≡◌, List};
+    ghost use Rattle.std.specs.Prelude.{◌≡◌, List, length, replicate, None};
     ghost use Rattle.store.specs.Kept.{Kept};
     ghost use Rattle.store.specs.Flat.{values_of};
-    ghost use Rattle.overlay_pages.specs.Seen.{cells_of};
 
     ghost Value = { List Kept };
 
     ghost view = { λ w. w.cells.store };
 
-    ghost invariant = { λ w. cells_of w.cells ≡ values_of w.cells.store };
+    ghost invariant = { λ w. w.cells.written
+        ≡ replicate (length (values_of w.cells.store)) None };
 }
 
 // Ends a chunk of which this is told.
@@ -68,7 +76,8 @@ fn finish(alloc: Global, told: Told, cells: &mut Chunk<'_>) -> Result<Piece, All
     ensures partials { IfOk result (λ piece. piece.partials ≡ told.partials) }
     ensures lasts { IfOk result (λ piece. piece.lasts ≡ told.lasts) }
     ensures store { cells.new.store ≡ cells.old.store }
-    ensures unwritten { cells_of cells.new ≡ values_of cells.new.store }
+    ensures unwritten { cells.new.written
+        ≡ replicate (length (values_of cells.new.store)) None }
 {
     match cells.finish(alloc) {
         Ok(changes) => Ok(Piece {
@@ -93,14 +102,16 @@ fn run_whole(
     requires loops { length space.now ≡ length lowered.now.loops.items }
     requires space { IsSpaceOf lowered.now registers.now space.now }
     requires work { work.first + work.count ≤ length (vectors space.now) }
-    requires unwritten { cells_of cells.old ≡ values_of cells.old.store }
+    requires unwritten { cells.old.written
+        ≡ replicate (length (values_of cells.old.store)) None }
     ensures leaves { IfOk result (IsChunkOf lowered.now registers.now cells.old.store work) }
     ensures last { IfOk result (IsLastOf lowered.now registers.now cells.old.store work) }
     ensures only { IfOk result (λ piece. ChangeOnly cells.old.store piece.changes) }
     ensures once { IfOk result (λ piece. AreOnce piece.changes) }
     ensures refusal { IfErr result (λ refusal. refusal ≡ OutOfMemory) }
     ensures store { cells.new.store ≡ cells.old.store }
-    ensures unwritten { cells_of cells.new ≡ values_of cells.new.store }
+    ensures unwritten { cells.new.written
+        ≡ replicate (length (values_of cells.new.store)) None }
 {
     match run_copied(alloc, lowered, registers, space, work, own, cells) {
         Ok(told) => Ok(finish(alloc, told, cells)?),
@@ -108,6 +119,17 @@ fn run_whole(
             cells.clear();
             Err(Refusal::OutOfMemory)
         }
+    }
+}
+
+// A worker with this memory, in which nothing is written.
+fn worker_over<'s>(store: &'s Store, own: Own, registers: Vec<u64>) -> Worker<'s>
+    requires { own ≡ replicate (length (values_of store.now)) None }
+    ensures { result ≡ store.now }
+{
+    Worker {
+        cells: Chunk::over(store, own),
+        registers,
     }
 }
 
@@ -122,10 +144,41 @@ impl<'s> Worker<'s> {
         ensures refusal { IfErr result (λ refusal. refusal ≡ OutOfMemory) }
     {
         let own = Own::new(alloc, store)?;
-        Ok(Worker {
-            cells: Chunk::over(store, own),
-            registers: Vec::new(alloc),
-        })
+        Ok(worker_over(store, own, Vec::new(alloc)))
+    }
+
+    /// A worker with what another one left, if that is of as many cells as the store has; else as a new one.
+    ///
+    /// # Errors
+    ///
+    /// `OutOfMemory` alone.
+    pub fn resume(
+        alloc: Global,
+        store: &'s Store,
+        left: Option<Bench>,
+    ) -> Result<Worker<'s>, Refusal>
+        ensures store { IfOk result (λ worker. worker ≡ store.now) }
+        ensures refusal { IfErr result (λ refusal. refusal ≡ OutOfMemory) }
+    {
+        let Some(bench) = left else {
+            return Worker::new(alloc, store);
+        };
+        if bench.own.cells() != store.cells().len() as u64 {
+            return Worker::new(alloc, store);
+        }
+        let Bench { own, registers } = bench;
+        Ok(worker_over(store, own, registers))
+    }
+
+    /// What it leaves to one of a later loop.
+    pub fn leave(self) -> Bench
+        ensures { length result.own ≡ length (values_of self.entry) }
+    {
+        let Worker { cells, registers } = self;
+        Bench {
+            own: cells.release(),
+            registers,
+        }
     }
 
     /// Runs a chunk from the store before the loop and from registers that stand as before it, and tells what it leaves.

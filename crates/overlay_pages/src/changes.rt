@@ -4,21 +4,22 @@ ghost use Rattle.std.specs.Prelude.{◌≡◌, ◌++◌, [], length, OnOk, IfErr
 ghost use Rattle.store.specs.Flat.{values_of, filled};
 ghost use Rattle.overlay_pages.specs.Over.{written_over, writes_of};
 
+use smallvec::SmallVec;
 use std::alloc::{AllocError, Global};
 use std::marker::Model;
 use store::Store;
 
 /// A change: a place among the cells of a store, and its new value.
-#[derive(Clone, Copy, Debug, PartialEq, Eq)]
+#[derive(Clone, Copy, Debug, Default, PartialEq, Eq)]
 pub struct Change {
     pub place: u64,
     pub value: u64,
 }
 
-/// The changes of a chunk, without the store that the chunk ran over.
+/// The changes of a chunk, without the store that the chunk ran over. Few of them take no memory beside the value.
 #[derive(Drop)]
 pub struct Changes {
-    writes: Vec<Change>,
+    writes: SmallVec<Change, 4>,
 }
 
 impl Model for Changes {
@@ -35,7 +36,9 @@ impl Changes {
     pub(crate) fn of(writes: Vec<Change>) -> Changes
         ensures { result ≡ writes.items }
     {
-        Changes { writes }
+        Changes {
+            writes: SmallVec::from_vec(writes),
+        }
     }
 
     /// No changes.
@@ -43,7 +46,7 @@ impl Changes {
         ensures { result ≡ [] }
     {
         Changes {
-            writes: Vec::new(alloc),
+            writes: SmallVec::new(alloc),
         }
     }
 
@@ -63,6 +66,10 @@ impl Changes {
         ensures added { OnOk result (self.new ≡ self.old ++ later) }
         ensures kept { IfErr result (λ refusal. self.new ≡ self.old) }
     {
+        if self.writes.is_empty() {
+            *self = later;
+            return Ok(());
+        }
         self.writes.append(&mut later.writes)
     }
 
@@ -78,7 +85,7 @@ impl Changes {
         ensures { store.new
             ≡ filled (written_over (writes_of self.now) (values_of store.old)) store.old }
     {
-        for change in &self.writes {
+        for change in self.writes.as_slice() {
             store.put(change.place, change.value);
         }
     }

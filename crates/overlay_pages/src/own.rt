@@ -62,6 +62,13 @@ impl Own {
         Ok(Own { pages })
     }
 
+    /// Of how many cells it is.
+    pub fn cells(&self) -> u64
+        ensures { result ≡ length self.now }
+    {
+        self.pages.size
+    }
+
     // What is written at a place, if anything.
     #[inline]
     pub(crate) fn read(&self, place: u64) -> Option<u64>

@@ -17,11 +17,12 @@ use crate::log::ChangeLog;
 use crate::place::Place;
 use crate::worker::run_taken;
 use ktree::{Refusal, Workers};
-use overlay::Worker;
+use overlay::{Bench, Worker};
 use schedule::static_init;
 use std::alloc::Global;
 
-/// Runs a worker's own chunks, in their order: those of `static, k` for `Some(k)`, else those of plain `static`.
+/// Runs a worker's own chunks, in their order: those of `static, k` for `Some(k)`, else those of plain `static`. The bench is what the
+/// thread keeps from loop to loop.
 pub(crate) fn run_own<G: Gate>(
     alloc: Global,
     job: Job,
@@ -29,6 +30,7 @@ pub(crate) fn run_own<G: Gate>(
     worker: u64,
     size: Option<u64>,
     gate: &G,
+    bench: &mut Option<Bench>,
 ) -> Result<ChangeLog, Refusal>
     requires ready { IsReady job }
     requires chunks { job.chunks.now
@@ -41,7 +43,7 @@ pub(crate) fn run_own<G: Gate>(
     ensures refusal { IfErr result (λ refusal. refusal ≡ Refusal.OutOfMemory) }
 {
     let part = static_init(job.space.count(), workers, worker, size);
-    let mut runner = Worker::new(alloc, job.store)?;
+    let mut runner = Worker::resume(alloc, job.store, bench.take())?;
     let mut changes = ChangeLog::new(alloc);
     let mut turn = 0;
     while let Some(number) = part.number(turn) {
@@ -54,6 +56,7 @@ pub(crate) fn run_own<G: Gate>(
         changes.push(run_taken(alloc, job, &mut runner, taken, gate)?)?;
         turn += 1;
     }
+    *bench = Some(runner.leave());
     Ok(changes)
 }
 
@@ -65,7 +68,7 @@ pub(crate) fn gather(alloc: Global, places: Vec<Place>) -> Result<Vec<ChangeLog>
         (joined cs.items)) }
     ensures refusal { IfErr result (λ refusal. refusal ≡ Refusal.OutOfMemory) }
 {
-    let mut logs = Vec::new(alloc);
+    let mut logs = Vec::with_capacity(alloc, places.len())?;
     for place in places {
         let Some(log) = place.share() else {
             return Err(Refusal::OutOfMemory);

@@ -28,8 +28,8 @@ pub(crate) fn collect(
     ensures len { IfOk result (λ r. length r.0.items ≡ vec_len places) }
     ensures refusal { IfErr result (λ refusal. refusal ≡ Refusal.OutOfMemory) }
 {
-    let mut seats = Vec::new(alloc);
-    let mut logs = Vec::new(alloc);
+    let mut seats = Vec::with_capacity(alloc, places.len())?;
+    let mut logs = Vec::with_capacity(alloc, places.len())?;
     for place in places {
         let Some(Finished { seat, changes }) = place.draws() else {
             return Err(Refusal::OutOfMemory);

@@ -17,14 +17,14 @@ use crate::log::ChangeLog;
 use crate::place::{End, Place, Plan};
 use crate::way::{Draw, Way, seat_of, way_of};
 use crate::worker::{Member, work};
-use crew::{Crew, lend};
+use crew::{Crew, Part, lend};
 use ktree::{Refusal, Workers};
 use lower::LoweredLoop;
+use overlay::Bench;
 use schedule::Sched;
 use std::alloc::Global;
 use std::mem;
 use std::sync::Wait;
-use std::sync::atomic::{AtomicU64, Ordering};
 use store::Store;
 
 /// A loop where it is reached, with all that its workers need, and a place for what each of them leaves. Threads share it.
@@ -37,12 +37,14 @@ pub struct LentLoop<'l> {
     workers: Workers,
     way: Way,
     places: Vec<Place>,
-    claims: AtomicU64,
     pub ghost ready: { IsSplit lowered.now grounds.registers.items grounds.space grounds.chunks },
     pub ghost comes: { IsWay way grounds.space grounds.chunks workers },
     pub ghost all: { vec_len places ≡ workers },
     pub ghost made: { AreFor (aim_of lowered.now grounds store way workers) places.items },
 }
+
+/// A crew to which loops are lent. Each thread keeps a bench from loop to loop.
+pub type LoopCrew<'l> = Crew<LentLoop<'l>, Option<Bench>>;
 
 /// A place for each of so many workers.
 fn places_for(
@@ -99,7 +101,12 @@ fn equipped(
 }
 
 /// What the worker of a number leaves, if memory is left for that.
-fn end_of<G: Gate>(lent: &LentLoop<'_>, number: u64, gate: &G) -> Option<End>
+fn end_of<G: Gate>(
+    lent: &LentLoop<'_>,
+    number: u64,
+    gate: &G,
+    bench: &mut Option<Bench>,
+) -> Option<End>
     requires { number < lent.now.workers }
     ensures { IfSome result (IsEnd (record (aim_of lent.now.lowered.now lent.now.grounds
         lent.now.store lent.now.way lent.now.workers) { number = number })) }
@@ -113,7 +120,8 @@ fn end_of<G: Gate>(lent: &LentLoop<'_>, number: u64, gate: &G) -> Option<End>
     };
     match &lent.way {
         Way::Dealt(size) => {
-            let Ok(changes) = run_own(lent.alloc, job, lent.workers, number, *size, gate) else {
+            let Ok(changes) = run_own(lent.alloc, job, lent.workers, number, *size, gate, bench)
+            else {
                 return None;
             };
             Some(End::Share(changes))
@@ -121,7 +129,7 @@ fn end_of<G: Gate>(lent: &LentLoop<'_>, number: u64, gate: &G) -> Option<End>
         Way::Drawn(draw) => {
             let seat = seat_of(draw, number)?;
             let member = Member { number, seat };
-            let Ok(finished) = work(lent.alloc, job, &draw.drawing, member, gate) else {
+            let Ok(finished) = work(lent.alloc, job, &draw.drawing, member, gate, bench) else {
                 return None;
             };
             Some(End::Draws(finished))
@@ -129,16 +137,26 @@ fn end_of<G: Gate>(lent: &LentLoop<'_>, number: u64, gate: &G) -> Option<End>
     }
 }
 
-impl<'l, G: Gate> crew::Job<G> for LentLoop<'l> {
-    fn work(&self, gate: &G) {
-        for _ in 0..self.places.len() {
-            let number = self.claims.fetch_add(1, Ordering::SeqCst);
-            let Some(place) = self.places.get(number as usize) else {
+/// Runs the worker of a number, and leaves its end at its place.
+fn run_worker<G: Gate>(lent: &LentLoop<'_>, number: u64, gate: &G, bench: &mut Option<Bench>) {
+    let Some(place) = lent.places.get(number as usize) else {
+        return;
+    };
+    if let Some(end) = end_of(lent, number, gate, bench) {
+        place.hand_in(end);
+    }
+}
+
+impl<'l, G: Gate> crew::Job<G, Option<Bench>> for LentLoop<'l> {
+    // A part is the worker of its number, and of each number that is as many parts further on.
+    fn work(&self, part: Part, gate: &G, bench: &mut Option<Bench>) {
+        let mut number = part.number;
+        for _worker in 0..self.workers.get() {
+            if number >= self.workers.get() {
                 return;
-            };
-            if let Some(end) = end_of(self, number, gate) {
-                place.hand_in(end);
             }
+            run_worker(self, number, gate, bench);
+            number = number.saturating_add(part.of);
         }
     }
 }
@@ -181,7 +199,6 @@ fn taken_back(lent: LentLoop<'_>) -> (Store, Result<Vec<ChangeLog>, Refusal>)
         workers: _,
         way,
         places,
-        claims: _,
     } = lent;
     let changes = changes_left(alloc, way, places);
     (store, changes)
@@ -191,7 +208,7 @@ fn taken_back(lent: LentLoop<'_>) -> (Store, Result<Vec<ChangeLog>, Refusal>)
 pub(crate) fn lent_changes<'l, R: Wait, G: Gate>(
     rt: &R,
     alloc: Global,
-    crew: &Crew<LentLoop<'l>>,
+    crew: &LoopCrew<'l>,
     lowered: &'l LoweredLoop,
     grounds: Grounds,
     store: &mut Store,
@@ -217,7 +234,6 @@ pub(crate) fn lent_changes<'l, R: Wait, G: Gate>(
         workers,
         way,
         places,
-        claims: AtomicU64::new(0),
     };
     let (whole, changes) = taken_back(lend(rt, alloc, crew, gate, lent));
     *store = whole;

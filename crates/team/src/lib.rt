@@ -15,6 +15,6 @@ mod way;
 mod worker;
 
 pub use gate::{Gate, OpenGate, Taken};
-pub use lent::LentLoop;
+pub use lent::{LentLoop, LoopCrew};
 pub use semantics::laws::every_order;
 pub use teamwork::{run_loop, share_loop};

@@ -5,8 +5,10 @@ ghost use Rattle.store.specs.Flat.{values_of};
 ghost use Rattle.team.specs.Applied.{AreApplied};
 
 use crate::worker::ChunkChanges;
+use ktree::ChunkNo;
 use overlay::Work;
 use overlay_pages::Changes;
+use smallvec::SmallVec;
 use std::alloc::{AllocError, Global};
 use std::marker::Model;
 use store::Store;
@@ -18,10 +20,21 @@ pub struct EndedChunk {
     pub count: u64,
 }
 
+impl Default for EndedChunk {
+    fn default() -> EndedChunk {
+        let work = Work {
+            chunk: ChunkNo(0),
+            first: 0,
+            count: 0,
+        };
+        EndedChunk { work, count: 0 }
+    }
+}
+
 /// What the chunks of a worker change, in the order in which it ran them: 32 bytes for a chunk beside its changes.
 #[derive(Drop)]
 pub struct ChangeLog {
-    ended: Vec<EndedChunk>,
+    ended: SmallVec<EndedChunk, 1>,
     changes: Changes,
 }
 
@@ -43,7 +56,7 @@ impl ChangeLog {
         ensures { result ≡ [] }
     {
         ChangeLog {
-            ended: Vec::new(alloc),
+            ended: SmallVec::new(alloc),
             changes: Changes::none(alloc),
         }
     }

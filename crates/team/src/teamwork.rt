@@ -9,7 +9,7 @@ ghost use Rattle.team.specs.Together.{LeavesTogether, IsLeft};
 use crate::applied::apply_all;
 use crate::gate::Gate;
 use crate::grounds::grounds_of;
-use crate::lent::{LentLoop, lent_changes};
+use crate::lent::{LoopCrew, lent_changes};
 use crate::log::ChangeLog;
 use crew::{Crew, dismiss, serve_all};
 use ktree::{Refusal, Workers};
@@ -25,7 +25,7 @@ use store::Store;
 fn loop_changes<'l, R: Wait, G: Gate>(
     rt: &R,
     alloc: Global,
-    crew: &Crew<LentLoop<'l>>,
+    crew: &LoopCrew<'l>,
     lowered: &'l LoweredLoop,
     registers: &[u64],
     store: &mut Store,
@@ -56,7 +56,7 @@ fn loop_changes<'l, R: Wait, G: Gate>(
 pub fn share_loop<'l, R: Wait, G: Gate>(
     rt: &R,
     alloc: Global,
-    crew: &Crew<LentLoop<'l>>,
+    crew: &LoopCrew<'l>,
     lowered: &'l LoweredLoop,
     registers: &[u64],
     store: &mut Store,
@@ -81,7 +81,7 @@ pub fn share_loop<'l, R: Wait, G: Gate>(
 fn lead<'l, R: Wait, G: Gate>(
     rt: &R,
     alloc: Global,
-    crew: &Crew<LentLoop<'l>>,
+    crew: &LoopCrew<'l>,
     lowered: &'l LoweredLoop,
     registers: &[u64],
     store: &mut Store,
@@ -106,7 +106,7 @@ fn lead<'l, R: Wait, G: Gate>(
 fn run_led<'l, R: Threads + Wait + Sync, G: Gate + Sync>(
     rt: &R,
     alloc: Global,
-    crew: &Crew<LentLoop<'l>>,
+    crew: &LoopCrew<'l>,
     lowered: &'l LoweredLoop,
     registers: &[u64],
     store: &mut Store,
@@ -156,7 +156,7 @@ pub fn run_loop<R: Threads + Wait + Sync, G: Gate + Sync>(
     ensures refusal { IfErr result (λ refusal. refusal ≡ Refusal.OutOfMemory) }
     ensures kept { IfErr result (λ refusal. store.new ≡ store.old) }
 {
-    let crew = Crew::new(workers.get() - 1);
+    let crew = Crew::new(alloc, workers.get() - 1)?;
     if crew.others() == 0 {
         return share_loop(
             rt, alloc, &crew, lowered, registers, store, workers, runtime, gate,

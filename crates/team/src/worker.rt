@@ -9,7 +9,7 @@ use crate::job::Job;
 use crate::log::ChangeLog;
 use draw::{DrawSeat, Drawing};
 use ktree::{ChunkNo, Refusal};
-use overlay::{Work, Worker};
+use overlay::{Bench, Work, Worker};
 use overlay_pages::Changes;
 use std::alloc::Global;
 
@@ -64,13 +64,14 @@ pub(crate) fn run_taken<G: Gate>(
     Ok(ChunkChanges { work, changes })
 }
 
-/// Draws until the end, and runs each chunk drawn.
+/// Draws until the end, and runs each chunk drawn. The bench is what the thread keeps from loop to loop.
 pub(crate) fn work<G: Gate>(
     alloc: Global,
     job: Job,
     drawing: &Drawing,
     member: Member,
     gate: &G,
+    bench: &mut Option<Bench>,
 ) -> Result<Finished, Refusal>
     requires ready { IsReady job }
     requires count { drawing.now.count ≡ length job.chunks.now }
@@ -83,7 +84,7 @@ pub(crate) fn work<G: Gate>(
         number: worker,
         mut seat,
     } = member;
-    let mut runner = Worker::new(alloc, job.store)?;
+    let mut runner = Worker::resume(alloc, job.store, bench.take())?;
     let mut changes = ChangeLog::new(alloc);
     while let Some(ticket) = drawing.next(&mut seat) {
         let taken = Taken {
@@ -94,5 +95,6 @@ pub(crate) fn work<G: Gate>(
         };
         changes.push(run_taken(alloc, job, &mut runner, taken, gate)?)?;
     }
+    *bench = Some(runner.leave());
     Ok(Finished { seat, changes })
 }

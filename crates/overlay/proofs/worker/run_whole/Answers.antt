@@ -1,4 +1,4 @@
-use Rattle.std.proofs.Common.{List, length, sym, ap, ◌∙◌}
+use Rattle.std.proofs.Common.{ℕ, List, Option, None, length, replicate, sym, ap, ◌∙◌}
 use Rattle.store.specs.Kept.{Kept}
 use Rattle.store.specs.Flat.{values_of}
 use Rattle.overlay_pages.specs.Over.{writes_of, written_over}
@@ -6,6 +6,10 @@ use Rattle.overlay_pages.specs.Seen.{cells_of}
 use Rattle.overlay_pages.proofs.Lent.{unwritten_cells}
 use Rattle.overlay.proofs.Chunked.{chunk_of, last_of}
 use Rattle.overlay.proofs.worker.run_whole.Goals as goal
+
+-- nothing is written over these
+abbrev nothing_over : List Kept → List (Option ℕ)
+nothing_over ks = replicate (length (values_of ks)) None
 
 pub returns-in_ok-finish-in-Ok-clause-leaves : goal.returns-in_ok-finish-in-Ok-clause-leaves
 returns-in_ok-finish-in-Ok-clause-leaves c =
@@ -19,5 +23,4 @@ returns-in_ok-finish-in-Ok-clause-last c =
     c.in_ok-finish-in-Ok.field-0 c.in_ok-finish-in-Ok.ensures.lasts
 
 pub returns-in-Err-clause-unwritten : goal.returns-in-Err-clause-unwritten
-returns-in-Err-clause-unwritten c =
-    unwritten_cells c.clear.new.self.written (length (values_of c.run_copied.new.cells.store)) (values_of c.clear.new.self.store) c.clear.ensures.none
+returns-in-Err-clause-unwritten c = c.clear.ensures.none ∙ ap nothing_over (sym c.clear.ensures.store)

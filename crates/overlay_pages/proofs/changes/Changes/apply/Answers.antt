@@ -7,5 +7,5 @@ loop-change-init c = changed_none c.args.store.now
 
 pub loop-change-preserved : goal.loop-change-preserved
 loop-change-preserved c =
-    changed_on c.args.store.now c.loop-change.store c.put.new.self c.deref-change-items.result.now c.loop-change.change-index (record { place = 0; value = 0 })
+    changed_on c.args.store.now c.loop-change.store c.put.new.self c.as_slice-change-items.result.now c.loop-change.change-index (record { place = 0; value = 0 })
     (let t = c.loop-change-test.true in omega arith) c.loop-change.invariant c.put.ensures
