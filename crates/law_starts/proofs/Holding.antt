@@ -1,6 +1,6 @@
 -- A run leaves a number in a variable that held one, and that it does not declare.
-use Rattle.std.specs.Prelude.{ℕ, zero, suc, Bool, true, false, ◌≡◌, ◌==◌, ◌&&◌, List, [], ◌∷◌, ◌++◌, Option, Some, None, IsSome}
-use Rattle.std.proofs.Common.{refl, sym, ◌∙◌, subst, cond}
+use Rattle.std.specs.Prelude.{ℕ, ◌||◌, zero, suc, Bool, true, false, ◌≡◌, ◌==◌, ◌&&◌, List, [], ◌∷◌, ◌++◌, Option, Some, None, IsSome}
+use Rattle.std.proofs.Common.{refl, sym, ap, ◌∙◌, subst, cond}
 use Rattle.std.proofs.lemmas.Bool.{or_parts}
 use Rattle.std.proofs.lemmas.List.Folds.{list_any-append}
 use Rattle.std.proofs.lemmas.Option.{none-some, same_Some}
@@ -10,15 +10,19 @@ use Rattle.semantics.specs.Meaning.Value.{map_option, by_test, both_then, operat
 use Rattle.semantics.specs.Meaning.Runs.{Effect, nothing, one_write, joined, then_from, declares, declared, assigned, updated, incremented, turns, greatest_trip_count, run, run_items, print_text}
 use Rattle.semantics.specs.Meaning.Agrees.{is_among, declared_in, declared_among}
 use Rattle.semantics.specs.Loops.Nest.{Loop, Vector}
+use Rattle.semantics.specs.Loops.Operator.{ReduceOp}
 use Rattle.semantics.specs.Loops.Joined.{given}
 use Rattle.law_commute.proofs.Matched.{overwritten-append}
 use Rattle.law_private.proofs.Chunks.{not_true}
 use Rattle.law_nests.specs.Walks.{entered, enters, walk}
 use Rattle.law_nests.proofs.Joined.{visible_more, nest_declares}
 use Rattle.law_roles.specs.Following.{variables_of}
+use Rattle.law_roles.specs.Sharing.{assigned_first, role_variables}
 use Rattle.law_roles.proofs.Seen.{apart_back, only_declared, only_look}
 use Rattle.law_roles.proofs.Chunked.{nest_variables}
-use Rattle.law_starts.specs.Begun.{WalksKeepNumbers}
+use Rattle.law_roles.proofs.Starts.{among_of}
+use Rattle.law_starts.specs.Begun.{begun_with, begun, ChunksKeepNumbers, WalksKeepNumbers}
+use Rattle.law_starts.proofs.Beginning.{reduced, first_value}
 
 module _ (x : Variable) where
   -- where the variable held a number, it holds one behind these writes
@@ -175,3 +179,19 @@ walks_keep n s loops body us start e x nest seen ran held =
     walk_keeps x loops body (nest_variables n s loops body nest x seen)
     (not_true (is_among (declared_in body) x) (visible_more s body (nest_declares n s loops body nest) x seen))
     us start e ran held
+
+begun_held : (x : Variable) (rs : List (Variable × ReduceOp)) (s : State) → IsSome (look s x []) → IsSome (look (begun_with rs s) x [])
+begun_held x [] s h = h
+begun_held x (r ∷ rs) s h = begun_held x rs (given s r.0 (first_value r s)) (given_lasts x s r.0 (first_value r s) h)
+
+pub chunks_keep : ChunksKeepNumbers
+chunks_keep roles n s loops body us outer e nest none held ran x op is =
+    walks_keep n s loops body us (begun roles outer) e x nest (none x (role x (among_of roles.reductions x op is))) ran
+    (begun_held x roles.reductions outer (held x op is))
+  where
+    role : (x : Variable) → is_among (reduced roles.reductions) x ≡ true → is_among (role_variables roles) x ≡ true
+    role x h = list_any-append (λ y. y == x) (assigned_first roles) (reduced roles.reductions) ∙ ap (λ b. is_among (assigned_first roles) x || b) h ∙ or_true (is_among (assigned_first roles) x)
+      where
+        or_true : (b : Bool) → (b || true) ≡ true
+        or_true true = refl
+        or_true false = refl

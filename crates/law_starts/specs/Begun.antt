@@ -10,6 +10,7 @@ use Rattle.semantics.specs.Loops.Operator.{ReduceOp}
 use Rattle.semantics.specs.Loops.Piece.{Roles}
 use Rattle.semantics.specs.Loops.Joined.{given}
 use Rattle.law_nests.specs.Walks.{walk}
+use Rattle.law_roles.specs.Reducing.{AreHeld}
 use Rattle.law_roles.specs.Sharing.{role_variables, are_different, IsScalar, begins_with, MayStart}
 
 -- reduction variables that hold a number take what a chunk may begin with, one after another
@@ -33,3 +34,11 @@ WalksKeepNumbers =
     (n : ℕ) (s : Stmt) (loops : List Loop) (body : Stmt) (us : List Vector) (start : State) (e : Effect) (x : Variable)
     → nest_of n s ≡ Some (loops, body) → visible_behind s x ≡ true → walk loops body us start ≡ Some e → IsSome (look start x [])
     → IsSome (look (overwritten start e.writes) x [])
+
+-- so a walk over iterations of a nest that declares no reduction variable, from where a chunk begins, leaves a number in each of them
+abbrev pub ChunksKeepNumbers : Type 0
+ChunksKeepNumbers =
+    (roles : Roles) (n : ℕ) (s : Stmt) (loops : List Loop) (body : Stmt) (us : List Vector) (outer : State) (e : Effect)
+    → nest_of n s ≡ Some (loops, body) → ((x : Variable) → is_among (role_variables roles) x ≡ true → visible_behind s x ≡ true)
+    → AreHeld roles.reductions outer → walk loops body us (begun roles outer) ≡ Some e
+    → AreHeld roles.reductions (overwritten (begun roles outer) e.writes)
