@@ -24,3 +24,6 @@ returns-in_ok-finish-in-Ok-clause-last c =
 
 pub returns-in-Err-clause-unwritten : goal.returns-in-Err-clause-unwritten
 returns-in-Err-clause-unwritten c = c.clear.ensures.none ∙ ap nothing_over (sym c.clear.ensures.store)
+
+pub run_copied-requires-clause-unwritten : goal.run_copied-requires-clause-unwritten
+run_copied-requires-clause-unwritten c = unwritten_cells c.args.cells.now.written (length (values_of c.args.cells.now.store)) (values_of c.args.cells.now.store) c.requires.unwritten
