@@ -1,10 +1,11 @@
 -- What the clauses of parallel loops say of their scalars, and loops that keep to it. (OpenMP 5.2, 5.1.1, 5.4.3, 5.4.5 and 5.5.8)
-use Rattle.std.specs.Prelude.{ℕ, true, ◌≡◌, List, [], ◌∷◌, ◌++◌, Some, IsSome}
+use Rattle.std.specs.Prelude.{ℕ, true, ◌≡◌, List, [], ◌∷◌, ◌++◌, map, Some, IsSome}
+use Rattle.std.specs.List.{list_all}
 use Rattle.semantics.specs.Tree.{Variable, Stmt, Assign, Update, If, IfElse, For, Block, Print, Items, no_items, mark, local, stmt}
 use Rattle.semantics.specs.Meaning.Definite.{Privates, no_privates, definite}
 use Rattle.semantics.specs.Loops.Nest.{Loop, nest_of}
 use Rattle.semantics.specs.Loops.Piece.{Roles}
-use Rattle.law_roles.specs.Updates.{reduces}
+use Rattle.law_roles.specs.Updates.{is_plain, reduces}
 use Rattle.law_roles.specs.Sharing.{assigned_first, role_variables, are_different, AssignsAll}
 use Rattle.pragma.specs.Parallel.{AskedOfLoop, LineHas}
 use Rattle.flow.specs.Private.{is_private_body, all_but}
@@ -17,15 +18,16 @@ LineRoles = ℕ → Roles
 abbrev pub privates_by : LineRoles → Privates
 privates_by R line = (R line).privates
 
--- a nest of so many loops whose body prints nothing and assigns of scalars those alone that it declares and those with a role: private and lastprivate ones before it reads them, lastprivate ones on every path, and reduction variables in updates alone; no variable has two roles
+-- a nest of so many loops whose body prints nothing and assigns of scalars those alone that it declares and those with a role: private and lastprivate ones before it reads them, lastprivate ones on every path, and reduction variables in updates alone; none of these has two roles
 pub record KeepsItsRoles (roles : Roles) (n : ℕ) (s : Stmt) : Type 0 where
   pub loops : List Loop
   pub body : Stmt
   pub nest : nest_of n s ≡ Some (loops, body)
   pub keeps : is_private_body (role_variables roles) body ≡ true
-  pub different : are_different (role_variables roles) ≡ true
+  pub different : are_different (map (λ r. r.0) roles.reductions) ≡ true
+  pub apart : list_all (is_plain roles.reductions) (assigned_first roles) ≡ true
   pub first : IsSome (definite no_privates s (all_but (assigned_first roles)))
-  pub last : AssignsAll (assigned_first roles) roles.lasts body
+  pub last : (roles.lasts ≡ [] → ⊥) → AssignsAll (assigned_first roles) roles.lasts body
   pub updates : reduces roles.reductions s ≡ true
 
 -- so is the loop behind a directive

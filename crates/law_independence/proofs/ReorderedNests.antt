@@ -1,6 +1,6 @@
 -- The iterations of a nest that is shown to be independent commute, and its chunks share out what it does.
 use Rattle.std.specs.Prelude.{ℕ, Bool, true, false, not, ◌≡◌, ◌≢◌, ◌<◌, ◌≤◌, ◌&&◌, ◌||◌, ℤ, pos, List, [], ◌∷◌, ◌++◌, length, map, Contains, Some, IsSome}
-use Rattle.std.specs.List.{AllPairs}
+use Rattle.std.specs.List.{AllPairs, list_all}
 use Rattle.std.proofs.Common.{refl, sym, ap, ◌∙◌, subst}
 use Rattle.std.proofs.lemmas.Bool.{true≢false, and_from, or_cases}
 use Rattle.std.proofs.lemmas.Option.{same_Some}
@@ -29,7 +29,8 @@ use Rattle.law_commute.specs.Joining.{plain_loop}
 use Rattle.law_commute.proofs.Values.{first_of, second_of}
 use Rattle.law_private.proofs.Orders.{private_commute}
 use Rattle.law_private.proofs.More.{more_known}
-use Rattle.law_roles.specs.Updates.{reduces}
+use Rattle.law_runs.proofs.Nested.{some_there}
+use Rattle.law_roles.specs.Updates.{is_plain, reduces}
 use Rattle.law_roles.specs.Sharing.{assigned_first, role_variables, are_different, AssignsAll, KeepsRoles}
 use Rattle.law_roles.proofs.Joining.{join_in_place}
 use Rattle.law_roles.proofs.Keeping.{steady_keeps}
@@ -70,8 +71,8 @@ steps_read before (h ∷ hs) after (s, v, head, level, rest) =
 
 -- a nest and its body assign of scalars from outside those alone that have a role, each as its role allows
 module _ (ds : List Declaration) (short : HaveShort ds) (round : Nesting) (outer : ℕ) (serial : List ℕ) (n : ℕ) (s : Stmt) (found : IsNestRead ds round outer serial n s) (stmt : IsStmtRead ds round.box s) (stays : Has (StaysInside ds) round.box s)
-    (roles : Roles) (private : is_private_body (role_variables roles) found.nest.body ≡ true) (different : are_different (role_variables roles) ≡ true) (first : IsSome (definite no_privates s (λ x. not (is_among (assigned_first roles) x))))
-    (last : AssignsAll (assigned_first roles) roles.lasts found.nest.body) (updates : reduces roles.reductions s ≡ true) where
+    (roles : Roles) (private : is_private_body (role_variables roles) found.nest.body ≡ true) (different : are_different (map (λ r. r.0) roles.reductions) ≡ true) (apart : list_all (is_plain roles.reductions) (assigned_first roles) ≡ true) (first : IsSome (definite no_privates s (λ x. not (is_among (assigned_first roles) x))))
+    (last : (roles.lasts ≡ [] → ⊥) → AssignsAll (assigned_first roles) roles.lasts found.nest.body) (updates : reduces roles.reductions s ≡ true) where
   abbrev body : Stmt
   body = found.nest.body
 
@@ -136,10 +137,10 @@ module _ (ds : List Declaration) (short : HaveShort ds) (round : Nesting) (outer
   first_used x h = second_of (is_among (targets_outside s) x) (is_among (assigned_first roles) x) (sym (used_first s roles x) ∙ h)
 
   -- more is known from the start, and so in the end
-  last_assigned : AssignsAll (assigned_first used) used.lasts body
-  last_assigned =
-      let more = more_known.statements no_privates no_privates body (λ x. not (is_among (assigned_first roles) x)) last.known (λ x. not (is_among (assigned_first used) x)) (λ line x h. h) wider last.is in
-      record { known = more.known; is = more.is; each = λ x h. more.more x (last.each x (used_last s roles x h)) }
+  more_assigned : AssignsAll (assigned_first roles) roles.lasts body → AssignsAll (assigned_first used) used.lasts body
+  more_assigned all =
+      let more = more_known.statements no_privates no_privates body (λ x. not (is_among (assigned_first roles) x)) all.known (λ x. not (is_among (assigned_first used) x)) (λ line x h. h) wider all.is in
+      record { known = more.known; is = more.is; each = λ x h. more.more x (all.each x (used_last s roles x h)) }
     where
       wider : (x : Variable) → not (is_among (assigned_first roles) x) ≡ true → not (is_among (assigned_first used) x) ≡ true
       wider x h = at (is_among (assigned_first used) x) refl
@@ -147,6 +148,20 @@ module _ (ds : List Declaration) (short : HaveShort ds) (round : Nesting) (outer
           at : (b : Bool) → is_among (assigned_first used) x ≡ b → not b ≡ true
           at true e = absurd (true≢false (sym h ∙ ap not (first_used x e)))
           at false e = refl
+
+  -- where there are no lastprivate variables it reads nothing that is not known
+  none_assigned : roles.lasts ≡ [] → AssignsAll (assigned_first used) used.lasts body
+  none_assigned none =
+      let found_first = body_first (assigned_first roles) (assigned_first used) n s found.nest.loops body found.nest.is (λ x h. (first_used x h, outside_visible s x (first_of (is_among (targets_outside s) x) (is_among (assigned_first roles) x) (sym (used_first s roles x) ∙ h)))) first in
+      let left = some_there (definite no_privates body (λ x. not (is_among (assigned_first used) x))) found_first in
+      record { known = left.0; is = left.1; each = λ x h. absurd (true≢false (sym (used_last s roles x h) ∙ ap (λ xs. is_among xs x) none)) }
+
+  last_assigned : AssignsAll (assigned_first used) used.lasts body
+  last_assigned = at roles.lasts refl
+    where
+      at : (xs : List Variable) → roles.lasts ≡ xs → AssignsAll (assigned_first used) used.lasts body
+      at [] e = none_assigned e
+      at (x ∷ xs) e = more_assigned (last (λ none. absurd (cc (e, none))))
 
   keeps_roles : (outside : State) → AreAtHand used s outside → KeepsRoles used s body outside
   keeps_roles outside at =
@@ -157,7 +172,7 @@ module _ (ds : List Declaration) (short : HaveShort ds) (round : Nesting) (outer
         inside = body_keeps_apart xs (record { all = inside_used; arrays = no_array; counters = λ y c. none_spared y (same y ∙ no_target y body (found.inner.kept y c)) });
         declares_none = λ x h. outside_visible s x (used_assigned x h);
         scalars = at.scalars;
-        apart = used_apart s roles different;
+        apart = used_apart s roles apart;
         first = nest_first (assigned_first roles) (assigned_first used) s first_used first;
         last = last_assigned;
         updates = used_updates s roles updates;
@@ -248,5 +263,5 @@ pub loop_commutes : (ds : List Declaration) (serial : List Loop) (round : Nestin
 loop_commutes ds serial round n s short entered read stays stmt roles kept shown =
     let found = nest_read n ds round (length round.levels) (map (λ v. v.most) (inner_loops 0 round.levels)) s shown (record { read = read; stays = stays }) stmt in
     let body_is : kept.body ≡ found.nest.body = ap (λ (p : List Loop × Stmt). p.1) (same_Some (kept.loops, kept.body) (found.nest.loops, found.nest.body) (sym kept.nest ∙ found.nest.is)) in
-    commutes ds short round (length round.levels) (map (λ v. v.most) (inner_loops 0 round.levels)) n s found stmt stays roles (subst (λ b. is_private_body (role_variables roles) b ≡ true) body_is kept.keeps) kept.different kept.first
-    (subst (λ b. AssignsAll (assigned_first roles) roles.lasts b) body_is kept.last) kept.updates serial entered (shown_loops_are_independent ds serial round n s short entered read stays shown)
+    commutes ds short round (length round.levels) (map (λ v. v.most) (inner_loops 0 round.levels)) n s found stmt stays roles (subst (λ b. is_private_body (role_variables roles) b ≡ true) body_is kept.keeps) kept.different kept.apart kept.first
+    (λ some. subst (λ b. AssignsAll (assigned_first roles) roles.lasts b) body_is (kept.last some)) kept.updates serial entered (shown_loops_are_independent ds serial round n s short entered read stays shown)

@@ -83,37 +83,6 @@ module _ (f : Variable → Bool) where
 
 -- ---- variables that stand once
 
--- a part of a list without doubles has none
-left_different : (xs ys : List Variable) → are_different (xs ++ ys) ≡ true → are_different xs ≡ true
-left_different [] ys h = refl
-left_different (x ∷ xs) ys h =
-    and_from (not (is_among xs x)) (are_different xs)
-    (not_from_false (is_among xs x) (in_neither x xs ys (not_again (is_among (xs ++ ys) x) (first_of (not (is_among (xs ++ ys) x)) (are_different (xs ++ ys)) h))).0)
-    (left_different xs ys (second_of (not (is_among (xs ++ ys) x)) (are_different (xs ++ ys)) h))
-  where
-    not_again : (b : Bool) → not b ≡ true → b ≡ false
-    not_again true k = absurd (true≢false (sym k))
-    not_again false k = refl
-
-pub right_different : (xs ys : List Variable) → are_different (xs ++ ys) ≡ true → are_different ys ≡ true
-right_different [] ys h = h
-right_different (x ∷ xs) ys h = right_different xs ys (second_of (not (is_among (xs ++ ys) x)) (are_different (xs ++ ys)) h)
-
--- what stands in the first part stands not in the second
-pub apart_lists : (xs ys : List Variable) → are_different (xs ++ ys) ≡ true → (x : Variable) → is_among xs x ≡ true → is_among ys x ≡ false
-apart_lists [] ys h x k = absurd (true≢false (sym k))
-apart_lists (y ∷ xs) ys h x k = at (y == x) refl k (λ q. apart_lists xs ys (second_of (not (is_among (xs ++ ys) y)) (are_different (xs ++ ys)) h) x q)
-  where
-    not_again : (b : Bool) → not b ≡ true → b ≡ false
-    not_again true q = absurd (true≢false (sym q))
-    not_again false q = refl
-
-    at : (b : Bool) → (y == x) ≡ b → (b || is_among xs x) ≡ true → (is_among xs x ≡ true → is_among ys x ≡ false) → is_among ys x ≡ false
-    at true e q rest =
-        ap (is_among ys) (sym (eqb-true y x e))
-        ∙ (in_neither y xs ys (not_again (is_among (xs ++ ys) y) (first_of (not (is_among (xs ++ ys) y)) (are_different (xs ++ ys)) h))).1
-    at false e q rest = rest q
-
 some_different : (f : Variable → Bool) (rs : List (Variable × ReduceOp)) → are_different (reduced rs) ≡ true → are_different (reduced (filter (λ r. f r.0) rs)) ≡ true
 some_different f [] h = refl
 some_different f (r ∷ rs) h = at (f r.0) refl (some_different f rs (second_of (not (is_among (reduced rs) r.0)) (are_different (reduced rs)) h))
@@ -437,15 +406,19 @@ module _ (s : Stmt) (roles : Roles) where
           seen true e = absurd (true≢false (sym (declared_plain roles.reductions x s updates e) ∙ ap is_none is))
           seen false e = ap not e
 
-  module _ (different : are_different (role_variables roles) ≡ true) where
-    pub used_different : are_different (reduced used.reductions) ≡ true
-    used_different = some_different outside roles.reductions (right_different (assigned_first roles) (reduced roles.reductions) different)
+  pub used_different : are_different (reduced roles.reductions) ≡ true → are_different (reduced used.reductions) ≡ true
+  used_different different = some_different outside roles.reductions different
 
-    -- no reduction variable is private or lastprivate
-    plain_first : (x : Variable) → is_among (assigned_first used) x ≡ true → is_plain used.reductions x ≡ true
-    plain_first x h =
-        still_plain outside roles.reductions x
-        (plain_of roles.reductions x (apart_lists (assigned_first roles) (reduced roles.reductions) different x (second_of (outside x) (is_among (assigned_first roles) x) (sym (used_first x) ∙ h))))
+  -- no reduction variable is private or lastprivate
+  module _ (apart : list_all (is_plain roles.reductions) (assigned_first roles) ≡ true) where
+    one_plain : (xs : List Variable) → list_all (is_plain roles.reductions) xs ≡ true → (x : Variable) → is_among xs x ≡ true → is_plain roles.reductions x ≡ true
+    one_plain [] h x k = absurd (true≢false (sym k))
+    one_plain (y ∷ xs) h x k =
+        at (or_cases (y == x) (is_among xs x) k) (λ q. one_plain xs (second_of (is_plain roles.reductions y) (list_all (is_plain roles.reductions) xs) h) x q)
+      where
+        at : ((y == x) ≡ true) ⊎ (is_among xs x ≡ true) → (is_among xs x ≡ true → is_plain roles.reductions x ≡ true) → is_plain roles.reductions x ≡ true
+        at (inl e) rest = ap (is_plain roles.reductions) (sym (eqb-true y x e)) ∙ first_of (is_plain roles.reductions y) (list_all (is_plain roles.reductions) xs) h
+        at (inr q) rest = rest q
 
     all_plain : (xs : List Variable) → ((x : Variable) → is_among xs x ≡ true → is_plain used.reductions x ≡ true) → list_all (is_plain used.reductions) xs ≡ true
     all_plain [] h = refl
@@ -454,4 +427,6 @@ module _ (s : Stmt) (roles : Roles) where
         (all_plain xs (λ y k. h y (or_right (x == y) (is_among xs y) k)))
 
     pub used_apart : list_all (is_plain used.reductions) (assigned_first used) ≡ true
-    used_apart = all_plain (assigned_first used) plain_first
+    used_apart =
+        all_plain (assigned_first used)
+        (λ x h. still_plain outside roles.reductions x (one_plain (assigned_first roles) apart x (second_of (outside x) (is_among (assigned_first roles) x) (sym (used_first x) ∙ h))))
