@@ -27,3 +27,5 @@ pub mod RefusedKernels
 pub mod PrivateNests
 pub mod RoleNests
 pub mod Taking
+pub mod Hiding
+pub mod PlainKernels

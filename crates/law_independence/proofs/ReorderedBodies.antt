@@ -1,5 +1,5 @@
 -- The body of a nest, as the grammar reads it, keeps to its own scalars.
-use Rattle.std.specs.Prelude.{ℕ, zero, suc, Bool, true, false, ◌≡◌, ◌<◌, ◌==◌, ◌&&◌, ◌||◌, not, List, [], ◌∷◌, length, Some}
+use Rattle.std.specs.Prelude.{ℕ, zero, suc, Bool, true, false, ◌≡◌, ◌<◌, ◌==◌, ◌&&◌, ◌||◌, not, List, [], ◌∷◌, Some}
 use Rattle.std.proofs.Common.{refl, sym, ap, ◌∙◌, subst, cond, arith}
 use Rattle.std.proofs.lemmas.Bool.{or_parts, and_from, not_from_true, not_from_false, true≢false}
 use Rattle.std.proofs.lemmas.Option.{none-some, same_Some}
@@ -25,7 +25,7 @@ use Rattle.law_turns.proofs.Laws.{entered_join}
 use Rattle.law_independence.specs.Inside.{LoopsAreRead, ItemsAreRead}
 use Rattle.law_independence.proofs.Links.{one_entered}
 use Rattle.law_independence.proofs.IndependentNests.{some_alone, longer, IsLoopThere, IsBodyThere, body_there, IsNestThere}
-use Rattle.law_commute.specs.Targets.{targets, targets_among, KeepsApart}
+use Rattle.law_commute.specs.Targets.{targets, KeepsApart}
 use Rattle.law_independence.proofs.Numbering.{undeclared, IsPlace, place_inside}
 use Rattle.law_independence.proofs.Starts.{StartsNameOthers, AllNameOthers}
 use Rattle.law_independence.proofs.Naming.{IsNamed, stmt_named}

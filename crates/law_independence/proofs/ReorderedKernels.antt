@@ -28,7 +28,7 @@ use Rattle.law_independence.proofs.IndependentNests.{body_there}
 use Rattle.law_independence.proofs.Grammar.{decls_small, decls_short, items_read}
 use Rattle.law_private.proofs.More.{more_known}
 use Rattle.flow.specs.Roles.{LineRoles, privates_by, KeepsRolesThere, LoopsHaveBy, ItemsHaveBy, LoopsKeepRoles, ItemsKeepRoles}
-use Rattle.law_independence.specs.OrderLaws.{CommutesBy, AcceptedLoopsCommute}
+use Rattle.law_independence.specs.OrderLaws.{SharesBy, AcceptedLoopsShare}
 use Rattle.law_independence.proofs.Numbering.{IsPlace, place_later, place_behind, place_inside}
 use Rattle.law_independence.proofs.Starts.{StartsNameOthers, AllNameOthers, all_start}
 use Rattle.law_independence.proofs.ReorderedNests.{loop_commutes}
@@ -38,7 +38,7 @@ use Rattle.law_independence.proofs.ReorderedNests.{loop_commutes}
 module _ (text : List ℕ) (ds : List Declaration) (short : HaveShort ds) (R : LineRoles) where
   first_commutes : {scope : Scope} {o next next' : ℕ} {ts : List Token} {items : Items} → ReadsItems scope o next ts items next' → (round : Nesting) (serial : List Loop) (n : ℕ) → AreEntered no_loops serial round
       → IsPlace ds round.box scope next → AllNameOthers items → AllKeep round.box items → (line : ℕ) → ShownFirst round n items → FirstHas (KeepsRolesThere (R line)) serial n items → ItemsAreRead round.box items → Have (StaysInside ds) round.box items
-      → FirstHas (CommutesBy ds R line) serial n items
+      → FirstHas (SharesBy ds R line) serial n items
   first_commutes no_more round serial n entered at starts kept line' shown private read has = shown
   first_commutes (line r) round serial n entered at starts kept line' shown private read has = shown
   first_commutes (empty_local free r) round serial n entered at starts kept line' shown private read has = shown
@@ -49,7 +49,7 @@ module _ (text : List ℕ) (ds : List Declaration) (short : HaveShort ds) (R : L
 
   line_commutes : {scope : Scope} {o next next' : ℕ} {ts : List Token} {items : Items} → ReadsItems scope o next ts items next' → (round : Nesting) (serial : List Loop) (n : ℕ) → AreEntered no_loops serial round
       → IsPlace ds round.box scope next → AllNameOthers items → AllKeep round.box items → LineShown text round n items → LineHas text (KeepsRolesThere (R n)) serial n items → ItemsAreRead round.box items → Have (StaysInside ds) round.box items
-      → LineHas text (CommutesBy ds R n) serial n items
+      → LineHas text (SharesBy ds R n) serial n items
   line_commutes {items = items} r round serial n entered at starts kept (k, c, reads, first) (k', c', reads', private) read has =
       let same = (read_once (line_at text n) k' c' k c reads' reads).1 in
       (k, c, reads, first_commutes r round serial (associated c) entered at starts kept n first (subst (λ d. FirstHas (KeepsRolesThere (R n)) serial (associated d) items) same private) read has)
@@ -57,7 +57,7 @@ module _ (text : List ℕ) (ds : List Declaration) (short : HaveShort ds) (R : L
   mutual
     stmt_commutes : {scope : Scope} {o next next' : ℕ} {ts : List Token} {s : Stmt} → ReadsStmt scope o next ts s next' → (round : Nesting) (serial : List Loop) → AreEntered no_loops serial round
         → IsPlace ds round.box scope next → StartsNameOthers s → Keeps round.box s → LoopsShown text round s → LoopsKeepRoles text R serial s → LoopsAreRead round.box s → Has (StaysInside ds) round.box s
-        → LoopsHaveBy text (CommutesBy ds R) serial s
+        → LoopsHaveBy text (SharesBy ds R) serial s
     stmt_commutes (assign t e) round serial entered at starts kept shown private read has = tt
     stmt_commutes (update t u e) round serial entered at starts kept shown private read has = tt
     stmt_commutes (if_only less rc ra) round serial entered at starts kept shown private read has = stmt_commutes ra round serial entered at starts kept shown private read has.1
@@ -78,7 +78,7 @@ module _ (text : List ℕ) (ds : List Declaration) (short : HaveShort ds) (R : L
 
     items_commute : {scope : Scope} {o next next' : ℕ} {ts : List Token} {items : Items} → ReadsItems scope o next ts items next' → (round : Nesting) (serial : List Loop) → AreEntered no_loops serial round
         → IsPlace ds round.box scope next → AllNameOthers items → AllKeep round.box items → ItemsShown text round items → ItemsKeepRoles text R serial items → ItemsAreRead round.box items → Have (StaysInside ds) round.box items
-        → ItemsHaveBy text (CommutesBy ds R) serial items
+        → ItemsHaveBy text (SharesBy ds R) serial items
     items_commute no_more round serial entered at starts kept shown private read has = tt
     items_commute (line {n = n} r) round serial entered at starts kept shown private read has =
         (line_commutes r round serial n entered at starts kept shown.0 private.0 read has, items_commute r round serial entered at starts kept shown.1 private.1 read has)
@@ -93,8 +93,8 @@ module _ (text : List ℕ) (ds : List Declaration) (short : HaveShort ds) (R : L
 
 -- ---- a kernel
 
-pub accepted_loops_commute : AcceptedLoopsCommute
-accepted_loops_commute text k R reads in_range definite private shown =
+pub accepted_loops_share : AcceptedLoopsShare
+accepted_loops_share text k R reads in_range definite private shown =
     let ds = k.variables in
     let read = (kept_lines_are_read text k reads).reads in
     let left = some_there (definite_items (privates_by R) [] k.body (known_at_start ds)) definite in

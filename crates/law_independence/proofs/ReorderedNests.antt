@@ -1,8 +1,8 @@
 -- The iterations of a nest that is shown to be independent commute, and its chunks share out what it does.
-use Rattle.std.specs.Prelude.{ℕ, Bool, true, false, not, ◌≡◌, ◌≢◌, ◌<◌, ◌≤◌, ◌&&◌, ◌||◌, ℤ, pos, List, [], ◌∷◌, ◌++◌, length, map, Contains, Some, IsSome}
+use Rattle.std.specs.Prelude.{ℕ, Bool, true, false, not, ◌≡◌, ◌≢◌, ◌&&◌, ◌||◌, ℤ, pos, List, [], ◌∷◌, ◌++◌, length, map, Contains, Some, IsSome}
 use Rattle.std.specs.List.{AllPairs, list_all}
 use Rattle.std.proofs.Common.{refl, sym, ap, ◌∙◌, subst}
-use Rattle.std.proofs.lemmas.Bool.{true≢false, and_from, or_cases}
+use Rattle.std.proofs.lemmas.Bool.{true≢false, and_from}
 use Rattle.std.proofs.lemmas.Option.{same_Some}
 use Rattle.semantics.specs.Tree.{Variable, Stmt, Declaration}
 use Rattle.semantics.specs.Meaning.State.{State}
@@ -36,7 +36,7 @@ use Rattle.law_roles.proofs.Joining.{join_in_place}
 use Rattle.law_roles.proofs.Keeping.{steady_keeps}
 use Rattle.law_independence.specs.Inside.{LoopsAreRead, HaveShort}
 use Rattle.law_independence.specs.IndependenceLaws.{IsIndependentNest}
-use Rattle.law_independence.specs.OrderLaws.{used_roles, AreStepsRead, AreAtHand, CommutesAsNest}
+use Rattle.law_independence.specs.OrderLaws.{used_roles, AreStepsRead, AreAtHand, SharesAsNest}
 use Rattle.law_independence.proofs.IndependentNests.{IsNestThere, shown_loops_are_independent}
 use Rattle.law_independence.proofs.Links.{linked_site, linked}
 use Rattle.law_independence.proofs.PrivateNests.{private_nest, private_target, nest_first, body_first}
@@ -207,7 +207,7 @@ module _ (ds : List Declaration) (short : HaveShort ds) (round : Nesting) (outer
           (first_used x (there x used_there), outside_visible s x (used_assigned x used_there))
 
   -- so it commutes, where its iterations are independent
-  commutes : (around : List Loop) → AreEntered no_loops around round → IsIndependentNest around n s → CommutesAsNest ds used around n s
+  commutes : (around : List Loop) → AreEntered no_loops around round → IsIndependentNest around n s → SharesAsNest ds used around n s
   commutes around entered independent =
       record {
         nest = independent.0;
@@ -259,7 +259,7 @@ module _ (ds : List Declaration) (short : HaveShort ds) (round : Nesting) (outer
           same_nest (λ ls b. iterations ls outside ≡ Some us → IsReady ls b outside us) loops inside is (λ are'. nest_ready ds round outer serial n s found.nest at.0 outside us at.1 are') are
 
 pub loop_commutes : (ds : List Declaration) (serial : List Loop) (round : Nesting) (n : ℕ) (s : Stmt) → HaveShort ds → AreEntered no_loops serial round → LoopsAreRead round.box s → Has (StaysInside ds) round.box s
-    → IsStmtRead ds round.box s → (roles : Roles) → KeepsItsRoles roles n s → IsShownLoop round n s → CommutesAsNest ds (used_roles s roles) serial n s
+    → IsStmtRead ds round.box s → (roles : Roles) → KeepsItsRoles roles n s → IsShownLoop round n s → SharesAsNest ds (used_roles s roles) serial n s
 loop_commutes ds serial round n s short entered read stays stmt roles kept shown =
     let found = nest_read n ds round (length round.levels) (map (λ v. v.most) (inner_loops 0 round.levels)) s shown (record { read = read; stays = stays }) stmt in
     let body_is : kept.body ≡ found.nest.body = ap (λ (p : List Loop × Stmt). p.1) (same_Some (kept.loops, kept.body) (found.nest.loops, found.nest.body) (sym kept.nest ∙ found.nest.is)) in

@@ -1,12 +1,11 @@
 -- The roles of what a nest assigns, of those that its directive line gives.
 use Rattle.std.specs.Prelude.{ℕ, Bool, true, false, not, ◌≡◌, ◌==◌, ◌&&◌, ◌||◌, ◌⊎◌, List, [], ◌∷◌, ◌++◌, map, filter, Option, Some, None, is_none, slice_get}
 use Rattle.std.specs.List.{list_all}
-use Rattle.std.proofs.Common.{refl, sym, ap, ◌∙◌, subst, cond, inl, inr}
+use Rattle.std.proofs.Common.{refl, sym, ap, ◌∙◌, cond, inl, inr}
 use Rattle.std.proofs.lemmas.Bool.{true≢false, eqb-true, eq-eqb, and_from, or_left, or_right, or_cases, not_from_false}
 use Rattle.std.proofs.lemmas.Map.Views.{any-filter_same}
-use Rattle.std.proofs.lemmas.Option.{none-some}
 use Rattle.semantics.specs.Tree.{Variable, BinaryOp, CompareOp, Literal, Constant, Unary, Binary, Object, Conditional, Expr, Exprs, no_exprs, more_exprs, Cond, NotZero, Compare, Not, LogicalAnd, LogicalOr, Source, Number, Truth, Increment, Up, Down, Set, Change, Stmt, Assign, Update, If, IfElse, For, Block, Print, Items, no_items, mark, local, stmt, Declaration}
-use Rattle.semantics.specs.Meaning.Agrees.{is_among, declared_in, declared_among, visible_behind, names_expr, names_exprs, names_cond, names_source, names_start, names_step, names_parts}
+use Rattle.semantics.specs.Meaning.Agrees.{is_among, declared_in, declared_among, visible_behind, names_expr, names_exprs, names_cond, names_source, names_start, names_step}
 use Rattle.semantics.specs.Loops.Operator.{ReduceOp}
 use Rattle.semantics.specs.Loops.Piece.{Roles}
 use Rattle.affine.specs.declared.interval.Side.{Side}
@@ -20,7 +19,7 @@ use Rattle.law_roles.specs.Updates.{operator_of, is_plain, combines, operand, so
 use Rattle.law_roles.specs.Sharing.{assigned_first, role_variables, are_different}
 use Rattle.law_roles.proofs.Starts.{plain_of}
 use Rattle.law_independence.specs.OrderLaws.{used_roles}
-use Rattle.law_independence.proofs.Targeted.{in_either, in_neither, is_outside_target}
+use Rattle.law_independence.proofs.Targeted.{in_either, is_outside_target}
 
 -- ---- lists
 

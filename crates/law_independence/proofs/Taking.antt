@@ -1,7 +1,7 @@
 -- The operands of reductions have values wherever a nest is met at a turn of the loops round it. (C11 6.5.13 and 6.5.14; OpenMP 5.2, 5.5.8)
-use Rattle.std.specs.Prelude.{ℕ, Bool, true, false, ◌≡◌, ◌==◌, ◌<◌, ◌≤◌, ℤ, List, [], ◌∷◌, length, Option, Some, None, IsSome, is_some, nat_lt}
+use Rattle.std.specs.Prelude.{ℕ, Bool, true, false, ◌≡◌, ◌==◌, ◌<◌, ℤ, List, [], ◌∷◌, length, IsSome, is_some, nat_lt}
 use Rattle.std.specs.List.{AllByRecursion}
-use Rattle.std.proofs.Common.{refl, sym, ap, ◌∙◌, subst, cond, arith, inl, inr}
+use Rattle.std.proofs.Common.{refl, sym, ap, ◌∙◌, cond, arith, inl, inr}
 use Rattle.std.proofs.lemmas.Bool.{eqb-true, ltb-true, ltb-false}
 use Rattle.semantics.specs.Tree.{Variable, Stmt, Declaration}
 use Rattle.semantics.specs.Source.Token.{Token}
@@ -9,13 +9,11 @@ use Rattle.semantics.specs.Source.Scope.{Scope, Entity, AVariable, AConstant}
 use Rattle.semantics.specs.Source.Statements.{ReadsStmt}
 use Rattle.semantics.specs.Meaning.State.{State, Slot, Outside, Empty, Holds}
 use Rattle.semantics.specs.Meaning.Definite.{no_privates, definite}
-use Rattle.semantics.specs.Meaning.Runs.{Effect, run}
 use Rattle.semantics.specs.Loops.Nest.{Loop}
 use Rattle.semantics.specs.Loops.Operator.{ReduceOp}
 use Rattle.semantics.specs.Loops.Piece.{is_outside}
 use Rattle.affine.specs.declared.interval.Side.{Side}
 use Rattle.affine_expr.specs.Forms.{is_counter}
-use Rattle.nest_loop.specs.Constants.{Each, IsSmall}
 use Rattle.nest_loop.specs.Turn.{AtTurn}
 use Rattle.pairtest_counter.proofs.Chains.{canonical_named}
 use Rattle.nest_loop.proofs.Visible.{each_weaker}
@@ -23,7 +21,7 @@ use Rattle.pairtest_counter.specs.Levels.{Nesting, values_at}
 use Rattle.nest.specs.Nests.{Has, StaysInside}
 use Rattle.deptest_verdict.specs.Shown.{no_loops}
 use Rattle.law_turns.specs.Turns.{AreEntered}
-use Rattle.law_roles.specs.Updates.{reduces, operands}
+use Rattle.law_roles.specs.Updates.{reduces}
 use Rattle.law_roles.specs.Sharing.{TakesOperands}
 use Rattle.law_runs.proofs.Going.{stands, is_held}
 use Rattle.law_runs.proofs.Nested.{some_there}

@@ -1,6 +1,6 @@
 -- The scalars that a statement assigns, and those of a nest. (OpenMP 5.2, 5.4.3)
 use Rattle.std.specs.Prelude.{ℕ, zero, suc, Bool, true, false, ◌≡◌, ◌==◌, ◌&&◌, ◌||◌, not, List, [], ◌∷◌, ◌++◌, Some}
-use Rattle.std.proofs.Common.{refl, sym, ap, ◌∙◌, cond, ⊎_elim}
+use Rattle.std.proofs.Common.{refl, sym, ap, ◌∙◌, ⊎_elim}
 use Rattle.std.proofs.lemmas.Bool.{eqb-true, or_cases, or_parts}
 use Rattle.std.proofs.lemmas.List.{append-nil}
 use Rattle.std.proofs.lemmas.Map.Views.{any-filter_same}
@@ -8,11 +8,9 @@ use Rattle.std.proofs.lemmas.Option.{same_Some, none-some}
 use Rattle.semantics.specs.Tree.{Variable, Exprs, no_exprs, more_exprs, Stmt, Assign, Update, If, IfElse, For, Block, Print, Items, no_items, mark, local, stmt}
 use Rattle.semantics.specs.Meaning.Agrees.{is_among, declared_in, visible_behind}
 use Rattle.semantics.specs.Loops.Nest.{Loop, as_loop, nest_of}
-use Rattle.affine.specs.declared.interval.Interval.{Interval}
 use Rattle.affine.specs.declared.interval.Side.{Side}
 use Rattle.affine_expr.specs.Forms.{is_counter}
 use Rattle.nest_loop.specs.Canonical.{stepped, assigns, assigns_among}
-use Rattle.nest_loop.specs.Loops.{inside}
 use Rattle.flow.specs.Private.{is_own, keeps, keeps_all}
 use Rattle.flow.proofs.PrivateLemmas.{among_both}
 use Rattle.flow.proofs.ParallelLemmas.{nest_declares}

@@ -157,7 +157,7 @@ none_chosen (LogicalAnd c d) a = refl
 none_chosen (LogicalOr c d) a = refl
 
 mutual
-  plain_reduces : (a : Stmt) → reduces [] a ≡ true
+  pub plain_reduces : (a : Stmt) → reduces [] a ≡ true
   plain_reduces (Assign x no_exprs e) = source_plain e
   plain_reduces (Assign x (more_exprs i is) e) = and_from (names_exprs (is_plain []) (more_exprs i is)) (names_source (is_plain []) e) (exprs_plain (more_exprs i is)) (source_plain e)
   plain_reduces (Update x no_exprs by e) = expr_plain e

@@ -3,8 +3,6 @@ pub mod Shared
 pub mod Staying
 pub mod Named
 pub mod Associated
-pub mod Undeclared
 pub mod Spots
-pub mod Unread
 pub mod Kept
 pub mod Accepted

@@ -1,24 +1,19 @@
--- An effect on the objects at file scope and on some locals alone.
-use Rattle.std.specs.Prelude.{ℕ, Bool, true, false, ◌≡◌, ◌==◌, ◌&&◌, ◌||◌, List, [], ◌∷◌, ◌++◌, flat_map, Option, Some, None}
+-- An effect on the objects at file scope alone.
+use Rattle.std.specs.Prelude.{ℕ, Bool, true, false, ◌≡◌, ◌==◌, ◌&&◌, ◌||◌, List, [], ◌∷◌, flat_map, Option, Some, None}
 use Rattle.std.specs.List.{AllByRecursion as Each}
 use Rattle.std.specs.Cmp.Lexicographic.{same_text}
-use Rattle.std.proofs.Common.{refl, sym, ap, ◌∙◌, subst, cond}
+use Rattle.std.proofs.Common.{refl, sym, ap, ◌∙◌, cond}
 use Rattle.std.proofs.lemmas.Bool.{eqb-true}
-use Rattle.semantics.specs.Meaning.Runs.{Effect}
-use Rattle.semantics.proofs.NestLaw.{local_same}
-use Rattle.law_runs.proofs.Assigning.{swapped}
 use Rattle.semantics.specs.Tree.{Variable}
-use Rattle.semantics.specs.Meaning.State.{State, Slot, Outside, Empty, Holds, Write, Declared, Assigned, slot_of, renewed, same_indexes, with_local, assign_at, is_there, look, written, overwritten}
-use Rattle.semantics.specs.Meaning.Agrees.{is_among}
+use Rattle.semantics.specs.Meaning.State.{State, Slot, Outside, Empty, Holds, Write, Declared, Assigned, slot_of, renewed, same_indexes, with_local, assign_at, is_there, written, overwritten}
 use Rattle.semantics.specs.Loops.Piece.{is_outside}
 use Rattle.law_commute.proofs.Framed.{true_not_false}
 use Rattle.law_commute.proofs.Lists.{each_join}
 use Rattle.law_commute.proofs.Values.{first_of, second_of}
 use Rattle.law_commute.proofs.Changes.{acted, hit}
 use Rattle.law_commute.proofs.Joining.{acted-append, IsShared, shared_change}
-use Rattle.law_commute.proofs.Matched.{overwritten-append}
-use Rattle.law_runs.proofs.Assigning.{other_local}
-use Rattle.law_scopes.specs.Apart.{written_as, shared_write, local_write, left_effect, left_slot, EffectsAreLeftApart}
+use Rattle.law_independence.proofs.Hiding.{hidden}
+use Rattle.law_scopes.specs.Apart.{written_as, shared_write, SharedEffectsLeaveTheObjects}
 
 -- an object that is there stays there, and one that is not never is
 renewed_there : (b : Bool) (c : Option ℕ) (v : ℕ) → is_there (cond b (renewed c v) c) ≡ is_there c
@@ -40,11 +35,11 @@ there_same (w ∷ ws) s y js = there_same ws (written s w) y js ∙ one w
         at (Holds n) = refl
 
 -- an object to which no write goes is as it was
-or_left : (a b : Bool) → (a || b) ≡ false → a ≡ false
+pub or_left : (a b : Bool) → (a || b) ≡ false → a ≡ false
 or_left true b e = absurd cc
 or_left false b e = refl
 
-or_right : (a b : Bool) → (a || b) ≡ false → b ≡ false
+pub or_right : (a b : Bool) → (a || b) ≡ false → b ≡ false
 or_right true b e = absurd cc
 or_right false b e = e
 
@@ -58,46 +53,6 @@ unhit (Assigned x is v ∷ ws) s y js h =
     at Outside = ap (λ b. cond b (renewed (s.cells y js) v) (s.cells y js)) (or_left ((y == x) && same_indexes js is) (hit y js ws) h)
     at Empty = refl
     at (Holds n) = refl
-
--- a local hides the object of its number
-slot_inside : (o : Option ℕ) → is_outside (slot_of o) ≡ false
-slot_inside None = refl
-slot_inside (Some n) = refl
-
-set_inside : (b : Bool) (k j : Slot) → is_outside k ≡ false → is_outside j ≡ false → is_outside (cond b k j) ≡ false
-set_inside true k j e f = e
-set_inside false k j e f = f
-
--- a local stays one
-pub still_inside : (ws : List Write) (s : State) (y : Variable) → is_outside (s.locals y) ≡ false → is_outside ((overwritten s ws).locals y) ≡ false
-still_inside [] s y h = h
-still_inside (w ∷ ws) s y h = still_inside ws (written s w) y (one w)
-  where
-    one : (w : Write) → is_outside ((written s w).locals y) ≡ false
-    one (Declared x v) = set_inside (y == x) (slot_of v) (s.locals y) (slot_inside v) h
-    one (Assigned x is v) = at (s.locals x)
-      where
-        at : (k : Slot) → is_outside ((assign_at k s x is v).locals y) ≡ false
-        at Outside = h
-        at Empty = set_inside (y == x) (Holds v) (s.locals y) refl h
-        at (Holds n) = set_inside (y == x) (Holds v) (s.locals y) refl h
-
-hidden : (ws : List Write) (s : State) (y : Variable) (js : List ℕ) → is_outside (s.locals y) ≡ false → (overwritten s ws).cells y js ≡ s.cells y js
-hidden [] s y js h = refl
-hidden (Declared x v ∷ ws) s y js h = hidden ws (with_local s x (slot_of v)) y js (still_inside (Declared x v ∷ []) s y h)
-hidden (Assigned x is v ∷ ws) s y js h = hidden ws (assign_at (s.locals x) s x is v) y js (still_inside (Assigned x is v ∷ []) s y h) ∙ at (s.locals x) refl
-  where
-    apart : s.locals x ≡ Outside → ((y == x) && same_indexes js is) ≡ false
-    apart e = go (y == x) refl
-      where
-        go : (b : Bool) → (y == x) ≡ b → (b && same_indexes js is) ≡ false
-        go true q = absurd (true_not_false (is_outside (s.locals y)) (ap is_outside (ap s.locals (eqb-true y x q) ∙ e)) h)
-        go false q = refl
-
-    at : (k : Slot) → s.locals x ≡ k → (assign_at k s x is v).cells y js ≡ s.cells y js
-    at Outside e = ap (λ b. cond b (renewed (s.cells y js) v) (s.cells y js)) (apart e)
-    at Empty e = refl
-    at (Holds n) e = refl
 
 module _ (s : State) (ws : List Write) where
   abbrev after : State
@@ -214,134 +169,7 @@ module _ (s : State) (ws : List Write) where
         at true e (Some n) f true g = hit_acts n f e ws (s.cells y js) g (sym (there_same ws s y js) ∙ ap is_there f)
         at true e (Some n) f false g = unhit_acts ws (s.cells y js) g ∙ sym (unhit ws s y js g) ∙ f
 
--- on the objects alone: it leaves the locals as they were, and the objects as the whole effect does
-record SharesTheObjects (s : State) (ws : List Write) : Type 0 where
-  locals : (x : Variable) → (overwritten s (shared s ws ws)).locals x ≡ s.locals x
-  cells : (x : Variable) (is : List ℕ) → (overwritten s (shared s ws ws)).cells x is ≡ (overwritten s ws).cells x is
-
-shares : (s : State) (ws : List Write) → SharesTheObjects s ws
-shares s ws =
-    let change = shared_change s (shared s ws ws) s (all_shared s ws ws) (λ x. refl) in
-    record { locals = change.locals; cells = λ y js. change.cells y js ∙ same_cells s ws y js }
-
--- ---- locals
-
--- where the number is that of a local that stands
-pub same_kind : (k : Slot) (o : Option ℕ) → is_outside (left_slot k o) ≡ is_outside k
-same_kind Outside o = refl
-same_kind Empty None = refl
-same_kind Empty (Some v) = refl
-same_kind (Holds n) None = refl
-same_kind (Holds n) (Some v) = refl
-
-twice : (k : Slot) (o : Option ℕ) → left_slot (left_slot k o) o ≡ left_slot k o
-twice Outside o = refl
-twice Empty None = refl
-twice Empty (Some v) = refl
-twice (Holds n) None = refl
-twice (Holds n) (Some v) = refl
-
-module _ (s after : State) where
-  -- locals stand in the one where they stand in the other
-  abbrev SameKinds : State → Type 0
-  SameKinds m = (y : Variable) → is_outside (m.locals y) ≡ is_outside (s.locals y)
-
-  record IsWritten (m m' : State) (x : Variable) : Type 0 where
-    itself : m'.locals x ≡ left_slot (m.locals x) (look after x [])
-    others : (y : Variable) → (y == x) ≡ false → m'.locals y ≡ m.locals y
-    cells : (y : Variable) (js : List ℕ) → m'.cells y js ≡ m.cells y js
-
-  one_written : (m : State) (x : Variable) → SameKinds m → IsWritten m (overwritten m (local_write s after x)) x
-  one_written m x kinds = at (is_outside (s.locals x)) refl (look after x []) refl
-    where
-      unchanged : left_slot (m.locals x) (look after x []) ≡ m.locals x → IsWritten m m x
-      unchanged e = record { itself = sym e; others = λ y f. refl; cells = λ y js. refl }
-
-      outside : (k : Slot) → is_outside k ≡ true → (o : Option ℕ) → left_slot k o ≡ k
-      outside Outside e o = refl
-      outside Empty e o = absurd cc
-      outside (Holds n) e o = absurd cc
-
-      nothing : (k : Slot) → left_slot k None ≡ k
-      nothing Outside = refl
-      nothing Empty = refl
-      nothing (Holds n) = refl
-
-      put : (k : Slot) → m.locals x ≡ k → is_outside k ≡ false → (v : ℕ) → look after x [] ≡ Some v → IsWritten m (assign_at k m x [] v) x
-      put Outside e f v g = absurd cc
-      put Empty e f v g = record {
-        itself = local_same m x (Holds v) ∙ sym (ap (λ l. left_slot l (look after x [])) e ∙ ap (left_slot Empty) g);
-        others = λ y q. other_local m x (Holds v) y q;
-        cells = λ y js. refl;
-      }
-      put (Holds n) e f v g = record {
-        itself = local_same m x (Holds v) ∙ sym (ap (λ l. left_slot l (look after x [])) e ∙ ap (left_slot (Holds n)) g);
-        others = λ y q. other_local m x (Holds v) y q;
-        cells = λ y js. refl;
-      }
-
-      at : (b : Bool) → is_outside (s.locals x) ≡ b → (o : Option ℕ) → look after x [] ≡ o → IsWritten m (overwritten m (cond b [] (written_as x [] (look after x [])))) x
-      at true e o g = unchanged (outside (m.locals x) (kinds x ∙ e) (look after x []))
-      at false e None g = subst (λ q. IsWritten m (overwritten m (written_as x [] q)) x) (sym g) (unchanged (ap (left_slot (m.locals x)) g ∙ nothing (m.locals x)))
-      at false e (Some v) g = subst (λ q. IsWritten m (overwritten m (written_as x [] q)) x) (sym g) (put (m.locals x) refl (kinds x ∙ e) v g)
-
-  record AreWritten (m m' : State) (xs : List Variable) : Type 0 where
-    among : (y : Variable) → is_among xs y ≡ true → m'.locals y ≡ left_slot (m.locals y) (look after y [])
-    others : (y : Variable) → is_among xs y ≡ false → m'.locals y ≡ m.locals y
-    cells : (y : Variable) (js : List ℕ) → m'.cells y js ≡ m.cells y js
-
-  all_written : (xs : List Variable) (m : State) → SameKinds m → AreWritten m (overwritten m (flat_map (local_write s after) xs)) xs
-  all_written [] m kinds = record { among = λ y h. absurd (true_not_false true refl (sym h)); others = λ y h. refl; cells = λ y js. refl }
-  all_written (x ∷ xs) m kinds =
-      subst (λ (u : State). AreWritten m u (x ∷ xs)) (sym (overwritten-append m (local_write s after x) (flat_map (local_write s after) xs)))
-      (both (all_written xs (overwritten m (local_write s after x)) still))
-    where
-      first : IsWritten m (overwritten m (local_write s after x)) x
-      first = one_written m x kinds
-
-      here : (y : Variable) → (y == x) ≡ true → (overwritten m (local_write s after x)).locals y ≡ left_slot (m.locals y) (look after y [])
-      here y e = ap (overwritten m (local_write s after x)).locals (eqb-true y x e) ∙ first.itself ∙ sym (ap (λ z. left_slot (m.locals z) (look after z [])) (eqb-true y x e))
-
-      still : SameKinds (overwritten m (local_write s after x))
-      still y = at (y == x) refl
-        where
-          at : (b : Bool) → (y == x) ≡ b → is_outside ((overwritten m (local_write s after x)).locals y) ≡ is_outside (s.locals y)
-          at true e = ap is_outside (here y e) ∙ same_kind (m.locals y) (look after y []) ∙ kinds y
-          at false e = ap is_outside (first.others y e) ∙ kinds y
-
-      both : {u : State} → AreWritten (overwritten m (local_write s after x)) u xs → AreWritten m u (x ∷ xs)
-      both {u} rest = record {
-        among = λ y h. at y (y == x) refl (is_among xs y) refl h;
-        others = λ y h. rest.others y (or_right (x == y) (is_among xs y) h) ∙ first.others y (swapped x y (or_left (x == y) (is_among xs y) h));
-        cells = λ y js. rest.cells y js ∙ first.cells y js;
-      }
-        where
-          slot : Variable → Slot → Slot
-          slot y l = left_slot l (look after y [])
-
-          at : (y : Variable) (b : Bool) → (y == x) ≡ b → (c : Bool) → is_among xs y ≡ c → ((x == y) || is_among xs y) ≡ true → u.locals y ≡ left_slot (m.locals y) (look after y [])
-          at y true e true f h = rest.among y f ∙ ap (slot y) (here y e) ∙ twice (m.locals y) (look after y [])
-          at y true e false f h = rest.others y f ∙ here y e
-          at y false e true f h = rest.among y f ∙ ap (slot y) (first.others y e)
-          at y false e false f h = absurd (true_not_false ((x == y) || is_among xs y) h (ap (λ d. d || is_among xs y) (swapped y x e) ∙ f))
-
--- a state that is left so
-record IsLeft (xs : List Variable) (s after u : State) : Type 0 where
-  others : (x : Variable) → is_among xs x ≡ false → u.locals x ≡ s.locals x
-  locals : (x : Variable) → is_among xs x ≡ true → u.locals x ≡ left_slot (s.locals x) (look after x [])
-  cells : (x : Variable) (is : List ℕ) → u.cells x is ≡ after.cells x is
-
-both_left : (xs : List Variable) (s : State) (ws : List Write) → IsLeft xs s (overwritten s ws) (overwritten s (shared s ws ws ++ flat_map (local_write s (overwritten s ws)) xs))
-both_left xs s ws =
-    let after = overwritten s ws in
-    let one = shares s ws in
-    let two = all_written s after xs (overwritten s (shared s ws ws)) (λ y. ap is_outside (one.locals y)) in
-    subst (IsLeft xs s after) (sym (overwritten-append s (shared s ws ws) (flat_map (local_write s after) xs)))
-    (record {
-      others = λ y h. two.others y h ∙ one.locals y;
-      locals = λ y h. two.among y h ∙ ap (λ l. left_slot l (look after y [])) (one.locals y);
-      cells = λ y js. two.cells y js ∙ one.cells y js;
-    })
-
-pub left_apart : EffectsAreLeftApart
-left_apart xs s e = let left = both_left xs s e.writes in record { others = left.others; locals = left.locals; cells = left.cells }
+pub shares : SharedEffectsLeaveTheObjects
+shares s e =
+    let change = shared_change s (shared s e.writes e.writes) s (all_shared s e.writes e.writes) (λ x. refl) in
+    record { locals = change.locals; cells = λ y js. change.cells y js ∙ same_cells s e.writes y js }

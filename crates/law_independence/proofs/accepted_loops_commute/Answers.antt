@@ -1,4 +1,4 @@
-use Rattle.law_independence.proofs.ReorderedKernels.{accepted_loops_commute as the_law}
+use Rattle.law_independence.proofs.PlainKernels.{accepted_loops_commute as the_law}
 use Rattle.law_independence.proofs.accepted_loops_commute.Goals as goal
 
 pub returns : goal.returns

@@ -1,9 +1,9 @@
 -- A reduction variable that is assigned is read before, so that it is known before the loop. (OpenMP 5.2, 5.5.8)
-use Rattle.std.specs.Prelude.{ℕ, Bool, true, false, not, ◌≡◌, ◌==◌, ◌&&◌, ◌||◌, ◌⊎◌, List, [], ◌∷◌, ◌++◌, Option, Some, None, is_none}
-use Rattle.std.proofs.Common.{refl, sym, ap, ◌∙◌, subst, cond, inl, inr}
+use Rattle.std.specs.Prelude.{Bool, true, false, ◌≡◌, ◌==◌, ◌&&◌, ◌||◌, ◌⊎◌, List, [], ◌∷◌, ◌++◌, Option, Some, None, is_none}
+use Rattle.std.proofs.Common.{refl, sym, ap, ◌∙◌, cond, inl, inr}
 use Rattle.std.proofs.lemmas.Bool.{true≢false, eqb-true, or_cases, false_from_ne_true}
 use Rattle.std.proofs.lemmas.Option.{same_Some, none-some, cond_some}
-use Rattle.semantics.specs.Tree.{Variable, Expr, Literal, Constant, Object, Unary, Binary, Conditional, no_exprs, more_exprs, Cond, NotZero, Compare, LogicalAnd, LogicalOr, Source, Number, Truth, Stmt, Assign, Update, If, IfElse, For, Block, Print, Items, no_items, mark, local, stmt}
+use Rattle.semantics.specs.Tree.{Variable, Expr, Object, Binary, no_exprs, more_exprs, Cond, NotZero, Compare, LogicalAnd, LogicalOr, Source, Number, Truth, Stmt, Assign, Update, If, IfElse, For, Block, Print, Items, no_items, mark, local, stmt}
 use Rattle.semantics.specs.Meaning.Agrees.{is_among, names_expr, names_exprs, names_cond, names_source, names_start, names_step}
 use Rattle.semantics.specs.Meaning.Definite.{Privates, DefinitelyAssigned, known_with, without, may_read, may_read_all, may_test, may_take, may_print, privates_in, after_both, declared_known, definite, definite_items}
 use Rattle.semantics.specs.Loops.Operator.{ReduceOp}
@@ -11,7 +11,7 @@ use Rattle.flow.proofs.PrivateLemmas.{among_both}
 use Rattle.law_commute.specs.Targets.{targets, targets_among}
 use Rattle.law_commute.proofs.Values.{first_of, second_of}
 use Rattle.law_private.proofs.Alike.{without_within}
-use Rattle.law_roles.specs.Updates.{operator_of, is_plain, combines, is_and_also, is_or_else, operand, sole, assigns, same_expr, is_selected, is_choice, is_plain_operand, updates, updates_by, reduces, all_reduce}
+use Rattle.law_roles.specs.Updates.{operator_of, is_plain, combines, is_and_also, is_or_else, operand, sole, assigns, same_expr, is_selected, is_choice, is_plain_operand, updates, reduces, all_reduce}
 use Rattle.law_runs.proofs.Assigning.{swapped}
 use Rattle.law_runs.proofs.Points.{allowed, tested_known, branches, and_then}
 use Rattle.law_scopes.proofs.Staying.{loop_is_known}

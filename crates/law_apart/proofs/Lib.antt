@@ -1,0 +1,5 @@
+pub mod Shared
+pub mod Undeclared
+pub mod Unread
+pub mod Kept
+pub mod Accepted

@@ -1,0 +1,26 @@
+-- Kernels run apart leave what they leave in sequence. (C11 6.2.1 and 6.2.4; OpenMP 5.2, 11.5)
+use Rattle.std.specs.Prelude.{ℕ, ◌≡◌, List, [], Some, slice_get}
+use Rattle.semantics.specs.Tree.{Variable, Declaration, Kernel}
+use Rattle.law_lines.specs.Without.{IsTreeOf}
+use Rattle.semantics.specs.Meaning.State.{State, Outside, is_there}
+use Rattle.semantics.specs.Meaning.Definite.{IsDefinite}
+use Rattle.semantics.specs.Meaning.Runs.{Effect, run_items}
+use Rattle.semantics.specs.Theorems.{is_declared}
+use Rattle.nest.specs.Nests.{IsInRange}
+use Rattle.flow.specs.Roles.{LineRoles, privates_by, ItemsHaveBy, ItemsKeepRoles}
+use Rattle.law_independence.specs.OrderLaws.{SharesBy}
+use Rattle.law_scopes.specs.Laws.{LeavesTheSame}
+use Rattle.law_apart.specs.Apart.{apart_items}
+
+-- no local stands yet, and the objects of the declarations are there and no other
+pub record StartsWith (ds : List Declaration) (s : State) : Type 0 where
+  pub there : (x : Variable) (is : List ℕ) → is_there (s.cells x is) ≡ is_declared (slice_get ds x) is
+  pub outside : (x : Variable) → s.locals x ≡ Outside
+
+-- an effect with the same text, which leaves the same objects at file scope: so it is of each kernel of the grammar with subscripts in range, in which no local is read before it is assigned, and whose parallel loops commute and keep the roles of the scalars that they assign
+abbrev pub AcceptedKernelsRunApart : Type 0
+AcceptedKernelsRunApart =
+    (text : List ℕ) (k : Kernel) (R : LineRoles) (s : State) (e : Effect) → IsTreeOf text k → IsInRange k → IsDefinite (privates_by R) k
+    → ItemsKeepRoles text R [] k.body → ItemsHaveBy text (SharesBy k.variables R) [] k.body
+    → StartsWith k.variables s → run_items k.body s ≡ Some e
+    → LeavesTheSame s e (apart_items R [] k.body s)

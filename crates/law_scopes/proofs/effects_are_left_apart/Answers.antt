@@ -1,5 +1,0 @@
-use Rattle.law_scopes.proofs.Shared.{left_apart as the_law}
-use Rattle.law_scopes.proofs.effects_are_left_apart.Goals as goal
-
-pub returns : goal.returns
-returns c = the_law
