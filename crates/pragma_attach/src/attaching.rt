@@ -72,7 +72,8 @@ pub fn attach(
     ensures attached { IfOk result (λ _. IsAttached directives.now (kernel_of kernel.now)
         (directives_of directives.now (kernel_of kernel.now))) }
     ensures clauses { IfOk result (λ lines. (n : ℕ) → clauses_at (kernel_of kernel.now)
-        (directives_of directives.now (kernel_of kernel.now)) n ≡ Some (lines_known (kept lines) n)) }
+        (directives_of directives.now (kernel_of kernel.now)) n
+        ≡ Some (lines_known (kept lines) n)) }
     ensures err { IfErr result (λ refusal. (refusal ≡ OutOfMemory)
         ⊎ (IsOfDirectives refusal
         × ((ds : Those) → IsAttached directives.now (kernel_of kernel.now) ds → ⊥))) }

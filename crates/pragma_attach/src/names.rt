@@ -143,12 +143,14 @@ fn loop_names<'k>(
 ) -> Result<(), Stop>
     ensures ok { OnOk result ((rest : List (ℕ × Visible))
         → Carries directives.now (kept table.old) (kept table.new)
-        (lines_in ((string_bytes head.now.name, AVariable head.now.variable.0 0) ∷ names_of scope.old)
+        (lines_in
+        ((string_bytes head.now.name, AVariable head.now.variable.0 0) ∷ names_of scope.old)
         (stmt_of body.now) ++ rest) rest) }
     ensures names { OnOk result (scope.new ≡ scope.old) }
     ensures err { IfErr result (λ stop. Blames stop ((rest : List (ℕ × Visible))
         → Misses directives.now (kept table.old)
-        (lines_in ((string_bytes head.now.name, AVariable head.now.variable.0 0) ∷ names_of scope.old)
+        (lines_in
+        ((string_bytes head.now.name, AVariable head.now.variable.0 0) ∷ names_of scope.old)
         (stmt_of body.now) ++ rest))) }
 {
     let outer = count(scope);
