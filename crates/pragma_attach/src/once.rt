@@ -34,7 +34,7 @@ fn named(alloc: Global, clauses: &[Clause<Named>]) -> Result<Vec<Named>, Stop>
 }
 
 /// Where the first variable stands that stood before.
-fn first_twice(alloc: Global, list: &[Named]) -> Result<Option<Place>, Stop>
+pub(crate) fn first_twice(alloc: Global, list: &[Named]) -> Result<Option<Place>, Stop>
     ensures ok { IfOk result
         (λ found. is_none found ≡ are_distinct (map variable_named list.now)) }
     ensures err { IfErr result (λ stop. stop ≡ Memory) }
