@@ -55,7 +55,10 @@ fn add_names(set: &mut HashSet<u32>, names: &[Named]) -> Result<(), AllocError>
 }
 
 /// The variables that clauses name.
-pub(crate) fn listed(alloc: Global, clauses: &[Clause<Named>]) -> Result<HashSet<u32>, AllocError>
+pub(crate) fn listed_variables(
+    alloc: Global,
+    clauses: &[Clause<Named>],
+) -> Result<HashSet<u32>, AllocError>
     ensures { IfOk result (λ set. (q : ℕ) → holds set q
         ≡ is_among (flat_map variables_in (map resolved_clause clauses.now)) q) }
 {

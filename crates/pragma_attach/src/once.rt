@@ -21,7 +21,7 @@ use std::alloc::Global;
 use std::collections::HashSet;
 
 /// The variables that clauses name, in their order.
-fn named(alloc: Global, clauses: &[Clause<Named>]) -> Result<Vec<Named>, Stop>
+fn listed_names(alloc: Global, clauses: &[Clause<Named>]) -> Result<Vec<Named>, Stop>
     ensures ok { IfOk result (λ list. map variable_named list.items
         ≡ flat_map variables_in (map resolved_clause clauses.now)) }
     ensures err { IfErr result (λ stop. stop ≡ Memory) }
@@ -54,7 +54,7 @@ pub(crate) fn named_twice(alloc: Global, clauses: &[Clause<Named>]) -> Result<Op
         ≡ are_distinct (flat_map variables_in (map resolved_clause clauses.now))) }
     ensures err { IfErr result (λ stop. stop ≡ Memory) }
 {
-    let list = named(alloc, clauses)?;
+    let list = listed_names(alloc, clauses)?;
     first_twice(alloc, list.as_slice())
 }
 
