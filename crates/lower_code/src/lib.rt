@@ -17,6 +17,6 @@ pub use layout::layout_of;
 pub use lowering::{lower_items, run};
 pub use making::{beside, boxed};
 pub use mark::mark_among;
-pub use running::{obey, truth, worth};
+pub use running::{compare, obey, operate, truth, worth};
 pub use statements::{entry, increment, item, items, statement};
 pub use term::{Code, Laid, Lowered, Piece, Register, Term, Test, Word};
