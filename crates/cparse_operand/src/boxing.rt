@@ -7,7 +7,11 @@ use cparse_cursor::stop::Stop;
 use std::alloc::Global;
 
 /// Two parts in boxes.
-pub(crate) fn boxed<A: Drop, B: Drop>(alloc: Global, a: A, b: B) -> Result<(Box<A>, Box<B>), Stop>
+pub(crate) fn box_both<A: Drop, B: Drop>(
+    alloc: Global,
+    a: A,
+    b: B,
+) -> Result<(Box<A>, Box<B>), Stop>
     ensures first { IfOk result (λ r. r.0.value ≡ a) }
     ensures second { IfOk result (λ r. r.1.value ≡ b) }
     ensures err { IfErr result (λ stop. stop ≡ Memory) }

@@ -15,7 +15,7 @@ pub use behind::are_behind;
 pub use expression::test;
 pub use layout::layout_of;
 pub use lowering::{lower_items, run};
-pub use making::{beside, boxed};
+pub use making::{beside, box_both};
 pub use mark::mark_among;
 pub use running::{compare, obey, operate, truth, worth};
 pub use statements::{entry, increment, item, items, statement};
