@@ -31,12 +31,16 @@ def reading(count):
 
 
 def seconds_to_check(path, text):
+    """Of the quickest of five runs."""
     path.write_text(text)
-    start = time.perf_counter()
-    done = subprocess.run([PROGRAM, "check", path], capture_output=True)
-    if done.stdout != b"accepted\n":
-        sys.exit(f"{text[:80]!r}: {done.stderr.decode()}")
-    return time.perf_counter() - start
+    times = []
+    for _ in range(5):
+        start = time.perf_counter()
+        done = subprocess.run([PROGRAM, "check", path], capture_output=True)
+        times.append(time.perf_counter() - start)
+        if done.stdout != b"accepted\n":
+            sys.exit(f"{text[:80]!r}: {done.stderr.decode()}")
+    return min(times)
 
 
 def main():

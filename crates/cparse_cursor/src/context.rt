@@ -32,7 +32,7 @@ pub fn enter_level(room: u32, place: Place) -> Result<u32, Stop>
     }
 }
 
-/// The next tighter reach, if there is one.
+/// The next tighter precedence, if there is one.
 pub fn tighter(precedence: u32) -> Option<u32>
     ensures { MatchOption result (precedence ≡ 0) (λ tighter. precedence ≡ suc tighter) }
 {

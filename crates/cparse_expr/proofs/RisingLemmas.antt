@@ -1,4 +1,4 @@
--- Reading up to a reach is rising from an operand; reaches without an operator are passed over.
+-- Reading up to a precedence is rising from an operand; precedences without an operator are passed over.
 use Rattle.std.proofs.Common.{◌≡◌, ℕ, zero, suc, ◌+◌, ◌-◌, ◌<◌, ◌≤◌, List, length, Option, Some, None, refl, ap, ◌∙◌, arith}
 use Rattle.semantics.specs.Tree.{Source}
 use Rattle.semantics.specs.Source.Token.{Token}
@@ -30,7 +30,7 @@ module _ (scope : Scope) (inner : Inner) where
       rises_to n (suc reached) limit ts one
       ∙ regroup (binary reached scope inner ts) (λ a. further (length a.rest) (suc reached) (binary reached scope inner) a) (λ b. rise n (suc reached) scope inner b)
 
-  -- reaches that have none are passed over
+  -- precedences that have none are passed over
   passes : (n m total reached to : ℕ) (a : Got Source) → n + reached ≡ to → n + m ≡ total → NoneWithin reached to a.rest → rise total reached scope inner a ≡ rise m to scope inner a
   passes zero m total reached to a e t none =
       let same : reached ≡ to = omega arith in

@@ -22,7 +22,7 @@ use cparse_operand::combining::{
 };
 use cparse_operand::leaf::{literal, named_operand};
 use cparse_operand::operand::Operand;
-use cparse_operand::operator::{next_infix, next_reach};
+use cparse_operand::operator::{next_infix, next_precedence};
 use ctoken::Symbol;
 use ktree::{Place, UnaryOp};
 
@@ -181,7 +181,7 @@ fn unary<'s, 't>(
     }
 }
 
-/// Operands joined by operators up to a reach (C11 6.5.5 to 6.5.14).
+/// Operands joined by operators up to a precedence (C11 6.5.5 to 6.5.14).
 #[cycle(expression)]
 fn binary<'s, 't>(
     context: Context<'_, 't>,
@@ -198,13 +198,13 @@ fn binary<'s, 't>(
     rising(context, room, 0, precedence, left)
 }
 
-/// The next tighter reach than that of the operator that comes first, if it is one behind this reach, up to a limit.
+/// The next tighter precedence than that of the operator that comes first, if it is one behind this one, up to a limit.
 fn next_tighter(reached: u32, limit: u32, tokens: &[Lexeme<'_>]) -> Option<u32>
     ensures { MatchOption result (NoneWithin reached limit (tokens_of tokens.now))
         (λ tighter. (reached ≤ tighter) × (tighter < limit)
         × NoneWithin reached tighter (tokens_of tokens.now)) }
 {
-    let tighter = tighter(next_reach(tokens)?)?;
+    let tighter = tighter(next_precedence(tokens)?)?;
     if reached <= tighter && tighter < limit {
         Some(tighter)
     } else {
@@ -212,8 +212,8 @@ fn next_tighter(reached: u32, limit: u32, tokens: &[Lexeme<'_>]) -> Option<u32>
     }
 }
 
-/// Operators up to a reach behind a left operand that was read up to a tighter one. The operator that comes first tells which
-/// reaches have none, so that they are passed over.
+/// Operators up to a precedence behind a left operand that was read up to a tighter one. The operator that comes first tells which
+/// precedences have none, so that they are passed over.
 #[cycle(expression)]
 fn rising<'s, 't>(
     context: Context<'_, 't>,
@@ -237,7 +237,7 @@ fn rising<'s, 't>(
     }
 }
 
-/// More operators of the reach behind this one, after a left operand; they group to the left.
+/// More operators of the precedence behind this one, after a left operand; they group to the left.
 #[cycle(expression)]
 fn further<'s, 't>(
     context: Context<'_, 't>,

@@ -13,7 +13,7 @@ infix_in (Comparing op) = meant.Comparing (compare_of op)
 infix_in AndAlso = meant.AndAlso
 infix_in OrElse = meant.OrElse
 
--- how far the operator reaches that comes first, if one does
-abbrev pub next_reach : List Token → Option ℕ
-next_reach (Punctuator s ∷ ts) = option_map meant.precedence (meant.infix_of s)
-next_reach _ = None
+-- the precedence of the operator that comes first, if one does
+abbrev pub next_precedence : List Token → Option ℕ
+next_precedence (Punctuator s ∷ ts) = option_map meant.precedence (meant.infix_of s)
+next_precedence _ = None

@@ -12,7 +12,7 @@ ghost use Rattle.cparse_cursor.specs.Lexemes.{tokens_of};
 ghost use Rattle.cparse_cursor.specs.Outcome.{Gives, got_of, subscripts_of};
 ghost use Rattle.cparse_operand.specs.OperandViews.{operand_of};
 
-use crate::boxing::{both, boxed};
+use crate::boxing::{add_part, both, box_both};
 use crate::joining::{Union, join_operands, truth};
 use crate::numeric::Numeric;
 use crate::operand::Operand;
@@ -183,7 +183,7 @@ fn conditional(
     let plain = condition.plain && a.plain && b.plain;
     let written = written_choice(condition.written, a.written, b.written, place);
     let c = boxed_cond(alloc, condition.source);
-    let arms = boxed(alloc, a.expr, b.expr);
+    let arms = box_both(alloc, a.expr, b.expr);
     let (c, (a, b)) = both(c, arms)?;
     let source = Source::Number(Expr::Conditional(c, a, b));
     Ok(Operand {
@@ -239,8 +239,8 @@ pub fn with_subscript<'s, 't>(
     } = subscript;
     let number = number_in(tree);
     let fault = told_sort(fault, number.is_number, number.written.is_number(), place);
-    exprs.push(number.expr)?;
-    places.push(begin)?;
+    add_part(&mut exprs, number.expr)?;
+    add_part(&mut places, begin)?;
     let tree = Subscripts { exprs, places };
     Ok(Parsed {
         tree,

@@ -9,7 +9,7 @@ ghost use Rattle.cparse_operand.specs.Infixes.{infix_in};
 ghost use Rattle.cparse_cursor.specs.Outcome.{Gives};
 ghost use Rattle.cparse_operand.specs.OperandViews.{operand_of, union_of};
 
-use crate::boxing::{both, boxed};
+use crate::boxing::{both, box_both};
 use crate::fitting::{fit, is_typed, misfit, written_operation};
 use crate::leaf::stand_in;
 use crate::operand::Operand;
@@ -96,7 +96,7 @@ fn arithmetic(
             misfit,
         }),
         Some((a, b)) => {
-            let (a, b) = boxed(alloc, a, b)?;
+            let (a, b) = box_both(alloc, a, b)?;
             let source = Source::Number(Expr::Binary(operator, a, b));
             let operand = Operand {
                 source,
@@ -142,7 +142,7 @@ fn comparison(
             misfit,
         }),
         Some((a, b)) => {
-            let (a, b) = boxed(alloc, a, b)?;
+            let (a, b) = box_both(alloc, a, b)?;
             let cond = Cond::Compare(operator, a, b, begin);
             Ok(Union {
                 operand: truth(cond, plain, written),

@@ -6,7 +6,7 @@ ghost use Rattle.ctoken.specs.Meant.{symbol_of};
 ghost use Rattle.cparse_grammar.specs.Operators.{precedence, infix_of, update_of};
 ghost use Rattle.cparse_grammar.specs.ExpressionReader.{next_infix};
 ghost use Rattle.cparse_cursor.specs.Lexemes.{tokens_of};
-ghost use Rattle.cparse_operand.specs.Infixes.{infix_in, next_reach};
+ghost use Rattle.cparse_operand.specs.Infixes.{infix_in, next_precedence};
 
 use cparse_cursor::lexeme::{Kind, Lexeme};
 use ctoken::Symbol;
@@ -63,7 +63,7 @@ pub fn update_of(symbol: Symbol) -> Option<BinaryOp>
     })
 }
 
-/// How far an operator reaches: 1 for the tightest, 10 for the loosest.
+/// The precedence of an operator: 1 for the tightest, 10 for the loosest.
 fn precedence(operator: Infix) -> u32
     ensures { result ≡ precedence (infix_in operator) }
 {
@@ -81,9 +81,9 @@ fn precedence(operator: Infix) -> u32
     }
 }
 
-/// How far the operator reaches that comes first, if one does.
-pub fn next_reach(tokens: &[Lexeme<'_>]) -> Option<u32>
-    ensures { result ≡ next_reach (tokens_of tokens.now) }
+/// The precedence of the operator that comes first, if one does.
+pub fn next_precedence(tokens: &[Lexeme<'_>]) -> Option<u32>
+    ensures { result ≡ next_precedence (tokens_of tokens.now) }
 {
     let Kind::Punctuator(symbol) = tokens.first()?.kind else {
         return None;
@@ -99,7 +99,7 @@ pub struct Found<'s, 't> {
     pub rest: &'s [Lexeme<'t>],
 }
 
-/// The operator that comes first, if it reaches so far.
+/// The operator that comes first, if it has this precedence.
 pub fn next_infix<'s, 't>(limit: u32, tokens: &'s [Lexeme<'t>]) -> Option<Found<'s, 't>>
     ensures { option_map (λ found. (infix_in found.operator, tokens_of found.rest.now)) result
         ≡ next_infix limit (tokens_of tokens.now) }

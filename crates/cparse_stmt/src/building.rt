@@ -100,7 +100,7 @@ fn spelled_head(
 
 /// The spelling of a name, and what it belongs to. The type of that is not known here, so that letting go of it is a call, and is
 /// not written out.
-fn spelled<T: Drop>(alloc: Global, name: &str, owner: T) -> Result<(String, T), Stop>
+fn spell<T: Drop>(alloc: Global, name: &str, owner: T) -> Result<(String, T), Stop>
     ensures name { IfOk result (λ r. string_bytes r.0 ≡ name.now) }
     ensures owner { IfOk result (λ r. r.1 ≡ owner) }
     ensures err { IfErr result (λ stop. stop ≡ Memory) }
@@ -123,7 +123,7 @@ fn head_of(
     ensures step { IfOk result (λ h. h.step ≡ head.entry.step) }
     ensures err { IfErr result (λ stop. stop ≡ Memory) }
 {
-    let (name, head) = spelled(alloc, head.name, head)?;
+    let (name, head) = spell(alloc, head.name, head)?;
     spelled_head(alloc, place, variable, name, head)
 }
 

@@ -42,7 +42,7 @@ fn boxed_beside<A: Drop, B: Drop>(
 /// # Errors
 ///
 /// Where memory runs out.
-pub fn boxed<A: Drop, B: Drop>(alloc: Global, a: A, b: B) -> Result<(Box<A>, Box<B>), AllocError>
+pub fn box_both<A: Drop, B: Drop>(alloc: Global, a: A, b: B) -> Result<(Box<A>, Box<B>), AllocError>
     ensures { IfOk result (λ p. (p.0.value ≡ a) × (p.1.value ≡ b)) }
 {
     let (a, b) = boxed_beside(alloc, a, b)?;
@@ -79,7 +79,7 @@ pub(crate) fn binary(alloc: Global, op: BinaryOp, a: Term, b: Term) -> Result<Te
     ensures { IfOk result (λ t. (m : Machine)
         → worth t m ≡ operate_or_zero (binary_of op) (worth a m) (worth b m)) }
 {
-    let (a, b) = boxed(alloc, a, b)?;
+    let (a, b) = box_both(alloc, a, b)?;
     Ok(Term::Binary(op, a, b))
 }
 
@@ -88,7 +88,7 @@ pub(crate) fn conditional(alloc: Global, c: Test, a: Term, b: Term) -> Result<Te
     ensures { IfOk result (λ t. (m : Machine)
         → worth t m ≡ (if truth c m then worth a m else worth b m)) }
 {
-    let (c, branches) = beside(c, boxed(alloc, a, b))?;
+    let (c, branches) = beside(c, box_both(alloc, a, b))?;
     let (c, (a, b)) = boxed_beside(alloc, c, branches)?;
     Ok(Term::Conditional(c, a, b))
 }
@@ -98,7 +98,7 @@ pub(crate) fn comparison(alloc: Global, op: CompareOp, a: Term, b: Term) -> Resu
     ensures { IfOk result (λ t. (m : Machine)
         → truth t m ≡ compare (compare_of op) (worth a m) (worth b m)) }
 {
-    let (a, b) = boxed(alloc, a, b)?;
+    let (a, b) = box_both(alloc, a, b)?;
     Ok(Test::Compare(op, a, b))
 }
 
@@ -114,7 +114,7 @@ pub(crate) fn negation(alloc: Global, c: Test) -> Result<Test, AllocError>
 pub(crate) fn both(alloc: Global, c: Test, d: Test) -> Result<Test, AllocError>
     ensures { IfOk result (λ t. (m : Machine) → truth t m ≡ (truth c m && truth d m)) }
 {
-    let (c, d) = boxed(alloc, c, d)?;
+    let (c, d) = box_both(alloc, c, d)?;
     Ok(Test::LogicalAnd(c, d))
 }
 
@@ -122,7 +122,7 @@ pub(crate) fn both(alloc: Global, c: Test, d: Test) -> Result<Test, AllocError>
 pub(crate) fn either(alloc: Global, c: Test, d: Test) -> Result<Test, AllocError>
     ensures { IfOk result (λ t. (m : Machine) → truth t m ≡ (truth c m || truth d m)) }
 {
-    let (c, d) = boxed(alloc, c, d)?;
+    let (c, d) = box_both(alloc, c, d)?;
     Ok(Test::LogicalOr(c, d))
 }
 
@@ -130,7 +130,7 @@ pub(crate) fn either(alloc: Global, c: Test, d: Test) -> Result<Test, AllocError
 pub(crate) fn then(alloc: Global, a: Code, b: Code) -> Result<Code, AllocError>
     ensures { IfOk result (λ t. (r : Running) → after t r ≡ after b (after a r)) }
 {
-    let (a, b) = boxed(alloc, a, b)?;
+    let (a, b) = box_both(alloc, a, b)?;
     Ok(Code::Then(a, b))
 }
 
@@ -139,7 +139,7 @@ pub(crate) fn branch(alloc: Global, c: Test, a: Code, b: Code) -> Result<Code, A
     ensures { IfOk result (λ t. (r : Running)
         → after t r ≡ (if truth c r.machine then after a r else after b r)) }
 {
-    let (a, b) = boxed(alloc, a, b)?;
+    let (a, b) = box_both(alloc, a, b)?;
     Ok(Code::If(c, a, b))
 }
 
@@ -148,6 +148,6 @@ pub(crate) fn repeat(alloc: Global, c: Test, a: Code, b: Code) -> Result<Code, A
     ensures { IfOk result (λ t. (r : Running)
         → after t r ≡ spins greatest_trip_count (truth c) (λ k. after b (after a k)) r) }
 {
-    let (a, b) = boxed(alloc, a, b)?;
+    let (a, b) = box_both(alloc, a, b)?;
     Ok(Code::Loop(c, a, b))
 }

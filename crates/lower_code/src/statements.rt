@@ -174,7 +174,7 @@ fn choice(alloc: Global, c: &Cond, a: Code, b: Code, layout: &[Laid]) -> Result<
 }
 
 /// The turns of a loop with a body (C11 6.8.5).
-fn looped(alloc: Global, head: &Head, body: Code, layout: &[Laid]) -> Result<Code, AllocError>
+fn loop_turns(alloc: Global, head: &Head, body: Code, layout: &[Laid]) -> Result<Code, AllocError>
     ensures { IfOk result (λ code. (x : Tree.Stmt) → MeansStmt layout.now x body
         → MeansTurns layout.now (cond_of head.now.test) x (increment_of head.now.step) code) }
 {
@@ -189,7 +189,7 @@ fn whole_loop(alloc: Global, head: &Head, body: Code, layout: &[Laid]) -> Result
         → MeansStmt layout.now (Tree.For head.now.variable.0 (string_bytes head.now.name)
         (source_of head.now.start) (cond_of head.now.test) (increment_of head.now.step) x) code) }
 {
-    let turns = looped(alloc, head, body, layout)?;
+    let turns = loop_turns(alloc, head, body, layout)?;
     let (turns, start) = beside(turns, entry(alloc, head, layout))?;
     then(alloc, start, turns)
 }

@@ -75,7 +75,8 @@ fn item_line_nests(
     rest: &[Item],
 ) -> Result<(), Fault>
     ensures { DecidesBy
-        (FactsAmong bounds.now (with_item item.now (items_of rest.now)) found.entry.loops.now) result
+        (FactsAmong bounds.now (with_item item.now (items_of rest.now)) found.entry.loops.now)
+        result
         (FirstLineNests directives.now bounds.now (with_item item.now no_items)
         (items_of rest.now)) }
 {
@@ -96,10 +97,12 @@ fn statement<'n>(
     found: Found<'n>,
     walked: &Stmt,
 ) -> Result<Found<'n>, Fault>
-    ensures decides { DecidesBy (FactsOf bounds.old (stmt_of walked.now) found.entry.loops.now) result
+    ensures decides { DecidesBy
+        (FactsOf bounds.old (stmt_of walked.now) found.entry.loops.now) result
         (Nests directives.now bounds.old (stmt_of walked.now)) }
     ensures left { IfOk result (λ left. (rest : List facts.LoopFacts)
-        → FactsOf bounds.old (stmt_of walked.now) found.entry.loops.now rest → left.loops.now ≡ rest) }
+        → FactsOf bounds.old (stmt_of walked.now) found.entry.loops.now rest
+        → left.loops.now ≡ rest) }
     ensures back { OnOk result (bounds.new ≡ bounds.old) }
 {
     match walked {
@@ -139,7 +142,8 @@ pub fn block<'n>(
     found: Found<'n>,
     items: &[Item],
 ) -> Result<Found<'n>, Fault>
-    ensures decides { DecidesBy (FactsAmong bounds.old (items_of items.now) found.entry.loops.now) result
+    ensures decides { DecidesBy
+        (FactsAmong bounds.old (items_of items.now) found.entry.loops.now) result
         (ItemsNest directives.now bounds.old (items_of items.now)) }
     ensures left { IfOk result (λ left. (rest : List facts.LoopFacts)
         → FactsAmong bounds.old (items_of items.now) found.entry.loops.now rest

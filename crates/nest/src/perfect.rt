@@ -21,10 +21,9 @@ use crate::earlier::both;
 use crate::heads::{as_loop, depends_on_nest, is_perfect};
 use affine::VarBox;
 use affine_expr::Fault;
-use ktree::limits::ITERATIONS;
 use ktree::{Head, Place, Stmt};
 use nest_loop::{Canonical, LoopFacts, canonical_of};
-use nest_space::{Space, Value};
+use nest_space::{Space, Value, product_within};
 use std::alloc::Global;
 
 /// A loop's form in the box of the loops round its nest, of which none has its variable.
@@ -94,24 +93,6 @@ fn forms(
     Ok(forms)
 }
 
-/// So many times a product, if at most 2^24.
-fn within(count: u64, rest: Option<u64>) -> Option<u64>
-    ensures { (n : ℕ) → SomeIff rest (n ≤ 2 ^ 24) n
-        → SomeIff result (count * n ≤ 2 ^ 24) (count * n) }
-{
-    if count == 0 {
-        return Some(0);
-    }
-    let all = match rest {
-        None => return None,
-        Some(rest) => count.checked_mul(rest),
-    };
-    match all {
-        Some(all) if all <= ITERATIONS => Some(all),
-        _ => None,
-    }
-}
-
 /// How often the first of some loops turn at most, multiplied, if that is at most 2^24.
 fn product(depth: u64, loops: &[LoopFacts]) -> Option<u64>
     ensures { SomeIff result (product_of depth loops.now ≤ 2 ^ 24) (product_of depth loops.now) }
@@ -122,7 +103,7 @@ fn product(depth: u64, loops: &[LoopFacts]) -> Option<u64>
     let Some((first, inner)) = loops.split_first() else {
         return Some(1);
     };
-    within(first.trip_count, product(depth - 1, inner))
+    product_within(first.trip_count, product(depth - 1, inner))
 }
 
 /// Whether so many loops have few iterations.

@@ -35,12 +35,12 @@ fn product(loops: &[LoopTurns]) -> Option<u64>
 {
     match loops.split_first() {
         None => Some(1),
-        Some((first, rest)) => within(first.count(), product(rest)),
+        Some((first, rest)) => product_within(first.count(), product(rest)),
     }
 }
 
-/// So many times a product, if at most 2^24.
-fn within(count: u64, rest: Option<u64>) -> Option<u64>
+/// So many times a product, if there is one and both make at most 2^24 (OpenMP 5.2, 4.4.2): how many iterations a loop and those inside it have.
+pub fn product_within(count: u64, rest: Option<u64>) -> Option<u64>
     ensures { (n : ℕ) → SomeIff rest (n ≤ 2 ^ 24) n
         → SomeIff result (count * n ≤ 2 ^ 24) (count * n) }
 {

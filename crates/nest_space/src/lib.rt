@@ -7,5 +7,5 @@ mod nests;
 mod turns;
 
 pub use bounds::{Value, turns_at, value_at};
-pub use iterations::Space;
+pub use iterations::{Space, product_within};
 pub use turns::LoopTurns;

@@ -24,7 +24,8 @@ impl Model for LoopTurns {
 
     ghost view = { λ t. record { first = t.first; stride = t.stride; count = t.count } };
 
-    ghost invariant = { λ t. IsTurns (record { first = t.first; stride = t.stride; count = t.count }) };
+    ghost invariant = { λ t. IsTurns
+        (record { first = t.first; stride = t.stride; count = t.count }) };
 
     ghost inverse = { λ t. record { first = t.first; stride = t.stride; count = t.count } };
 }

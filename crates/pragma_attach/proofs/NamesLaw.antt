@@ -1,5 +1,5 @@
 -- Lines whose names are resolved, one after another.
-use Rattle.std.specs.Prelude.{ℕ, Bool, true, false, nat_eq, if◌then◌else◌, ◌≡◌, List, [], ◌∷◌, ◌++◌, Option, Some, None, option_map, is_some, string_bytes, flat_map, length, take, Result, Ok, Err, IfErr}
+use Rattle.std.specs.Prelude.{ℕ, Bool, true, false, nat_eq, if◌then◌else◌, ◌≡◌, List, [], ◌∷◌, ◌++◌, Option, Some, None, option_map, is_some, string_bytes, flat_map, length, take, Result, Ok, Err, IfErr, IsTrue}
 use Rattle.std.specs.HashMap.{HashMap, get}
 use Rattle.std.specs.Map.{lookup}
 use Rattle.std.proofs.Common.{Box, Global, refl, sym, ap, ◌∙◌, subst, arith}
@@ -22,7 +22,7 @@ use Rattle.pragma_attach.specs.declared.stop.Stop.TheVariants.{Memory, UnknownNa
 use Rattle.pragma_named.specs.Views.{resolved_clauses}
 use Rattle.pragma_attach.specs.Resolved.{Fails}
 use Rattle.pragma_named.specs.Known.{Known, kept}
-use Rattle.pragma_attach.specs.Told.{or, told, unless_twice, clauses_by, Carries, Misses, Blames}
+use Rattle.pragma_attach.specs.Told.{or, told, tells_of, unless_twice, clauses_by, Carries, Misses, Blames}
 
 -- a line of which nothing is kept
 pub not_kept : {S : Type 0} (table : HashMap ℕ Clauses S) (n : ℕ) → is_some (get nat_eq table n) ≡ false → kept table n ≡ None
@@ -57,6 +57,22 @@ blames_weaker (NamedTwice place) f h = f h
 pub err_weaker : {A : Type 0} (r : Result A Stop) {P Q : Type 0} → (P → Q) → IfErr r (λ stop. Blames stop P) → IfErr r (λ stop. Blames stop Q)
 err_weaker (Ok x) f h = tt
 err_weaker (Err stop) f h = blames_weaker stop f h
+
+-- what a reason blames that tells of a name
+blamed : (stop : Stop) (P : Type 0) → IsTrue (tells_of stop) → Blames stop P → P
+blamed Memory P e h = absurd (cc e)
+blamed (UnknownName place) P e h = h
+blamed (NamedTwice place) P e h = h
+
+-- who tells of a name only where another reason does blames the same
+pub blamed_too : (first stop : Stop) (P : Type 0) → (IsTrue (tells_of first) → IsTrue (tells_of stop)) → Blames stop P → Blames first P
+blamed_too Memory stop P f h = tt
+blamed_too (UnknownName place) stop P f h = blamed stop P (f refl) h
+blamed_too (NamedTwice place) stop P f h = blamed stop P (f refl) h
+
+pub err_too : {A : Type 0} (r : Result A Stop) (stop : Stop) (P : Type 0) → Blames stop P → IfErr r (λ first. IsTrue (tells_of first) → IsTrue (tells_of stop)) → IfErr r (λ first. Blames first P)
+err_too (Ok x) stop P h f = tt
+err_too (Err first) stop P h f = blamed_too first stop P f h
 
 -- ---- lines, and those behind them
 

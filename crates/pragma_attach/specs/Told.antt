@@ -1,5 +1,5 @@
 -- What is kept of a text's directive lines: the clauses of each, their names resolved where the line stands first.
-use Rattle.std.specs.Prelude.{ℕ, nat_eq, if◌then◌else◌, ◌≡◌, List, [], ◌∷◌, flat_map, Option, Some, None}
+use Rattle.std.specs.Prelude.{ℕ, Bool, true, false, nat_eq, if◌then◌else◌, ◌≡◌, List, [], ◌∷◌, flat_map, Option, Some, None}
 use Rattle.semantics.specs.Tree.{Variable}
 use Rattle.semantics.specs.Source.Scope.{Scope}
 use Rattle.semantics.specs.Directives.Directive.{Clause}
@@ -42,3 +42,9 @@ abbrev pub Blames : Stop → Type 0 → Type 0
 Blames Memory P = Unit {0}
 Blames (UnknownName place) P = P
 Blames (NamedTwice place) P = P
+
+-- a reason that tells of a name
+abbrev pub tells_of : Stop → Bool
+tells_of Memory = false
+tells_of (UnknownName place) = true
+tells_of (NamedTwice place) = true

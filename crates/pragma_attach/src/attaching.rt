@@ -22,21 +22,21 @@ use std::alloc::Global;
 use std::collections::HashMap;
 
 /// What is told of a flaw at a place and of what is wrong elsewhere.
-fn told(place: Place, flaw: Flaw, placing: Option<Fault>) -> Refusal
+fn first_refusal(place: Place, flaw: Flaw, placing: Option<Fault>) -> Refusal
     ensures { IsOfDirectives result }
 {
     first(Fault { place, flaw }, placing).refusal()
 }
 
 /// Why names are not resolved, or what is wrong before that in the text.
-fn stopped(stop: Stop, placing: Option<Fault>) -> Refusal
+fn refuse_names(stop: Stop, placing: Option<Fault>) -> Refusal
     ensures memory { stop ≡ Memory → result ≡ OutOfMemory }
     ensures told { (result ≡ OutOfMemory) ⊎ IsOfDirectives result }
 {
     match stop {
         Stop::Memory => Refusal::OutOfMemory,
-        Stop::UnknownName(place) => told(place, Flaw::UnknownName, placing),
-        Stop::NamedTwice(place) => told(place, Flaw::ClauseForVariable, placing),
+        Stop::UnknownName(place) => first_refusal(place, Flaw::UnknownName, placing),
+        Stop::NamedTwice(place) => first_refusal(place, Flaw::ClauseForVariable, placing),
     }
 }
 
@@ -72,7 +72,8 @@ pub fn attach(
     ensures attached { IfOk result (λ _. IsAttached directives.now (kernel_of kernel.now)
         (directives_of directives.now (kernel_of kernel.now))) }
     ensures clauses { IfOk result (λ lines. (n : ℕ) → clauses_at (kernel_of kernel.now)
-        (directives_of directives.now (kernel_of kernel.now)) n ≡ Some (lines_known (kept lines) n)) }
+        (directives_of directives.now (kernel_of kernel.now)) n
+        ≡ Some (lines_known (kept lines) n)) }
     ensures err { IfErr result (λ refusal. (refusal ≡ OutOfMemory)
         ⊎ (IsOfDirectives refusal
         × ((ds : Those) → IsAttached directives.now (kernel_of kernel.now) ds → ⊥))) }
@@ -83,7 +84,7 @@ pub fn attach(
     let naming = naming_fault(alloc, kernel, &lines)?;
     let fault = first_fault(placing, naming);
     match names {
-        Err(stop) => Err(stopped(stop, fault)),
+        Err(stop) => Err(refuse_names(stop, fault)),
         Ok(()) => match fault {
             None => Ok(lines),
             Some(fault) => Err(fault.refusal()),

@@ -2,8 +2,10 @@
 
 ghost use Rattle.std.specs.Prelude.{◌≡◌, ◌||◌, ℕ, map, flat_map, IfOk, OnOk};
 ghost use Rattle.std.specs.List.{list_any};
+ghost use Rattle.std.specs.Mem.{FitsInMemory};
 ghost use Rattle.semantics.specs.Meaning.Agrees.{is_among};
 ghost use Rattle.semantics.specs.Directives.Naming.{variables_in, kept_private, is_none as forbids_default};
+ghost use Rattle.ktree.specs.DirectiveView.{clause_of};
 ghost use Rattle.pragma_mention.specs.Sets.{holds};
 ghost use Rattle.pragma_named.specs.Views.{variable_named, resolved_clause};
 
@@ -15,8 +17,9 @@ use std::collections::HashSet;
 use std::slice::from_ref;
 
 /// What a clause names.
-pub(crate) fn names_in(clause: &Clause<Named>) -> &[Named]
-    ensures { map variable_named result.now ≡ variables_in (resolved_clause clause.now) }
+pub(crate) fn names_in<N>(clause: &Clause<N>) -> &[N]
+    requires { FitsInMemory N.row }
+    ensures { (view : N → ℕ) → map view result.now ≡ variables_in (clause_of view clause.now) }
 {
     match clause {
         Clause::Shared(names) => names.as_slice(),
@@ -52,7 +55,10 @@ fn add_names(set: &mut HashSet<u32>, names: &[Named]) -> Result<(), AllocError>
 }
 
 /// The variables that clauses name.
-pub(crate) fn listed(alloc: Global, clauses: &[Clause<Named>]) -> Result<HashSet<u32>, AllocError>
+pub(crate) fn listed_variables(
+    alloc: Global,
+    clauses: &[Clause<Named>],
+) -> Result<HashSet<u32>, AllocError>
     ensures { IfOk result (λ set. (q : ℕ) → holds set q
         ≡ is_among (flat_map variables_in (map resolved_clause clauses.now)) q) }
 {

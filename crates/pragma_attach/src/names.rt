@@ -1,6 +1,6 @@
 //! The names in the clauses of a kernel's directive lines, each resolved by what is visible there (C11 6.2.1).
 
-ghost use Rattle.std.specs.Prelude.{◌≡◌, ◌∷◌, ◌++◌, ℕ, nat_eq, List, length, take, map, cond, string_bytes, Some, None, IfErr, OnOk};
+ghost use Rattle.std.specs.Prelude.{◌≡◌, ◌∷◌, ◌++◌, ℕ, nat_eq, List, length, take, map, cond, string_bytes, Some, None, IsTrue, IfErr, OnOk};
 ghost use Rattle.semantics.specs.Tree.{Items};
 ghost use Rattle.semantics.specs.Source.Scope.{AVariable, Scope as Visible};
 ghost use Rattle.semantics.specs.Directives.Annotated.{clauses_of, clauses_there, lines_in, lines_among, lines_of};
@@ -11,11 +11,12 @@ ghost use Rattle.pragma_clause.specs.Views.{written_clause};
 ghost use Rattle.pragma_attach.specs.Standing.{directive_on};
 ghost use Rattle.pragma_named.specs.Views.{resolved_clauses};
 ghost use Rattle.pragma_named.specs.Known.{kept};
-ghost use Rattle.pragma_attach.specs.Told.{told, Carries, Misses, Blames};
+ghost use Rattle.pragma_attach.specs.Told.{told, tells_of, Carries, Misses, Blames};
 ghost use Rattle.pragma_attach.specs.declared.stop.Stop.TheVariants.{Memory};
 
-use crate::once::line_clauses;
+use crate::once::{first_twice, line_clauses};
 use crate::placed::directive_on;
+use crate::resolved::visible_names;
 use crate::stop::Stop;
 use crate::visible::file_scope;
 use cparse_cursor::scope::{Entity, Scope, add, close, count};
@@ -57,6 +58,27 @@ fn put(table: &mut LineClauses, line: u32, clauses: Vec<Clause<Named>>) -> Resul
     Ok(())
 }
 
+/// Refuses a line at the first name that is unknown or stands twice, and keeps the names on it that are known, so that what else
+/// is wrong with them is told where it stands before.
+fn refuse_line(
+    alloc: Global,
+    table: &mut LineClauses,
+    scope: &Scope,
+    line: u32,
+    clauses: &[Clause<Written>],
+    stop: Stop,
+) -> Result<(), Stop>
+    ensures never { OnOk result ⊥ }
+    ensures err { IfErr result (λ first. IsTrue (tells_of first) → IsTrue (tells_of stop)) }
+{
+    let known = visible_names(alloc, scope, clauses)?;
+    let twice = first_twice(alloc, known.as_slice())?;
+    let mut kept = Vec::new(alloc);
+    kept.push(Clause::Shared(known))?;
+    put(table, line, kept)?;
+    Err(stop.or_twice(twice))
+}
+
 /// Resolves the names on a line, where the line stands first.
 fn line_names(
     alloc: Global,
@@ -74,8 +96,9 @@ fn line_names(
     if table.contains_key(&place.line) {
         return Ok(());
     }
-    match line_clauses(alloc, scope, clauses_on(directives, place)) {
-        Err(stop) => Err(stop),
+    let clauses = clauses_on(directives, place);
+    match line_clauses(alloc, scope, clauses) {
+        Err(stop) => refuse_line(alloc, table, scope, place.line, clauses, stop),
         Ok(clauses) => put(table, place.line, clauses),
     }
 }
@@ -143,12 +166,14 @@ fn loop_names<'k>(
 ) -> Result<(), Stop>
     ensures ok { OnOk result ((rest : List (ℕ × Visible))
         → Carries directives.now (kept table.old) (kept table.new)
-        (lines_in ((string_bytes head.now.name, AVariable head.now.variable.0 0) ∷ names_of scope.old)
+        (lines_in
+        ((string_bytes head.now.name, AVariable head.now.variable.0 0) ∷ names_of scope.old)
         (stmt_of body.now) ++ rest) rest) }
     ensures names { OnOk result (scope.new ≡ scope.old) }
     ensures err { IfErr result (λ stop. Blames stop ((rest : List (ℕ × Visible))
         → Misses directives.now (kept table.old)
-        (lines_in ((string_bytes head.now.name, AVariable head.now.variable.0 0) ∷ names_of scope.old)
+        (lines_in
+        ((string_bytes head.now.name, AVariable head.now.variable.0 0) ∷ names_of scope.old)
         (stmt_of body.now) ++ rest))) }
 {
     let outer = count(scope);
@@ -242,7 +267,8 @@ fn item_names<'k>(
     }
 }
 
-/// Resolves the names in the clauses of a kernel's directive lines, into a table that knows none. Where that stops, it knows the lines before.
+/// Resolves the names in the clauses of a kernel's directive lines, into a table that knows none. Where that stops, it knows the lines before,
+/// and of the line where it stops the names that are known.
 pub(crate) fn kernel_names(
     alloc: Global,
     kernel: &Kernel,

@@ -9,7 +9,7 @@ ghost use Rattle.pragma_named.specs.Known.{lines_known};
 ghost use Rattle.pragma_named.specs.Lines.{asked, each_construct, each_among, line_in};
 ghost use Rattle.pragma_attach.specs.Rightly.{are_shared, is_covered, names_rightly, name_rightly};
 
-use crate::listed::{has_default_none, listed, private_in};
+use crate::listed::{has_default_none, listed_variables, private_in};
 use crate::wanted::inner_fault;
 use ktree::{Clause, Item, Kernel, Place, Stmt};
 use pragma_mention::{add_declared, first_unknown};
@@ -34,7 +34,7 @@ fn earlier(one: Option<Place>, other: Option<Place>) -> Option<Place>
 }
 
 /// Where a clause inside a construct first names what the construct makes private itself.
-fn unshared(
+fn unshared_name(
     alloc: Global,
     table: &LineClauses,
     clauses: &[Clause<Named>],
@@ -49,7 +49,7 @@ fn unshared(
 }
 
 /// Where a construct with `default(none)` first names what stands in none of its clauses.
-fn uncovered(
+fn uncovered_name(
     alloc: Global,
     table: &LineClauses,
     clauses: &[Clause<Named>],
@@ -62,7 +62,7 @@ fn uncovered(
     if !has_default_none(clauses) {
         return Ok(None);
     }
-    let mut set = listed(alloc, clauses)?;
+    let mut set = listed_variables(alloc, clauses)?;
     let inside = inner_fault(table, &set, true, statement);
     add_declared(&mut set, statement)?;
     Ok(earlier(inside, first_unknown(&set, statement)))
@@ -79,8 +79,8 @@ fn construct_fault(
         ≡ names_rightly (lines_known (kept table.now)) line (stmt_of statement.now)) }
 {
     let clauses = clauses_known(table, line);
-    let one = unshared(alloc, table, clauses, statement)?;
-    let other = uncovered(alloc, table, clauses, statement)?;
+    let one = unshared_name(alloc, table, clauses, statement)?;
+    let other = uncovered_name(alloc, table, clauses, statement)?;
     Ok(earlier(one, other))
 }
 

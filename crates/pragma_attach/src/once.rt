@@ -21,7 +21,7 @@ use std::alloc::Global;
 use std::collections::HashSet;
 
 /// The variables that clauses name, in their order.
-fn named(alloc: Global, clauses: &[Clause<Named>]) -> Result<Vec<Named>, Stop>
+fn listed_names(alloc: Global, clauses: &[Clause<Named>]) -> Result<Vec<Named>, Stop>
     ensures ok { IfOk result (λ list. map variable_named list.items
         ≡ flat_map variables_in (map resolved_clause clauses.now)) }
     ensures err { IfErr result (λ stop. stop ≡ Memory) }
@@ -34,7 +34,7 @@ fn named(alloc: Global, clauses: &[Clause<Named>]) -> Result<Vec<Named>, Stop>
 }
 
 /// Where the first variable stands that stood before.
-fn first_twice(alloc: Global, list: &[Named]) -> Result<Option<Place>, Stop>
+pub(crate) fn first_twice(alloc: Global, list: &[Named]) -> Result<Option<Place>, Stop>
     ensures ok { IfOk result
         (λ found. is_none found ≡ are_distinct (map variable_named list.now)) }
     ensures err { IfErr result (λ stop. stop ≡ Memory) }
@@ -54,7 +54,7 @@ pub(crate) fn named_twice(alloc: Global, clauses: &[Clause<Named>]) -> Result<Op
         ≡ are_distinct (flat_map variables_in (map resolved_clause clauses.now))) }
     ensures err { IfErr result (λ stop. stop ≡ Memory) }
 {
-    let list = named(alloc, clauses)?;
+    let list = listed_names(alloc, clauses)?;
     first_twice(alloc, list.as_slice())
 }
 

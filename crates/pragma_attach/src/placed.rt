@@ -216,7 +216,7 @@ fn misfit(
 }
 
 /// What is wrong with a construct that no statement follows.
-fn unfinished(before: Option<Opened>) -> Option<Fault>
+fn unfinished_fault(before: Option<Opened>) -> Option<Fault>
     ensures { is_none result ≡ is_none (opened_by before) }
 {
     match before {
@@ -280,7 +280,7 @@ fn line_behind(
     ensures err { IfErr result (λ fault. (may in_team : Bool) (rest : Items)
         → all_stand directives.now may in_team (opened_by before) (mark place.line rest) ≡ false) }
 {
-    match unfinished(before) {
+    match unfinished_fault(before) {
         Some(fault) => Err(fault),
         None => opened_by(directives, place),
     }
@@ -325,7 +325,7 @@ fn items_fault(directives: &Directives, around: Surroundings, items: &[Item]) ->
             Err(fault) => return Some(lower_of(fault, around, item, &items[i + 1..])),
         }
     }
-    unfinished(before)
+    unfinished_fault(before)
 }
 
 /// What an item opens, or what is wrong with it.
@@ -346,7 +346,7 @@ fn item_behind(
 {
     match item {
         Item::Directive(place) => line_behind(directives, before, *place),
-        Item::Local(_) => match unfinished(before) {
+        Item::Local(_) => match unfinished_fault(before) {
             None => Ok(None),
             Some(fault) => Err(fault),
         },

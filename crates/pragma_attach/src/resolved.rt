@@ -1,13 +1,15 @@
 //! The names in clauses, resolved (OpenMP 5.2, 5.1; C11 6.2.1).
 
-ghost use Rattle.std.specs.Prelude.{◌≡◌, map, option_map};
+ghost use Rattle.std.specs.Prelude.{◌≡◌, map, option_map, IfErr};
 ghost use Rattle.semantics.specs.Directives.Annotated.{resolve, resolve_all, resolve_clause, resolve_clauses};
 ghost use Rattle.ktree.specs.DirectiveView.{name_of};
 ghost use Rattle.cparse_cursor.specs.Names.{names_of};
 ghost use Rattle.pragma_clause.specs.Views.{written_clause};
 ghost use Rattle.pragma_named.specs.Views.{variable_named, variables_named, resolved_clause, resolved_clauses};
 ghost use Rattle.pragma_attach.specs.Resolved.{Gives};
+ghost use Rattle.pragma_attach.specs.declared.stop.Stop.TheVariants.{Memory};
 
+use crate::listed::names_in;
 use crate::stop::Stop;
 use cparse_cursor::scope::{Entity, Scope, find};
 use ktree::{Clause, Written};
@@ -90,4 +92,23 @@ pub(crate) fn resolve_clauses(
         resolved.push(resolve_clause(alloc, scope, clause)?)?;
     }
     Ok(resolved)
+}
+
+/// The names in clauses that are those of visible variables, whatever the others are.
+pub(crate) fn visible_names(
+    alloc: Global,
+    scope: &Scope,
+    clauses: &[Clause<Written>],
+) -> Result<Vec<Named>, Stop>
+    ensures err { IfErr result (λ stop. stop ≡ Memory) }
+{
+    let mut known = Vec::new(alloc);
+    for clause in clauses {
+        for written in names_in(clause) {
+            if let Ok(named) = resolve_name(scope, written) {
+                known.push(named)?;
+            }
+        }
+    }
+    Ok(known)
 }

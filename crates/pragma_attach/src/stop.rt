@@ -2,6 +2,7 @@
 
 ghost use Rattle.std.specs.Prelude.{◌≡◌};
 ghost use Rattle.pragma_attach.specs.declared.stop.Stop.TheVariants.{Memory};
+ghost use Rattle.pragma_attach.specs.Told.{tells_of};
 
 use ktree::Place;
 use std::alloc::{AllocError, AllocFailed};
@@ -15,6 +16,20 @@ pub(crate) enum Stop {
     UnknownName(Place),
     /// The name at this place is that of a variable that the directive names before.
     NamedTwice(Place),
+}
+
+impl Stop {
+    /// Of a reason to stop at a name and a name of the same line that stands twice, the first in the text.
+    pub(crate) fn or_twice(self, twice: Option<Place>) -> Stop
+        ensures { tells_of result ≡ tells_of self }
+    {
+        match (self, twice) {
+            (Stop::UnknownName(place), Some(second)) if second.column < place.column => {
+                Stop::NamedTwice(second)
+            }
+            _ => self,
+        }
+    }
 }
 
 impl From<AllocError> for Stop {

@@ -15,7 +15,7 @@ use pragma_named::{Clauses, LineClauses, Named, clauses_known};
 use std::alloc::{AllocError, Global};
 
 /// A list of names once more.
-fn copied(alloc: Global, names: &[Named]) -> Result<Vec<Named>, AllocError>
+fn copy_names(alloc: Global, names: &[Named]) -> Result<Vec<Named>, AllocError>
     ensures { IfOk result (λ copy. copy.items ≡ names.now) }
 {
     Vec::from_slice(alloc, names)
@@ -28,14 +28,14 @@ fn copy_of(alloc: Global, clause: &Clause<Named>) -> Result<Clause<Named>, Alloc
     match clause {
         Clause::DefaultShared => Ok(Clause::DefaultShared),
         Clause::DefaultNone => Ok(Clause::DefaultNone),
-        Clause::Shared(names) => Ok(Clause::Shared(copied(alloc, names)?)),
-        Clause::Private(names) => Ok(Clause::Private(copied(alloc, names)?)),
-        Clause::Firstprivate(names) => Ok(Clause::Firstprivate(copied(alloc, names)?)),
-        Clause::Lastprivate(names) => Ok(Clause::Lastprivate(copied(alloc, names)?)),
-        Clause::LastConditional(names) => Ok(Clause::LastConditional(copied(alloc, names)?)),
+        Clause::Shared(names) => Ok(Clause::Shared(copy_names(alloc, names)?)),
+        Clause::Private(names) => Ok(Clause::Private(copy_names(alloc, names)?)),
+        Clause::Firstprivate(names) => Ok(Clause::Firstprivate(copy_names(alloc, names)?)),
+        Clause::Lastprivate(names) => Ok(Clause::Lastprivate(copy_names(alloc, names)?)),
+        Clause::LastConditional(names) => Ok(Clause::LastConditional(copy_names(alloc, names)?)),
         Clause::Reduction(operator, names) => Ok(Clause::Reduction(
             *operator,
-            copied(alloc, names)?,
+            copy_names(alloc, names)?,
         )),
         Clause::Inscan(operator, name) => Ok(Clause::Inscan(*operator, *name)),
         Clause::Schedule(schedule) => Ok(Clause::Schedule(*schedule)),
@@ -62,7 +62,7 @@ fn add_copies(
 }
 
 /// Some clauses and others behind them.
-fn joined(
+fn join_clauses(
     alloc: Global,
     first: &[Clause<Named>],
     others: &[Clause<Named>],
@@ -86,7 +86,7 @@ fn count_line(
     ensures { OnOk result (lines_known (kept lines.new)
         ≡ with_enclosing line region (lines_known (kept lines.old))) }
 {
-    let clauses = joined(
+    let clauses = join_clauses(
         alloc,
         clauses_known(lines, region),
         clauses_known(lines, line),

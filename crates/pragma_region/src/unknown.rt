@@ -130,7 +130,8 @@ fn directive_unknown(directive: &Directive<Written>, line: Place) -> Option<Unkn
 
 /// What is told of the line at a place, where it is a directive.
 fn line_unknown(directives: &Directives, place: Place) -> Option<Unknown>
-    ensures { option_map number_told result ≡ number_there (directive_on directives.now place.line) }
+    ensures { option_map number_told result
+        ≡ number_there (directive_on directives.now place.line) }
 {
     let Ok(directive) = directives.directive(place) else {
         return None;

@@ -99,13 +99,18 @@ pub fn chunk_list(alloc: Global, sched: Sched, n: u64, workers: Workers) -> Resu
             iterations: n,
             size: size.get(),
         },
-        Sched::Guided(size) => Cut::Listed(guided(alloc, n, workers, size.get())?),
+        Sched::Guided(size) => Cut::Listed(guided_chunks(alloc, n, workers, size.get())?),
     };
     Ok(Chunks { cut })
 }
 
 /// The chunks of guided, each cut off what the ones before it leave.
-fn guided(alloc: Global, iterations: u64, workers: u64, size: u64) -> Result<Vec<Chunk>, AllocError>
+fn guided_chunks(
+    alloc: Global,
+    iterations: u64,
+    workers: u64,
+    size: u64,
+) -> Result<Vec<Chunk>, AllocError>
     requires most { iterations ≤ 2 ^ 24 }
     requires workers { 0 < workers }
     requires size { 0 < size }

@@ -133,7 +133,11 @@ impl<W: Write> Model for Writer<W> {
 
     ghost Value = { Written };
 
-    ghost view = { λ w. record { bytes = w.account.told; failures = w.failures; contents = W.contents w.inner } };
+    ghost view = { λ w. record {
+      bytes = w.account.told;
+      failures = w.failures;
+      contents = W.contents w.inner;
+    } };
 }
 
 impl<W: Write> Writer<W> {

@@ -290,6 +290,18 @@ fn the_first_fault_is_told(rt: HostRuntime) {
             4,
             41,
         ),
+        (
+            "uint64_t v; void kernel(void) {\n#pragma omp parallel for shared(v, v, w)\nfor (uint64_t i = 0; i < 8; i++) { } }\n",
+            13,
+            2,
+            36,
+        ),
+        (
+            "uint64_t v; void kernel(void) {\n#pragma omp parallel for shared(w, v, v)\nfor (uint64_t i = 0; i < 8; i++) { } }\n",
+            3,
+            2,
+            33,
+        ),
     ];
     no_other(&rt, other_told(rt.alloc(), ROWS));
 }
@@ -490,6 +502,30 @@ fn a_for_names_what_its_parallel_shares(rt: HostRuntime) {
             13,
             4,
             25,
+        ),
+        (
+            "uint64_t A[8]; void kernel(void) { uint64_t x = 1; uint64_t y = 1; A[0] = x + y;\n#pragma omp parallel private(x)\n{\n#pragma omp for private(x, y, y)\nfor (uint64_t i = 0; i < 8; i++) { y = i; A[i] = y; } } }\n",
+            13,
+            4,
+            25,
+        ),
+        (
+            "uint64_t A[8]; void kernel(void) { uint64_t x = 1; uint64_t y = 1; A[0] = x + y;\n#pragma omp parallel private(x)\n{\n#pragma omp for private(x, w)\nfor (uint64_t i = 0; i < 8; i++) { y = i; A[i] = y; } } }\n",
+            13,
+            4,
+            25,
+        ),
+        (
+            "uint64_t A[8]; void kernel(void) { uint64_t x = 1; uint64_t y = 1; A[0] = x + y;\n#pragma omp parallel private(x)\n{\n#pragma omp for private(w, x)\nfor (uint64_t i = 0; i < 8; i++) { y = i; A[i] = y; } } }\n",
+            3,
+            4,
+            25,
+        ),
+        (
+            "uint64_t A[8]; void kernel(void) { uint64_t x = 1; uint64_t y = 1; A[0] = x + y;\n#pragma omp parallel private(x)\n{\n#pragma omp for private(y, x, y)\nfor (uint64_t i = 0; i < 8; i++) { y = i; A[i] = y; } } }\n",
+            13,
+            4,
+            28,
         ),
     ];
     no_other(&rt, other_told(rt.alloc(), ROWS));

@@ -12,4 +12,4 @@ returns t c =
     let inner = c.in-Some.inner.now in
     let same : product_of n c.args.loops.now ≡ first.trip_count * product_of (n - 1) inner =
     ap (λ xs. product_of n xs) c.in-Some.ensures.cases.0 ∙ ap (λ (k : ℕ). product_of k (first ∷ inner)) (pred_is n c.if-depth-eq0.false) in
-    subst (λ (k : ℕ). SomeIff c.within.result (k ≤ 2 ^ 24) k) (sym same) (c.within.ensures (product_of (n - 1) inner) c.product.ensures)
+    subst (λ (k : ℕ). SomeIff c.product_within.result (k ≤ 2 ^ 24) k) (sym same) (c.product_within.ensures (product_of (n - 1) inner) c.product.ensures)

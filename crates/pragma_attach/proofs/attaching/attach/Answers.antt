@@ -9,7 +9,7 @@ use Rattle.pragma_attach.proofs.attaching.attach.Goals as goal
 
 pub returns-in-Err-clause-err : goal.returns-in-Err-clause-err
 returns-in-Err-clause-err c =
-    stopped_rightly c.args.directives.now (kernel_of c.args.kernel.now) c.in-Err.stop c.stopped.result c.stopped.ensures.memory c.stopped.ensures.told c.in-Err.ensures.err
+    stopped_rightly c.args.directives.now (kernel_of c.args.kernel.now) c.in-Err.stop c.refuse_names.result c.refuse_names.ensures.memory c.refuse_names.ensures.told c.in-Err.ensures.err
 
 pub returns-in-None-clause-attached : goal.returns-in-None-clause-attached
 returns-in-None-clause-attached c =

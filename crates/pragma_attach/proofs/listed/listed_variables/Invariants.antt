@@ -4,7 +4,7 @@ use Rattle.semantics.specs.Meaning.Agrees.{is_among}
 use Rattle.semantics.specs.Directives.Naming.{variables_in}
 use Rattle.pragma_mention.specs.Sets.{holds}
 use Rattle.pragma_named.specs.Views.{resolved_clause}
-use Rattle.pragma_attach.proofs.listed.listed.Given as goal
+use Rattle.pragma_attach.proofs.listed.listed_variables.Given as goal
 
 -- those so far, with those of the clauses that are left
 abbrev pub invariant-loop-clause : goal.invariant-loop-clause

@@ -2,7 +2,7 @@ use Rattle.std.proofs.Common.{◌+◌, [], ◌∷◌, ◌++◌, map, arith, ap, 
 use Rattle.std.proofs.lemmas.List.{map-append}
 use Rattle.schedule.specs.Chunk.{chunk_of}
 use Rattle.schedule.proofs.Guided.{guided_more, from_here}
-use Rattle.schedule.proofs.chunks.guided.Goals as goal
+use Rattle.schedule.proofs.chunks.guided_chunks.Goals as goal
 
 pub loop-first-preserved : goal.loop-first-preserved
 loop-first-preserved c =

@@ -6,7 +6,7 @@ use Rattle.lower_code.specs.declared.term.Test.{Test}
 use Rattle.lower_code.specs.declared.term.Code.{Code}
 use Rattle.lower_code.specs.Meaning.{MeansTest, MeansStmt, DoesAlways}
 use Rattle.lower_code.proofs.Whole.{turns_mean}
-use Rattle.lower_code.proofs.statements.looped.Goals as goal
+use Rattle.lower_code.proofs.statements.loop_turns.Goals as goal
 
 pub returns : goal.returns
 returns c =

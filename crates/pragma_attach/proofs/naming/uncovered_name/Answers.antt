@@ -9,7 +9,7 @@ use Rattle.pragma_named.specs.Known.{kept}
 use Rattle.pragma_named.specs.Known.{lines_known}
 use Rattle.pragma_attach.specs.Rightly.{names_inside}
 use Rattle.pragma_attach.proofs.RightlyLaw.{and_same, inside_wanted, covered}
-use Rattle.pragma_attach.proofs.naming.uncovered.Goals as goal
+use Rattle.pragma_attach.proofs.naming.uncovered_name.Goals as goal
 
 pub returns : goal.returns
 returns c =

@@ -8,7 +8,7 @@ use Rattle.pragma_named.specs.Known.{kept}
 use Rattle.pragma_named.specs.Known.{lines_known}
 use Rattle.pragma_attach.specs.Rightly.{names_inside}
 use Rattle.pragma_attach.proofs.RightlyLaw.{inside_wanted, none_among}
-use Rattle.pragma_attach.proofs.naming.unshared.Goals as goal
+use Rattle.pragma_attach.proofs.naming.unshared_name.Goals as goal
 
 pub returns : goal.returns
 returns c =

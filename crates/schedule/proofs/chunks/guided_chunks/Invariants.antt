@@ -2,7 +2,7 @@ use Rattle.std.proofs.Common.{◌≡◌, ◌-◌, ◌≤◌, ◌++◌, map}
 use Rattle.semantics.specs.Loops.Chunk.{Guided, cut}
 use Rattle.schedule.specs.Chunk.{chunk_of}
 use Rattle.schedule.proofs.Guided.{from_here}
-use Rattle.schedule.proofs.chunks.guided.Given as goal
+use Rattle.schedule.proofs.chunks.guided_chunks.Given as goal
 
 abbrev pub invariant-loop-first : goal.invariant-loop-first
 invariant-loop-first l =
