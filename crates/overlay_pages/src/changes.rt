@@ -16,10 +16,13 @@ pub struct Change {
     pub value: u64,
 }
 
-/// The changes of a chunk, without the store that the chunk ran over. Few of them take no memory beside the value.
+/// Changes one after another. Few of them take no memory beside the value.
+pub(crate) type ChangeList = SmallVec<Change, 4>;
+
+/// The changes of a chunk, without the store that the chunk ran over.
 #[derive(Drop)]
 pub struct Changes {
-    writes: SmallVec<Change, 4>,
+    writes: ChangeList,
 }
 
 impl Model for Changes {
@@ -33,12 +36,10 @@ impl Model for Changes {
 
 impl Changes {
     /// These writes.
-    pub(crate) fn of(writes: Vec<Change>) -> Changes
+    pub(crate) fn of(writes: ChangeList) -> Changes
         ensures { result ≡ writes.items }
     {
-        Changes {
-            writes: SmallVec::from_vec(writes),
-        }
+        Changes { writes }
     }
 
     /// No changes.
@@ -46,7 +47,7 @@ impl Changes {
         ensures { result ≡ [] }
     {
         Changes {
-            writes: SmallVec::new(alloc),
+            writes: ChangeList::new(alloc),
         }
     }
 

@@ -4,13 +4,13 @@ ghost use Rattle.std.specs.Prelude.{suc, ◌≡◌, ◌==◌, ◌*◌, ◌<◌, 
 ghost use Rattle.store.specs.Flat.{values_of};
 ghost use Rattle.overlay_pages.specs.Table.{table_of, IsSound, Gathers};
 
-use crate::changes::Change;
+use crate::changes::{Change, ChangeList};
 use crate::pages::Pages;
 use std::alloc::{AllocError, Global};
 use store::Store;
 
 // Adds a write where the cell holds another number.
-fn add(store: &Store, change: Change, changes: &mut Vec<Change>) -> Result<(), AllocError>
+fn add(store: &Store, change: Change, changes: &mut ChangeList) -> Result<(), AllocError>
     ensures { OnOk result (changes.new.items
         ≡ cond (change.value == slice_index (values_of store.now) change.place)
         changes.old.items (changes.old.items ++ change ∷ [])) }
@@ -27,7 +27,7 @@ fn gather_page(
     store: &Store,
     pages: &Pages,
     k: usize,
-    changes: &mut Vec<Change>,
+    changes: &mut ChangeList,
 ) -> Result<(), AllocError>
     requires sound { IsSound (table_of pages.now) }
     requires there { k < length pages.now.entered.items }
@@ -67,12 +67,12 @@ fn count(pages: &Pages) -> usize {
 /// # Errors
 ///
 /// Where memory runs out.
-pub fn gather(alloc: Global, store: &Store, pages: &Pages) -> Result<Vec<Change>, AllocError>
+pub fn gather(alloc: Global, store: &Store, pages: &Pages) -> Result<ChangeList, AllocError>
     requires { IsSound (table_of pages.now) }
     ensures { IfOk result (λ changes. Gathers (values_of store.now) (table_of pages.now)
         (64 * suc (length pages.now.entered.items)) changes.items) }
 {
-    let mut changes = Vec::with_capacity(alloc, count(pages))?;
+    let mut changes = ChangeList::with_capacity(alloc, count(pages))?;
     for k in 0..pages.entered.len() {
         gather_page(store, pages, k, &mut changes)?;
     }

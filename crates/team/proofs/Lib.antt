@@ -1,7 +1,6 @@
 pub mod Cutting
 pub mod Ending
 pub mod Dealing
-pub mod Keeping
 pub mod Applying
 pub mod Merging
 pub mod Logging

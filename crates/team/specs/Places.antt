@@ -1,9 +1,7 @@
--- Places for what the workers of a loop leave, and the rule of a place. Its word is 0 before an end is put there, 1 while a worker has the place, and 2 behind.
-use Rattle.std.specs.Prelude.{ℕ, ◌≡◌, ◌≢◌, ◌≤◌, ◌^◌, List, [], ◌∷◌, length, slice_get, slice_index, All, Option, Some}
-use mathlib.Core.Option.{some}
-use lib.ListN.{get_elem?}
-use Rattle.atomic_table.specs.Table.{State, Me, Step}
+-- Places for what the workers of a loop leave.
+use Rattle.std.specs.Prelude.{ℕ, ◌≡◌, ◌≤◌, ◌^◌, List, length, slice_get, All, Option, Some}
 use Rattle.semantics.specs.Loops.Chunk.{Chunk, cut}
+use Rattle.draw.specs.Tickets.{fresh}
 use Rattle.nest_space.specs.Space.{Turns, vectors}
 use Rattle.schedule.specs.Part.{static_kind}
 use Rattle.store.specs.Kept.{Kept}
@@ -58,7 +56,7 @@ pub record IsWay (way : Way) (space : List Turns) (chunks : List Chunk) (workers
   pub cut : (size : Option ℕ) → way ≡ Dealt size → chunks ≡ cut (static_kind size) (length (vectors space)) workers
   pub some : (k : ℕ) → way ≡ Dealt (Some k) → (1 ≤ k) × (k ≤ 2 ^ 24)
   pub count : (draw : Draw) → way ≡ Drawn draw → draw.drawing.count ≡ length chunks
-  pub seats : (draw : Draw) → way ≡ Drawn draw → (draw.drawing.seats ≡ workers) × All (λ s. s ≡ draw.drawing) draw.seats.items
+  pub seats : (draw : Draw) → way ≡ Drawn draw → (draw.drawing.seats ≡ workers) × All (λ s. s ≡ fresh draw.drawing) draw.seats.items
 
 -- the places of a loop's workers, of whom there are some, and how chunks came to them
 pub record AreLeft (a : Aim) (space : List Turns) (way : Way) (places : List Aim) : Type 0 where
@@ -67,30 +65,3 @@ pub record AreLeft (a : Aim) (space : List Turns) (way : Way) (places : List Aim
   pub some : 1 ≤ a.workers
   pub all : length places ≡ a.workers
   pub made : AreFor a places
-
-abbrev pub St : Type 0
-St = State (Option End) ℕ
-
-abbrev pub Mine : Type 0
-Mine = Me (Option End) ℕ
-
--- an end that is there is what the place is made for, and unless the word is 1 something is there
-pub record Fits (a : Aim) (s : St) : Type 0 where
-  pub one_word : length s.words ≡ 1
-  pub one_home : length s.homes ≡ 1
-  pub right : (e : End) → get_elem? s.homes 0 ≡ some (some (Some e)) → IsEnd a e
-  pub there : slice_index s.words 0 ≢ 1 → (y : Option End) × (get_elem? s.homes 0 ≡ some (some y))
-
--- a worker that looks at the place
-abbrev pub entered : Step (Option End) → Mine → ℕ → Mine → Type 0
-entered st m found m' = m'.0 ≡ 0
-
--- the word was 0, and the worker has the place; or nothing changed
-abbrev pub took : Step (Option End) → Mine → ℕ → Mine → Type 0
-took st m found m' =
-    (found ≡ 0 → (x : Option End) × (m' ≡ (m.0, (0, x) ∷ [])))
-    × (found ≢ 0 → m' ≡ m)
-
--- the place is given back
-abbrev pub gave : Step (Option End) → Mine → ℕ → Mine → Type 0
-gave st m found m' = m' ≡ (m.0, [])

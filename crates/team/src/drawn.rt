@@ -1,6 +1,6 @@
 //! Chunks that workers draw, of the schedules that fix no worker for a chunk (OpenMP 5.2, 11.5.3).
 
-ghost use Rattle.std.specs.Prelude.{◌≡◌, ℕ, List, length, vec_len, IfOk, IfErr};
+ghost use Rattle.std.specs.Prelude.{◌≡◌, ◌++◌, ◌∷◌, [], ℕ, List, length, vec_len, IfOk, IfErr, OnOk};
 ghost use Rattle.semantics.specs.Loops.Chunk.{Chunk};
 ghost use Rattle.store.specs.Kept.{Kept};
 ghost use Rattle.lower.specs.declared.lowered.LoweredLoop.{LoweredLoop};
@@ -13,9 +13,21 @@ ghost use Rattle.team.specs.Places.{Aim, AreFor};
 use crate::log::ChangeLog;
 use crate::place::Place;
 use crate::worker::Finished;
-use draw::{DrawSeat, Drawing};
+use draw::{DrawSeat, Drawing, RestingSeat};
 use ktree::Refusal;
 use std::alloc::Global;
+
+/// One seat more, if nobody has taken it before.
+fn seat_back(seats: &mut Vec<DrawSeat>, seat: RestingSeat) -> Result<(), Refusal>
+    ensures back { OnOk result (seats.new.items ≡ seats.old.items ++ seat ∷ []) }
+    ensures refusal { IfErr result (λ refusal. refusal ≡ Refusal.OutOfMemory) }
+{
+    let Some(seat) = seat.take() else {
+        return Err(Refusal::OutOfMemory);
+    };
+    seats.push(seat)?;
+    Ok(())
+}
 
 /// The seats and the changes of all workers, in their order, where all of them have left these.
 pub(crate) fn collect(
@@ -34,7 +46,7 @@ pub(crate) fn collect(
         let Some(Finished { seat, changes }) = place.draws() else {
             return Err(Refusal::OutOfMemory);
         };
-        seats.push(seat)?;
+        seat_back(&mut seats, seat)?;
         logs.push(changes)?;
     }
     Ok((seats, logs))

@@ -71,7 +71,7 @@ fn places_for(
             workers,
             number,
         );
-        places.push(Place::new(alloc, &plan)?)?;
+        places.push(Place::new(&plan))?;
     }
     Ok(places)
 }

@@ -1,6 +1,6 @@
 //! A place for what a worker leaves.
 
-ghost use Rattle.std.specs.Prelude.{◌≡◌, ℕ, Option, IfOk, IfSome};
+ghost use Rattle.std.specs.Prelude.{◌≡◌, ℕ, Option, IfSome};
 ghost use Rattle.team.specs.declared.way.Draw.{Draw};
 ghost use Rattle.team.specs.declared.way.Way.TheVariants.{Dealt, Drawn};
 ghost use Rattle.team.specs.Places.{IsEnd, IsEndBy};
@@ -8,11 +8,10 @@ ghost use Rattle.team.specs.Places.{IsEnd, IsEndBy};
 use crate::log::ChangeLog;
 use crate::way::Way;
 use crate::worker::Finished;
-use atomic_table::{Play, Table, TableRule};
+use counted_slot::{Counted, FREE, Fits, PRESENT, TAKEN};
 use ktree::Workers;
 use lower::LoweredLoop;
 use schedule::Chunks;
-use std::alloc::{AllocError, Global};
 use std::marker::Model;
 use std::snapshot::Snapshot;
 use store::Store;
@@ -89,52 +88,22 @@ impl Plan {
     }
 }
 
-/// What the place holds is an end that it is made for; unless the word is 1, it is there.
-pub struct Handing;
+/// An end fits what it is made for.
+impl Fits for End {
+    ghost use Rattle.team.specs.Places.{IsEnd};
 
-impl TableRule<Option<End>, u64, Plan> for Handing {
-    ghost use Rattle.team.specs.Places.{Fits};
+    type Tag = Plan;
 
-    ghost holds = { Fits };
-
-    ghost first = { λ _. 0 };
-}
-
-/// A look at the place.
-struct Enter;
-
-impl Play<Option<End>, u64> for Enter {
-    ghost use Rattle.team.specs.Places.{entered};
-
-    ghost then = { entered };
-}
-
-/// A try to have it.
-struct Take;
-
-impl Play<Option<End>, u64> for Take {
-    ghost use Rattle.team.specs.Places.{took};
-
-    ghost then = { took };
-}
-
-/// Its return.
-struct Give;
-
-impl Play<Option<End>, u64> for Give {
-    ghost use Rattle.team.specs.Places.{gave};
-
-    ghost then = { gave };
+    ghost fits = { IsEnd };
 }
 
 /// A place for the end of a worker. Contracts see it as what it is made for.
 #[derive(Drop)]
 pub struct Place {
-    table: Table<Option<End>, u64, Plan, Handing, Global>,
+    slot: Counted<Option<End>>,
 }
 
 impl Model for Place {
-    ghost use Rattle.std.specs.Prelude.{◌≡◌};
     ghost use Rattle.std.specs.Coded.{codes};
     ghost use Rattle.lower_block.specs.contracts.op.Block as block;
     ghost use Rattle.team.specs.Places.{Aim};
@@ -143,34 +112,28 @@ impl Model for Place {
 
     ghost coded = { Prim.hlevel (codes, block.the_row.coded) };
 
-    ghost view = { λ p. p.table.shared.key };
-
-    ghost invariant = { λ p. (p.table.shared.table_id.words ≡ 1)
-        × (p.table.shared.table_id.slots ≡ 1) };
+    ghost view = { λ p. p.slot };
 }
 
 impl Place {
     /// A place with nothing in it.
-    pub(crate) fn new(alloc: Global, plan: &Plan) -> Result<Place, AllocError>
-        ensures { IfOk result (λ p. p ≡ plan.now) }
+    pub(crate) fn new(plan: &Plan) -> Place
+        ensures { result ≡ plan.now }
     {
-        let (table, _) = Table::vacant(alloc, &[0], 1, plan)?;
-        Ok(Place { table })
+        Place {
+            slot: Counted::new(None, plan),
+        }
     }
 
-    /// Puts an end here, if none is.
+    /// Puts an end here, if nobody has done so.
     pub(crate) fn hand_in(&self, end: End)
         requires { IsEnd self.now end }
     {
-        let (_, mut seat) = self.table.shared.load_new_seat::<Enter>(0);
-        if self
-            .table
-            .shared
-            .compare_exchange::<Take>(&mut seat, 0, 0, 1)
-            == 0
-        {
-            let _ = self.table.shared.exchange(&mut seat, 0, Some(end));
-            self.table.shared.store::<Give>(&mut seat, 0, 2);
+        let (found, claim) = self.slot.turn(FREE, TAKEN);
+        if found == FREE {
+            let _nothing = claim.put(Some(end), PRESENT);
+        } else {
+            claim.done();
         }
     }
 
@@ -178,12 +141,8 @@ impl Place {
     fn close(self) -> Option<End>
         ensures { IfSome result (λ end. IsEnd self end) }
     {
-        let Place { table } = self;
-        let mut closed = table.close();
-        let is_there = closed.word(0) != 1;
-        let end = closed.take(0);
-        closed.free();
-        if is_there { end } else { None }
+        let Place { slot } = self;
+        slot.into_inner()
     }
 
     /// What a worker's own chunks change, if that is here.

@@ -7,7 +7,7 @@ ghost use Rattle.nest_space.specs.Space.{vectors};
 ghost use Rattle.schedule.specs.Sched.{kind_of};
 ghost use Rattle.team.specs.Places.{IsWay};
 
-use draw::{DrawSeat, Drawing, FreeSeat};
+use draw::{DrawSeat, Drawing, RestingSeat};
 use ktree::{Refusal, Workers};
 use nest_space::Space;
 use schedule::{Chunks, Sched};
@@ -17,7 +17,7 @@ use std::alloc::Global;
 #[derive(Drop)]
 pub struct Draw {
     pub drawing: Drawing,
-    pub seats: Vec<FreeSeat>,
+    pub seats: Vec<RestingSeat>,
 }
 
 /// Dealt to them by `static, k` for `Some(k)`, else by plain `static`; or drawn by them (OpenMP 5.2, 11.5.3).
@@ -28,14 +28,14 @@ pub enum Way {
 }
 
 /// Seats that wait for who takes them.
-fn free(alloc: Global, drawing: &Drawing, seats: Vec<DrawSeat>) -> Result<Vec<FreeSeat>, Refusal>
+fn free(alloc: Global, drawing: &Drawing, seats: Vec<DrawSeat>) -> Result<Vec<RestingSeat>, Refusal>
     requires { All (λ seat. seat ≡ fresh drawing.now) seats.items }
-    ensures seats { IfOk result (λ v. All (λ seat. seat ≡ drawing.now) v.items) }
+    ensures seats { IfOk result (λ v. All (λ seat. seat ≡ fresh drawing.now) v.items) }
     ensures refusal { IfErr result (λ refusal. refusal ≡ Refusal.OutOfMemory) }
 {
     let mut free = Vec::with_capacity(alloc, seats.len())?;
     for seat in seats {
-        free.push(FreeSeat::new(seat))?;
+        free.push(RestingSeat::new(seat))?;
     }
     Ok(free)
 }
@@ -44,7 +44,7 @@ fn free(alloc: Global, drawing: &Drawing, seats: Vec<DrawSeat>) -> Result<Vec<Fr
 fn start_draw(alloc: Global, count: u64, workers: Workers) -> Result<Draw, Refusal>
     requires { count ≤ 2 ^ 24 }
     ensures drawing { IfOk result (λ d. (d.drawing.count ≡ count) × (d.drawing.seats ≡ workers)) }
-    ensures seats { IfOk result (λ d. All (λ seat. seat ≡ d.drawing) d.seats.items) }
+    ensures seats { IfOk result (λ d. All (λ seat. seat ≡ fresh d.drawing) d.seats.items) }
     ensures refusal { IfErr result (λ refusal. refusal ≡ Refusal.OutOfMemory) }
 {
     let (drawing, seats) = Drawing::new(alloc, count, workers.get())?;
@@ -78,7 +78,7 @@ pub(crate) fn way_of(
 
 /// The seat of the worker of a number, if nobody has taken it before.
 pub(crate) fn seat_of(draw: &Draw, number: u64) -> Option<DrawSeat>
-    requires { All (λ seat. seat ≡ draw.now.drawing) draw.now.seats.items }
+    requires { All (λ seat. seat ≡ fresh draw.now.drawing) draw.now.seats.items }
     ensures { IfSome result (λ seat. seat ≡ fresh draw.now.drawing) }
 {
     draw.seats.get(number as usize)?.take()

@@ -7,7 +7,7 @@ ghost use Rattle.team.specs.Ends.{IsReady, IsChangeOf, IsFinished};
 use crate::gate::{Gate, Taken};
 use crate::job::Job;
 use crate::log::ChangeLog;
-use draw::{DrawSeat, Drawing};
+use draw::{DrawSeat, Drawing, RestingSeat};
 use ktree::{ChunkNo, Refusal};
 use overlay::{Bench, Work, Worker};
 use overlay_pages::Changes;
@@ -31,7 +31,7 @@ pub struct Member {
 /// What a worker leaves when it met the end of the chunks.
 #[derive(Drop)]
 pub struct Finished {
-    pub seat: DrawSeat,
+    pub seat: RestingSeat,
     pub changes: ChangeLog,
 }
 
@@ -96,5 +96,8 @@ pub(crate) fn work<G: Gate>(
         changes.push(run_taken(alloc, job, &mut runner, taken, gate)?)?;
     }
     *bench = Some(runner.leave());
-    Ok(Finished { seat, changes })
+    Ok(Finished {
+        seat: RestingSeat::new(seat),
+        changes,
+    })
 }
