@@ -5,7 +5,7 @@ use Rattle.std.proofs.Common.{refl, sym, ap, ◌∙◌, subst, append-nil}
 use Rattle.std.proofs.lemmas.Bool.{eqb-true}
 use Rattle.std.proofs.lemmas.List.{length-map}
 use Rattle.std.proofs.lemmas.List.Elements.{All-contains, All-from_recursion}
-use Rattle.std.proofs.lemmas.Option.{slice_get_past}
+use Rattle.std.proofs.lemmas.Option.{slice_get_past, none-some}
 use Rattle.semantics.specs.Tree.{Variable, Stmt}
 use Rattle.semantics.specs.Meaning.Agrees.{is_among, declared_in}
 use Rattle.semantics.specs.Meaning.State.{State, Slot, Outside, Empty, Holds, overwritten}
@@ -109,7 +109,7 @@ module _ (layout : List Laid) (mark : ℕ) (s : State) (rs : List ℕ) (ks : Lis
         let us = some_of (iterations fits.loops s) (fits.commutes.there fits.loops fits.body s fits.nest turn) in
         let apart = fits.commutes.chunks fits.loops fits.body s us.0 (chunked us.0 (cut kind (length us.0) workers)) e fits.nest turn (declares loop fits.locals) own us.1 (cover us.0 kind workers sized some) ran in
         let merged = leaves layout mark fits.loops fits.body s us.0 apart.effects
-        (record { box = fits.box; lowered = fits.lowered; stand = stand; counters = λ x counter. at_turn s serial here x (fits.known x counter); are = us.1 }) apart.each in
+        (record { box = fits.box; lowered = fits.lowered; stand = stand; counters = λ x counter. at_turn s serial here x (fits.known x counter); are = us.1; different = refl; apart = refl; held = λ x op is. absurd (none-some op is) }) apart.each in
         let cells : (x : ℕ) (is : List ℕ) → cell_at (shapes_of layout) (values_of ks') x is ≡ left_by s e x is = apart.merge (λ x is. cell_at (shapes_of layout) (values_of ks') x is) merged in
         let shared = shares s e in
         record {

@@ -38,6 +38,7 @@ use Rattle.lower_code.specs.Meaning.{AreLocals, MeansTest}
 use Rattle.lower_code.proofs.Whole.{locals_left, locals_right}
 use Rattle.lower_block.specs.declared.op.Compiled.{Compiled}
 use Rattle.lower_run.specs.Walk.{Performs}
+use Rattle.lower.specs.Roles.{StandEach, AreReduced}
 use Rattle.outline.specs.declared.shape.LoweredHead.{LoweredHead}
 use Rattle.outline.specs.declared.shape.TeamLoop.{TeamLoop}
 use Rattle.outline.specs.declared.shape.Outline.{Outline, Serial, Team, If, For, Block}
@@ -140,6 +141,7 @@ module _ (layout : List Laid) (mark : ℕ) (loops : List ParallelLoop) where
               heads = heads_of box n.loops l.lowered.loops.items n.heads (commutes.steps n.loops n.body n.nest);
               own = locals_left layout mark (map (λ q. q.variable) n.loops) (declared_in n.body) both;
               body = n.code (locals_right layout mark (map (λ q. q.variable) n.loops) (declared_in n.body) both);
+              roles_at = record { reductions = subst (AreReduced layout mark []) (sym n.no_reductions) tt; lasts = subst (StandEach layout mark []) (sym n.no_lasts) tt };
             };
             locals = subst (λ a. AreLocals layout mark (declared_in a)) (sym h.statement) all;
             commutes = subst (λ a. CommutesAsNest serial l.depth a) (sym h.statement) commutes;

@@ -5,6 +5,7 @@ use Rattle.semantics.specs.Tree.{Variable, Stmt}
 use Rattle.semantics.specs.Meaning.Agrees.{declared_in}
 use Rattle.semantics.specs.Meaning.Runs.{declared, incremented, run, run_items}
 use Rattle.semantics.specs.Loops.Nest.{Loop, nest_of}
+use Rattle.semantics.specs.Loops.Piece.{no_roles}
 use Rattle.ktree.specs.View.{source_of, cond_of, increment_of, stmt_of, with_item}
 use Rattle.ktree.specs.declared.statement.Head.{Head}
 use Rattle.affine.specs.declared.interval.Side.{Side}
@@ -41,7 +42,7 @@ pub record TeamFits (layout : List Laid) (mark : ℕ) (serial : List Loop) (l : 
   pub nest : nest_of l.depth (stmt_of l.statement.now) ≡ Some (loops, body)
   pub box : List Side
   pub known : (x : Variable) → is_counter box x ≡ true → Contains (map (λ h. h.variable) serial) x
-  pub lowered : IsLoweredFrom layout mark box loops body l.lowered
+  pub lowered : IsLoweredFrom layout mark box no_roles loops body l.lowered
   pub locals : AreLocals layout mark (declared_in (stmt_of l.statement.now))
   pub commutes : CommutesAsNest serial l.depth (stmt_of l.statement.now)
 

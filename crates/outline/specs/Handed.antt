@@ -1,5 +1,5 @@
 -- Which statements are handed to a team, and as what. (OpenMP 5.2, 4.4.3 and 11.5)
-use Rattle.std.specs.Prelude.{ℕ, ◌≡◌, ◌<◌, true, List, map, All, Contains, Some}
+use Rattle.std.specs.Prelude.{ℕ, ◌≡◌, ◌<◌, true, List, [], map, All, Contains, Some}
 use Rattle.semantics.specs.Tree.{Variable, Stmt}
 use Rattle.semantics.specs.Source.Text.{line_at}
 use Rattle.semantics.specs.Meaning.Runs.{run}
@@ -48,7 +48,7 @@ pub record IsBodyCode (layout : List Laid) (mark : ℕ) (n : ℕ) (s : Stmt) (co
   pub is : IsBodyOf n s body
   pub performs : AreLocals layout mark (declared_in body) → Performs layout mark (run body) code
 
--- a lowered loop is this nest inside the loops of a box: its loops in their canonical form, and its body as code
+-- a lowered loop is this nest inside the loops of a box: its loops in their canonical form, and its body as code; no variable of it leaves anything behind it
 pub record IsLowered (layout : List Laid) (mark : ℕ) (box : List Side) (n : ℕ) (s : Stmt) (l : LoweredLoop) : Type 0 where
   pub loops : List Loop
   pub body : Stmt
@@ -56,6 +56,8 @@ pub record IsLowered (layout : List Laid) (mark : ℕ) (box : List Side) (n : �
   pub around : ListsLocals mark box l.around.items
   pub heads : AreRectangular box loops l.loops.items
   pub code : AreLocals layout mark (declared_in body) → Performs layout mark (run body) l.body
+  pub no_reductions : l.roles.reductions.items ≡ []
+  pub no_lasts : l.roles.lasts.items ≡ []
 
 -- a statement behind the directive line at this place is handed over, as many loops of it as that line associates, with its schedule (OpenMP 5.2, 11.5.3)
 pub record IsHanded (layout : List Laid) (mark : ℕ) (box : List Side) (loops : List ParallelLoop) (line : Place) (s : Stmt) (l : TeamLoop) : Type 0 where

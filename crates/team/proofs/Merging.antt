@@ -21,12 +21,12 @@ use Rattle.lower_code.specs.declared.term.Laid.{Laid}
 use Rattle.lower_code.specs.Layout.{shapes_of, spot, cell_at}
 use Rattle.overlay_pages.specs.Over.{Writes, or_else, writes_of, written_over}
 use Rattle.overlay_pages.proofs.Overlays.{length_over}
-use Rattle.overlay.specs.Chunks.{LeaveAs}
 use Rattle.lower.specs.declared.lowered.LoweredLoop.{LoweredLoop}
+use Rattle.semantics.specs.Loops.Piece.{no_roles}
 use Rattle.lower.specs.Lowered.{IsReached}
 use Rattle.team.specs.declared.worker.ChunkChanges.{ChunkChanges}
 use Rattle.team.specs.Applied.{NoneWrites, OneWrites, AreApplied}
-use Rattle.team.specs.Ends.{IsChange, AreAll, AreOfLoop}
+use Rattle.team.specs.Ends.{LeaveAs, IsChange, AreAll, AreOfLoop}
 use Rattle.team.specs.Together.{LeavesTogether}
 
 -- what holds of each element holds of the one at a place
@@ -79,7 +79,7 @@ find (c ∷ cs) n some = go (c.work.chunk.0 == n) refl (λ more. find cs n more)
 
 module _ (layout : List Laid) (mark : ℕ) (loops : List Loop) (body : Stmt) (outer : State) (us : List Vector) (effects : List Effect) where
   module _ (l : LoweredLoop) (registers : List ℕ) (ks ks' : List Kept) (chunks : List Chunk) (cs : List ChunkChanges) where
-    module _ (reached : IsReached layout mark loops body outer us l registers ks) (ran : map (λ vs. walk loops body vs outer) (chunked us chunks) ≡ map Some effects) (all : AreAll l registers ks chunks cs) (applied : AreApplied (values_of ks) (values_of ks') cs) where
+    module _ (reached : IsReached layout mark no_roles loops body outer us l registers ks) (ran : map (λ vs. walk loops body vs outer) (chunked us chunks) ≡ map Some effects) (all : AreAll l registers ks chunks cs) (applied : AreApplied (values_of ks) (values_of ks') cs) where
       abbrev iterations_of : Chunk → List Vector
       iterations_of c = take c.count (drop c.first us)
 
@@ -195,7 +195,7 @@ module _ (layout : List Laid) (mark : ℕ) (loops : List Loop) (body : Stmt) (ou
 pub together : (l : LoweredLoop) (registers : List ℕ) (ks ks' : List Kept) (kind : Kind) (workers : ℕ) (cs : List ChunkChanges) → AreOfLoop l registers ks kind workers cs → AreApplied (values_of ks) (values_of ks') cs
     → LeavesTogether l registers ks ks' kind workers
 together l registers ks ks' kind workers cs of applied = λ layout mark loops body outer us effects reached ran.
-    let same : us ≡ vectors of.space = of.of layout mark loops body outer us ks reached in
+    let same : us ≡ vectors of.space = of.of layout mark no_roles loops body outer us ks reached in
     let chunks = cut kind (length us) workers in
     let all : AreAll l registers ks chunks cs = subst (λ (vs : List Vector). AreAll l registers ks (cut kind (length vs) workers) cs) (sym same) of.all in
     merged layout mark loops body outer us effects l registers ks ks' chunks cs reached ran all applied

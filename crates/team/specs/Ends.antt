@@ -1,15 +1,27 @@
 -- What the workers' ends are, and what comes of them together.
-use Rattle.std.specs.Prelude.{ℕ, ◌≡◌, ◌<◌, ◌≤◌, ◌^◌, true, List, length, map, flat_map, slice_get, All, Some}
+use Rattle.std.specs.Prelude.{ℕ, ◌≡◌, ◌<◌, ◌≤◌, ◌^◌, true, List, length, map, flat_map, slice_get, take, drop, All, Some}
+use Rattle.semantics.specs.Tree.{Variable, Stmt}
+use Rattle.semantics.specs.Meaning.State.{State}
+use Rattle.semantics.specs.Meaning.Runs.{Effect}
 use Rattle.semantics.specs.Meaning.Places.{below}
 use Rattle.semantics.specs.Loops.Chunk.{Chunk, Kind, cut, chunk_iterations}
 use Rattle.semantics.specs.Loops.Arrangement.{times}
+use Rattle.semantics.specs.Loops.Nest.{Loop, Vector}
+use Rattle.semantics.specs.Loops.Piece.{no_roles}
+use Rattle.law_nests.specs.Walks.{walk}
+use Rattle.law_nests.specs.Merging.{left_by}
 use Rattle.draw.specs.Tickets.{DrawingName, SeatState, all_tickets}
 use Rattle.nest_space.specs.Space.{Turns, vectors}
 use Rattle.store.specs.Kept.{Kept}
+use Rattle.store.specs.Flat.{values_of}
+use Rattle.lower_code.specs.declared.term.Laid.{Laid}
+use Rattle.lower_code.specs.Layout.{shapes_of, cell_at}
+use Rattle.overlay_pages.specs.Over.{writes_of, written_over}
+use Rattle.overlay_pages.specs.declared.changes.Change.{Change}
 use Rattle.lower.specs.declared.lowered.LoweredLoop.{LoweredLoop}
-use Rattle.lower.specs.Lowered.{IsSpaceOf}
+use Rattle.lower.specs.Lowered.{IsReached, IsSpaceOf}
 use Rattle.overlay.specs.declared.worker.Work.{Work}
-use Rattle.overlay.specs.Chunks.{IsChunkOf, ChangeOnly}
+use Rattle.overlay.specs.Chunks.{ChangeOnly}
 use Rattle.team.specs.declared.job.Job.{Job}
 use Rattle.team.specs.declared.worker.ChunkChanges.{ChunkChanges}
 use Rattle.team.specs.declared.worker.Finished.{Finished}
@@ -33,10 +45,22 @@ IsReady job = IsSplit job.lowered.now job.registers.now job.space.now job.chunks
 abbrev pub IsWork : List Chunk → Work → Type 0
 IsWork chunks work = slice_get chunks work.chunk.0 ≡ Some (record { first = work.first; count = work.count })
 
+-- written over the store, changes leave the objects at file scope as an effect does
+abbrev pub LeaveAs : List Laid → List Kept → State → Effect → List Change → Type 0
+LeaveAs layout ks outer e cs =
+    (x : Variable) (is : List ℕ) → cell_at (shapes_of layout) (written_over (writes_of cs) (values_of ks)) x is ≡ left_by outer e x is
+
+-- wherever a loop without lastprivate and reduction variables is reached with these registers and this store, and the iterations of a chunk have a run one after another from there, the changes leave what that leaves
+abbrev pub LeaveAsChunk : LoweredLoop → List ℕ → List Kept → Work → List Change → Type 0
+LeaveAsChunk l registers ks work cs =
+    (layout : List Laid) (mark : ℕ) (loops : List Loop) (body : Stmt) (outer : State) (us : List Vector) (e : Effect)
+    → IsReached layout mark no_roles loops body outer us l registers ks → walk loops body (take work.count (drop work.first us)) outer ≡ Some e
+    → LeaveAs layout ks outer e cs
+
 -- what a chunk of this loop changes, from these registers and this store
 pub record IsChange (l : LoweredLoop) (registers : List ℕ) (ks : List Kept) (chunks : List Chunk) (c : ChunkChanges) : Type 0 where
   pub work : IsWork chunks c.work
-  pub chunk : IsChunkOf l registers ks c.work c.changes
+  pub chunk : LeaveAsChunk l registers ks c.work c.changes
   pub only : ChangeOnly ks c.changes
 
 abbrev pub IsChangeOf : Job → ChunkChanges → Type 0

@@ -9,7 +9,7 @@ use crate::job::Job;
 use crate::log::ChangeLog;
 use draw::{DrawSeat, Drawing, RestingSeat};
 use ktree::{ChunkNo, Refusal};
-use overlay::{Bench, Work, Worker};
+use overlay::{Bench, Piece, Work, Worker};
 use overlay_pages::Changes;
 use std::alloc::Global;
 
@@ -60,7 +60,8 @@ pub(crate) fn run_taken<G: Gate>(
         first: chunk.first,
         count: chunk.count,
     };
-    let changes = runner.run_chunk(alloc, job.lowered, job.registers, job.space, work)?;
+    let piece = runner.run_chunk(alloc, job.lowered, job.registers, job.space, work)?;
+    let Piece { changes, .. } = piece;
     Ok(ChunkChanges { work, changes })
 }
 

@@ -1,4 +1,5 @@
-use Rattle.std.proofs.Common.{length, subst, List}
+use Rattle.std.proofs.Common.{length, refl, subst, List}
+use Rattle.semantics.specs.Loops.Piece.{no_roles}
 use Rattle.nest_space.specs.Space.{vectors}
 use Rattle.store.specs.Kept.{Kept}
 use Rattle.overlay.specs.declared.worker.Work.{Work}
@@ -14,6 +15,8 @@ returns-clause-change g c =
     let work : Work = record { chunk = record { 0 = c.args.taken.chunk }; first = c.at-chunk.result.first; count = c.at-chunk.result.count } in
     record {
       work = c.at-chunk.ensures;
-      chunk = subst (λ (ks : List Kept). IsChunkOf c.args.job.lowered.now c.args.job.registers.now ks work c.in_ok-changes.changes) c.requires.runner c.in_ok-changes.ensures.changes;
-      only = subst (λ (ks : List Kept). ChangeOnly ks c.in_ok-changes.changes) c.requires.runner c.in_ok-changes.ensures.only;
+      chunk = λ layout mark loops body outer us e reached ran x is.
+          (subst (λ (ks : List Kept). IsChunkOf c.args.job.lowered.now c.args.job.registers.now ks work c.in_ok-piece.piece) c.requires.runner c.in_ok-piece.ensures.leaves
+          layout mark no_roles loops body outer us e reached ran).changes x is refl;
+      only = subst (λ (ks : List Kept). ChangeOnly ks c.in_ok-piece.piece.changes) c.requires.runner c.in_ok-piece.ensures.only;
     }
