@@ -42,7 +42,8 @@ impl Model for Checked {
 
     ghost view = { λ c. record { text = c.text.items; kernel = c.kernel } };
 
-    ghost invariant = { λ c. IsKept (record { text = c.text.items; kernel = c.kernel }) c.parallel.loops.items
+    ghost invariant = { λ c. IsKept (record { text = c.text.items; kernel = c.kernel })
+        c.parallel.loops.items
         c.parallel.regions.items };
 }
 

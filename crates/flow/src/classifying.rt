@@ -34,7 +34,8 @@ fn loop_fault(
         (LineHas directives.now (IsPrivate (private_locals (kept lines.now) files place.line)) []
         place.line (items_of rest.now)) }
     ensures cause { IfSome result
-        (λ f. TellsOfLine f directives.now (private_locals (kept lines.now) files) place.line (items_of rest.now)) }
+        (λ f. TellsOfLine f directives.now (private_locals (kept lines.now) files) place.line
+        (items_of rest.now)) }
 {
     let Ok(said) = directives.at(place) else {
         return Some(DataFault::Directive(place));
@@ -83,8 +84,12 @@ fn statement_fault(
     files: usize,
     statement: &Stmt,
 ) -> Option<DataFault>
-    ensures judged { Finds result (LoopsPrivate directives.now (private_locals (kept lines.now) files) [] (stmt_of statement.now)) }
-    ensures cause { IfSome result (λ f. TellsOfLoops f directives.now (private_locals (kept lines.now) files) (stmt_of statement.now)) }
+    ensures judged { Finds result
+        (LoopsPrivate directives.now (private_locals (kept lines.now) files) []
+        (stmt_of statement.now)) }
+    ensures cause { IfSome result
+        (λ f. TellsOfLoops f directives.now (private_locals (kept lines.now) files)
+        (stmt_of statement.now)) }
 {
     match statement {
         Stmt::Assign(_, _) => None,
@@ -113,8 +118,12 @@ fn items_fault(
     files: usize,
     items: &[Item],
 ) -> Option<DataFault>
-    ensures judged { Finds result (ItemsPrivate directives.now (private_locals (kept lines.now) files) [] (items_of items.now)) }
-    ensures cause { IfSome result (λ f. TellsOfItems f directives.now (private_locals (kept lines.now) files) (items_of items.now)) }
+    ensures judged { Finds result
+        (ItemsPrivate directives.now (private_locals (kept lines.now) files) []
+        (items_of items.now)) }
+    ensures cause { IfSome result
+        (λ f. TellsOfItems f directives.now (private_locals (kept lines.now) files)
+        (items_of items.now)) }
 {
     for (i, item) in items.iter().enumerate() {
         if let Some(fault) = line_fault(alloc, directives, lines, files, item, &items[i + 1..]) {

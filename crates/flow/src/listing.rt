@@ -27,7 +27,8 @@ fn add_loop(
     rest: &[Item],
     loops: &mut Vec<ParallelLoop>,
 ) -> Result<(), AllocError>
-    ensures { OnOk result ((P : Privates) → LineHas directives.now (IsPrivate (P place.line)) [] place.line
+    ensures { OnOk result ((P : Privates)
+        → LineHas directives.now (IsPrivate (P place.line)) [] place.line
         (items_of rest.now)
         → Adds (IsOfLine directives.now place.line (items_of rest.now)) loops.old.items
         loops.new.items) }
@@ -55,7 +56,8 @@ fn add_line(
     rest: &[Item],
     loops: &mut Vec<ParallelLoop>,
 ) -> Result<(), AllocError>
-    ensures { OnOk result ((P : Privates) → FirstLineIsPrivate directives.now P (with_item item.now no_items)
+    ensures { OnOk result ((P : Privates)
+        → FirstLineIsPrivate directives.now P (with_item item.now no_items)
         (items_of rest.now) → Adds (FirstLineIs directives.now (with_item item.now no_items)
         (items_of rest.now)) loops.old.items loops.new.items) }
 {
@@ -119,7 +121,8 @@ fn add_item(
     item: &Item,
     loops: &mut Vec<ParallelLoop>,
 ) -> Result<(), AllocError>
-    ensures { OnOk result ((P : Privates) → FirstLoopsArePrivate directives.now P (with_item item.now no_items)
+    ensures { OnOk result ((P : Privates)
+        → FirstLoopsArePrivate directives.now P (with_item item.now no_items)
         → Adds (FirstLoopsAre directives.now (with_item item.now no_items)) loops.old.items
         loops.new.items) }
 {

@@ -40,7 +40,8 @@ pub(crate) fn compile_statement(
     target: Target<'_>,
 ) -> Result<Compiled, Refusal>
     ensures ok { IfOk result
-        (λ c. WithLocals target.entry.layout.now target.entry.registers (declared_in (stmt_of stmt.now))
+        (λ c. WithLocals target.entry.layout.now target.entry.registers
+        (declared_in (stmt_of stmt.now))
         (Performs target.entry.layout.now target.entry.registers (run (stmt_of stmt.now)) c)) }
     ensures refusal { IfErr result (λ refusal. refusal ≡ OutOfMemory) }
 {

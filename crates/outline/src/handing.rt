@@ -95,7 +95,8 @@ fn compile_body(
     stmt: &Stmt,
     target: Target<'_>,
 ) -> Result<Compiled, Refusal>
-    ensures ok { IfOk result (λ code. IsBodyCode target.entry.layout.now target.entry.registers depth (stmt_of stmt.now) code) }
+    ensures ok { IfOk result
+        (IsBodyCode target.entry.layout.now target.entry.registers depth (stmt_of stmt.now)) }
     ensures refusal { IfErr result (λ refusal. refusal ≡ OutOfMemory) }
 {
     match body_of(depth, stmt) {
@@ -115,7 +116,8 @@ fn lower(
     directive: Place,
 ) -> Result<LoweredLoop, Refusal>
     ensures lowered { IfOk result
-        (IsLowered target.entry.layout.now target.entry.registers bounds.now depth (stmt_of stmt.now)) }
+        (IsLowered target.entry.layout.now target.entry.registers bounds.now depth
+        (stmt_of stmt.now)) }
     ensures schedule { IfOk result (λ l. l.schedule ≡ schedule) }
     ensures refusal { IfErr result (λ refusal. refusal ≡ OutOfMemory) }
 {
@@ -149,7 +151,8 @@ pub(crate) fn loop_for_team<'k>(
     bounds: &VarBox,
 ) -> Result<TeamLoop<'k>, Refusal>
     ensures handed { IfOk result
-        (IsHanded target.entry.layout.now target.entry.registers bounds.now loops.now directive (stmt_of stmt.now)) }
+        (IsHanded target.entry.layout.now target.entry.registers bounds.now loops.now directive
+        (stmt_of stmt.now)) }
     ensures refusal { IfErr result (λ refusal. refusal ≡ OutOfMemory) }
 {
     let Some(parallel) = loop_at(loops, directive) else {

@@ -111,7 +111,8 @@ fn serial_loop<'k>(
 ) -> Result<Box<Outline<'k>>, Refusal>
     ensures made { (loops : List ParallelLoop) (box within : List Side) (a : tree.Stmt)
         → IsInside head.now box within
-        → IsMade target.entry.layout.now target.entry.registers loops within None a inner.entry.value
+        → IsMade target.entry.layout.now target.entry.registers loops within None a
+        inner.entry.value
         → IfOk result (λ o. IsMade target.entry.layout.now target.entry.registers loops box None
         (loop_with head.now a) o.value) }
     ensures refusal { IfErr result (λ refusal. refusal ≡ OutOfMemory) }
