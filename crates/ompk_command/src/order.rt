@@ -321,7 +321,7 @@ fn order_in<'a>(matches: &ArgMatches<'a>) -> Result<Order<'a>, Flaw>
 }
 
 // What is told of a flaw.
-fn told(command: &mut Command<'_>, flaw: Flaw) -> Usage
+fn tell(command: &mut Command<'_>, flaw: Flaw) -> Usage
     ensures { IsTold result }
 {
     match command.error(flaw.kind(), flaw.message()) {
@@ -346,6 +346,6 @@ pub fn order_of<'a>(alloc: Global, words: &'a [String]) -> Result<Order<'a>, Usa
     let matches = command.try_get_matches_from_mut(words)?;
     match order_in(&matches) {
         Ok(order) => Ok(order),
-        Err(flaw) => Err(told(&mut command, flaw)),
+        Err(flaw) => Err(tell(&mut command, flaw)),
     }
 }

@@ -50,7 +50,7 @@ fn hash_place(index: usize, line: &[u8]) -> Place {
 }
 
 /// What a line is read as that is no directive, by its refusal.
-fn unread(refusal: &Refusal) -> Result<Reading, Refusal>
+fn reading_of_refusal(refusal: &Refusal) -> Result<Reading, Refusal>
     ensures ok { (place : Places) (line : List ℕ) → IsTold place line refusal.now
         → IfOk result (IsReading line) }
     ensures err { IfErr result (λ refusal. refusal ≡ OutOfMemory) }
@@ -73,6 +73,6 @@ pub(crate) fn read_line(alloc: Global, index: usize, line: &[u8]) -> Result<Read
 {
     match read(alloc, line, hash_place(index, line)) {
         Ok(directive) => Ok(Reading::Read(directive)),
-        Err(refusal) => unread(&refusal),
+        Err(refusal) => reading_of_refusal(&refusal),
     }
 }

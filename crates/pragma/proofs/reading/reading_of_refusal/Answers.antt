@@ -1,5 +1,5 @@
 use Rattle.pragma.proofs.LoopLaw.{too_large, malformed}
-use Rattle.pragma.proofs.reading.unread.Goals as goal
+use Rattle.pragma.proofs.reading.reading_of_refusal.Goals as goal
 
 pub returns-in-Limit-clause-ok : goal.returns-in-Limit-clause-ok
 returns-in-Limit-clause-ok c = λ place line h. too_large line place c.in-Limit.field-0 c.args.refusal.now c.in-Limit.is h
