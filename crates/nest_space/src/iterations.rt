@@ -57,6 +57,31 @@ pub fn product_within(count: u64, rest: Option<u64>) -> Option<u64>
     }
 }
 
+/// How often a count is in a number, and what is left of it.
+#[derive(Clone, Copy)]
+struct Parted {
+    times: u64,
+    left: u64,
+}
+
+/// A number parted by a count. Of the outermost loop of a nest no number is above the count, and nothing is divided.
+fn parted_by(number: u64, count: u64) -> Parted
+    requires { 0 < count }
+    ensures times { result.times ≡ number / count }
+    ensures left { result.left ≡ number % count }
+{
+    if number < count {
+        return Parted {
+            times: 0,
+            left: number,
+        };
+    }
+    Parted {
+        times: number / count,
+        left: number % count,
+    }
+}
+
 /// The number of steps that all these loops make before the loop round them goes on, and the values of their variables.
 fn place(loops: &[LoopTurns], number: u64, values: &mut [u64]) -> u64
     requires turns { EachTurns loops.now }
@@ -72,9 +97,9 @@ fn place(loops: &[LoopTurns], number: u64, values: &mut [u64]) -> u64
         return 0;
     };
     let outer = place(rest, number, inner);
-    let count = first.count();
-    *value = first.value(outer % count);
-    outer / count
+    let Parted { times, left } = parted_by(outer, first.count());
+    *value = first.value(left);
+    times
 }
 
 /// The number of these values among the vectors of the loops.
