@@ -1,6 +1,6 @@
 use Rattle.ktree.specs.View.{kernel_of}
 use Rattle.law_independence.proofs.IndependentKernels.{shown_kernels_are_independent}
-use Rattle.law_independence.proofs.ReorderedKernels.{accepted_loops_commute}
+use Rattle.law_independence.proofs.PlainKernels.{accepted_loops_commute}
 use Rattle.deptest.proofs.Named.{refuses}
 use Rattle.deptest.proofs.Locals.{private_locals}
 use Rattle.deptest.proofs.independent.check.Goals as goal
