@@ -5,3 +5,7 @@ pub mod Keeping
 pub mod Applying
 pub mod Merging
 pub mod Logging
+pub mod Accounts
+pub mod Effects
+pub mod Combining
+pub mod Standing

@@ -1,11 +1,12 @@
 -- What the workers' ends are, and what comes of them together.
-use Rattle.std.specs.Prelude.{ℕ, ◌≡◌, ◌+◌, ◌<◌, ◌≤◌, ◌^◌, true, List, [], length, map, flat_map, slice_get, take, drop, All, Some}
+use Rattle.std.specs.Prelude.{ℕ, ◌≡◌, ◌+◌, ◌<◌, ◌≤◌, ◌^◌, true, List, [], length, map, flat_map, slice_get, All, Some}
 use Rattle.semantics.specs.Tree.{Variable, Stmt}
 use Rattle.semantics.specs.Meaning.State.{State, look, overwritten}
 use Rattle.semantics.specs.Meaning.Runs.{Effect}
 use Rattle.semantics.specs.Meaning.Places.{below}
 use Rattle.semantics.specs.Loops.Chunk.{Chunk, Kind, cut, chunk_iterations}
 use Rattle.semantics.specs.Loops.Arrangement.{times, EachOnceBelow}
+use Rattle.semantics.specs.Loops.Joined.{chunked}
 use Rattle.semantics.specs.Loops.Nest.{Loop, Vector}
 use Rattle.semantics.specs.Loops.Piece.{Roles}
 use Rattle.law_nests.specs.Walks.{walk}
@@ -48,17 +49,18 @@ pub record IsLeaving (l : LoweredLoop) (registers : List ℕ) (ks : List Kept) (
   pub partials_are : c.partials ≡ map partial_of piece.partials.items
   pub only : ChangeOnly ks c.changes
 
--- values of lastprivate variables are those behind this chunk, wherever it is run from
-abbrev pub AreLastsBehind : LoweredLoop → List ℕ → List Kept → Chunk → List ℕ → Type 0
-AreLastsBehind l registers ks chunk lasts =
-    (layout : List Laid) (mark : ℕ) (roles : Roles) (loops : List Loop) (body : Stmt) (outer : State) (us : List Vector) (e : Effect) (k : ℕ) (x : Variable) (v : ℕ)
-    → IsReached layout mark roles loops body outer us l registers ks → walk loops body (take chunk.count (drop chunk.first us)) (begun roles outer) ≡ Some e
-    → slice_get roles.lasts k ≡ Some x → look (overwritten (begun roles outer) e.writes) x [] ≡ Some v → slice_get lasts k ≡ Some v
+-- these are the values of lastprivate variables behind the last of these effects, if its chunk is among those of these numbers, and else there are none
+pub record AreLastValues (roles : Roles) (start : State) (effects : List Effect) (numbers lasts : List ℕ) : Type 0 where
+  pub told : (number : ℕ) (e : Effect) → number + 1 ≡ length effects → slice_get effects number ≡ Some e → 0 < times number numbers
+      → (k : ℕ) (x : Variable) (v : ℕ) → slice_get roles.lasts k ≡ Some x → look (overwritten start e.writes) x [] ≡ Some v → slice_get lasts k ≡ Some v
+  pub other : ((number : ℕ) → number + 1 ≡ length effects → times number numbers ≡ 0) → lasts ≡ []
 
--- they are told where the last chunk is among those of these numbers, and no values where it is not
-pub record TellLasts (l : LoweredLoop) (registers : List ℕ) (ks : List Kept) (chunks : List Chunk) (numbers lasts : List ℕ) : Type 0 where
-  pub told : (number : ℕ) (chunk : Chunk) → number + 1 ≡ length chunks → slice_get chunks number ≡ Some chunk → 0 < times number numbers → AreLastsBehind l registers ks chunk lasts
-  pub other : ((number : ℕ) → number + 1 ≡ length chunks → times number numbers ≡ 0) → lasts ≡ []
+-- so they are wherever the loop is reached, and its chunks have a run each
+abbrev pub TellLasts : LoweredLoop → List ℕ → List Kept → List Chunk → List ℕ → List ℕ → Type 0
+TellLasts l registers ks chunks numbers lasts =
+    (layout : List Laid) (mark : ℕ) (roles : Roles) (loops : List Loop) (body : Stmt) (outer : State) (us : List Vector) (effects : List Effect)
+    → IsReached layout mark roles loops body outer us l registers ks → map (λ vs. walk loops body vs (begun roles outer)) (chunked us chunks) ≡ map Some effects
+    → AreLastValues roles (begun roles outer) effects numbers lasts
 
 -- the account of the chunks of these numbers, in their order
 pub record IsAccount (l : LoweredLoop) (registers : List ℕ) (ks : List Kept) (chunks : List Chunk) (numbers : List ℕ) (a : Account) : Type 0 where

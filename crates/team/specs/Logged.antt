@@ -1,5 +1,5 @@
 -- What chunks leave, in one account.
-use Rattle.std.specs.Prelude.{ℕ, ◌≡◌, ◌+◌, List, [], ◌∷◌, ◌++◌, take, drop, map, Option}
+use Rattle.std.specs.Prelude.{ℕ, ◌+◌, List, [], ◌∷◌, ◌++◌, take, drop, map, Option}
 use Rattle.overlay_pages.specs.declared.changes.Change.{Change}
 use Rattle.reduce.specs.Partial.{partial_of}
 use Rattle.team.specs.declared.log.EndedChunk.{EndedChunk}

@@ -120,8 +120,7 @@ fn end_of<G: Gate>(
     };
     match &lent.way {
         Way::Dealt(size) => {
-            let Ok(log) = run_own(lent.alloc, job, lent.workers, number, *size, gate, bench)
-            else {
+            let Ok(log) = run_own(lent.alloc, job, lent.workers, number, *size, gate, bench) else {
                 return None;
             };
             Some(End::Share(log))

@@ -7,7 +7,7 @@ ghost use Rattle.semantics.specs.Loops.Operator.{combined, combined_all};
 ghost use Rattle.reduce.specs.Partial.{partial_of};
 ghost use Rattle.store.specs.Flat.{values_of};
 ghost use Rattle.team.specs.Applied.{AreApplied};
-ghost use Rattle.team.specs.Logged.{account_of, both, no_account};
+ghost use Rattle.team.specs.Logged.{account_of, both, later, no_account};
 ghost use Rattle.team.specs.Spots.{told_of};
 
 use crate::worker::ChunkPiece;
@@ -85,6 +85,16 @@ fn add(
     Ok(())
 }
 
+// Later values stand in place of others, where there are some.
+fn keep_later(lasts: &mut Vec<u64>, values: Vec<u64>)
+    ensures { lasts.new.items ≡ later lasts.old.items values.items }
+{
+    if values.is_empty() {
+        return;
+    }
+    *lasts = values;
+}
+
 // A value combined with the partial of an index, if there is one.
 fn combine_at(operator: ReductionOperator, index: u64, value: u64, partials: &[Partial]) -> u64
     ensures { result ≡ combined (operator_of operator) value
@@ -125,11 +135,14 @@ impl ChunkLog {
             partials: partials.len() as u64,
         };
         self.ended.reserve(1)?;
-        add(&mut self.changes, &mut self.partials, changes, partials.as_slice())?;
+        add(
+            &mut self.changes,
+            &mut self.partials,
+            changes,
+            partials.as_slice(),
+        )?;
         self.ended.push_reserved(ended);
-        if !lasts.is_empty() {
-            self.lasts = lasts;
-        }
+        keep_later(&mut self.lasts, lasts);
         Ok(())
     }
 

@@ -2,6 +2,7 @@
 
 ghost use Rattle.std.specs.Prelude.{◌≡◌, length, map, IfOk, IfErr, OnOk};
 ghost use Rattle.schedule.specs.Sched.{kind_said};
+ghost use Rattle.store.specs.Flat.{AreFilled};
 ghost use Rattle.team.specs.Ends.{AreOfLoop};
 ghost use Rattle.team.specs.Logged.{joined};
 ghost use Rattle.team.specs.Together.{LeavesTogether, IsLeft};
@@ -48,6 +49,13 @@ fn loop_logs<'l, R: Wait, G: Gate>(
     )
 }
 
+// Each variable has as many values as elements.
+fn confirm_filled(store: &Store)
+    ensures { AreFilled store.now }
+{
+    let _cells = store.cells();
+}
+
 /// Runs a loop on a crew that stands by, as [`run_loop`] does on a team of its own.
 ///
 /// # Errors
@@ -75,6 +83,7 @@ pub fn share_loop<'l, R: Wait, G: Gate>(
     let logs = loop_logs(
         rt, alloc, crew, lowered, registers, store, workers, runtime, gate,
     )?;
+    confirm_filled(store);
     put_together(&lowered.roles, logs.as_slice(), registers, store);
     Ok(())
 }
