@@ -12,9 +12,8 @@ use Rattle.overlay_pages.specs.declared.changes.Change.{Change}
 use Rattle.overlay_pages.specs.Over.{writes_of, written_over, last_of}
 use Rattle.overlay_pages.proofs.Overlays.{length_over}
 use Rattle.team.specs.declared.log.EndedChunk.{EndedChunk}
-use Rattle.team.specs.declared.worker.ChunkChanges.{ChunkChanges}
 use Rattle.team.specs.Applied.{NoneWrites, OneWrites, AreApplied}
-use Rattle.team.specs.Logged.{changes_in, logged}
+use Rattle.team.specs.Logged.{Leaving, changes_in, logged}
 use Rattle.team.proofs.Merging.{get_none, get_some}
 
 get-append_right : {X : Type 0} (xs ys : List X) (k n : ℕ) → n ≡ length xs + k → slice_get (xs ++ ys) n ≡ slice_get ys k
@@ -22,11 +21,11 @@ get-append_right [] ys k n is = ap (slice_get ys) (let e : n ≡ k = omega arith
 get-append_right (x ∷ xs) ys k zero is = absurd (omega arith)
 get-append_right (x ∷ xs) ys k (suc n) is = get-append_right xs ys k n (omega arith)
 
-abbrev Left : List ℕ → List ℕ → List ChunkChanges → ℕ → Type 0
+abbrev Left : List ℕ → List ℕ → List Leaving → ℕ → Type 0
 Left before after cs place = (NoneWrites cs place × (slice_get after place ≡ slice_get before place)) ⊎ OneWrites cs after place
 
 -- the changes of some chunks, and then those of others
-pub applied_both : (before now later : List ℕ) (cs ds : List ChunkChanges) → AreApplied before now cs → AreApplied now later ds → AreApplied before later (cs ++ ds)
+pub applied_both : (before now later : List ℕ) (cs ds : List Leaving) → AreApplied before now cs → AreApplied now later ds → AreApplied before later (cs ++ ds)
 applied_both before now later cs ds first second =
     let long = first.long in
     record { long = second.long ∙ first.long; each = λ place lt. go place (first.each place lt) (second.each place (omega arith)) }
@@ -34,7 +33,7 @@ applied_both before now later cs ds first second =
     go : (place : ℕ) → Left before now cs place → Left now later ds place → Left before later (cs ++ ds) place
     go place before_is (inr one) =
         inr (record { number = length cs + one.number; chunk = one.chunk; among = get-append_right cs ds one.number (length cs + one.number) refl ∙ one.among; value = one.value; writes = one.writes; holds = one.holds })
-    go place (inl (none, is)) (inl (no_more, same)) = inl (All-append (λ (c : ChunkChanges). writes_of c.changes place ≡ None) cs ds none no_more, same ∙ is)
+    go place (inl (none, is)) (inl (no_more, same)) = inl (All-append (λ (c : Leaving). writes_of c.changes place ≡ None) cs ds none no_more, same ∙ is)
     go place (inr one) (inl (no_more, same)) =
         inr
         (record {
@@ -62,9 +61,9 @@ writes_both (x ∷ xs) ys p =
     three (Some n) b c = refl
 
 -- a chunk among those that are logged
-record IsWritten (cs : List ChunkChanges) (p n : ℕ) : Type 0 where
+record IsWritten (cs : List Leaving) (p n : ℕ) : Type 0 where
   number : ℕ
-  chunk : ChunkChanges
+  chunk : Leaving
   among : slice_get cs number ≡ Some chunk
   writes : writes_of chunk.changes p ≡ Some n
 
@@ -72,40 +71,40 @@ module _ (p : ℕ) where
   split : (n : ℕ) (ws : List Change) → writes_of ws p ≡ last_of (writes_of (drop n ws) p) (writes_of (take n ws) p)
   split n ws = ap (λ (k : List Change). writes_of k p) (sym (take-append-drop n ws)) ∙ writes_both (take n ws) (drop n ws) p
 
-  none_logged : (es : List EndedChunk) (ws : List Change) → writes_of ws p ≡ None → NoneWrites (logged es ws) p
-  none_logged [] ws none = All-nil (λ (c : ChunkChanges). writes_of c.changes p ≡ None)
-  none_logged (e ∷ es) ws none = go (writes_of (drop e.count ws) p) (writes_of (take e.count ws) p) refl refl (sym (split e.count ws) ∙ none) (λ later. none_logged es (drop e.count ws) later)
+  none_logged : (es : List EndedChunk) (ws : List Change) (ps : List (Option ℕ)) → writes_of ws p ≡ None → NoneWrites (logged es ws ps) p
+  none_logged [] ws ps none = All-nil (λ (c : Leaving). writes_of c.changes p ≡ None)
+  none_logged (e ∷ es) ws ps none = go (writes_of (drop e.changes ws) p) (writes_of (take e.changes ws) p) refl refl (sym (split e.changes ws) ∙ none) (λ later. none_logged es (drop e.changes ws) (drop e.partials ps) later)
     where
-      go : (o q : Option ℕ) → writes_of (drop e.count ws) p ≡ o → writes_of (take e.count ws) p ≡ q → last_of (writes_of (drop e.count ws) p) (writes_of (take e.count ws) p) ≡ None
-          → (writes_of (drop e.count ws) p ≡ None → NoneWrites (logged es (drop e.count ws)) p) → NoneWrites (logged (e ∷ es) ws) p
-      go None q later own is rest = All-cons (λ (c : ChunkChanges). writes_of c.changes p ≡ None) _ _ (sym (ap (λ o. last_of o (writes_of (take e.count ws) p)) later) ∙ is) (rest later)
-      go (Some n) q later own is rest = absurd (none-some n (sym is ∙ ap (λ o. last_of o (writes_of (take e.count ws) p)) later))
+      go : (o q : Option ℕ) → writes_of (drop e.changes ws) p ≡ o → writes_of (take e.changes ws) p ≡ q → last_of (writes_of (drop e.changes ws) p) (writes_of (take e.changes ws) p) ≡ None
+          → (writes_of (drop e.changes ws) p ≡ None → NoneWrites (logged es (drop e.changes ws) (drop e.partials ps)) p) → NoneWrites (logged (e ∷ es) ws ps) p
+      go None q later own is rest = All-cons (λ (c : Leaving). writes_of c.changes p ≡ None) _ _ (sym (ap (λ o. last_of o (writes_of (take e.changes ws) p)) later) ∙ is) (rest later)
+      go (Some n) q later own is rest = absurd (none-some n (sym is ∙ ap (λ o. last_of o (writes_of (take e.changes ws) p)) later))
 
-  one_logged : (es : List EndedChunk) (ws : List Change) (n : ℕ) → changes_in es ≡ length ws → writes_of ws p ≡ Some n → IsWritten (logged es ws) p n
-  one_logged [] [] n told is = absurd (cc is)
-  one_logged [] (w ∷ ws) n told is = absurd (omega arith)
-  one_logged (e ∷ es) ws n told is = go (writes_of (drop e.count ws) p) refl (sym (split e.count ws) ∙ is) (λ long later. one_logged es (drop e.count ws) n long later)
+  one_logged : (es : List EndedChunk) (ws : List Change) (ps : List (Option ℕ)) (n : ℕ) → changes_in es ≡ length ws → writes_of ws p ≡ Some n → IsWritten (logged es ws ps) p n
+  one_logged [] [] ps n told is = absurd (cc is)
+  one_logged [] (w ∷ ws) ps n told is = absurd (omega arith)
+  one_logged (e ∷ es) ws ps n told is = go (writes_of (drop e.changes ws) p) refl (sym (split e.changes ws) ∙ is) (λ long later. one_logged es (drop e.changes ws) (drop e.partials ps) n long later)
     where
-      go : (o : Option ℕ) → writes_of (drop e.count ws) p ≡ o → last_of (writes_of (drop e.count ws) p) (writes_of (take e.count ws) p) ≡ Some n
-          → (changes_in es ≡ length (drop e.count ws) → writes_of (drop e.count ws) p ≡ Some n → IsWritten (logged es (drop e.count ws)) p n) → IsWritten (logged (e ∷ es) ws) p n
+      go : (o : Option ℕ) → writes_of (drop e.changes ws) p ≡ o → last_of (writes_of (drop e.changes ws) p) (writes_of (take e.changes ws) p) ≡ Some n
+          → (changes_in es ≡ length (drop e.changes ws) → writes_of (drop e.changes ws) p ≡ Some n → IsWritten (logged es (drop e.changes ws) (drop e.partials ps)) p n) → IsWritten (logged (e ∷ es) ws ps) p n
       go None later here rest =
-          record { number = 0; chunk = _; among = refl; writes = sym (ap (λ o. last_of o (writes_of (take e.count ws) p)) later) ∙ here }
+          record { number = 0; chunk = _; among = refl; writes = sym (ap (λ o. last_of o (writes_of (take e.changes ws) p)) later) ∙ here }
       go (Some m) later here rest =
-          let same : m ≡ n = same_Some m n (sym (ap (λ o. last_of o (writes_of (take e.count ws) p)) later) ∙ here) in
-          let left = length-drop e.count ws in
+          let same : m ≡ n = same_Some m n (sym (ap (λ o. last_of o (writes_of (take e.changes ws) p)) later) ∙ here) in
+          let left = length-drop e.changes ws in
           let r = rest (omega arith) (later ∙ ap Some same) in
           record { number = suc r.number; chunk = r.chunk; among = r.among; writes = r.writes }
 
 -- all changes at once leave what the chunks' changes leave one after another
-pub applied_log : (es : List EndedChunk) (ws : List Change) (before after : List ℕ) → changes_in es ≡ length ws → after ≡ written_over (writes_of ws) before
-    → AreApplied before after (logged es ws)
-applied_log es ws before after told is =
+pub applied_log : (es : List EndedChunk) (ws : List Change) (ps : List (Option ℕ)) (before after : List ℕ) → changes_in es ≡ length ws → after ≡ written_over (writes_of ws) before
+    → AreApplied before after (logged es ws ps)
+applied_log es ws ps before after told is =
     record { long = ap (λ (l : List ℕ). length l) is ∙ length_over (writes_of ws) before; each = λ place lt. go place lt (writes_of ws place) refl }
   where
-    go : (place : ℕ) → place < length before → (o : Option ℕ) → writes_of ws place ≡ o → Left before after (logged es ws) place
-    go place lt None none = inl (none_logged place es ws none, ap (λ l. slice_get l place) is ∙ get_none (writes_of ws) before place none)
+    go : (place : ℕ) → place < length before → (o : Option ℕ) → writes_of ws place ≡ o → Left before after (logged es ws ps) place
+    go place lt None none = inl (none_logged place es ws ps none, ap (λ l. slice_get l place) is ∙ get_none (writes_of ws) before place none)
     go place lt (Some n) some =
-        let r = one_logged place es ws n told some in
+        let r = one_logged place es ws ps n told some in
         inr (record { number = r.number; chunk = r.chunk; among = r.among; value = n; writes = r.writes; holds = ap (λ l. slice_get l place) is ∙ get_some (writes_of ws) before place n lt some })
 
 -- a store filled with cells has the same shape

@@ -1,13 +1,12 @@
 -- The pieces of the chunks that are dealt to workers are those of all chunks.
-use Rattle.std.specs.Prelude.{ℕ, zero, suc, Bool, false, ◌≡◌, ◌+◌, ◌<◌, ◌≤◌, List, [], ◌∷◌, ◌++◌, length, map, flat_map, take, slice_get, Option, Some, None}
+use Rattle.std.specs.Prelude.{ℕ, zero, suc, Bool, false, ◌≡◌, ◌+◌, ◌<◌, ◌≤◌, List, [], ◌∷◌, ◌++◌, length, flat_map, take, slice_get, Option, Some, None}
 use Rattle.std.proofs.Common.{refl, sym, ap, ◌∙◌, subst, append-nil, arith}
-use Rattle.std.proofs.lemmas.List.{map-append, take_more}
+use Rattle.std.proofs.lemmas.List.{take_more}
 use Rattle.std.proofs.lemmas.List.Sums.{length-filter, count_by-le-length}
-use Rattle.std.proofs.lemmas.List.Elements.{All-append, All-same}
 use Rattle.std.proofs.lemmas.Grind.{flat_map-append}
 use Rattle.std.proofs.lemmas.Option.{slice_get_within, get_or_from_slice_get}
 use Rattle.semantics.specs.Meaning.Places.{below}
-use Rattle.semantics.specs.Loops.Arrangement.{EachOnceBelow, times, once_below}
+use Rattle.semantics.specs.Loops.Arrangement.{EachOnceBelow, times}
 use Rattle.semantics.specs.Loops.Chunk.{Chunk, cut, owner}
 use Rattle.semantics.specs.Teams.Machine.{own_chunks, is_mine}
 use Rattle.semantics.specs.Teams.WholeRuns.{is_by_ticket}
@@ -16,10 +15,11 @@ use Rattle.schedule.specs.Part.{static_kind}
 use Rattle.schedule.proofs.Owned.{workers_share_chunks}
 use Rattle.store.specs.Kept.{Kept}
 use Rattle.lower.specs.declared.lowered.LoweredLoop.{LoweredLoop}
-use Rattle.team.specs.declared.worker.ChunkChanges.{ChunkChanges}
-use Rattle.team.specs.Ends.{IsChange, AreAll}
-use Rattle.team.specs.Dealt.{own_numbers, IsDealt}
-use Rattle.team.proofs.Cutting.{length_below, one_below}
+use Rattle.team.specs.Ends.{IsAccount, AreAll}
+use Rattle.team.specs.Logged.{Account, both}
+use Rattle.team.specs.Dealt.{own_numbers}
+use Rattle.team.proofs.Accounts.{account_both}
+use Rattle.team.proofs.Cutting.{length_below}
 
 -- a worker has no more chunks than there are
 pub own_few : (size : Option ℕ) (count workers worker : ℕ) → length (own_numbers size count workers worker) ≤ count
@@ -44,34 +44,28 @@ past_end (x ∷ xs) (suc i) e = let r = past_end xs i e in omega arith
 
 module _ (l : LoweredLoop) (registers : List ℕ) (ks : List Kept) (chunks : List Chunk) where
   -- one worker more
-  pub dealt_more : (own : ℕ → List ℕ) (n m : ℕ) (was more after : List ChunkChanges) → m ≡ suc n → after ≡ was ++ more
-      → IsDealt l registers ks chunks (flat_map own (below n)) was → IsDealt l registers ks chunks (own n) more → IsDealt l registers ks chunks (flat_map own (below m)) after
+  pub dealt_more : (own : ℕ → List ℕ) (n m : ℕ) (was more after : Account) → m ≡ suc n → after ≡ both was more
+      → IsAccount l registers ks chunks (flat_map own (below n)) was → IsAccount l registers ks chunks (own n) more → IsAccount l registers ks chunks (flat_map own (below m)) after
   dealt_more own n m was more after next joined first last =
-      let number : ChunkChanges → ℕ = λ c. c.work.chunk.0 in
       let all : flat_map own (below m) ≡ flat_map own (below n) ++ own n =
       ap (λ k. flat_map own (below k)) next ∙ flat_map-append own (below n) (n ∷ []) ∙ ap (λ (k : List ℕ). flat_map own (below n) ++ k) (append-nil (own n)) in
-      record {
-        numbers_are = ap (λ (cs : List ChunkChanges). map number cs) joined ∙ map-append number was more ∙ (λ i. first.numbers_are i ++ last.numbers_are i) ∙ sym all;
-        each = All-same (IsChange l registers ks chunks) after (was ++ more) joined (All-append (IsChange l registers ks chunks) was more first.each last.each);
-      }
+      subst (λ ns. IsAccount l registers ks chunks ns after) (sym all)
+      (subst (λ a. IsAccount l registers ks chunks (flat_map own (below n) ++ own n) a) (sym joined) (account_both l registers ks chunks (flat_map own (below n)) (own n) was more first last))
 
   not_drawn : (size : Option ℕ) → is_by_ticket (static_kind size) ≡ false
   not_drawn None = refl
   not_drawn (Some k) = refl
 
   -- all workers' together
-  pub dealt_all : (size : Option ℕ) (workers n iterations : ℕ) (cs : List ChunkChanges) → chunks ≡ cut (static_kind size) iterations workers → 0 < workers → n ≡ workers
-      → IsDealt l registers ks chunks (flat_map (own_numbers size (length chunks) workers) (below n)) cs → AreAll l registers ks chunks cs
-  dealt_all size workers n iterations cs is some number dealt =
+  pub dealt_all : (size : Option ℕ) (workers n iterations : ℕ) (a : Account) → chunks ≡ cut (static_kind size) iterations workers → 0 < workers → n ≡ workers
+      → IsAccount l registers ks chunks (flat_map (own_numbers size (length chunks) workers) (below n)) a → AreAll l registers ks chunks a
+  dealt_all size workers n iterations a is some number dealt =
       let kind = static_kind size in
       let count = length chunks in
       let law : EachOnceBelow count (flat_map (own_chunks kind count workers) (below workers)) =
       subst (λ (k : List Chunk). EachOnceBelow (length k) (flat_map (own_chunks kind (length k) workers) (below workers))) (sym is) (workers_share_chunks kind iterations workers (not_drawn size) some) in
       record {
-        each = dealt.each;
-        every = λ x less.
-            let once : times x (map (λ (c : ChunkChanges). c.work.chunk.0) cs) ≡ once_below x count =
-            ap (times x) (dealt.numbers_are ∙ ap (λ k. flat_map (own_numbers size count workers) (below k)) number) ∙ law x in
-            let one : once_below x count ≡ 1 = one_below x count less in
-            omega arith;
+        numbers = flat_map (own_numbers size count workers) (below n);
+        account = dealt;
+        once = λ x. ap (λ k. times x (flat_map (own_numbers size count workers) (below k))) number ∙ law x;
       }

@@ -1,51 +1,50 @@
 -- What the workers' ends are together.
-use Rattle.std.specs.Prelude.{ℕ, Bool, true, false, ◌≡◌, ◌+◌, ◌<◌, ◌≤◌, nat_lt, List, [], ◌∷◌, ◌++◌, map, length, slice_get, All, Some}
-use Rattle.std.proofs.Common.{refl, sym, ap, ◌∙◌, length-append, arith}
+use Rattle.std.specs.Prelude.{ℕ, Bool, true, false, ◌≡◌, ◌+◌, ◌<◌, ◌≤◌, nat_lt, List, [], ◌∷◌, ◌++◌, length, slice_get, All, Some}
+use Rattle.std.proofs.Common.{refl, sym, ap, ◌∙◌, subst, length-append, arith}
 use Rattle.std.proofs.lemmas.Bool.Decides.{nat_tests}
 use Rattle.std.proofs.lemmas.Option.{same_Some, slice_get_within}
-use Rattle.std.proofs.lemmas.List.{map-append}
-use Rattle.std.proofs.lemmas.List.Elements.{All-nil, All-head, All-tail, All-append, All-same, All-push}
+use Rattle.std.proofs.lemmas.List.Elements.{All-nil, All-head, All-tail, All-same, All-push}
 use Rattle.schedule.proofs.Sized.{get-append_left, get-append_seam}
+use Rattle.semantics.specs.Loops.Arrangement.{once_below}
 use Rattle.semantics.specs.Loops.Chunk.{Chunk}
 use Rattle.store.specs.Kept.{Kept}
 use Rattle.lower.specs.declared.lowered.LoweredLoop.{LoweredLoop}
 use Rattle.draw.specs.Tickets.{DrawingName, SeatState, all_tickets}
 use Rattle.draw.proofs.Seats.{all_tickets-snoc}
 use Rattle.team.specs.declared.worker.Finished.{Finished}
-use Rattle.team.specs.declared.worker.ChunkChanges.{ChunkChanges}
-use Rattle.team.specs.Ends.{IsChange, IsFinished, AreTaken, AreAll}
+use Rattle.team.specs.Ends.{IsAccount, IsFinished, AreTaken, AreAll}
+use Rattle.team.specs.Logged.{Account, no_account, both}
 use Rattle.team.specs.Places.{Aim, AreFor}
+use Rattle.team.proofs.Accounts.{account_none, account_both}
 
 module _ (l : LoweredLoop) (registers : List ℕ) (ks : List Kept) (chunks : List Chunk) (of : DrawingName) where
-  pub taken_none : AreTaken l registers ks chunks of [] []
+  pub taken_none : AreTaken l registers ks chunks of [] no_account
   taken_none =
       record {
         named = All-nil (λ (s : SeatState). s.of ≡ of);
         ended = All-nil (λ (s : SeatState). s.ended ≡ true);
-        numbers = refl;
-        each = All-nil (IsChange l registers ks chunks);
+        account = account_none l registers ks chunks;
       }
 
   -- one more end
-  pub taken_more : (seats seats' : List SeatState) (cs cs' : List ChunkChanges) (f : Finished) → seats' ≡ seats ++ f.seat ∷ [] → cs' ≡ cs ++ f.changes
-      → AreTaken l registers ks chunks of seats cs → IsFinished l registers ks chunks of f → AreTaken l registers ks chunks of seats' cs'
-  taken_more seats seats' cs cs' f more joined was one =
-      let number : ChunkChanges → ℕ = λ c. c.work.chunk.0 in
+  pub taken_more : (seats seats' : List SeatState) (a a' : Account) (f : Finished) → seats' ≡ seats ++ f.seat ∷ [] → a' ≡ both a f.log
+      → AreTaken l registers ks chunks of seats a → IsFinished l registers ks chunks of f → AreTaken l registers ks chunks of seats' a'
+  taken_more seats seats' a a' f more joined was one =
+      let tickets : all_tickets seats' ≡ all_tickets seats ++ f.seat.tickets = ap all_tickets more ∙ all_tickets-snoc seats f.seat in
+      let all = account_both l registers ks chunks (all_tickets seats) f.seat.tickets a f.log was.account one.account in
       record {
         named = All-same (λ (s : SeatState). s.of ≡ of) seats' (seats ++ f.seat ∷ []) more (All-push (λ (s : SeatState). s.of ≡ of) seats f.seat was.named one.seat);
         ended = All-same (λ (s : SeatState). s.ended ≡ true) seats' (seats ++ f.seat ∷ []) more (All-push (λ (s : SeatState). s.ended ≡ true) seats f.seat was.ended one.ended);
-        numbers =
-            ap (λ (k : List ChunkChanges). map number k) joined ∙ map-append number cs f.changes ∙ (λ i. was.numbers i ++ one.numbers i)
-            ∙ sym (ap all_tickets more ∙ all_tickets-snoc seats f.seat);
-        each = All-same (IsChange l registers ks chunks) cs' (cs ++ f.changes) joined (All-append (IsChange l registers ks chunks) cs f.changes was.each one.each);
+        account = subst (λ ns. IsAccount l registers ks chunks ns a') (sym tickets) (subst (λ b. IsAccount l registers ks chunks (all_tickets seats ++ f.seat.tickets) b) (sym joined) all);
       }
 
--- where there is no chunk, no changes are those of all
-pub all_of_none : (l : LoweredLoop) (registers : List ℕ) (ks : List Kept) (chunks : List Chunk) (cs : List ChunkChanges) → chunks ≡ [] → cs ≡ [] → AreAll l registers ks chunks cs
-all_of_none l registers ks chunks cs none is =
+-- where there is no chunk, that of none is the account of all
+pub all_of_none : (l : LoweredLoop) (registers : List ℕ) (ks : List Kept) (chunks : List Chunk) (a : Account) → chunks ≡ [] → a ≡ no_account → AreAll l registers ks chunks a
+all_of_none l registers ks chunks a none is =
     record {
-      each = All-same (IsChange l registers ks chunks) cs [] is (All-nil (IsChange l registers ks chunks));
-      every = λ number less. let long : length chunks ≡ 0 = ap (λ (k : List Chunk). length k) none in absurd (omega arith);
+      numbers = [];
+      account = subst (λ b. IsAccount l registers ks chunks [] b) (sym is) (account_none l registers ks chunks);
+      once = λ number. let zero_is : 0 ≡ once_below number 0 = grind (arith, nat_tests) in subst (λ (k : List Chunk). 0 ≡ once_below number (length k)) (sym none) zero_is;
     }
 
 -- what holds of each element holds of the one between two parts

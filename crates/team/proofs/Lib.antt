@@ -4,3 +4,7 @@ pub mod Dealing
 pub mod Applying
 pub mod Merging
 pub mod Logging
+pub mod Accounts
+pub mod Effects
+pub mod Combining
+pub mod Standing

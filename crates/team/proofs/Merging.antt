@@ -1,52 +1,57 @@
--- Changes of all chunks, applied one after another, leave what the chunks' runs leave together.
-use Rattle.std.specs.Prelude.{ℕ, zero, suc, Bool, true, false, ◌≡◌, ◌<◌, ◌≤◌, ◌==◌, ◌⊎◌, nat_lt, List, [], ◌∷◌, length, map, take, drop, slice_get, All, Option, Some, None, option_map, option_and_then}
-use Rattle.std.proofs.Common.{refl, sym, ap, ◌∙◌, subst, inl, inr, arith}
+-- What all chunks leave, put together.
+use Rattle.std.specs.Prelude.{ℕ, zero, suc, Bool, true, false, ◌≡◌, ◌+◌, ◌*◌, ◌<◌, ◌≤◌, ◌==◌, ◌||◌, ◌&&◌, ◌⊎◌, nat_lt, is_none, List, [], ◌∷◌, length, map, flat_map, take, drop, slice_get, slice_index, All, Option, Some, None, option_map, option_and_then}
+use Rattle.std.specs.List.{list_all}
+use Rattle.std.proofs.Common.{refl, sym, ap, ◌∙◌, cond, subst, inl, inr, arith}
 use Rattle.std.proofs.lemmas.Bool.Decides.{nat_tests}
-use Rattle.std.proofs.lemmas.Bool.{eqb-true}
-use Rattle.std.proofs.lemmas.List.{length-map}
-use Rattle.std.proofs.lemmas.Option.{same_Some, slice_get-map, slice_get_within, slice_get_past, get_or_from_slice_get}
+use Rattle.std.proofs.lemmas.Bool.{true≢false, eqb-true, or_parts}
+use Rattle.std.proofs.lemmas.List.{length-map, length-append, length-take, length-drop}
+use Rattle.std.proofs.lemmas.List.Folds.{list_any-append}
+use Rattle.std.proofs.lemmas.List.Elements.{All-head, All-tail}
+use Rattle.std.proofs.lemmas.Option.{none-some, same_Some, slice_get-map, slice_get_within, slice_get_past, get_or_from_slice_get}
+use Rattle.std.proofs.lemmas.List.Concat.{flat_map-cons}
 use Rattle.semantics.specs.Tree.{Variable, Stmt}
-use Rattle.semantics.specs.Meaning.State.{State}
+use Rattle.semantics.specs.Meaning.Agrees.{is_among}
+use Rattle.semantics.specs.Meaning.Places.{size, place}
+use Rattle.semantics.specs.Meaning.State.{State, Slot, Outside, Empty, Holds, look, look_in, overwritten}
 use Rattle.semantics.specs.Meaning.Runs.{Effect}
-use Rattle.semantics.specs.Loops.Arrangement.{times, once}
+use Rattle.semantics.specs.Loops.Arrangement.{EachOnceBelow, times, once, once_below, picked, with_found}
 use Rattle.semantics.specs.Loops.Chunk.{Chunk, Kind, cut}
-use Rattle.semantics.specs.Loops.Joined.{chunked}
+use Rattle.semantics.specs.Loops.Joined.{chunked, value_at}
 use Rattle.semantics.specs.Loops.Nest.{Loop, Vector}
+use Rattle.semantics.specs.Loops.Operator.{ReduceOp, combined_all}
+use Rattle.semantics.specs.Loops.Piece.{Roles}
 use Rattle.nest_space.specs.Space.{vectors}
 use Rattle.law_nests.specs.Walks.{walk}
-use Rattle.law_nests.specs.Merging.{Merges, NoneChanges, OneChanges, left_by}
+use Rattle.law_nests.specs.Merging.{NoneChanges, left_by}
+use Rattle.law_roles.specs.Updates.{operator_of, is_plain}
+use Rattle.law_roles.specs.Reducing.{AreHeld}
+use Rattle.law_roles.specs.Sharing.{MergesAt, last_filled, or_filled, changed_from}
+use Rattle.law_starts.specs.Begun.{begun}
+use Rattle.law_starts.proofs.Beginning.{begun_cells}
+use Rattle.reduce.specs.Partial.{partial_of}
 use Rattle.store.specs.Kept.{Kept}
-use Rattle.store.specs.Flat.{values_of}
+use Rattle.store.specs.Flat.{AreFilled, values_of}
 use Rattle.lower_code.specs.declared.term.Laid.{Laid}
-use Rattle.lower_code.specs.Layout.{shapes_of, spot, cell_at}
+use Rattle.lower_code.specs.Layout.{first_of, shapes_of, spot, cell_at}
+use Rattle.lower_code.specs.Machine.{Machine, machine}
+use Rattle.lower_code.proofs.Spots.{lies, place_below}
+use Rattle.lower_code.proofs.Values.{no_object}
 use Rattle.overlay_pages.specs.Over.{Writes, or_else, writes_of, written_over}
 use Rattle.overlay_pages.proofs.Overlays.{length_over}
+use Rattle.overlay.specs.declared.worker.Piece.{Piece}
+use Rattle.overlay.specs.Chunks.{LeavesPiece, told_apart}
 use Rattle.lower.specs.declared.lowered.LoweredLoop.{LoweredLoop}
 use Rattle.semantics.specs.Loops.Piece.{no_roles}
 use Rattle.lower.specs.Lowered.{IsReached}
-use Rattle.team.specs.declared.worker.ChunkChanges.{ChunkChanges}
 use Rattle.team.specs.Applied.{NoneWrites, OneWrites, AreApplied}
-use Rattle.team.specs.Ends.{LeaveAs, IsChange, AreAll, AreOfLoop}
-use Rattle.team.specs.Together.{LeavesTogether}
-
--- what holds of each element holds of the one at a place
-pub all_at : {X : Type 0} (P : X → Type 0) (xs : List X) (k : ℕ) (x : X) → All P xs → slice_get xs k ≡ Some x → P x
-all_at P xs k x all e = subst P (get_or_from_slice_get xs k x x e) (all k x (slice_get_within xs k x e))
-
--- steps that all have a value: the value of the one at a place, and the one that a value is of
-module _ {A B : Type 0} (f : A → Option B) (xs : List A) (ys : List B) (all : map f xs ≡ map Some ys) where
-  both : (k : ℕ) → option_map f (slice_get xs k) ≡ option_map Some (slice_get ys k)
-  both k = sym (slice_get-map f xs k) ∙ ap (λ l. slice_get l k) all ∙ slice_get-map Some ys k
-
-  pub value_at : (k : ℕ) (x : A) → slice_get xs k ≡ Some x → (y : B) × (slice_get ys k ≡ Some y) × (f x ≡ Some y)
-  value_at k x there = go (slice_get ys k) refl
-    where
-      go : (o : Option B) → slice_get ys k ≡ o → (y : B) × (slice_get ys k ≡ Some y) × (f x ≡ Some y)
-      go None e = let z : Some (f x) ≡ None = sym (ap (option_map f) there) ∙ both k ∙ ap (option_map Some) e in absurd cc
-      go (Some y) e = (y, e, same_Some (f x) (Some y) (sym (ap (option_map f) there) ∙ both k ∙ ap (option_map Some) e))
-
-  pub same_length : length ys ≡ length xs
-  same_length = sym (length-map ys Some) ∙ sym (ap (λ l. length l) all) ∙ length-map xs f
+use Rattle.team.specs.Ends.{IsCut, IsLeaving, AreAll, AreOfLoop}
+use Rattle.team.specs.Logged.{Leaving, Account}
+use Rattle.team.specs.Spots.{told_of, reduced, put_values, IsPut}
+use Rattle.team.specs.Together.{HoldsAt, PutTogether, LeavesTogether}
+use Rattle.team.proofs.Cutting.{chunk_within, each_filled, one_below}
+use Rattle.team.proofs.Effects.{all_at, same_length}
+use Rattle.team.proofs.Effects as steps
+use Rattle.team.proofs.Standing.{HoldsIn, SameIn, HasRoomFor, reduced_long, put_long, put_none, same_then, holds_still, room_still, put_others, put_own, reduced_others, reduced_own}
 
 -- a cell under writes that leave it out, and under one that names it
 pub get_none : (w : Writes) (ns : List ℕ) (p : ℕ) → w p ≡ None → slice_get (written_over w ns) p ≡ slice_get ns p
@@ -60,26 +65,175 @@ get_some w (m ∷ ns) zero n lt e = ap (λ o. Some (or_else o m)) e
 get_some w (m ∷ ns) (suc p) n lt e = get_some (λ q. w (suc q)) ns p n (omega arith) e
 
 -- changes of a number that stands in the list
-pub record Found (cs : List ChunkChanges) (n : ℕ) : Type 0 where
+pub record Found (cs : List Leaving) (n : ℕ) : Type 0 where
   pub index : ℕ
-  pub chunk : ChunkChanges
+  pub chunk : Leaving
   pub there : slice_get cs index ≡ Some chunk
-  pub number : chunk.work.chunk.0 ≡ n
+  pub number : chunk.number ≡ n
 
-further : (c : ChunkChanges) (cs : List ChunkChanges) (n : ℕ) → Found cs n → Found (c ∷ cs) n
+further : (c : Leaving) (cs : List Leaving) (n : ℕ) → Found cs n → Found (c ∷ cs) n
 further c cs n f = record { index = suc f.index; chunk = f.chunk; there = f.there; number = f.number }
 
-pub find : (cs : List ChunkChanges) (n : ℕ) → 0 < times n (map (λ (c : ChunkChanges). c.work.chunk.0) cs) → Found cs n
+pub find : (cs : List Leaving) (n : ℕ) → 0 < times n (map (λ (c : Leaving). c.number) cs) → Found cs n
 find [] n some = absurd (omega arith)
-find (c ∷ cs) n some = go (c.work.chunk.0 == n) refl (λ more. find cs n more)
+find (c ∷ cs) n some = go (c.number == n) refl (λ more. find cs n more)
   where
-    go : (b : Bool) → (c.work.chunk.0 == n) ≡ b → (0 < times n (map (λ (k : ChunkChanges). k.work.chunk.0) cs) → Found cs n) → Found (c ∷ cs) n
-    go true e rest = record { index = 0; chunk = c; there = refl; number = eqb-true c.work.chunk.0 n e }
-    go false e rest = let none : once n c.work.chunk.0 ≡ 0 = grind (arith, nat_tests) in further c cs n (rest (omega arith))
+    go : (b : Bool) → (c.number == n) ≡ b → (0 < times n (map (λ (k : Leaving). k.number) cs) → Found cs n) → Found (c ∷ cs) n
+    go true e rest = record { index = 0; chunk = c; there = refl; number = eqb-true c.number n e }
+    go false e rest = let none : once n c.number ≡ 0 = grind (arith, nat_tests) in further c cs n (rest (omega arith))
 
-module _ (layout : List Laid) (mark : ℕ) (loops : List Loop) (body : Stmt) (outer : State) (us : List Vector) (effects : List Effect) where
-  module _ (l : LoweredLoop) (registers : List ℕ) (ks ks' : List Kept) (chunks : List Chunk) (cs : List ChunkChanges) where
-    module _ (reached : IsReached layout mark no_roles loops body outer us l registers ks) (ran : map (λ vs. walk loops body vs outer) (chunked us chunks) ≡ map Some effects) (all : AreAll l registers ks chunks cs) (applied : AreApplied (values_of ks) (values_of ks') cs) where
+-- ---- the last chunk
+
+-- each chunk has an iteration
+abbrev Full : List (List Vector) → Type 0
+Full chunks = (k : ℕ) (us : List Vector) → slice_get chunks k ≡ Some us → us ≡ [] → ⊥
+
+full_rest : (us : List Vector) (chunks : List (List Vector)) → Full (us ∷ chunks) → Full chunks
+full_rest us chunks full k vs there none = full (suc k) vs there none
+
+record HasLast (chunks : List (List Vector)) (es : List Effect) : Type 0 where
+  number : ℕ
+  effect : Effect
+  last : number + 1 ≡ length es
+  there : slice_get es number ≡ Some effect
+  is : last_filled chunks es ≡ Some effect
+
+filled_first : (us : List Vector) (e : Effect) → (us ≡ [] → ⊥) → or_filled us e None ≡ Some e
+filled_first [] e full = absurd (full refl)
+filled_first (u ∷ us) e full = refl
+
+filled_later : (us : List Vector) (e f : Effect) → or_filled us e (Some f) ≡ Some f
+filled_later [] e f = refl
+filled_later (u ∷ us) e f = refl
+
+has_last : (us : List Vector) (chunks : List (List Vector)) (es : List Effect) → Full (us ∷ chunks) → length es ≡ length (us ∷ chunks) → HasLast (us ∷ chunks) es
+has_last us chunks [] full long = absurd (omega arith)
+has_last us [] (e ∷ []) full long = record { number = 0; effect = e; last = refl; there = refl; is = filled_first us e (full 0 us refl) }
+has_last us [] (e ∷ f ∷ es) full long = absurd (omega arith)
+has_last us (vs ∷ chunks) (e ∷ es) full long =
+    let r = has_last vs chunks es (full_rest us (vs ∷ chunks) full) (omega arith) in
+    let last = r.last in
+    record { number = suc r.number; effect = r.effect; last = omega arith; there = r.there; is = ap (or_filled us e) r.is ∙ filled_later us e r.effect }
+
+-- the effect of the last chunk with an iteration is the last one
+last_is : (chunks : List (List Vector)) (es : List Effect) (f : Effect) → Full chunks → length es ≡ length chunks → last_filled chunks es ≡ Some f
+    → (number : ℕ) × (number + 1 ≡ length es) × (slice_get es number ≡ Some f)
+last_is [] es f full long is = absurd (none-some f is)
+last_is (us ∷ chunks) es f full long is =
+    let r = has_last us chunks es full long in
+    (r.number, r.last, r.there ∙ sym r.is ∙ is)
+
+no_chunks : (chunks : List (List Vector)) → Full chunks → flat_map (λ us. us) chunks ≡ [] → length chunks ≡ 0
+no_chunks [] full none = refl
+no_chunks ([] ∷ chunks) full none = absurd (full 0 [] refl refl)
+no_chunks ((u ∷ us) ∷ chunks) full none = absurd cc
+
+filled_chunk : (n f : ℕ) (us : List Vector) → 0 < n → f + n ≤ length us → take n (drop f us) ≡ [] → ⊥
+filled_chunk n f us some within none =
+    let long : length (take n (drop f us)) ≡ 0 = ap (λ (l : List Vector). length l) none in
+    omega (arith, length-take n (drop f us), length-drop f us)
+
+all_full : (us : List Vector) (chunks : List Chunk) → IsCut (length us) chunks → Full (chunked us chunks)
+all_full us chunks cut_is k vs there none = go (slice_get chunks k) refl
+  where
+    iterations_of : Chunk → List Vector
+    iterations_of c = take c.count (drop c.first us)
+
+    go : (o : Option Chunk) → slice_get chunks k ≡ o → ⊥
+    go None e = none-some vs (sym (slice_get-map iterations_of chunks k ∙ ap (option_map iterations_of) e) ∙ there)
+    go (Some c) e =
+        let same : iterations_of c ≡ vs = same_Some (iterations_of c) vs (sym (slice_get-map iterations_of chunks k ∙ ap (option_map iterations_of) e) ∙ there) in
+        filled_chunk c.count c.first us (each_filled k chunks c cut_is.filled e) (chunk_within (length us) k chunks c cut_is e) (same ∙ none)
+
+-- ---- variables with a role
+
+-- one that is reduced is among none that are plain
+plain_apart : (rs : List (Variable × ReduceOp)) (xs : List Variable) (x : Variable) (op : ReduceOp) → list_all (is_plain rs) xs ≡ true → operator_of rs x ≡ Some op → is_among xs x ≡ false
+plain_apart rs [] x op plain known = refl
+plain_apart rs (y ∷ ys) x op plain known = go (is_plain rs y) refl plain (y == x) refl (λ k. plain_apart rs ys x op k known)
+  where
+    go : (p : Bool) → is_plain rs y ≡ p → (p && list_all (is_plain rs) ys) ≡ true → (b : Bool) → (y == x) ≡ b → (list_all (is_plain rs) ys ≡ true → is_among ys x ≡ false) → (b || is_among ys x) ≡ false
+    go false f k b e rest = absurd (true≢false (sym k))
+    go true f k true e rest = absurd (true≢false (sym f ∙ ap (is_plain rs) (eqb-true y x e) ∙ ap (λ o. is_none o) known))
+    go true f k false e rest = rest k
+
+among_plain : (rs : List (Variable × ReduceOp)) (xs : List Variable) (x : Variable) → list_all (is_plain rs) xs ≡ true → is_among xs x ≡ true → is_plain rs x ≡ true
+among_plain rs [] x plain h = absurd (true≢false (sym h))
+among_plain rs (y ∷ ys) x plain h = go (is_plain rs y) refl plain (y == x) refl h (λ k f. among_plain rs ys x k f)
+  where
+    go : (p : Bool) → is_plain rs y ≡ p → (p && list_all (is_plain rs) ys) ≡ true → (b : Bool) → (y == x) ≡ b → (b || is_among ys x) ≡ true → (list_all (is_plain rs) ys ≡ true → is_among ys x ≡ true → is_plain rs x ≡ true) → is_plain rs x ≡ true
+    go false f k b e h rest = absurd (true≢false (sym k))
+    go true f k true e h rest = ap (is_plain rs) (sym (eqb-true y x e)) ∙ f
+    go true f k false e h rest = rest k h
+
+plain_other : (rs : List (Variable × ReduceOp)) (x : Variable) → is_plain rs x ≡ true → is_among (map (λ r. r.0) rs) x ≡ false
+plain_other [] x h = refl
+plain_other (r ∷ rs) x h = go (r.0 == x) refl h (λ k. plain_other rs x k)
+  where
+    go : (b : Bool) → (r.0 == x) ≡ b → is_none (cond b (Some r.1) (operator_of rs x)) ≡ true → (is_plain rs x ≡ true → is_among (map (λ q. q.0) rs) x ≡ false) → (b || is_among (map (λ q. q.0) rs) x) ≡ false
+    go true e k rest = absurd (true≢false (sym k))
+    go false e k rest = rest k
+
+known_among : (rs : List (Variable × ReduceOp)) (x : Variable) (op : ReduceOp) → operator_of rs x ≡ Some op → is_among (map (λ r. r.0) rs) x ≡ true
+known_among [] x op known = absurd (none-some op known)
+known_among (r ∷ rs) x op known = go (r.0 == x) refl known (λ k. known_among rs x op k)
+  where
+    go : (b : Bool) → (r.0 == x) ≡ b → cond b (Some r.1) (operator_of rs x) ≡ Some op → (operator_of rs x ≡ Some op → is_among (map (λ q. q.0) rs) x ≡ true) → (b || is_among (map (λ q. q.0) rs) x) ≡ true
+    go true e k rest = refl
+    go false e k rest = rest k
+
+or_right : (a b : Bool) → b ≡ true → (a || b) ≡ true
+or_right true b e = refl
+or_right false b e = e
+
+or_left : (a b : Bool) → a ≡ true → (a || b) ≡ true
+or_left true b e = refl
+or_left false b e = absurd (true≢false (sym e))
+
+-- ---- room
+
+-- a variable's cells are among those of all
+cells_within : (ks : List Kept) → AreFilled ks → (x : ℕ) (ns : List ℕ) → slice_get (map (λ (k : Kept). k.lengths) ks) x ≡ Some ns → first_of (map (λ (k : Kept). k.lengths) ks) x + size ns ≤ length (values_of ks)
+cells_within [] all x ns e = absurd (none-some ns e)
+cells_within (k ∷ ks) (here, all) zero ns e =
+    let same : k.lengths ≡ ns = same_Some k.lengths ns e in
+    let sizes = ap size same in
+    let long : length (values_of (k ∷ ks)) ≡ length k.values + length (values_of ks) = ap (λ (l : List ℕ). length l) (flat_map-cons (λ (j : Kept). j.values) k ks) ∙ length-append k.values (values_of ks) in
+    omega arith
+cells_within (k ∷ ks) (here, all) (suc x) ns e =
+    let rest = cells_within ks all x ns e in
+    let long : length (values_of (k ∷ ks)) ≡ length k.values + length (values_of ks) = ap (λ (l : List ℕ). length l) (flat_map-cons (λ (j : Kept). j.values) k ks) ∙ length-append k.values (values_of ks) in
+    omega arith
+
+spot_within : (ks : List Kept) (shapes : List (List ℕ)) (x p : ℕ) → AreFilled ks → map (λ (k : Kept). k.lengths) ks ≡ shapes → spot shapes x [] ≡ Some p → p < length (values_of ks)
+spot_within ks shapes x p all shape here =
+    let l = lies shapes x [] p here in
+    let all_within = subst (λ (ss : List (List ℕ)). slice_get ss x ≡ Some l.lengths → first_of ss x + size l.lengths ≤ length (values_of ks)) shape (cells_within ks all x l.lengths) l.there in
+    let inside : place l.lengths [] < 1 * size l.lengths = place_below 0 l.lengths [] l.inside in
+    let at : p ≡ first_of shapes x + place l.lengths [] = l.at in
+    omega arith
+
+-- the lengths of the registers
+pub long_after : (l : LoweredLoop) (account : Account) (registers registers' : List ℕ) (ks ks' : List Kept) → IsPut l.roles account registers registers' ks ks' → length registers' ≡ length registers
+long_after l account registers registers' ks ks' put =
+    let m0 = machine registers put.cells in
+    let m1 = reduced 0 l.roles.reductions.items account.chunks m0 in
+    ap (λ (m : Machine). length m.registers) put.put ∙ (put_long l.roles.lasts.items account.lasts m1).registers ∙ (reduced_long 0 l.roles.reductions.items account.chunks m0).registers
+
+module _ (layout : List Laid) (mark : ℕ) (roles : Roles) (loops : List Loop) (body : Stmt) (outer : State) (us : List Vector) (effects : List Effect) where
+  abbrev start : State
+  start = begun roles outer
+
+  module _ (l : LoweredLoop) (registers registers' : List ℕ) (ks ks' : List Kept) (chunks : List Chunk) (account : Account) where
+    module _ (reached : IsReached layout mark roles loops body outer us l registers ks) (ran : map (λ vs. walk loops body vs start) (chunked us chunks) ≡ map Some effects)
+        (helds : All (λ (e : Effect). AreHeld roles.reductions (overwritten start e.writes)) effects) (filled : AreFilled ks) (cut_is : IsCut (length us) chunks)
+        (all : AreAll l registers ks chunks account) (put : IsPut l.roles account registers registers' ks ks') where
+      abbrev cs : List Leaving
+      cs = account.chunks
+
+      abbrev applied : AreApplied (values_of ks) put.cells cs
+      applied = put.applied
+
       abbrev iterations_of : Chunk → List Vector
       iterations_of c = take c.count (drop c.first us)
 
@@ -89,113 +243,316 @@ module _ (layout : List Laid) (mark : ℕ) (loops : List Loop) (body : Stmt) (ou
       before_is : (x : Variable) (is : List ℕ) → outer.cells x is ≡ held (values_of ks) x is
       before_is x is = reached.stand.machine.cell x is
 
-      -- the effect of a chunk, by what it changes
-      record Leaves (c : ChunkChanges) : Type 0 where
+      many : length effects ≡ length chunks
+      many = same_length (λ vs. walk loops body vs start) (chunked us chunks) effects ran ∙ length-map chunks iterations_of
+
+      many_chunks : length (chunked us chunks) ≡ length chunks
+      many_chunks = length-map chunks iterations_of
+
+      -- the effect of a chunk, by what it leaves
+      record Leaves (c : Leaving) : Type 0 where
         effect : Effect
-        among : slice_get effects c.work.chunk.0 ≡ Some effect
-        leave : LeaveAs layout ks outer effect c.changes
+        among : slice_get effects c.number ≡ Some effect
+        piece : Piece
+        changes_are : c.changes ≡ piece.changes
+        partials_are : c.partials ≡ map partial_of piece.partials.items
+        leave : LeavesPiece layout roles outer start ks effect piece
 
-      leaves : (c : ChunkChanges) → IsChange l registers ks chunks c → Leaves c
+      leaves : (c : Leaving) → IsLeaving l registers ks chunks c → Leaves c
       leaves c is =
-          let there : slice_get (chunked us chunks) c.work.chunk.0 ≡ Some (take c.work.count (drop c.work.first us)) =
-          slice_get-map iterations_of chunks c.work.chunk.0 ∙ ap (option_map iterations_of) is.work in
-          let own = value_at (λ vs. walk loops body vs outer) (chunked us chunks) effects ran c.work.chunk.0 (take c.work.count (drop c.work.first us)) there in
-          record { effect = own.0; among = own.1; leave = is.chunk layout mark loops body outer us own.0 reached own.2 }
+          let there : slice_get (chunked us chunks) c.number ≡ Some (iterations_of is.chunk) = slice_get-map iterations_of chunks c.number ∙ ap (option_map iterations_of) is.there in
+          let own = steps.value_at (λ vs. walk loops body vs start) (chunked us chunks) effects ran c.number (iterations_of is.chunk) there in
+          record {
+            effect = own.0;
+            among = own.1;
+            piece = is.piece;
+            changes_are = is.changes_are;
+            partials_are = is.partials_are;
+            leave = is.leaves layout mark roles loops body outer us own.0 reached own.2;
+          }
 
-      -- what changes leave the chunk of an effect
-      record Left (e : Effect) : Type 0 where
-        index : ℕ
-        chunk : ChunkChanges
-        there : slice_get cs index ≡ Some chunk
-        leave : LeaveAs layout ks outer e chunk.changes
+      -- its changes
+      over : (c : Leaving) (own : Leaves c) (x : Variable) (is : List ℕ) → held (written_over (writes_of c.changes) (values_of ks)) x is ≡ held (written_over (writes_of own.piece.changes) (values_of ks)) x is
+      over c own x is = ap (λ ws. held (written_over (writes_of ws) (values_of ks)) x is) own.changes_are
 
-      left : (k : ℕ) (e : Effect) → slice_get effects k ≡ Some e → Left e
-      left k e there =
-          let within : k < length effects = slice_get_within effects k e there in
-          let long : length effects ≡ length (chunked us chunks) = same_length (λ vs. walk loops body vs outer) (chunked us chunks) effects ran in
-          let count : length (chunked us chunks) ≡ length chunks = length-map chunks iterations_of in
-          let f = find cs k (all.every k (omega arith)) in
-          let own = leaves f.chunk (all_at (IsChange l registers ks chunks) cs f.index f.chunk all.each f.there) in
-          let same : own.effect ≡ e = same_Some own.effect e (sym own.among ∙ ap (slice_get effects) f.number ∙ there) in
-          record { index = f.index; chunk = f.chunk; there = f.there; leave = subst (λ (z : Effect). LeaveAs layout ks outer z f.chunk.changes) same own.leave }
+      -- ---- variables that are told apart are as before in the cells with all changes
 
-      -- where no changes alter a cell, no effect changes its object
-      none_changes : (x : Variable) (is : List ℕ) → ((k : ℕ) (c : ChunkChanges) → slice_get cs k ≡ Some c → held (written_over (writes_of c.changes) (values_of ks)) x is ≡ held (values_of ks) x is)
-          → NoneChanges outer effects x is
-      none_changes x is same k e there =
-          let own = left k e there in
-          sym (own.leave x is) ∙ same own.index own.chunk own.there ∙ sym (before_is x is)
+      abbrev IsKept : Variable → List ℕ → Type 0
+      IsKept x is = held put.cells x is ≡ held (values_of ks) x is
 
-      abbrev after : Variable → List ℕ → Option ℕ
-      after x is = held (values_of ks') x is
-
-      abbrev Merged : Variable → List ℕ → Type 0
-      Merged x is = (NoneChanges outer effects x is × (after x is ≡ outer.cells x is)) ⊎ OneChanges outer effects after x is
-
-      -- an object whose cell is not there, is behind the last, or is one of them
-      absent : (x : Variable) (is : List ℕ) → spot (shapes_of layout) x is ≡ None → Merged x is
-      absent x is e =
-          let no_cell : (cells : List ℕ) → held cells x is ≡ None = λ cells. ap (option_and_then (λ k. slice_get cells k)) e in
-          inl (none_changes x is (λ k c there. no_cell (written_over (writes_of c.changes) (values_of ks)) ∙ sym (no_cell (values_of ks))), no_cell (values_of ks') ∙ sym (no_cell (values_of ks)) ∙ sym (before_is x is))
-
-      module _ (x : Variable) (is : List ℕ) (p : ℕ) (here : spot (shapes_of layout) x is ≡ Some p) where
-        cell : (cells : List ℕ) → held cells x is ≡ slice_get cells p
-        cell cells = ap (option_and_then (λ k. slice_get cells k)) here
-
-        behind : length (values_of ks) ≤ p → Merged x is
-        behind le =
-            let past : (cells : List ℕ) → length cells ≡ length (values_of ks) → held cells x is ≡ None = λ cells long. cell cells ∙ slice_get_past cells p (omega arith) in
-            inl
-            (none_changes x is (λ k c there. past (written_over (writes_of c.changes) (values_of ks)) (length_over (writes_of c.changes) (values_of ks)) ∙ sym (past (values_of ks) refl)), past (values_of ks') applied.long ∙ sym (past (values_of ks) refl) ∙ sym (before_is x is))
-
-        as_before : NoneWrites cs p → slice_get (values_of ks') p ≡ slice_get (values_of ks) p → Merged x is
-        as_before none same =
-            inl (
-              none_changes x is
-                  (λ k c there.
-                  cell (written_over (writes_of c.changes) (values_of ks))
-                  ∙ get_none (writes_of c.changes) (values_of ks) p (all_at (λ (d : ChunkChanges). writes_of d.changes p ≡ None) cs k c none there)
-                  ∙ sym (cell (values_of ks))),
-              cell (values_of ks') ∙ same ∙ sym (cell (values_of ks)) ∙ sym (before_is x is),
-            )
-
-        changed : OneWrites cs (values_of ks') p → Merged x is
-        changed one =
-            let c = one.chunk in
-            let is_change : IsChange l registers ks chunks c = all_at (IsChange l registers ks chunks) cs one.number c all.each one.among in
-            let own = leaves c is_change in
-            let only = is_change.only p one.value one.writes in
-            let now : left_by outer own.effect x is ≡ Some one.value =
-            sym (own.leave x is) ∙ cell (written_over (writes_of c.changes) (values_of ks)) ∙ get_some (writes_of c.changes) (values_of ks) p one.value only.0 one.writes in
-            inr
-            (record {
-              number = c.work.chunk.0;
-              effect = own.effect;
-              among = own.among;
-              changes = λ same. only.1 (get_or_from_slice_get (values_of ks) p one.value 0 (sym (cell (values_of ks)) ∙ sym (before_is x is) ∙ sym same ∙ now));
-              leaves = cell (values_of ks') ∙ one.holds ∙ sym now;
-            })
-
-        inside : (NoneWrites cs p × (slice_get (values_of ks') p ≡ slice_get (values_of ks) p)) ⊎ OneWrites cs (values_of ks') p → Merged x is
-        inside (inl (none, same)) = as_before none same
-        inside (inr one) = changed one
-
-        present : (b : Bool) → nat_lt p (length (values_of ks)) ≡ b → Merged x is
-        present true e = let lt : p < length (values_of ks) = grind (arith, nat_tests) in inside (applied.each p lt)
-        present false e = let le : length (values_of ks) ≤ p = grind (arith, nat_tests) in behind le
-
-      pub merged : Merges outer effects (λ x is. cell_at (shapes_of layout) (values_of ks') x is)
-      merged x is = go (spot (shapes_of layout) x is) refl
+      keeps : (x : Variable) (is : List ℕ) → is_among (told_apart roles) x ≡ true → IsKept x is
+      keeps x is apart = go (spot (shapes_of layout) x is) refl
         where
-          go : (o : Option ℕ) → spot (shapes_of layout) x is ≡ o → Merged x is
-          go None e = absent x is e
-          go (Some p) e = present x is p e (nat_lt p (length (values_of ks))) refl
+          none : spot (shapes_of layout) x is ≡ None → IsKept x is
+          none e = let no_cell : (cells : List ℕ) → held cells x is ≡ None = λ cells. ap (option_and_then (λ k. slice_get cells k)) e in no_cell put.cells ∙ sym (no_cell (values_of ks))
+
+          at : (p : ℕ) → spot (shapes_of layout) x is ≡ Some p → (NoneWrites cs p × (slice_get put.cells p ≡ slice_get (values_of ks) p)) ⊎ OneWrites cs put.cells p → IsKept x is
+          at p e (inl (no_writes, same)) =
+              let cell : (cells : List ℕ) → held cells x is ≡ slice_get cells p = λ cells. ap (option_and_then (λ k. slice_get cells k)) e in
+              cell put.cells ∙ same ∙ sym (cell (values_of ks))
+          at p e (inr one) =
+              let cell : (cells : List ℕ) → held cells x is ≡ slice_get cells p = λ cells. ap (option_and_then (λ k. slice_get cells k)) e in
+              let c = one.chunk in
+              let is_leaving : IsLeaving l registers ks chunks c = all_at (IsLeaving l registers ks chunks) cs one.number c all.account.each one.among in
+              let own = leaves c is_leaving in
+              let only = is_leaving.only p one.value one.writes in
+              let now : slice_get (values_of ks) p ≡ Some one.value =
+              sym (cell (values_of ks)) ∙ sym (before_is x is) ∙ sym (own.leave.unchanged x is apart) ∙ sym (over c own x is) ∙ cell (written_over (writes_of c.changes) (values_of ks)) ∙ get_some (writes_of c.changes) (values_of ks) p one.value only.0 one.writes in
+              absurd (only.1 (get_or_from_slice_get (values_of ks) p one.value 0 now))
+
+          present : (p : ℕ) → spot (shapes_of layout) x is ≡ Some p → (b : Bool) → nat_lt p (length (values_of ks)) ≡ b → IsKept x is
+          present p e true f = let lt : p < length (values_of ks) = grind (arith, nat_tests) in at p e (applied.each p lt)
+          present p e false f =
+              let le : length (values_of ks) ≤ p = grind (arith, nat_tests) in
+              let long = applied.long in
+              let cell : (cells : List ℕ) → held cells x is ≡ slice_get cells p = λ cells. ap (option_and_then (λ k. slice_get cells k)) e in
+              cell put.cells ∙ slice_get_past put.cells p (omega arith) ∙ sym (cell (values_of ks) ∙ slice_get_past (values_of ks) p le)
+
+          go : (o : Option ℕ) → spot (shapes_of layout) x is ≡ o → IsKept x is
+          go None e = none e
+          go (Some p) e = present p e (nat_lt p (length (values_of ks))) refl
+
+      -- ---- all other objects
+
+      module _ (x : Variable) (plain : is_among (told_apart roles) x ≡ false) where
+        start_is : (is : List ℕ) → start.cells x is ≡ outer.cells x is
+        start_is is =
+            begun_cells roles.reductions outer x is
+            (or_parts (is_among roles.lasts x) (is_among (map (λ r. r.0) roles.reductions) x) (sym (list_any-append (λ y. y == x) roles.lasts (map (λ r. r.0) roles.reductions)) ∙ plain)).1
+
+        begins : (is : List ℕ) → start.cells x is ≡ held (values_of ks) x is
+        begins is = start_is is ∙ before_is x is
+
+        -- what changes leave the chunk of an effect
+        record Left (e : Effect) (is : List ℕ) : Type 0 where
+          index : ℕ
+          chunk : Leaving
+          there : slice_get cs index ≡ Some chunk
+          leave : held (written_over (writes_of chunk.changes) (values_of ks)) x is ≡ left_by start e x is
+
+        left : (k : ℕ) (e : Effect) (is : List ℕ) → slice_get effects k ≡ Some e → Left e is
+        left k e is there =
+            let within : k < length effects = slice_get_within effects k e there in
+            let long = many in
+            let times_is : times k (map (λ (c : Leaving). c.number) cs) ≡ once_below k (length chunks) = ap (times k) all.account.numbers_are ∙ all.once k in
+            let one : once_below k (length chunks) ≡ 1 = one_below k (length chunks) (omega arith) in
+            let f = find cs k (omega arith) in
+            let own = leaves f.chunk (all_at (IsLeaving l registers ks chunks) cs f.index f.chunk all.account.each f.there) in
+            let same : own.effect ≡ e = same_Some own.effect e (sym own.among ∙ ap (slice_get effects) f.number ∙ there) in
+            record { index = f.index; chunk = f.chunk; there = f.there; leave = over f.chunk own x is ∙ own.leave.changes x is plain ∙ ap (λ (z : Effect). left_by start z x is) same }
+
+        -- where no changes alter a cell, no effect changes its object
+        none_changes : (is : List ℕ) → ((k : ℕ) (c : Leaving) → slice_get cs k ≡ Some c → held (written_over (writes_of c.changes) (values_of ks)) x is ≡ held (values_of ks) x is)
+            → NoneChanges start effects x is
+        none_changes is same k e there =
+            let own = left k e is there in
+            sym own.leave ∙ same own.index own.chunk own.there ∙ sym (begins is)
+
+        abbrev after : Variable → List ℕ → Option ℕ
+        after y is = held put.cells y is
+
+        abbrev Merged : List ℕ → Type 0
+        Merged is = MergesAt start effects after x is
+
+        absent : (is : List ℕ) → spot (shapes_of layout) x is ≡ None → Merged is
+        absent is e =
+            let no_cell : (cells : List ℕ) → held cells x is ≡ None = λ cells. ap (option_and_then (λ k. slice_get cells k)) e in
+            inl (none_changes is (λ k c there. no_cell (written_over (writes_of c.changes) (values_of ks)) ∙ sym (no_cell (values_of ks))), no_cell put.cells ∙ sym (no_cell (values_of ks)) ∙ sym (begins is))
+
+        module _ (is : List ℕ) (p : ℕ) (here : spot (shapes_of layout) x is ≡ Some p) where
+          cell : (cells : List ℕ) → held cells x is ≡ slice_get cells p
+          cell cells = ap (option_and_then (λ k. slice_get cells k)) here
+
+          beyond : length (values_of ks) ≤ p → Merged is
+          beyond le =
+              let past : (cells : List ℕ) → length cells ≡ length (values_of ks) → held cells x is ≡ None = λ cells long. cell cells ∙ slice_get_past cells p (omega arith) in
+              inl
+              (none_changes is (λ k c there. past (written_over (writes_of c.changes) (values_of ks)) (length_over (writes_of c.changes) (values_of ks)) ∙ sym (past (values_of ks) refl)), past put.cells applied.long ∙ sym (past (values_of ks) refl) ∙ sym (begins is))
+
+          as_before : NoneWrites cs p → slice_get put.cells p ≡ slice_get (values_of ks) p → Merged is
+          as_before none same =
+              inl (
+                none_changes is
+                    (λ k c there.
+                    cell (written_over (writes_of c.changes) (values_of ks))
+                    ∙ get_none (writes_of c.changes) (values_of ks) p (all_at (λ (d : Leaving). writes_of d.changes p ≡ None) cs k c none there)
+                    ∙ sym (cell (values_of ks))),
+                cell put.cells ∙ same ∙ sym (cell (values_of ks)) ∙ sym (begins is),
+              )
+
+          changed : OneWrites cs put.cells p → Merged is
+          changed one =
+              let c = one.chunk in
+              let is_leaving : IsLeaving l registers ks chunks c = all_at (IsLeaving l registers ks chunks) cs one.number c all.account.each one.among in
+              let own = leaves c is_leaving in
+              let only = is_leaving.only p one.value one.writes in
+              let now : left_by start own.effect x is ≡ Some one.value =
+              sym (own.leave.changes x is plain) ∙ sym (over c own x is) ∙ cell (written_over (writes_of c.changes) (values_of ks)) ∙ get_some (writes_of c.changes) (values_of ks) p one.value only.0 one.writes in
+              inr
+              (record {
+                number = c.number;
+                effect = own.effect;
+                among = own.among;
+                changes = λ same. only.1 (get_or_from_slice_get (values_of ks) p one.value 0 (sym (cell (values_of ks)) ∙ sym (begins is) ∙ sym same ∙ now));
+                leaves = cell put.cells ∙ one.holds ∙ sym now;
+              })
+
+          inside : (NoneWrites cs p × (slice_get put.cells p ≡ slice_get (values_of ks) p)) ⊎ OneWrites cs put.cells p → Merged is
+          inside (inl (none, same)) = as_before none same
+          inside (inr one) = changed one
+
+          present : (b : Bool) → nat_lt p (length (values_of ks)) ≡ b → Merged is
+          present true e = let lt : p < length (values_of ks) = grind (arith, nat_tests) in inside (applied.each p lt)
+          present false e = let le : length (values_of ks) ≤ p = grind (arith, nat_tests) in beyond le
+
+        merged : (is : List ℕ) → Merged is
+        merged is = go (spot (shapes_of layout) x is) refl
+          where
+            go : (o : Option ℕ) → spot (shapes_of layout) x is ≡ o → Merged is
+            go None e = absent is e
+            go (Some p) e = present is p e (nat_lt p (length (values_of ks))) refl
+
+      -- ---- the machines behind the changes, the reduction variables and the lastprivate ones
+
+      abbrev m0 : Machine
+      m0 = machine registers put.cells
+
+      abbrev m1 : Machine
+      m1 = reduced 0 l.roles.reductions.items cs m0
+
+      abbrev m2 : Machine
+      m2 = put_values l.roles.lasts.items account.lasts m1
+
+      abbrev end : Machine
+      end = machine registers' (values_of ks')
+
+      m2_is : m2 ≡ end
+      m2_is = sym put.put
+
+      room : (x : Variable) → HasRoomFor layout mark m0 x
+      room x =
+          let long = applied.long in
+          record {
+            width = reached.stand.machine.width;
+            place = λ p here. let lt = spot_within ks (shapes_of layout) x p filled reached.stand.shape here in omega arith;
+          }
+
+      same_first : (x : Variable) → is_among (map (λ r. r.0) roles.reductions) x ≡ false → SameIn layout m0 m1 x
+      same_first x h = reduced_others layout mark cs 0 roles.reductions l.roles.reductions.items m0 x reached.lowered.roles_at.reductions h
+
+      same_second : (x : Variable) → is_among roles.lasts x ≡ false → SameIn layout m1 m2 x
+      same_second x h = put_others layout mark roles.lasts l.roles.lasts.items account.lasts m1 x reached.lowered.roles_at.lasts h
+
+      same_end : (x : Variable) → is_among (told_apart roles) x ≡ false → SameIn layout m0 end x
+      same_end x h =
+          let parts = or_parts (is_among roles.lasts x) (is_among (map (λ r. r.0) roles.reductions) x) (sym (list_any-append (λ y. y == x) roles.lasts (map (λ r. r.0) roles.reductions)) ∙ h) in
+          subst (λ m. SameIn layout m0 m x) m2_is (same_then layout mark m0 m1 m2 x (same_first x parts.1) (same_second x parts.0))
+
+      holds_at : (x v : ℕ) → HoldsIn layout m2 x v → HoldsAt layout registers' ks' x v
+      holds_at x v holds = let at_end = subst (λ m. HoldsIn layout m x v) m2_is holds in record { cell = at_end.cell; register = at_end.register }
+
+      merges_same : (x : Variable) (is : List ℕ) → held (values_of ks') x is ≡ held put.cells x is → MergesAt start effects (λ y js. held put.cells y js) x is → MergesAt start effects (λ y js. held (values_of ks') y js) x is
+      merges_same x is same (inl (none, e)) = inl (none, same ∙ e)
+      merges_same x is same (inr one) = inr (record { number = one.number; effect = one.effect; among = one.among; changes = one.changes; leaves = same ∙ one.leaves })
+
+      -- ---- reduction variables
+
+      holds_before : (x v : ℕ) → is_among (told_apart roles) x ≡ true → look outer x [] ≡ Some v → HoldsIn layout m0 x v
+      holds_before x v apart h =
+          record {
+            cell = λ lt. keeps x [] apart ∙ sym (before_is x []) ∙ ap (λ k. look_in k outer x []) (sym (reached.stand.machine.file_scope x lt)) ∙ h;
+            register = λ le. slot le (outer.locals x) refl h;
+          }
+        where
+          slot : length layout ≤ x → (k : Slot) → outer.locals x ≡ k → look_in k outer x [] ≡ Some v → slice_index registers x ≡ v
+          slot le Outside e f = absurd (no_object layout mark outer (machine registers (values_of ks)) x v [] le reached.stand.machine f)
+          slot le Empty e f = absurd (none-some v f)
+          slot le (Holds n) e f = reached.stand.machine.local x n e ∙ same_Some n v f
+
+      module _ (x : Variable) (op : ReduceOp) (index : ℕ) (there : slice_get roles.reductions index ≡ Some (x, op)) where
+        tells : (c : Leaving) (own : Leaves c) → value_at index c.partials ≡ changed_from start own.effect x
+        tells c own =
+            let changed : Variable × ReduceOp → Option ℕ = λ r. changed_from start own.effect r.0 in
+            let holds = all_at (λ (e : Effect). AreHeld roles.reductions (overwritten start e.writes)) effects c.number own.effect helds own.among in
+            ap (value_at index) (own.partials_are ∙ own.leave.partials holds)
+            ∙ ap (option_and_then (λ o. o)) (slice_get-map changed roles.reductions index ∙ ap (option_map changed) there)
+
+        told_picked : (ds : List Leaving) → All (IsLeaving l registers ks chunks) ds → told_of index ds ≡ picked (map (λ f. changed_from start f x) effects) (map (λ (c : Leaving). c.number) ds)
+        told_picked [] each = refl
+        told_picked (d ∷ ds) each =
+            let own = leaves d (All-head (IsLeaving l registers ks chunks) d ds each) in
+            let rest = told_picked ds (All-tail (IsLeaving l registers ks chunks) d ds each) in
+            let changed : Effect → Option ℕ = λ f. changed_from start f x in
+            let found : slice_get (map changed effects) d.number ≡ Some (changed own.effect) = slice_get-map changed effects d.number ∙ ap (option_map changed) own.among in
+            (λ i. tells d own i ∷ rest i) ∙ ap (λ o. with_found o (picked (map changed effects) (map (λ (c : Leaving). c.number) ds))) (sym found)
+
+      abbrev order : List ℕ
+      order = map (λ (c : Leaving). c.number) cs
+
+      order_is : EachOnceBelow (length (chunked us chunks)) order
+      order_is n = ap (times n) all.account.numbers_are ∙ all.once n ∙ ap (once_below n) (sym many_chunks)
+
+      reduction : (x : Variable) (op : ReduceOp) (v : ℕ) → operator_of roles.reductions x ≡ Some op → look outer x [] ≡ Some v → HoldsAt layout registers' ks' x (combined_all op v (picked (map (λ f. changed_from start f x) effects) order))
+      reduction x op v known h =
+          let known_is = known_among roles.reductions x op known in
+          let apart : is_among (told_apart roles) x ≡ true = list_any-append (λ y. y == x) roles.lasts (map (λ r. r.0) roles.reductions) ∙ or_right (is_among roles.lasts x) (is_among (map (λ r. r.0) roles.reductions) x) known_is in
+          let one = reduced_own layout mark cs 0 roles.reductions l.roles.reductions.items m0 x op v reached.lowered.roles_at.reductions reached.different known (room x) (holds_before x v apart h) in
+          let no_last = plain_apart roles.reductions roles.lasts x op reached.apart known in
+          let value = combined_all op v (told_of (0 + one.number) cs) in
+          let told : told_of (0 + one.number) cs ≡ picked (map (λ f. changed_from start f x) effects) order =
+          ap (λ n. told_of n cs) (let z : 0 + one.number ≡ one.number = omega arith in z) ∙ told_picked x op one.number one.there cs all.account.each in
+          subst (HoldsAt layout registers' ks' x) (ap (combined_all op v) told) (holds_at x value (holds_still layout mark m1 m2 x value (same_second x no_last) one.holds))
+
+      -- ---- lastprivate variables
+
+      full : Full (chunked us chunks)
+      full = all_full us chunks cut_is
+
+      last : (x : Variable) (f : Effect) (v : ℕ) → is_among roles.lasts x ≡ true → last_filled (chunked us chunks) effects ≡ Some f → look (overwritten start f.writes) x [] ≡ Some v → HoldsAt layout registers' ks' x v
+      last x f v among is h =
+          let found = last_is (chunked us chunks) effects f full (many ∙ sym many_chunks) is in
+          let long = many in
+          let last_number = found.1 in
+          let once_is = all.once found.0 in
+          let one : once_below found.0 (length chunks) ≡ 1 = one_below found.0 (length chunks) (omega arith) in
+          let values = all.account.lasts layout mark roles loops body outer us effects reached ran in
+          let told = values.told found.0 f found.1 found.2 (omega arith) in
+          holds_at x v (put_own layout mark roles.lasts l.roles.lasts.items account.lasts m1 x v reached.lowered.roles_at.lasts among (λ k there. told k x v there h) (room_still layout mark m0 m1 x (reduced_long 0 l.roles.reductions.items cs m0) (room x)))
+
+      none_last : (x : Variable) → is_among roles.lasts x ≡ true → flat_map (λ vs. vs) (chunked us chunks) ≡ [] → SameIn layout m0 end x
+      none_last x among none =
+          let no_chunk = no_chunks (chunked us chunks) full none in
+          let counted = many_chunks in
+          let long = many in
+          let values = all.account.lasts layout mark roles loops body outer us effects reached ran in
+          let no_values : account.lasts ≡ [] = values.other (λ number is. absurd (omega arith)) in
+          let m2_m1 : m2 ≡ m1 = ap (λ vs. put_values l.roles.lasts.items vs m1) no_values ∙ put_none l.roles.lasts.items m1 in
+          let plain = plain_other roles.reductions x (among_plain roles.reductions roles.lasts x reached.apart among) in
+          subst (λ m. SameIn layout m0 m x) (sym m2_m1 ∙ m2_is) (same_first x plain)
+
+      last_apart : (x : Variable) → is_among roles.lasts x ≡ true → is_among (told_apart roles) x ≡ true
+      last_apart x among = list_any-append (λ y. y == x) roles.lasts (map (λ r. r.0) roles.reductions) ∙ or_left (is_among roles.lasts x) (is_among (map (λ r. r.0) roles.reductions) x) among
+
+      long_end : length registers' ≡ length registers
+      long_end = long_after l account registers registers' ks ks' put
+
+      pub put_together : PutTogether layout roles outer start (chunked us chunks) effects registers registers' ks ks'
+      put_together =
+          record {
+            cells = λ x is plain. merges_same x is ((same_end x plain).cells is) (merged x plain is);
+            reductions = λ x op v known h. (order, order_is, reduction x op v known h);
+            lasts = last;
+            no_last = λ x among none. let same = none_last x among none in (same.cells [] ∙ keeps x [] (last_apart x among), same.register);
+            others = λ r plain. (same_end r plain).register;
+            long = long_end;
+          }
 
 -- the chunks of the space are those of the iterations
-pub together : (l : LoweredLoop) (registers : List ℕ) (ks ks' : List Kept) (kind : Kind) (workers : ℕ) (cs : List ChunkChanges) → AreOfLoop l registers ks kind workers cs → AreApplied (values_of ks) (values_of ks') cs
-    → LeavesTogether l registers ks ks' kind workers
-together l registers ks ks' kind workers cs of applied = λ layout mark loops body outer us effects reached ran.
-    let same : us ≡ vectors of.space = of.of layout mark no_roles loops body outer us ks reached in
+pub together : (l : LoweredLoop) (registers registers' : List ℕ) (ks ks' : List Kept) (kind : Kind) (workers : ℕ) (account : Account) → AreFilled ks → AreOfLoop l registers ks kind workers account
+    → IsPut l.roles account registers registers' ks ks' → LeavesTogether l registers registers' ks ks' kind workers
+together l registers registers' ks ks' kind workers account filled of put = λ layout mark roles loops body outer us effects reached ran helds.
+    let same : us ≡ vectors of.space = of.of layout mark roles loops body outer us ks reached in
     let chunks = cut kind (length us) workers in
-    let all : AreAll l registers ks chunks cs = subst (λ (vs : List Vector). AreAll l registers ks (cut kind (length vs) workers) cs) (sym same) of.all in
-    merged layout mark loops body outer us effects l registers ks ks' chunks cs reached ran all applied
+    let all : AreAll l registers ks chunks account = subst (λ (vs : List Vector). AreAll l registers ks (cut kind (length vs) workers) account) (sym same) of.all in
+    let cut_is : IsCut (length us) chunks = subst (λ (vs : List Vector). IsCut (length vs) (cut kind (length vs) workers)) (sym same) of.cut_is in
+    put_together layout mark roles loops body outer us effects l registers registers' ks ks' chunks account reached ran helds filled cut_is all put

@@ -1,30 +1,28 @@
 -- What the workers' ends are, and what comes of them together.
-use Rattle.std.specs.Prelude.{ℕ, ◌≡◌, ◌<◌, ◌≤◌, ◌^◌, true, List, length, map, flat_map, slice_get, take, drop, All, Some}
+use Rattle.std.specs.Prelude.{ℕ, ◌≡◌, ◌+◌, ◌<◌, ◌≤◌, ◌^◌, true, List, [], length, map, flat_map, slice_get, All, Some}
 use Rattle.semantics.specs.Tree.{Variable, Stmt}
-use Rattle.semantics.specs.Meaning.State.{State}
+use Rattle.semantics.specs.Meaning.State.{State, look, overwritten}
 use Rattle.semantics.specs.Meaning.Runs.{Effect}
 use Rattle.semantics.specs.Meaning.Places.{below}
 use Rattle.semantics.specs.Loops.Chunk.{Chunk, Kind, cut, chunk_iterations}
-use Rattle.semantics.specs.Loops.Arrangement.{times}
+use Rattle.semantics.specs.Loops.Arrangement.{times, EachOnceBelow}
+use Rattle.semantics.specs.Loops.Joined.{chunked}
 use Rattle.semantics.specs.Loops.Nest.{Loop, Vector}
-use Rattle.semantics.specs.Loops.Piece.{no_roles}
+use Rattle.semantics.specs.Loops.Piece.{Roles}
 use Rattle.law_nests.specs.Walks.{walk}
-use Rattle.law_nests.specs.Merging.{left_by}
+use Rattle.law_starts.specs.Begun.{begun}
 use Rattle.draw.specs.Tickets.{DrawingName, SeatState, all_tickets}
 use Rattle.nest_space.specs.Space.{Turns, vectors}
+use Rattle.reduce.specs.Partial.{partial_of}
 use Rattle.store.specs.Kept.{Kept}
-use Rattle.store.specs.Flat.{values_of}
 use Rattle.lower_code.specs.declared.term.Laid.{Laid}
-use Rattle.lower_code.specs.Layout.{shapes_of, cell_at}
-use Rattle.overlay_pages.specs.Over.{writes_of, written_over}
-use Rattle.overlay_pages.specs.declared.changes.Change.{Change}
 use Rattle.lower.specs.declared.lowered.LoweredLoop.{LoweredLoop}
 use Rattle.lower.specs.Lowered.{IsReached, IsSpaceOf}
-use Rattle.overlay.specs.declared.worker.Work.{Work}
-use Rattle.overlay.specs.Chunks.{ChangeOnly}
+use Rattle.overlay.specs.declared.worker.Piece.{Piece}
+use Rattle.overlay.specs.Chunks.{IsChunkOf, ChangeOnly}
 use Rattle.team.specs.declared.job.Job.{Job}
-use Rattle.team.specs.declared.worker.ChunkChanges.{ChunkChanges}
 use Rattle.team.specs.declared.worker.Finished.{Finished}
+use Rattle.team.specs.Logged.{Leaving, Account}
 
 -- chunks that hold some iterations each, and are all of them, in order
 pub record IsCut (n : ℕ) (chunks : List Chunk) : Type 0 where
@@ -41,44 +39,49 @@ pub record IsSplit (l : LoweredLoop) (registers : List ℕ) (space : List Turns)
 abbrev pub IsReady : Job → Type 0
 IsReady job = IsSplit job.lowered.now job.registers.now job.space.now job.chunks.now
 
--- the iterations that a worker was given are those of its ticket's chunk
-abbrev pub IsWork : List Chunk → Work → Type 0
-IsWork chunks work = slice_get chunks work.chunk.0 ≡ Some (record { first = work.first; count = work.count })
-
--- written over the store, changes leave the objects at file scope as an effect does
-abbrev pub LeaveAs : List Laid → List Kept → State → Effect → List Change → Type 0
-LeaveAs layout ks outer e cs =
-    (x : Variable) (is : List ℕ) → cell_at (shapes_of layout) (written_over (writes_of cs) (values_of ks)) x is ≡ left_by outer e x is
-
--- wherever a loop without lastprivate and reduction variables is reached with these registers and this store, and the iterations of a chunk have a run one after another from there, the changes leave what that leaves
-abbrev pub LeaveAsChunk : LoweredLoop → List ℕ → List Kept → Work → List Change → Type 0
-LeaveAsChunk l registers ks work cs =
-    (layout : List Laid) (mark : ℕ) (loops : List Loop) (body : Stmt) (outer : State) (us : List Vector) (e : Effect)
-    → IsReached layout mark no_roles loops body outer us l registers ks → walk loops body (take work.count (drop work.first us)) outer ≡ Some e
-    → LeaveAs layout ks outer e cs
-
--- what a chunk of this loop changes, from these registers and this store
-pub record IsChange (l : LoweredLoop) (registers : List ℕ) (ks : List Kept) (chunks : List Chunk) (c : ChunkChanges) : Type 0 where
-  pub work : IsWork chunks c.work
-  pub chunk : LeaveAsChunk l registers ks c.work c.changes
+-- what the chunk of this number leaves, from these registers and this store
+pub record IsLeaving (l : LoweredLoop) (registers : List ℕ) (ks : List Kept) (chunks : List Chunk) (c : Leaving) : Type 0 where
+  pub chunk : Chunk
+  pub there : slice_get chunks c.number ≡ Some chunk
+  pub piece : Piece
+  pub leaves : IsChunkOf l registers ks (record { chunk = record { 0 = c.number }; first = chunk.first; count = chunk.count }) piece
+  pub changes_are : c.changes ≡ piece.changes
+  pub partials_are : c.partials ≡ map partial_of piece.partials.items
   pub only : ChangeOnly ks c.changes
 
-abbrev pub IsChangeOf : Job → ChunkChanges → Type 0
-IsChangeOf job c = IsChange job.lowered.now job.registers.now job.store.now job.chunks.now c
+-- these are the values of lastprivate variables behind the last of these effects, if its chunk is among those of these numbers, and else there are none
+pub record AreLastValues (roles : Roles) (start : State) (effects : List Effect) (numbers lasts : List ℕ) : Type 0 where
+  pub told : (number : ℕ) (e : Effect) → number + 1 ≡ length effects → slice_get effects number ≡ Some e → 0 < times number numbers
+      → (k : ℕ) (x : Variable) (v : ℕ) → slice_get roles.lasts k ≡ Some x → look (overwritten start e.writes) x [] ≡ Some v → slice_get lasts k ≡ Some v
+  pub other : ((number : ℕ) → number + 1 ≡ length effects → times number numbers ≡ 0) → lasts ≡ []
 
--- a worker that met the end has the changes of each ticket that it drew
+-- so they are wherever the loop is reached, and its chunks have a run each
+abbrev pub TellLasts : LoweredLoop → List ℕ → List Kept → List Chunk → List ℕ → List ℕ → Type 0
+TellLasts l registers ks chunks numbers lasts =
+    (layout : List Laid) (mark : ℕ) (roles : Roles) (loops : List Loop) (body : Stmt) (outer : State) (us : List Vector) (effects : List Effect)
+    → IsReached layout mark roles loops body outer us l registers ks → map (λ vs. walk loops body vs (begun roles outer)) (chunked us chunks) ≡ map Some effects
+    → AreLastValues roles (begun roles outer) effects numbers lasts
+
+-- the account of the chunks of these numbers, in their order
+pub record IsAccount (l : LoweredLoop) (registers : List ℕ) (ks : List Kept) (chunks : List Chunk) (numbers : List ℕ) (a : Account) : Type 0 where
+  pub numbers_are : map (λ c. c.number) a.chunks ≡ numbers
+  pub each : All (IsLeaving l registers ks chunks) a.chunks
+  pub lasts : TellLasts l registers ks chunks numbers a.lasts
+
+abbrev pub IsAccountOf : Job → List ℕ → Account → Type 0
+IsAccountOf job numbers a = IsAccount job.lowered.now job.registers.now job.store.now job.chunks.now numbers a
+
+-- a worker that met the end has the account of the tickets that it drew
 pub record IsFinished (l : LoweredLoop) (registers : List ℕ) (ks : List Kept) (chunks : List Chunk) (of : DrawingName) (f : Finished) : Type 0 where
   pub seat : f.seat.of ≡ of
   pub ended : f.seat.ended ≡ true
-  pub numbers : map (λ c. c.work.chunk.0) f.changes ≡ f.seat.tickets
-  pub each : All (IsChange l registers ks chunks) f.changes
+  pub account : IsAccount l registers ks chunks f.seat.tickets f.log
 
--- seats of a drawing, each of which met its end, and the changes of the chunks that they drew
-pub record AreTaken (l : LoweredLoop) (registers : List ℕ) (ks : List Kept) (chunks : List Chunk) (of : DrawingName) (seats : List SeatState) (cs : List ChunkChanges) : Type 0 where
+-- seats of a drawing, each of which met its end, and the account of the chunks that they drew
+pub record AreTaken (l : LoweredLoop) (registers : List ℕ) (ks : List Kept) (chunks : List Chunk) (of : DrawingName) (seats : List SeatState) (a : Account) : Type 0 where
   pub named : All (λ s. s.of ≡ of) seats
   pub ended : All (λ s. s.ended ≡ true) seats
-  pub numbers : map (λ c. c.work.chunk.0) cs ≡ all_tickets seats
-  pub each : All (IsChange l registers ks chunks) cs
+  pub account : IsAccount l registers ks chunks (all_tickets seats) a
 
 -- all seats of a drawing, each of which met its end
 pub record AreBack (of : DrawingName) (seats : List SeatState) : Type 0 where
@@ -87,19 +90,20 @@ pub record AreBack (of : DrawingName) (seats : List SeatState) : Type 0 where
   pub named : All (λ s. s.of ≡ of) seats
   pub ended : All (λ s. s.ended ≡ true) seats
 
--- the changes of the chunks that these seats drew, of all of these chunks
-pub record AreDrawn (l : LoweredLoop) (registers : List ℕ) (ks : List Kept) (chunks : List Chunk) (of : DrawingName) (seats : List SeatState) (cs : List ChunkChanges) : Type 0 where
+-- the account of the chunks that these seats drew, of all of these chunks
+pub record AreDrawn (l : LoweredLoop) (registers : List ℕ) (ks : List Kept) (chunks : List Chunk) (of : DrawingName) (seats : List SeatState) (a : Account) : Type 0 where
   pub count : of.count ≡ length chunks
-  pub each : All (IsChange l registers ks chunks) cs
-  pub numbers : map (λ c. c.work.chunk.0) cs ≡ all_tickets seats
+  pub account : IsAccount l registers ks chunks (all_tickets seats) a
 
--- the changes of all of these chunks, each chunk's being among these
-pub record AreAll (l : LoweredLoop) (registers : List ℕ) (ks : List Kept) (chunks : List Chunk) (cs : List ChunkChanges) : Type 0 where
-  pub each : All (IsChange l registers ks chunks) cs
-  pub every : (number : ℕ) → number < length chunks → 0 < times number (map (λ c. c.work.chunk.0) cs)
+-- the account of all of these chunks, each once
+pub record AreAll (l : LoweredLoop) (registers : List ℕ) (ks : List Kept) (chunks : List Chunk) (a : Account) : Type 0 where
+  pub numbers : List ℕ
+  pub account : IsAccount l registers ks chunks numbers a
+  pub once : EachOnceBelow (length chunks) numbers
 
--- the changes of all chunks of a loop, cut so for so many workers
-pub record AreOfLoop (l : LoweredLoop) (registers : List ℕ) (ks : List Kept) (kind : Kind) (workers : ℕ) (cs : List ChunkChanges) : Type 0 where
+-- the account of all chunks of a loop, cut so for so many workers
+pub record AreOfLoop (l : LoweredLoop) (registers : List ℕ) (ks : List Kept) (kind : Kind) (workers : ℕ) (a : Account) : Type 0 where
   pub space : List Turns
   pub of : IsSpaceOf l registers space
-  pub all : AreAll l registers ks (cut kind (length (vectors space)) workers) cs
+  pub cut_is : IsCut (length (vectors space)) (cut kind (length (vectors space)) workers)
+  pub all : AreAll l registers ks (cut kind (length (vectors space)) workers) a

@@ -4,3 +4,4 @@ pub mod Ends
 pub mod Dealt
 pub mod Places
 pub mod Logged
+pub mod Spots

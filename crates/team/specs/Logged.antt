@@ -1,19 +1,52 @@
--- What the chunks of a worker change, in one list.
-use Rattle.std.specs.Prelude.{ℕ, ◌+◌, List, [], ◌∷◌, take, drop, flat_map}
+-- What chunks leave, in one account.
+use Rattle.std.specs.Prelude.{ℕ, ◌+◌, List, [], ◌∷◌, ◌++◌, take, drop, map, Option}
 use Rattle.overlay_pages.specs.declared.changes.Change.{Change}
+use Rattle.reduce.specs.Partial.{partial_of}
 use Rattle.team.specs.declared.log.EndedChunk.{EndedChunk}
-use Rattle.team.specs.declared.worker.ChunkChanges.{ChunkChanges}
+use Rattle.team.specs.declared.worker.ChunkPiece.{ChunkPiece}
 
--- how many changes these chunks have
+-- what the chunk of a number leaves: its changes, and a partial of each reduction variable
+pub record Leaving : Type 0 where
+  pub number : ℕ
+  pub changes : List Change
+  pub partials : List (Option ℕ)
+
+-- what several leave, and the values of lastprivate variables, where one of them has the last iteration
+pub record Account : Type 0 where
+  pub chunks : List Leaving
+  pub lasts : List ℕ
+
+abbrev pub no_account : Account
+no_account = record { chunks = []; lasts = [] }
+
+-- the later of two lists of values, where it has some
+abbrev pub later : List ℕ → List ℕ → List ℕ
+later ns [] = ns
+later ns (m ∷ ms) = m ∷ ms
+
+-- two accounts in one
+abbrev pub both : Account → Account → Account
+both a b = record { chunks = a.chunks ++ b.chunks; lasts = later a.lasts b.lasts }
+
+-- those of several workers
+abbrev pub joined : List Account → Account
+joined [] = no_account
+joined (a ∷ others) = both a (joined others)
+
+-- the account of one chunk
+abbrev pub account_of : ChunkPiece → Account
+account_of c = record { chunks = record { number = c.number.0; changes = c.piece.changes; partials = map partial_of c.piece.partials.items } ∷ []; lasts = c.piece.lasts.items }
+
+-- how many changes these chunks have, and how many partials
 abbrev pub changes_in : List EndedChunk → ℕ
 changes_in [] = 0
-changes_in (e ∷ es) = e.count + changes_in es
+changes_in (e ∷ es) = e.changes + changes_in es
+
+abbrev pub partials_in : List EndedChunk → ℕ
+partials_in [] = 0
+partials_in (e ∷ es) = e.partials + partials_in es
 
 -- each chunk with its own, which come one behind another
-abbrev pub logged : List EndedChunk → List Change → List ChunkChanges
-logged [] ws = []
-logged (e ∷ es) ws = record { work = e.work; changes = take e.count ws } ∷ logged es (drop e.count ws)
-
--- the chunks of several workers
-abbrev pub joined : List (List ChunkChanges) → List ChunkChanges
-joined logs = flat_map (λ l. l) logs
+abbrev pub logged : List EndedChunk → List Change → List (Option ℕ) → List Leaving
+logged [] ws ps = []
+logged (e ∷ es) ws ps = record { number = e.number.0; changes = take e.changes ws; partials = take e.partials ps } ∷ logged es (drop e.changes ws) (drop e.partials ps)

@@ -12,8 +12,8 @@ use Rattle.team.specs.declared.way.Way.TheVariants.{Dealt, Drawn}
 use Rattle.team.specs.declared.grounds.Grounds.{Grounds}
 use Rattle.team.specs.declared.place.End.{End}
 use Rattle.team.specs.declared.place.End.TheVariants.{Share, Draws}
-use Rattle.team.specs.Ends.{IsFinished}
-use Rattle.team.specs.Dealt.{own_numbers, IsDealt}
+use Rattle.team.specs.Ends.{IsAccount, IsFinished}
+use Rattle.team.specs.Dealt.{own_numbers}
 
 -- what a place is made for: a loop where it is reached, its chunks, how these come to so many workers, and the number of one of them
 pub record Aim : Type 0 where
@@ -27,7 +27,7 @@ pub record Aim : Type 0 where
 
 -- what this worker leaves, by the way that chunks come to it
 abbrev pub IsEndBy : Aim → Way → End → Type 0
-IsEndBy a (Dealt size) (Share cs) = IsDealt a.lowered a.registers a.store a.chunks (own_numbers size (length a.chunks) a.workers a.number) cs
+IsEndBy a (Dealt size) (Share account) = IsAccount a.lowered a.registers a.store a.chunks (own_numbers size (length a.chunks) a.workers a.number) account
 IsEndBy a (Drawn draws) (Draws f) = IsFinished a.lowered a.registers a.store a.chunks draws.drawing f
 IsEndBy a _ _ = ⊥
 

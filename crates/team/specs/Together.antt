@@ -1,30 +1,55 @@
--- What a team leaves of a lowered loop. (OpenMP 5.2, 11.5 and 11.5.3)
-use Rattle.std.specs.Prelude.{ℕ, ◌≡◌, List, length, map, Some}
-use Rattle.semantics.specs.Tree.{Stmt}
-use Rattle.semantics.specs.Meaning.State.{State}
+-- What a team leaves of a lowered loop. (OpenMP 5.2, 5.4.5, 5.5.2, 5.5.5, 11.5 and 11.5.3)
+use Rattle.std.specs.Prelude.{ℕ, true, false, ◌≡◌, ◌<◌, ◌≤◌, List, [], length, map, flat_map, slice_index, Some, All}
+use Rattle.semantics.specs.Tree.{Variable, Stmt}
+use Rattle.semantics.specs.Meaning.State.{State, look, overwritten}
 use Rattle.semantics.specs.Meaning.Runs.{Effect}
+use Rattle.semantics.specs.Meaning.Agrees.{is_among}
+use Rattle.semantics.specs.Loops.Arrangement.{EachOnceBelow, picked}
 use Rattle.semantics.specs.Loops.Chunk.{Kind, cut}
 use Rattle.semantics.specs.Loops.Joined.{chunked}
 use Rattle.semantics.specs.Loops.Nest.{Loop, Vector}
-use Rattle.semantics.specs.Loops.Piece.{no_roles}
+use Rattle.semantics.specs.Loops.Operator.{ReduceOp, combined_all}
+use Rattle.semantics.specs.Loops.Piece.{Roles}
 use Rattle.law_nests.specs.Walks.{walk}
-use Rattle.law_nests.specs.Merging.{Merges}
+use Rattle.law_roles.specs.Updates.{operator_of}
+use Rattle.law_roles.specs.Reducing.{AreHeld}
+use Rattle.law_roles.specs.Sharing.{MergesAt, last_filled, changed_from}
+use Rattle.law_starts.specs.Begun.{begun}
 use Rattle.store.specs.Kept.{Kept}
 use Rattle.store.specs.Flat.{values_of}
 use Rattle.lower_code.specs.declared.term.Laid.{Laid}
 use Rattle.lower_code.specs.Layout.{shapes_of, cell_at}
+use Rattle.overlay.specs.Chunks.{told_apart}
 use Rattle.lower.specs.declared.lowered.LoweredLoop.{LoweredLoop}
 use Rattle.lower.specs.Lowered.{IsReached}
 
--- wherever a loop without lastprivate and reduction variables is reached with these registers and this store, and the chunks of its iterations, cut so for so many workers, have a run each from there: the store
--- is then one in which each object is as before where none of these runs changes it, and else as one of them leaves it that does
-abbrev pub LeavesTogether : LoweredLoop → List ℕ → List Kept → List Kept → Kind → ℕ → Type 0
-LeavesTogether l registers ks ks' kind workers =
-    (layout : List Laid) (mark : ℕ) (loops : List Loop) (body : Stmt) (outer : State) (us : List Vector) (effects : List Effect)
-    → IsReached layout mark no_roles loops body outer us l registers ks
-    → map (λ vs. walk loops body vs outer) (chunked us (cut kind (length us) workers)) ≡ map Some effects
-    → Merges outer effects (λ x is. cell_at (shapes_of layout) (values_of ks') x is)
+-- a scalar holds this number, one at file scope in its cell and a local in its register (C11 6.2.1)
+pub record HoldsAt (layout : List Laid) (registers : List ℕ) (ks : List Kept) (x v : ℕ) : Type 0 where
+  pub cell : x < length layout → cell_at (shapes_of layout) (values_of ks) x [] ≡ Some v
+  pub register : length layout ≤ x → slice_index registers x ≡ v
+
+-- chunks of these iterations, whose effects from a common start these are, are put together over registers and a store: an object with no role is as before where no chunk changes it, and else as one leaves it that does; a reduction variable holds what it held before, combined with what the chunks tell of it in some order, each once; a lastprivate one holds what the last chunk with an iteration leaves in it, and where there is no iteration it is as before
+pub record PutTogether (layout : List Laid) (roles : Roles) (outer start : State) (chunks : List (List Vector)) (effects : List Effect) (registers registers' : List ℕ) (ks ks' : List Kept) : Type 0 where
+  pub cells : (x : Variable) (is : List ℕ) → is_among (told_apart roles) x ≡ false → MergesAt start effects (λ y js. cell_at (shapes_of layout) (values_of ks') y js) x is
+  pub reductions : (x : Variable) (op : ReduceOp) (v : ℕ) → operator_of roles.reductions x ≡ Some op → look outer x [] ≡ Some v
+      → (order : List ℕ) × EachOnceBelow (length chunks) order
+      × HoldsAt layout registers' ks' x (combined_all op v (picked (map (λ f. changed_from start f x) effects) order))
+  pub lasts : (x : Variable) (f : Effect) (v : ℕ) → is_among roles.lasts x ≡ true → last_filled chunks effects ≡ Some f
+      → look (overwritten start f.writes) x [] ≡ Some v → HoldsAt layout registers' ks' x v
+  pub no_last : (x : Variable) → is_among roles.lasts x ≡ true → flat_map (λ us. us) chunks ≡ []
+      → (cell_at (shapes_of layout) (values_of ks') x [] ≡ cell_at (shapes_of layout) (values_of ks) x []) × (slice_index registers' x ≡ slice_index registers x)
+  pub others : (r : ℕ) → is_among (told_apart roles) r ≡ false → slice_index registers' r ≡ slice_index registers r
+  pub long : length registers' ≡ length registers
+
+-- wherever the loop is reached with these registers and this store, and the chunks of its iterations, cut so for so many workers, have a run each from where a chunk may begin, which leaves numbers in the reduction variables, they are put together
+abbrev pub LeavesTogether : LoweredLoop → List ℕ → List ℕ → List Kept → List Kept → Kind → ℕ → Type 0
+LeavesTogether l registers registers' ks ks' kind workers =
+    (layout : List Laid) (mark : ℕ) (roles : Roles) (loops : List Loop) (body : Stmt) (outer : State) (us : List Vector) (effects : List Effect)
+    → IsReached layout mark roles loops body outer us l registers ks
+    → map (λ vs. walk loops body vs (begun roles outer)) (chunked us (cut kind (length us) workers)) ≡ map Some effects
+    → All (λ e. AreHeld roles.reductions (overwritten (begun roles outer) e.writes)) effects
+    → PutTogether layout roles outer (begun roles outer) (chunked us (cut kind (length us) workers)) effects registers registers' ks ks'
 
 -- the same as one fact
-pub record IsLeft (l : LoweredLoop) (registers : List ℕ) (ks ks' : List Kept) (kind : Kind) (workers : ℕ) : Type 0 where
-  pub together : LeavesTogether l registers ks ks' kind workers
+pub record IsLeft (l : LoweredLoop) (registers registers' : List ℕ) (ks ks' : List Kept) (kind : Kind) (workers : ℕ) : Type 0 where
+  pub together : LeavesTogether l registers registers' ks ks' kind workers

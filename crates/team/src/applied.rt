@@ -5,15 +5,18 @@ ghost use Rattle.store.specs.Flat.{values_of};
 ghost use Rattle.team.specs.Applied.{AreApplied};
 ghost use Rattle.team.specs.Logged.{joined};
 
-use crate::log::ChangeLog;
+use crate::log::ChunkLog;
 use store::Store;
 
 /// Overwrites the store by the changes of all these chunks, one after another.
-pub(crate) fn apply_all(store: &mut Store, logs: Vec<ChangeLog>)
-    ensures applied { AreApplied (values_of store.old) (values_of store.new) (joined logs.items) }
+pub(crate) fn apply_all(store: &mut Store, logs: &[ChunkLog])
+    ensures applied { AreApplied (values_of store.old) (values_of store.new)
+        (joined logs.now).chunks }
     ensures shape { map (λ k. k.lengths) store.new ≡ map (λ k. k.lengths) store.old }
 {
-    for log in logs {
-        log.apply(store);
-    }
+    let Some((log, rest)) = logs.split_first() else {
+        return;
+    };
+    log.apply(store);
+    apply_all(store, rest);
 }

@@ -6,14 +6,14 @@ ghost use Rattle.semantics.specs.Meaning.Places.{below};
 ghost use Rattle.nest_space.specs.Space.{vectors};
 ghost use Rattle.schedule.specs.Part.{static_kind};
 ghost use Rattle.team.specs.declared.way.Way.TheVariants.{Dealt};
-ghost use Rattle.team.specs.Ends.{IsReady};
-ghost use Rattle.team.specs.Dealt.{IsDealt, own_numbers};
+ghost use Rattle.team.specs.Ends.{IsReady, IsAccount, IsAccountOf};
+ghost use Rattle.team.specs.Dealt.{own_numbers};
 ghost use Rattle.team.specs.Logged.{joined};
 ghost use Rattle.team.specs.Places.{Aim, AreFor};
 
 use crate::gate::{Gate, Taken};
 use crate::job::Job;
-use crate::log::ChangeLog;
+use crate::log::ChunkLog;
 use crate::place::Place;
 use crate::worker::run_taken;
 use ktree::{Refusal, Workers};
@@ -31,20 +31,19 @@ pub(crate) fn run_own<G: Gate>(
     size: Option<u64>,
     gate: &G,
     bench: &mut Option<Bench>,
-) -> Result<ChangeLog, Refusal>
+) -> Result<ChunkLog, Refusal>
     requires ready { IsReady job }
     requires chunks { job.chunks.now
         ≡ cut (static_kind size) (length (vectors job.space.now)) workers }
     requires size { IfSome size (λ k. (1 ≤ k) × (k ≤ 2 ^ 24)) }
     requires worker { worker < workers }
-    ensures dealt { IfOk result (λ cs. IsDealt job.entry.lowered.now job.entry.registers.now
-        job.entry.store.now job.entry.chunks.now
-        (own_numbers size (length job.entry.chunks.now) workers worker) cs) }
+    ensures dealt { IfOk result (IsAccountOf job.entry
+        (own_numbers size (length job.entry.chunks.now) workers worker)) }
     ensures refusal { IfErr result (λ refusal. refusal ≡ Refusal.OutOfMemory) }
 {
     let part = static_init(job.space.count(), workers, worker, size);
     let mut runner = Worker::resume(alloc, job.store, bench.take())?;
-    let mut changes = ChangeLog::new(alloc);
+    let mut log = ChunkLog::new(alloc);
     let mut turn = 0;
     while let Some(number) = part.number(turn) {
         let taken = Taken {
@@ -53,19 +52,19 @@ pub(crate) fn run_own<G: Gate>(
             chunk: number,
             chunks: job.chunks.len(),
         };
-        changes.push(run_taken(alloc, job, &mut runner, taken, gate)?)?;
+        log.push(run_taken(alloc, job, &mut runner, taken, gate)?)?;
         turn += 1;
     }
     *bench = Some(runner.leave());
-    Ok(changes)
+    Ok(log)
 }
 
-/// What the own chunks of all workers change, where all of them have left that.
-pub(crate) fn gather(alloc: Global, places: Vec<Place>) -> Result<Vec<ChangeLog>, Refusal>
+/// The logs of all workers, where all of them have left theirs.
+pub(crate) fn gather(alloc: Global, places: Vec<Place>) -> Result<Vec<ChunkLog>, Refusal>
     ensures dealt { (aim : Aim) (size : Option ℕ) → aim.way ≡ Dealt size → AreFor aim places.items
-        → IfOk result (λ cs. IsDealt aim.lowered aim.registers aim.store aim.chunks
+        → IfOk result (λ logs. IsAccount aim.lowered aim.registers aim.store aim.chunks
         (flat_map (own_numbers size (length aim.chunks) aim.workers) (below (vec_len places)))
-        (joined cs.items)) }
+        (joined logs.items)) }
     ensures refusal { IfErr result (λ refusal. refusal ≡ Refusal.OutOfMemory) }
 {
     let mut logs = Vec::with_capacity(alloc, places.len())?;

@@ -10,7 +10,7 @@ ghost use Rattle.team.specs.Ends.{AreTaken, AreBack, AreDrawn, AreAll};
 ghost use Rattle.team.specs.Logged.{joined};
 ghost use Rattle.team.specs.Places.{Aim, AreFor};
 
-use crate::log::ChangeLog;
+use crate::log::ChunkLog;
 use crate::place::Place;
 use crate::worker::Finished;
 use draw::{DrawSeat, Drawing, RestingSeat};
@@ -29,11 +29,11 @@ fn seat_back(seats: &mut Vec<DrawSeat>, seat: RestingSeat) -> Result<(), Refusal
     Ok(())
 }
 
-/// The seats and the changes of all workers, in their order, where all of them have left these.
+/// The seats and the logs of all workers, in their order, where all of them have left these.
 pub(crate) fn collect(
     alloc: Global,
     places: Vec<Place>,
-) -> Result<(Vec<DrawSeat>, Vec<ChangeLog>), Refusal>
+) -> Result<(Vec<DrawSeat>, Vec<ChunkLog>), Refusal>
     ensures taken { (aim : Aim) (draw : Draw) → aim.way ≡ Drawn draw → AreFor aim places.items
         → IfOk result (λ r. AreTaken aim.lowered aim.registers aim.store aim.chunks draw.drawing
         r.0.items (joined r.1.items)) }
@@ -43,37 +43,36 @@ pub(crate) fn collect(
     let mut seats = Vec::with_capacity(alloc, places.len())?;
     let mut logs = Vec::with_capacity(alloc, places.len())?;
     for place in places {
-        let Some(Finished { seat, changes }) = place.draws() else {
+        let Some(Finished { seat, log }) = place.draws() else {
             return Err(Refusal::OutOfMemory);
         };
         seat_back(&mut seats, seat)?;
-        logs.push(changes)?;
+        logs.push(log)?;
     }
     Ok((seats, logs))
 }
 
-/// What the workers of a loop leave: their drawing, the seat of each, and what the chunks that they
-/// drew change.
+/// What the workers of a loop leave: their drawing, and the seat and the log of each.
 #[derive(Drop)]
 pub(crate) struct TeamEnd {
     pub(crate) drawing: Drawing,
     pub(crate) seats: Vec<DrawSeat>,
-    pub(crate) changes: Vec<ChangeLog>,
+    pub(crate) logs: Vec<ChunkLog>,
 }
 
-/// What all chunks of a loop change: where all seats are back, no chunk was left out.
-pub(crate) fn all_changes(end: TeamEnd) -> Vec<ChangeLog>
+/// The logs of all chunks of a loop: where all seats are back, no chunk was left out.
+pub(crate) fn all_logs(end: TeamEnd) -> Vec<ChunkLog>
     requires { AreBack end.drawing end.seats.items }
     ensures { (l : LoweredLoop) (registers : List ℕ) (ks : List Kept) (chunks : List Chunk)
-        → AreDrawn l registers ks chunks end.drawing end.seats.items (joined end.changes.items)
+        → AreDrawn l registers ks chunks end.drawing end.seats.items (joined end.logs.items)
         → AreAll l registers ks chunks (joined result.items) }
 {
     let TeamEnd {
         drawing,
         seats,
-        changes,
+        logs,
     } = end;
     let whole = drawing.close(seats).whole();
     prove!(whole);
-    changes
+    logs
 }

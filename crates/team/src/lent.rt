@@ -9,11 +9,11 @@ ghost use Rattle.team.specs.Logged.{joined};
 ghost use Rattle.team.specs.Places.{Aim, IsEnd, AreFor, AreLeft, IsWay, aim_of};
 
 use crate::dealt::{gather, run_own};
-use crate::drawn::{TeamEnd, all_changes, collect};
+use crate::drawn::{TeamEnd, all_logs, collect};
 use crate::gate::Gate;
 use crate::grounds::Grounds;
 use crate::job::Job;
-use crate::log::ChangeLog;
+use crate::log::ChunkLog;
 use crate::place::{End, Place, Plan};
 use crate::way::{Draw, Way, seat_of, way_of};
 use crate::worker::{Member, work};
@@ -120,11 +120,10 @@ fn end_of<G: Gate>(
     };
     match &lent.way {
         Way::Dealt(size) => {
-            let Ok(changes) = run_own(lent.alloc, job, lent.workers, number, *size, gate, bench)
-            else {
+            let Ok(log) = run_own(lent.alloc, job, lent.workers, number, *size, gate, bench) else {
                 return None;
             };
-            Some(End::Share(changes))
+            Some(End::Share(log))
         }
         Way::Drawn(draw) => {
             let seat = seat_of(draw, number)?;
@@ -161,33 +160,34 @@ impl<'l, G: Gate> crew::Job<G, Option<Bench>> for LentLoop<'l> {
     }
 }
 
-/// What all chunks of a loop change, where all of its workers have left theirs.
-fn changes_left(alloc: Global, way: Way, places: Vec<Place>) -> Result<Vec<ChangeLog>, Refusal>
+/// The logs of all chunks of a loop, where all of its workers have left theirs.
+fn logs_left(alloc: Global, way: Way, places: Vec<Place>) -> Result<Vec<ChunkLog>, Refusal>
     requires { (aim : Aim) × (space : List Turns) × AreLeft aim space way places.items }
     ensures all { (aim : Aim) (space : List Turns) → AreLeft aim space way places.items
-        → IfOk result (λ cs. AreAll aim.lowered aim.registers aim.store aim.chunks (joined cs.items)) }
+        → IfOk result (λ logs. AreAll aim.lowered aim.registers aim.store aim.chunks
+        (joined logs.items)) }
     ensures refusal { IfErr result (λ refusal. refusal ≡ Refusal.OutOfMemory) }
 {
     match way {
         Way::Dealt(_) => gather(alloc, places),
         Way::Drawn(draw) => {
             let Draw { drawing, seats: _ } = draw;
-            let (seats, changes) = collect(alloc, places)?;
-            Ok(all_changes(TeamEnd {
+            let (seats, logs) = collect(alloc, places)?;
+            Ok(all_logs(TeamEnd {
                 drawing,
                 seats,
-                changes,
+                logs,
             }))
         }
     }
 }
 
-/// Takes a loop back from its workers: its store, and what all chunks change.
-fn taken_back(lent: LentLoop<'_>) -> (Store, Result<Vec<ChangeLog>, Refusal>)
+/// Takes a loop back from its workers: its store, and the logs of all chunks.
+fn taken_back(lent: LentLoop<'_>) -> (Store, Result<Vec<ChunkLog>, Refusal>)
     ensures store { result.0 ≡ lent.entry.store }
-    ensures all { IfOk result.1 (λ cs. AreAll lent.entry.lowered.now
+    ensures all { IfOk result.1 (λ logs. AreAll lent.entry.lowered.now
         lent.entry.grounds.registers.items lent.entry.store lent.entry.grounds.chunks
-        (joined cs.items)) }
+        (joined logs.items)) }
     ensures refusal { IfErr result.1 (λ refusal. refusal ≡ Refusal.OutOfMemory) }
 {
     let _count = lent.workers.get();
@@ -200,12 +200,12 @@ fn taken_back(lent: LentLoop<'_>) -> (Store, Result<Vec<ChangeLog>, Refusal>)
         way,
         places,
     } = lent;
-    let changes = changes_left(alloc, way, places);
-    (store, changes)
+    let logs = logs_left(alloc, way, places);
+    (store, logs)
 }
 
-/// What all chunks of a loop change, that is lent to a crew.
-pub(crate) fn lent_changes<'l, R: Wait, G: Gate>(
+/// The logs of all chunks of a loop that is lent to a crew.
+pub(crate) fn lent_logs<'l, R: Wait, G: Gate>(
     rt: &R,
     alloc: Global,
     crew: &LoopCrew<'l>,
@@ -215,12 +215,12 @@ pub(crate) fn lent_changes<'l, R: Wait, G: Gate>(
     workers: Workers,
     sched: &Sched,
     gate: &G,
-) -> Result<Vec<ChangeLog>, Refusal>
+) -> Result<Vec<ChunkLog>, Refusal>
     requires split { IsSplit lowered.now grounds.registers.items grounds.space grounds.chunks }
     requires chunks { grounds.chunks
         ≡ cut (kind_of sched.now) (length (vectors grounds.space)) workers }
-    ensures all { IfOk result (λ cs. AreAll lowered.now grounds.registers.items store.old
-        grounds.chunks (joined cs.items)) }
+    ensures all { IfOk result (λ logs. AreAll lowered.now grounds.registers.items store.old
+        grounds.chunks (joined logs.items)) }
     ensures store { store.new ≡ store.old }
     ensures refusal { IfErr result (λ refusal. refusal ≡ Refusal.OutOfMemory) }
 {
@@ -235,7 +235,7 @@ pub(crate) fn lent_changes<'l, R: Wait, G: Gate>(
         way,
         places,
     };
-    let (whole, changes) = taken_back(lend(rt, alloc, crew, gate, lent));
+    let (whole, logs) = taken_back(lend(rt, alloc, crew, gate, lent));
     *store = whole;
-    changes
+    logs
 }

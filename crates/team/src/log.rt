@@ -1,83 +1,180 @@
-//! What the chunks of a worker change, kept in one list.
+//! What the chunks of a worker leave, kept in one log.
 
-ghost use Rattle.std.specs.Prelude.{◌≡◌, ◌++◌, ◌∷◌, [], map, OnOk};
+ghost use Rattle.std.specs.Prelude.{◌≡◌, ◌++◌, map, IfErr, OnOk};
+ghost use Rattle.ktree.specs.DirectiveView.{operator_of};
+ghost use Rattle.semantics.specs.Loops.Joined.{value_at};
+ghost use Rattle.semantics.specs.Loops.Operator.{combined, combined_all};
+ghost use Rattle.reduce.specs.Partial.{partial_of};
 ghost use Rattle.store.specs.Flat.{values_of};
 ghost use Rattle.team.specs.Applied.{AreApplied};
+ghost use Rattle.team.specs.Logged.{account_of, both, later, no_account};
+ghost use Rattle.team.specs.Spots.{told_of};
 
-use crate::worker::ChunkChanges;
-use ktree::ChunkNo;
-use overlay::Work;
+use crate::worker::ChunkPiece;
+use ktree::{ChunkNo, ReductionOperator};
+use overlay::Piece;
 use overlay_pages::Changes;
+use reduce::{Partial, combine_by};
 use smallvec::SmallVec;
 use std::alloc::{AllocError, Global};
 use std::marker::Model;
 use store::Store;
 
-/// A chunk that has ended, and how many changes it has.
+/// A chunk that has ended, how many changes it has, and how many partials.
 #[derive(Clone, Copy, Debug, PartialEq, Eq)]
 pub struct EndedChunk {
-    pub work: Work,
-    pub count: u64,
+    pub number: ChunkNo,
+    pub changes: u64,
+    pub partials: u64,
 }
 
 impl Default for EndedChunk {
     fn default() -> EndedChunk {
-        let work = Work {
-            chunk: ChunkNo(0),
-            first: 0,
-            count: 0,
-        };
-        EndedChunk { work, count: 0 }
+        EndedChunk {
+            number: ChunkNo(0),
+            changes: 0,
+            partials: 0,
+        }
     }
 }
 
-/// What the chunks of a worker change, in the order in which it ran them: 32 bytes for a chunk beside its changes.
+/// What the chunks of a worker leave, in the order in which it ran them: 24 bytes for a chunk beside its changes and partials.
 #[derive(Drop)]
-pub struct ChangeLog {
+pub struct ChunkLog {
     ended: SmallVec<EndedChunk, 1>,
     changes: Changes,
+    partials: Vec<Partial>,
+    lasts: Vec<u64>,
 }
 
-impl Model for ChangeLog {
-    ghost use Rattle.std.specs.Prelude.{◌≡◌, List, length};
-    ghost use Rattle.team.specs.declared.worker.ChunkChanges.{ChunkChanges};
-    ghost use Rattle.team.specs.Logged.{changes_in, logged};
+impl Model for ChunkLog {
+    ghost use Rattle.std.specs.Prelude.{◌≡◌, length, map};
+    ghost use Rattle.reduce.specs.Partial.{partial_of};
+    ghost use Rattle.team.specs.Logged.{Account, changes_in, partials_in, logged};
 
-    ghost Value = { List ChunkChanges };
+    ghost Value = { Account };
 
-    ghost view = { λ l. logged l.ended.items l.changes };
+    ghost view = { λ l. record {
+      chunks = logged l.ended.items l.changes (map partial_of l.partials.items);
+      lasts = l.lasts.items;
+    } };
 
-    ghost invariant = { λ l. changes_in l.ended.items ≡ length l.changes };
+    ghost invariant = { λ l. (changes_in l.ended.items ≡ length l.changes)
+        × (partials_in l.ended.items ≡ length l.partials.items) };
 }
 
-impl ChangeLog {
+// Adds a chunk's changes and partials to those of others, or neither.
+fn add(
+    changes: &mut Changes,
+    partials: &mut Vec<Partial>,
+    more_changes: Changes,
+    more_partials: &[Partial],
+) -> Result<(), AllocError>
+    ensures changes { OnOk result (changes.new ≡ changes.old ++ more_changes) }
+    ensures partials { OnOk result (partials.new.items
+        ≡ partials.old.items ++ more_partials.now) }
+    ensures kept { IfErr result (λ _. changes.new ≡ changes.old) }
+    ensures kept_partials { IfErr result (λ _. partials.new.items ≡ partials.old.items) }
+{
+    let count = partials.len();
+    partials.extend_from_slice(more_partials)?;
+    if let Err(AllocError) = changes.append(more_changes) {
+        partials.truncate(count);
+        return Err(AllocError);
+    }
+    Ok(())
+}
+
+// Later values stand in place of others, where there are some.
+fn keep_later(lasts: &mut Vec<u64>, values: Vec<u64>)
+    ensures { lasts.new.items ≡ later lasts.old.items values.items }
+{
+    if values.is_empty() {
+        return;
+    }
+    *lasts = values;
+}
+
+// A value combined with the partial of an index, if there is one.
+fn combine_at(operator: ReductionOperator, index: u64, value: u64, partials: &[Partial]) -> u64
+    ensures { result ≡ combined (operator_of operator) value
+        (value_at index (map partial_of partials.now)) }
+{
+    match partials.get(index as usize) {
+        Some(partial) => combine_by(operator, value, *partial),
+        None => value,
+    }
+}
+
+impl ChunkLog {
     /// Of no chunk.
-    pub(crate) fn new(alloc: Global) -> ChangeLog
-        ensures { result ≡ [] }
+    pub(crate) fn new(alloc: Global) -> ChunkLog
+        ensures { result ≡ no_account }
     {
-        ChangeLog {
+        ChunkLog {
             ended: SmallVec::new(alloc),
             changes: Changes::none(alloc),
+            partials: Vec::new(alloc),
+            lasts: Vec::new(alloc),
         }
     }
 
     /// One chunk more.
-    pub(crate) fn push(&mut self, chunk: ChunkChanges) -> Result<(), AllocError>
-        ensures { OnOk result (self.new ≡ self.old ++ chunk ∷ []) }
+    pub(crate) fn push(&mut self, chunk: ChunkPiece) -> Result<(), AllocError>
+        ensures { OnOk result (self.new ≡ both self.old (account_of chunk)) }
     {
-        let ChunkChanges { work, changes } = chunk;
-        let count = changes.len();
+        let ChunkPiece { number, piece } = chunk;
+        let Piece {
+            changes,
+            partials,
+            lasts,
+        } = piece;
+        let ended = EndedChunk {
+            number,
+            changes: changes.len(),
+            partials: partials.len() as u64,
+        };
         self.ended.reserve(1)?;
-        self.changes.append(changes)?;
-        self.ended.push_reserved(EndedChunk { work, count });
+        add(
+            &mut self.changes,
+            &mut self.partials,
+            changes,
+            partials.as_slice(),
+        )?;
+        self.ended.push_reserved(ended);
+        keep_later(&mut self.lasts, lasts);
         Ok(())
     }
 
     /// Overwrites a store by the changes of these chunks, one after another.
     pub(crate) fn apply(&self, store: &mut Store)
-        ensures applied { AreApplied (values_of store.old) (values_of store.new) self.now }
+        ensures applied { AreApplied (values_of store.old) (values_of store.new) self.now.chunks }
         ensures shape { map (λ k. k.lengths) store.new ≡ map (λ k. k.lengths) store.old }
     {
         self.changes.apply(store);
+    }
+
+    /// A value combined with what these chunks tell of the reduction variable of an index, one after another (OpenMP 5.2, 5.5.5).
+    pub(crate) fn combine(&self, operator: ReductionOperator, index: u64, value: u64) -> u64
+        ensures { result ≡ combined_all (operator_of operator) value
+            (told_of index self.now.chunks) }
+    {
+        let mut value = value;
+        let mut chunks = self.ended.as_slice();
+        let mut partials = self.partials.as_slice();
+        'chunks: while let Some((ended, more)) = chunks.split_first() {
+            let (own, behind) = partials.split_at(ended.partials as usize);
+            value = combine_at(operator, index, value, own);
+            chunks = more;
+            partials = behind;
+        }
+        value
+    }
+
+    /// What the last chunk leaves in lastprivate variables, where it is among these; no values where it is not.
+    pub(crate) fn lasts(&self) -> &[u64]
+        ensures { result.now ≡ self.now.lasts }
+    {
+        self.lasts.as_slice()
     }
 }

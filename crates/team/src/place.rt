@@ -5,7 +5,7 @@ ghost use Rattle.team.specs.declared.way.Draw.{Draw};
 ghost use Rattle.team.specs.declared.way.Way.TheVariants.{Dealt, Drawn};
 ghost use Rattle.team.specs.Places.{IsEnd, IsEndBy};
 
-use crate::log::ChangeLog;
+use crate::log::ChunkLog;
 use crate::way::Way;
 use crate::worker::Finished;
 use counted_slot::{Counted, FREE, Fits, PRESENT, TAKEN};
@@ -16,10 +16,10 @@ use std::marker::Model;
 use std::snapshot::Snapshot;
 use store::Store;
 
-/// What a worker leaves: what its own chunks change, or the chunks that it drew.
+/// What a worker leaves: the log of its own chunks, or of those that it drew.
 #[derive(Drop)]
 pub enum End {
-    Share(ChangeLog),
+    Share(ChunkLog),
     Draws(Finished),
 }
 
@@ -145,13 +145,13 @@ impl Place {
         slot.into_inner()
     }
 
-    /// What a worker's own chunks change, if that is here.
-    pub(crate) fn share(self) -> Option<ChangeLog>
-        ensures { IfSome result (λ cs. (size : Option ℕ) → self.way ≡ Dealt size
-            → IsEndBy self (Dealt size) (End.Share cs)) }
+    /// The log of a worker's own chunks, if that is here.
+    pub(crate) fn share(self) -> Option<ChunkLog>
+        ensures { IfSome result (λ log. (size : Option ℕ) → self.way ≡ Dealt size
+            → IsEndBy self (Dealt size) (End.Share log)) }
     {
         match self.close() {
-            Some(End::Share(changes)) => Some(changes),
+            Some(End::Share(log)) => Some(log),
             _ => None,
         }
     }

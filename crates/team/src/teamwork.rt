@@ -1,16 +1,17 @@
 //! The team.
 
-ghost use Rattle.std.specs.Prelude.{◌≡◌, map, IfOk, IfErr, OnOk};
+ghost use Rattle.std.specs.Prelude.{◌≡◌, length, map, IfOk, IfErr, OnOk};
 ghost use Rattle.schedule.specs.Sched.{kind_said};
+ghost use Rattle.store.specs.Flat.{AreFilled};
 ghost use Rattle.team.specs.Ends.{AreOfLoop};
 ghost use Rattle.team.specs.Logged.{joined};
 ghost use Rattle.team.specs.Together.{LeavesTogether, IsLeft};
 
-use crate::applied::apply_all;
 use crate::gate::Gate;
 use crate::grounds::grounds_of;
-use crate::lent::{LoopCrew, lent_changes};
-use crate::log::ChangeLog;
+use crate::lent::{LoopCrew, lent_logs};
+use crate::log::ChunkLog;
+use crate::putting::put_together;
 use crew::{Crew, dismiss, serve_all};
 use ktree::{Refusal, Workers};
 use lower::LoweredLoop;
@@ -20,9 +21,9 @@ use std::sync::Wait;
 use std::thread::{Threads, join_mut};
 use store::Store;
 
-/// What all chunks of a loop change, cut as its clause says, and for `runtime` as this schedule does. Where it has no iteration, nothing
+/// The logs of all chunks of a loop, cut as its clause says, and for `runtime` as this schedule does. Where it has no iteration, nothing
 /// is lent to the crew.
-fn loop_changes<'l, R: Wait, G: Gate>(
+fn loop_logs<'l, R: Wait, G: Gate>(
     rt: &R,
     alloc: Global,
     crew: &LoopCrew<'l>,
@@ -32,9 +33,9 @@ fn loop_changes<'l, R: Wait, G: Gate>(
     workers: Workers,
     runtime: Sched,
     gate: &G,
-) -> Result<Vec<ChangeLog>, Refusal>
-    ensures all { IfOk result (λ cs. AreOfLoop lowered.now registers.now store.old
-        (kind_said lowered.now.schedule runtime) workers (joined cs.items)) }
+) -> Result<Vec<ChunkLog>, Refusal>
+    ensures all { IfOk result (λ logs. AreOfLoop lowered.now registers.now store.old
+        (kind_said lowered.now.schedule runtime) workers (joined logs.items)) }
     ensures store { store.new ≡ store.old }
     ensures refusal { IfErr result (λ refusal. refusal ≡ Refusal.OutOfMemory) }
 {
@@ -43,9 +44,16 @@ fn loop_changes<'l, R: Wait, G: Gate>(
     if grounds.chunks.is_empty() {
         return Ok(Vec::new(alloc));
     }
-    lent_changes(
+    lent_logs(
         rt, alloc, crew, lowered, grounds, store, workers, &sched, gate,
     )
+}
+
+// Each variable has as many values as elements.
+fn confirm_filled(store: &Store)
+    ensures { AreFilled store.now }
+{
+    let _cells = store.cells();
 }
 
 /// Runs a loop on a crew that stands by, as [`run_loop`] does on a team of its own.
@@ -58,22 +66,25 @@ pub fn share_loop<'l, R: Wait, G: Gate>(
     alloc: Global,
     crew: &LoopCrew<'l>,
     lowered: &'l LoweredLoop,
-    registers: &[u64],
+    registers: &mut [u64],
     store: &mut Store,
     workers: Workers,
     runtime: Sched,
     gate: &G,
 ) -> Result<(), Refusal>
-    ensures leaves { OnOk result (LeavesTogether lowered.now registers.now store.old store.new
-        (kind_said lowered.now.schedule runtime) workers) }
+    ensures leaves { OnOk result (LeavesTogether lowered.now registers.old registers.new store.old
+        store.new (kind_said lowered.now.schedule runtime) workers) }
     ensures shape { map (λ k. k.lengths) store.new ≡ map (λ k. k.lengths) store.old }
     ensures refusal { IfErr result (λ refusal. refusal ≡ Refusal.OutOfMemory) }
-    ensures kept { IfErr result (λ refusal. store.new ≡ store.old) }
+    ensures kept { IfErr result (λ _. store.new ≡ store.old) }
+    ensures kept_registers { IfErr result (λ _. registers.new ≡ registers.old) }
+    ensures long { length registers.new ≡ length registers.old }
 {
-    let changes = loop_changes(
+    let logs = loop_logs(
         rt, alloc, crew, lowered, registers, store, workers, runtime, gate,
     )?;
-    apply_all(store, changes);
+    confirm_filled(store);
+    put_together(&lowered.roles, logs.as_slice(), registers, store);
     Ok(())
 }
 
@@ -83,17 +94,19 @@ fn lead<'l, R: Wait, G: Gate>(
     alloc: Global,
     crew: &LoopCrew<'l>,
     lowered: &'l LoweredLoop,
-    registers: &[u64],
+    registers: &mut [u64],
     store: &mut Store,
     workers: Workers,
     runtime: Sched,
     gate: &G,
 ) -> Result<(), Refusal>
-    ensures leaves { OnOk result (IsLeft lowered.now registers.now store.old store.new
-        (kind_said lowered.now.schedule runtime) workers) }
+    ensures leaves { OnOk result (IsLeft lowered.now registers.old registers.new store.old
+        store.new (kind_said lowered.now.schedule runtime) workers) }
     ensures shape { map (λ k. k.lengths) store.new ≡ map (λ k. k.lengths) store.old }
     ensures refusal { IfErr result (λ refusal. refusal ≡ Refusal.OutOfMemory) }
-    ensures kept { IfErr result (λ refusal. store.new ≡ store.old) }
+    ensures kept { IfErr result (λ _. store.new ≡ store.old) }
+    ensures kept_registers { IfErr result (λ _. registers.new ≡ registers.old) }
+    ensures long { length registers.new ≡ length registers.old }
 {
     let end = share_loop(
         rt, alloc, crew, lowered, registers, store, workers, runtime, gate,
@@ -108,17 +121,19 @@ fn run_led<'l, R: Threads + Wait + Sync, G: Gate + Sync>(
     alloc: Global,
     crew: &LoopCrew<'l>,
     lowered: &'l LoweredLoop,
-    registers: &[u64],
+    registers: &mut [u64],
     store: &mut Store,
     workers: Workers,
     runtime: Sched,
     gate: &G,
 ) -> Result<(), Refusal>
-    ensures leaves { OnOk result (IsLeft lowered.now registers.now store.old store.new
-        (kind_said lowered.now.schedule runtime) workers) }
+    ensures leaves { OnOk result (IsLeft lowered.now registers.old registers.new store.old
+        store.new (kind_said lowered.now.schedule runtime) workers) }
     ensures shape { map (λ k. k.lengths) store.new ≡ map (λ k. k.lengths) store.old }
     ensures refusal { IfErr result (λ refusal. refusal ≡ Refusal.OutOfMemory) }
-    ensures kept { IfErr result (λ refusal. store.new ≡ store.old) }
+    ensures kept { IfErr result (λ _. store.new ≡ store.old) }
+    ensures kept_registers { IfErr result (λ _. registers.new ≡ registers.old) }
+    ensures long { length registers.new ≡ length registers.old }
 {
     let (_, end) = join_mut(
         rt,
@@ -134,27 +149,31 @@ fn run_led<'l, R: Threads + Wait + Sync, G: Gate + Sync>(
 
 /// Runs a loop on a team of so many workers, by the schedule of its clause, and for `runtime` by this one (OpenMP 5.2, 11.5 and
 /// 11.5.3): each worker runs the chunks that are its own or that it draws from the store before the loop; after all have met the
-/// end, the store is overwritten by what they changed. These registers stand as where the loop is reached. Where its chunks have a
-/// run each from there, each object is then as before where none of these runs changes it, and else as one of them leaves it that does.
+/// end, what they leave is put together. These registers stand as where the loop is reached. Where its chunks have a run each from
+/// there, each object with no role is then as before where none of these runs changes it, and else as one of them leaves it that does;
+/// each reduction variable holds what it held combined with what all chunks tell of it, and each lastprivate one what the last chunk
+/// leaves in it, in the store or in these registers (OpenMP 5.2, 5.4.5 and 5.5.5).
 ///
 /// # Errors
 ///
-/// `OutOfMemory` alone, where memory is refused; the store is then as before. Of threads that do not start the others do the work.
+/// `OutOfMemory` alone, where memory is refused; registers and store are then as before. Of threads that do not start the others do the work.
 pub fn run_loop<R: Threads + Wait + Sync, G: Gate + Sync>(
     rt: &R,
     alloc: Global,
     lowered: &LoweredLoop,
-    registers: &[u64],
+    registers: &mut [u64],
     store: &mut Store,
     workers: Workers,
     runtime: Sched,
     gate: &G,
 ) -> Result<(), Refusal>
-    ensures leaves { OnOk result (LeavesTogether lowered.now registers.now store.old store.new
-        (kind_said lowered.now.schedule runtime) workers) }
+    ensures leaves { OnOk result (LeavesTogether lowered.now registers.old registers.new store.old
+        store.new (kind_said lowered.now.schedule runtime) workers) }
     ensures shape { map (λ k. k.lengths) store.new ≡ map (λ k. k.lengths) store.old }
     ensures refusal { IfErr result (λ refusal. refusal ≡ Refusal.OutOfMemory) }
-    ensures kept { IfErr result (λ refusal. store.new ≡ store.old) }
+    ensures kept { IfErr result (λ _. store.new ≡ store.old) }
+    ensures kept_registers { IfErr result (λ _. registers.new ≡ registers.old) }
+    ensures long { length registers.new ≡ length registers.old }
 {
     let crew = Crew::new(alloc, workers.get() - 1)?;
     if crew.others() == 0 {

@@ -1,23 +1,23 @@
 //! One worker of a team.
 
-ghost use Rattle.std.specs.Prelude.{◌≡◌, ◌<◌, length, IfOk, IfErr};
+ghost use Rattle.std.specs.Prelude.{◌≡◌, ◌<◌, ◌∷◌, [], length, IfOk, IfErr};
 ghost use Rattle.draw.specs.Tickets.{fresh};
-ghost use Rattle.team.specs.Ends.{IsReady, IsChangeOf, IsFinished};
+ghost use Rattle.team.specs.Ends.{IsReady, IsAccountOf, IsFinished};
+ghost use Rattle.team.specs.Logged.{account_of};
 
 use crate::gate::{Gate, Taken};
 use crate::job::Job;
-use crate::log::ChangeLog;
+use crate::log::ChunkLog;
 use draw::{DrawSeat, Drawing, RestingSeat};
 use ktree::{ChunkNo, Refusal};
 use overlay::{Bench, Piece, Work, Worker};
-use overlay_pages::Changes;
 use std::alloc::Global;
 
-/// What a chunk changes, without the store that it was run from.
+/// What the chunk of a number leaves.
 #[derive(Drop)]
-pub struct ChunkChanges {
-    pub work: Work,
-    pub changes: Changes,
+pub struct ChunkPiece {
+    pub number: ChunkNo,
+    pub piece: Piece,
 }
 
 /// A member of a team before it starts: its number among them, and its right to draw.
@@ -32,7 +32,7 @@ pub struct Member {
 #[derive(Drop)]
 pub struct Finished {
     pub seat: RestingSeat,
-    pub changes: ChangeLog,
+    pub log: ChunkLog,
 }
 
 /// Runs a chunk that a worker has taken, after the gate is told of it.
@@ -42,27 +42,26 @@ pub(crate) fn run_taken<G: Gate>(
     runner: &mut Worker,
     taken: Taken,
     gate: &G,
-) -> Result<ChunkChanges, Refusal>
+) -> Result<ChunkPiece, Refusal>
     requires ready { IsReady job }
     requires runner { runner.old ≡ job.store.now }
     requires worker { taken.worker < taken.workers }
     requires chunk { taken.chunk < taken.chunks }
     requires count { taken.chunks ≡ length job.chunks.now }
     ensures runner { runner.new ≡ runner.old }
-    ensures change { IfOk result (IsChangeOf job.entry) }
-    ensures number { IfOk result (λ c. c.work.chunk.0 ≡ taken.chunk) }
+    ensures account { IfOk result (λ c. IsAccountOf job.entry (taken.chunk ∷ []) (account_of c)) }
     ensures refusal { IfErr result (λ refusal. refusal ≡ Refusal.OutOfMemory) }
 {
     gate.entered(taken);
     let chunk = job.chunks.at(taken.chunk);
+    let number = ChunkNo(taken.chunk);
     let work = Work {
-        chunk: ChunkNo(taken.chunk),
+        chunk: number,
         first: chunk.first,
         count: chunk.count,
     };
     let piece = runner.run_chunk(alloc, job.lowered, job.registers, job.space, work)?;
-    let Piece { changes, .. } = piece;
-    Ok(ChunkChanges { work, changes })
+    Ok(ChunkPiece { number, piece })
 }
 
 /// Draws until the end, and runs each chunk drawn. The bench is what the thread keeps from loop to loop.
@@ -86,7 +85,7 @@ pub(crate) fn work<G: Gate>(
         mut seat,
     } = member;
     let mut runner = Worker::resume(alloc, job.store, bench.take())?;
-    let mut changes = ChangeLog::new(alloc);
+    let mut log = ChunkLog::new(alloc);
     while let Some(ticket) = drawing.next(&mut seat) {
         let taken = Taken {
             worker,
@@ -94,11 +93,11 @@ pub(crate) fn work<G: Gate>(
             chunk: ticket,
             chunks: drawing.count(),
         };
-        changes.push(run_taken(alloc, job, &mut runner, taken, gate)?)?;
+        log.push(run_taken(alloc, job, &mut runner, taken, gate)?)?;
     }
     *bench = Some(runner.leave());
     Ok(Finished {
         seat: RestingSeat::new(seat),
-        changes,
+        log,
     })
 }

@@ -1,13 +1,13 @@
-use Rattle.std.proofs.Common.{ℕ, ◌≡◌, ◌<◌, ◌≤◌, Some, None, List, [], ◌∷◌, ◌++◌, length, map, slice_get, sym, ap, ◌∙◌, arith, rules}
-use Rattle.std.proofs.lemmas.List.{map-append, take_all}
-use Rattle.std.proofs.lemmas.List.Elements.{All-same, All-push}
+use Rattle.std.proofs.Common.{ℕ, ◌≡◌, ◌<◌, ◌≤◌, Some, None, List, [], ◌∷◌, ◌++◌, length, take, slice_get, sym, ap, subst, ◌∙◌, arith, rules}
+use Rattle.std.proofs.lemmas.List.{take_all}
 use Rattle.std.proofs.lemmas.Option.{slice_get_within}
 use Rattle.semantics.specs.Loops.Chunk.{cut}
 use Rattle.nest_space.specs.Space.{vectors}
 use Rattle.schedule.specs.Part.{static_kind}
-use Rattle.team.specs.declared.worker.ChunkChanges.{ChunkChanges}
-use Rattle.team.specs.Ends.{IsChangeOf}
+use Rattle.team.specs.Ends.{IsAccountOf}
+use Rattle.team.specs.Logged.{account_of}
 use Rattle.team.specs.Dealt.{own_numbers}
+use Rattle.team.proofs.Accounts.{account_none, account_both}
 use Rattle.team.proofs.Cutting.{few_chunks}
 use Rattle.team.proofs.Dealing.{own_few, part_numbers, next_own, past_end}
 use Rattle.team.proofs.dealt.run_own.Goals as goal
@@ -25,6 +25,14 @@ overflow_add-turn g c =
     let few : length chunks ≤ n = few_chunks n chunks c.requires.ready.cut in
     let most : n ≤ 16777216 = c.requires.ready.few in
     search (rules, arith)
+
+pub loop-number-init : goal.loop-number-init
+loop-number-init g c =
+    let job = c.args.job in
+    record {
+      runner = c.in_ok-runner.ensures.store;
+      account = subst (IsAccountOf job []) (sym c.new-log.ensures) (account_none job.lowered.now job.registers.now job.store.now job.chunks.now);
+    }
 
 pub loop-number-smaller : goal.loop-number-smaller
 loop-number-smaller g c =
@@ -46,19 +54,12 @@ loop-number-preserved g c =
     let same = part_numbers c.static_init-part.result c.args.size c.count.result c.args.workers c.args.worker chunks c.static_init-part.ensures cut_is in
     let there : slice_get own c.loop-number.turn ≡ Some c.in-Some.number = ap (λ (k : List ℕ). slice_get k c.loop-number.turn) (sym same) ∙ sym c.number.ensures.number ∙ c.in-Some.is in
     let was = c.loop-number.invariant in
-    let pushed = c.in_ok-push.ensures in
-    let all = c.loop-number.changes in
-    let change = c.in_ok-run_taken.field-0 in
-    let P = IsChangeOf c.args.job in
-    let number : change.work.chunk.0 ≡ c.in-Some.number = c.in_ok-run_taken.ensures.number in
+    let job = c.args.job in
+    let piece = c.in_ok-run_taken.field-0 in
+    let more = account_both job.lowered.now job.registers.now job.store.now job.chunks.now (take c.loop-number.turn own) (c.in-Some.number ∷ []) c.loop-number.log (account_of piece) was.account c.in_ok-run_taken.ensures.account in
     record {
       runner = c.in_ok-run_taken.ensures.runner ∙ was.runner;
-      numbers =
-          ap (λ (cs : List ChunkChanges). map (λ k. k.work.chunk.0) cs) pushed
-          ∙ map-append (λ (k : ChunkChanges). k.work.chunk.0) all (change ∷ [])
-          ∙ (λ i. was.numbers i ++ number i ∷ [])
-          ∙ sym (next_own own c.loop-number.turn c.in-Some.number there);
-      each = All-same P c.push.new.self (all ++ change ∷ []) pushed (All-push P all change was.each c.in_ok-run_taken.ensures.change);
+      account = subst (λ ns. IsAccountOf job ns c.push.new.self) (sym (next_own own c.loop-number.turn c.in-Some.number there)) (subst (IsAccountOf job (take c.loop-number.turn own ++ c.in-Some.number ∷ [])) (sym c.in_ok-push.ensures) more);
     }
 
 pub returns-clause-dealt : goal.returns-clause-dealt
@@ -69,7 +70,4 @@ returns-clause-dealt g c =
     let cut_is : chunks ≡ cut (static_kind c.args.size) c.count.result c.args.workers = c.requires.chunks ∙ ap (λ (m : ℕ). cut (static_kind c.args.size) m c.args.workers) (sym c.count.ensures) in
     let same = part_numbers c.static_init-part.result c.args.size c.count.result c.args.workers c.args.worker chunks c.static_init-part.ensures cut_is in
     let none : slice_get own c.loop-number.turn ≡ None = ap (λ (k : List ℕ). slice_get k c.loop-number.turn) (sym same) ∙ sym c.number.ensures.number ∙ c.in_default.is in
-    record {
-      numbers_are = c.loop-number.invariant.numbers ∙ take_all c.loop-number.turn own (past_end own c.loop-number.turn none);
-      each = c.loop-number.invariant.each;
-    }
+    subst (λ ns. IsAccountOf c.args.job ns c.loop-number.log) (take_all c.loop-number.turn own (past_end own c.loop-number.turn none)) c.loop-number.invariant.account

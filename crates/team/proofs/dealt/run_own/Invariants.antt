@@ -1,5 +1,5 @@
-use Rattle.std.proofs.Common.{◌≡◌, ◌-◌, take, length, map, All}
-use Rattle.team.specs.Ends.{IsChangeOf}
+use Rattle.std.proofs.Common.{◌≡◌, ◌-◌, take, length}
+use Rattle.team.specs.Ends.{IsAccountOf}
 use Rattle.team.specs.Dealt.{own_numbers}
 use Rattle.team.proofs.dealt.run_own.Given as goal
 
@@ -8,8 +8,7 @@ abbrev pub invariant-loop-number : goal.invariant-loop-number
 invariant-loop-number g l =
     record {
       runner : l.runner ≡ l.job.store.now;
-      numbers : map (λ c. c.work.chunk.0) l.changes ≡ take l.turn (own_numbers l.fn.size (length l.job.chunks.now) l.workers l.worker);
-      each : All (IsChangeOf l.job) l.changes;
+      account : IsAccountOf l.job (take l.turn (own_numbers l.fn.size (length l.job.chunks.now) l.workers l.worker)) l.log;
     }
 
 abbrev pub decreases-loop-number : goal.decreases-loop-number

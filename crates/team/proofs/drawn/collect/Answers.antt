@@ -6,7 +6,7 @@ use Rattle.team.specs.Ends.{IsFinished}
 use Rattle.team.specs.Logged.{joined}
 use Rattle.team.specs.Places.{Aim, IsEndBy}
 use Rattle.team.proofs.Ending.{taken_more, place_of}
-use Rattle.team.proofs.Logging.{joined_more}
+use Rattle.team.proofs.Accounts.{joined_more}
 use Rattle.team.proofs.drawn.collect.Goals as goal
 
 pub loop-place-preserved : goal.loop-place-preserved
@@ -22,7 +22,7 @@ loop-place-preserved c =
           let here = place_of aim ys _ c.args.places.items place whole are in
           let one : IsFinished aim.lowered aim.registers aim.store aim.chunks draw.drawing finished
           = subst (λ (a : Aim). IsEndBy a (Drawn draw) (Draws finished)) here (c.in-Some-draws.ensures draw (ap (λ (a : Aim). a.way) here ∙ way)) in
-          taken_more aim.lowered aim.registers aim.store aim.chunks draw.drawing c.loop-place.seats.items c.seat_back.new.seats.items (joined c.loop-place.logs.items) _ finished c.in_ok-seat_back.ensures.back (joined_more c.loop-place.logs.items _ finished.changes c.in_ok-push.ensures.items) (was.taken aim draw way are) one;
+          taken_more aim.lowered aim.registers aim.store aim.chunks draw.drawing c.loop-place.seats.items c.seat_back.new.seats.items (joined c.loop-place.logs.items) _ finished c.in_ok-seat_back.ensures.back (joined_more c.loop-place.logs.items _ finished.log c.in_ok-push.ensures.items) (was.taken aim draw way are) one;
       len =
           ap (λ (k : List SeatState). length k) c.in_ok-seat_back.ensures.back
           ∙ (length-append c.loop-place.seats.items (finished.seat ∷ []) ∙ (ap (λ (n : ℕ). n + 1) was.len ∙ sym (length-append ys (place ∷ []))));

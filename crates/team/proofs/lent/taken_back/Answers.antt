@@ -2,8 +2,8 @@ use Rattle.std.proofs.Common.{◌≤◌, refl, subst, sym, ◌∙◌}
 use Rattle.team.specs.Places.{AreLeft, aim_of}
 use Rattle.team.proofs.lent.taken_back.Goals as goal
 
-pub changes_left-changes-requires : goal.changes_left-changes-requires
-changes_left-changes-requires c =
+pub logs_left-logs-requires : goal.logs_left-logs-requires
+logs_left-logs-requires c =
     let lent = c.args.lent in
     let aim = aim_of lent.lowered.now lent.grounds lent.store lent.way lent.workers in
     let left : AreLeft aim lent.grounds.space lent.way lent.places.items =
@@ -28,4 +28,4 @@ returns-clause-all c =
       all = sym lent.places.ok.0 ∙ lent.all;
       made = lent.made;
     } in
-    c.changes_left-changes.ensures.all aim lent.grounds.space left
+    c.logs_left-logs.ensures.all aim lent.grounds.space left

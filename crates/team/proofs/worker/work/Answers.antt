@@ -1,11 +1,19 @@
-use Rattle.std.proofs.Common.{◌≡◌, List, [], ◌∷◌, ◌++◌, map, sym, ap, ◌∙◌, arith}
-use Rattle.std.proofs.lemmas.List.{map-append}
-use Rattle.std.proofs.lemmas.List.Elements.{All-same, All-push}
+use Rattle.std.proofs.Common.{◌≡◌, [], ◌∷◌, ◌++◌, sym, ap, subst, ◌∙◌, arith}
 use Rattle.draw.specs.Tickets.{SeatState}
 use Rattle.draw.proofs.Rising.{above, fewer_left}
-use Rattle.team.specs.declared.worker.ChunkChanges.{ChunkChanges}
-use Rattle.team.specs.Ends.{IsChangeOf}
+use Rattle.team.specs.Ends.{IsAccountOf}
+use Rattle.team.specs.Logged.{account_of}
+use Rattle.team.proofs.Accounts.{account_none, account_both}
 use Rattle.team.proofs.worker.work.Goals as goal
+
+pub loop-ticket-init : goal.loop-ticket-init
+loop-ticket-init g c =
+    let job = c.args.job in
+    record {
+      runner = c.in_ok-runner.ensures.store;
+      seat = ap (λ (s : SeatState). s.of) c.requires.seat;
+      account = subst (λ ns. IsAccountOf job ns c.new-log.result) (ap (λ (s : SeatState). s.tickets) (sym c.requires.seat)) (subst (IsAccountOf job []) (sym c.new-log.ensures) (account_none job.lowered.now job.registers.now job.store.now job.chunks.now));
+    }
 
 pub loop-ticket-smaller : goal.loop-ticket-smaller
 loop-ticket-smaller g c =
@@ -18,18 +26,12 @@ pub loop-ticket-preserved : goal.loop-ticket-preserved
 loop-ticket-preserved g c =
     let told = c.in-Some.ensures in
     let was = c.loop-ticket.invariant in
-    let pushed = c.in_ok-push.ensures in
-    let all = c.loop-ticket.changes in
-    let change = c.in_ok-run_taken.field-0 in
-    let P = IsChangeOf c.args.job in
-    let number : change.work.chunk.0 ≡ c.in-Some.ticket = c.in_ok-run_taken.ensures.number in
+    let job = c.args.job in
+    let piece = c.in_ok-run_taken.field-0 in
+    let tickets = c.loop-ticket.seat.tickets in
+    let all = account_both job.lowered.now job.registers.now job.store.now job.chunks.now tickets (c.in-Some.ticket ∷ []) c.loop-ticket.log (account_of piece) was.account c.in_ok-run_taken.ensures.account in
     record {
       runner = c.in_ok-run_taken.ensures.runner ∙ was.runner;
       seat = ap (λ (s : SeatState). s.of) told.seat ∙ was.seat;
-      numbers =
-          ap (λ (cs : List ChunkChanges). map (λ k. k.work.chunk.0) cs) pushed
-          ∙ map-append (λ (k : ChunkChanges). k.work.chunk.0) all (change ∷ [])
-          ∙ (λ i. was.numbers i ++ number i ∷ [])
-          ∙ sym (ap (λ (s : SeatState). s.tickets) told.seat);
-      each = All-same P c.push.new.self (all ++ change ∷ []) pushed (All-push P all change was.each c.in_ok-run_taken.ensures.change);
+      account = subst (λ ns. IsAccountOf job ns c.push.new.self) (sym (ap (λ (s : SeatState). s.tickets) told.seat)) (subst (IsAccountOf job (tickets ++ c.in-Some.ticket ∷ [])) (sym c.in_ok-push.ensures) all);
     }

@@ -1,12 +1,9 @@
-use Rattle.std.proofs.Common.{◌≡◌, true, length, vec_len, map, sym, ap, ◌∙◌, arith}
+use Rattle.std.proofs.Common.{◌≡◌, true, length, vec_len, sym, subst, ◌∙◌, arith}
 use Rattle.std.proofs.lemmas.Bool.{false≢true}
-use Rattle.semantics.specs.Loops.Arrangement.{times, once_below}
-use Rattle.draw.specs.Tickets.{SomeEnded}
+use Rattle.semantics.specs.Loops.Arrangement.{EachOnceBelow}
+use Rattle.draw.specs.Tickets.{SomeEnded, all_tickets}
 use Rattle.draw.proofs.Seats.{some_ended}
-use Rattle.team.specs.declared.worker.ChunkChanges.{ChunkChanges}
-use Rattle.team.specs.Logged.{joined}
-use Rattle.team.proofs.Cutting.{one_below}
-use Rattle.team.proofs.drawn.all_changes.Goals as goal
+use Rattle.team.proofs.drawn.all_logs.Goals as goal
 
 pub close-requires : goal.close-requires
 close-requires c = c.requires.named
@@ -34,10 +31,7 @@ returns c = λ l registers ks chunks drawn.
     let together = c.close.ensures.together all in
     let count : together.drawn ≡ length chunks = together.ended ended ∙ drawn.count in
     record {
-      each = drawn.each;
-      every = λ number less.
-          let once : times number (map (λ (d : ChunkChanges). d.work.chunk.0) (joined c.args.end.changes.items)) ≡ once_below number together.drawn
-          = ap (times number) drawn.numbers ∙ together.each_once number in
-          let one : once_below number together.drawn ≡ 1 = one_below number together.drawn (omega arith) in
-          omega arith;
+      numbers = all_tickets seats;
+      account = drawn.account;
+      once = subst (λ n. EachOnceBelow n (all_tickets seats)) count together.each_once;
     }

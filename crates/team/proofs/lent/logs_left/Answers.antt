@@ -2,14 +2,14 @@ use Rattle.std.proofs.Common.{length, flat_map, vec_len, ◌∙◌, arith}
 use Rattle.std.proofs.lemmas.Result.{IfOk-weaker}
 use Rattle.semantics.specs.Meaning.Places.{below}
 use Rattle.nest_space.specs.Space.{vectors}
-use Rattle.team.specs.Ends.{AreAll}
-use Rattle.team.specs.Dealt.{IsDealt, own_numbers}
+use Rattle.team.specs.Ends.{IsAccount, AreAll}
+use Rattle.team.specs.Dealt.{own_numbers}
 use Rattle.team.specs.Logged.{joined}
 use Rattle.team.proofs.Dealing.{dealt_all}
-use Rattle.team.proofs.lent.changes_left.Goals as goal
+use Rattle.team.proofs.lent.logs_left.Goals as goal
 
-pub all_changes-requires : goal.all_changes-requires
-all_changes-requires c =
+pub all_logs-requires : goal.all_logs-requires
+all_logs-requires c =
     let aim = c.requires.0 in
     let left = c.requires.2 in
     let draw = c.in-Drawn.draw in
@@ -36,7 +36,7 @@ returns-in-Dealt-clause-all c = λ aim space left.
     let places = c.args.places.ok.0 in
     let all = left.all in
     let least = left.some in
-    IfOk-weaker c.gather.result (λ cs. IsDealt aim.lowered aim.registers aim.store aim.chunks (flat_map own (below count)) (joined cs.items)) (λ cs. AreAll aim.lowered aim.registers aim.store aim.chunks (joined cs.items))
+    IfOk-weaker c.gather.result (λ cs. IsAccount aim.lowered aim.registers aim.store aim.chunks (flat_map own (below count)) (joined cs.items)) (λ cs. AreAll aim.lowered aim.registers aim.store aim.chunks (joined cs.items))
     (λ cs dealt. dealt_all aim.lowered aim.registers aim.store aim.chunks size aim.workers count (length (vectors space)) (joined cs.items) (left.comes.cut size is) (omega arith) (omega arith) dealt)
     (c.gather.ensures.dealt aim size (left.way_is ∙ is) left.made)
 
@@ -45,4 +45,4 @@ returns-in_ok-seats-in-Drawn-clause-all c = λ aim space left.
     let draw = c.in-Drawn.draw in
     let is = c.in-Drawn.is in
     let taken = c.in_ok-seats-in-Drawn.ensures.taken aim draw (left.way_is ∙ is) left.made in
-    c.all_changes.ensures aim.lowered aim.registers aim.store aim.chunks (record { count = left.comes.count draw is; each = taken.each; numbers = taken.numbers })
+    c.all_logs.ensures aim.lowered aim.registers aim.store aim.chunks (record { count = left.comes.count draw is; account = taken.account })
