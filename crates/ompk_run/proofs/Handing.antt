@@ -1,10 +1,10 @@
 -- A loop that a team ran leaves the locals as they were, and the file-scope objects as the loop's run does.
 use Rattle.std.specs.Prelude.{ℕ, Bool, true, false, ◌≡◌, ◌==◌, ◌<◌, ◌≤◌, ◌^◌, ◌||◌, ◌&&◌, not, if◌then◌else◌, List, [], ◌∷◌, ◌++◌, length, map, Contains, Option, Some, None, IsSome, slice_get, option_and_then}
-use Rattle.std.specs.List.{list_any, list_all, AllByRecursion}
+use Rattle.std.specs.List.{list_any, list_all, All, AllByRecursion}
 use Rattle.std.proofs.Common.{refl, sym, ap, ◌∙◌, subst, append-nil}
 use Rattle.std.proofs.lemmas.Bool.{eqb-true}
 use Rattle.std.proofs.lemmas.List.{length-map}
-use Rattle.std.proofs.lemmas.List.Elements.{All-contains, All-from_recursion}
+use Rattle.std.proofs.lemmas.List.Elements.{All-nil, All-cons, All-contains, All-from_recursion}
 use Rattle.std.proofs.lemmas.Option.{slice_get_past, none-some}
 use Rattle.semantics.specs.Tree.{Variable, Stmt}
 use Rattle.semantics.specs.Meaning.Agrees.{is_among, declared_in}
@@ -14,6 +14,7 @@ use Rattle.semantics.specs.Meaning.Runs.{Effect, run}
 use Rattle.semantics.specs.Loops.Chunk.{Kind, IsSized, cut}
 use Rattle.semantics.specs.Loops.Joined.{chunked}
 use Rattle.semantics.specs.Loops.Nest.{Loop, Vector, iterations}
+use Rattle.semantics.specs.Loops.Piece.{no_roles}
 use Rattle.ktree.specs.View.{stmt_of}
 use Rattle.law_commute.specs.Joining.{DeclaresLocals}
 use Rattle.law_commute.specs.Targets.{targets_outside, is_local}
@@ -87,6 +88,10 @@ no_cell layout cells x is le =
     let past : length (shapes_of layout) ≤ x = subst (λ n. n ≤ x) (sym (length-map layout (λ (l : Laid). l.lengths.items))) le in
     ap (λ o. option_and_then (λ k. slice_get cells k) (spot_in o (first_of (shapes_of layout) x) is)) (slice_get_past (shapes_of layout) x past)
 
+all_of : {X : Type 0} (P : X → Type 0) (xs : List X) → ((x : X) → P x) → All P xs
+all_of P [] h = All-nil P
+all_of P (x ∷ xs) h = All-cons P x xs (h x) (all_of P xs h)
+
 module _ (layout : List Laid) (mark : ℕ) (s : State) (rs : List ℕ) (ks : List Kept) (stand : StandFor layout mark s rs ks) where
   declares : (a : Stmt) → AreLocals layout mark (declared_in a) → DeclaresLocals a s
   declares a locals x hidden = go (is_among (declared_in a) x) refl hidden
@@ -95,22 +100,22 @@ module _ (layout : List Laid) (mark : ℕ) (s : State) (rs : List ℕ) (ks : Lis
       go true e h = stand.machine.cell x [] ∙ no_cell layout (values_of ks) x [] (number_of layout mark (declared_in a) x locals e)
       go false e h = absurd cc
 
-  module _ (serial : List Loop) (l : TeamLoop) (fits : TeamFits layout mark serial l) (kind : Kind) (workers : ℕ) (sized : IsSized kind) (some : 0 < workers) (ks' : List Kept) (leaves : LeavesTogether l.lowered rs ks ks' kind workers)
-      (shape : lengths_of ks' ≡ lengths_of ks) (words : Fits (machine rs (values_of ks'))) (room : length (values_of ks') < 2 ^ 64) (text : List ℕ) where
+  module _ (serial : List Loop) (l : TeamLoop) (fits : TeamFits layout mark serial l) (kind : Kind) (workers : ℕ) (sized : IsSized kind) (some : 0 < workers) (rs' : List ℕ) (ks' : List Kept) (leaves : LeavesTogether l.lowered rs rs' ks ks' kind workers)
+      (shape : lengths_of ks' ≡ lengths_of ks) (words : Fits (machine rs' (values_of ks'))) (room : length (values_of ks') < 2 ^ 64) (text : List ℕ) where
     abbrev loop : Stmt
     loop = stmt_of l.statement.now
 
-    -- registers as before, and the new store
-    behind : (is_at_turn serial s && list_all (is_local s) (targets_outside loop)) ≡ true → (e : Effect) → run loop s ≡ Some e → Arrives layout mark (Some (shared_effect s e)) s rs ks' text text
+    -- the new store, and registers as before
+    behind : (is_at_turn serial s && list_all (is_local s) (targets_outside loop)) ≡ true → (e : Effect) → run loop s ≡ Some e → Arrives layout mark (Some (shared_effect s e)) s rs' ks' text text
     behind guard e ran =
         let here = both.first_of (is_at_turn serial s) (list_all (is_local s) (targets_outside loop)) guard in
         let own = both.second_of (is_at_turn serial s) (list_all (is_local s) (targets_outside loop)) guard in
         let turn = at_turns serial s here in
         let us = some_of (iterations fits.loops s) (fits.commutes.there fits.loops fits.body s fits.nest turn) in
         let apart = fits.commutes.chunks fits.loops fits.body s us.0 (chunked us.0 (cut kind (length us.0) workers)) e fits.nest turn (declares loop fits.locals) own us.1 (cover us.0 kind workers sized some) ran in
-        let merged = leaves layout mark fits.loops fits.body s us.0 apart.effects
-        (record { box = fits.box; lowered = fits.lowered; stand = stand; counters = λ x counter. at_turn s serial here x (fits.known x counter); are = us.1; different = refl; apart = refl; held = λ x op is. absurd (none-some op is) }) apart.each in
-        let cells : (x : ℕ) (is : List ℕ) → cell_at (shapes_of layout) (values_of ks') x is ≡ left_by s e x is = apart.merge (λ x is. cell_at (shapes_of layout) (values_of ks') x is) merged in
+        let merged = leaves layout mark no_roles fits.loops fits.body s us.0 apart.effects
+        (record { box = fits.box; lowered = fits.lowered; stand = stand; counters = λ x counter. at_turn s serial here x (fits.known x counter); are = us.1; different = refl; apart = refl; held = λ x op is. absurd (none-some op is) }) apart.each (all_of _ apart.effects (λ f x op is. absurd (none-some op is))) in
+        let cells : (x : ℕ) (is : List ℕ) → cell_at (shapes_of layout) (values_of ks') x is ≡ left_by s e x is = apart.merge (λ x is. cell_at (shapes_of layout) (values_of ks') x is) (λ x is. merged.cells x is refl) in
         let shared = shares s e in
         record {
           state = overwritten s (shared_effect s e).writes;
@@ -118,9 +123,9 @@ module _ (layout : List Laid) (mark : ℕ) (s : State) (rs : List ℕ) (ks : Lis
             machine = record {
               laid = stand.machine.laid;
               fits = words;
-              width = stand.machine.width;
+              width = subst (λ n. mark ≤ n) (sym merged.long) stand.machine.width;
               room = room;
-              local = λ x v q. stand.machine.local x v (sym (shared.locals x) ∙ q);
+              local = λ x v q. merged.others x refl ∙ stand.machine.local x v (sym (shared.locals x) ∙ q);
               file_scope = λ x lt. shared.locals x ∙ stand.machine.file_scope x lt;
               unmarked = λ x le. shared.locals x ∙ stand.machine.unmarked x le;
               cell = λ x is. shared.cells x is ∙ sym (cells x is);
@@ -130,11 +135,11 @@ module _ (layout : List Laid) (mark : ℕ) (s : State) (rs : List ℕ) (ks : Lis
           ran = record { effect = shared_effect s e; is = refl; left = refl; printed = sym (append-nil text) ∙ ap (λ t. text ++ t) (sym apart.quiet) };
         }
 
-    pub loop_arrives : IsSome (handed serial loop s) → Arrives layout mark (handed serial loop s) s rs ks' text text
+    pub loop_arrives : IsSome (handed serial loop s) → Arrives layout mark (handed serial loop s) s rs' ks' text text
     loop_arrives there = go (is_at_turn serial s && list_all (is_local s) (targets_outside loop)) refl (run loop s) refl there
       where
         go : (b : Bool) → (is_at_turn serial s && list_all (is_local s) (targets_outside loop)) ≡ b → (o : Option Effect) → run loop s ≡ o → IsSome (if b then map_option (shared_effect s) o else None)
-            → Arrives layout mark (if b then map_option (shared_effect s) o else None) s rs ks' text text
+            → Arrives layout mark (if b then map_option (shared_effect s) o else None) s rs' ks' text text
         go false q o r h = absurd cc
         go true q None r h = absurd cc
         go true q (Some e) r h = behind q e r

@@ -71,13 +71,13 @@ fn confirm_cut(clause: Option<Schedule>, runtime: Sched, workers: Workers)
 fn run_team_loop<'l, R: Threads + Wait + Sync, G: Gate>(
     construct: &'l TeamLoop<'_>,
     team: &Teaming<'_, '_, '_, 'l, R, G>,
-    registers: &Vec<u64>,
+    registers: &mut Vec<u64>,
     store: &mut Store,
 ) -> Result<(), Refusal>
     ensures ran { OnOk result ((layout : List Laid) (mark : ℕ) (serial : List Loop) (text : List ℕ)
         → Fits layout mark serial (Team construct.now)
         → Walks layout mark (performed serial (Team construct.now))
-        (stage registers.now.items store.old text) (stage registers.now.items store.new text)) }
+        (stage registers.old.items store.old text) (stage registers.new.items store.new text)) }
     ensures refusal { IfErr result (λ refusal. refusal ≡ OutOfMemory) }
     ensures shape { lengths_of store.new ≡ lengths_of store.old }
 {
@@ -87,7 +87,7 @@ fn run_team_loop<'l, R: Threads + Wait + Sync, G: Gate>(
         team.alloc,
         team.crew,
         lowered,
-        registers.as_slice(),
+        registers.as_mut_slice(),
         store,
         team.workers,
         team.sched,

@@ -1,8 +1,12 @@
-use Rattle.std.proofs.Common.{subst}
+use Rattle.std.proofs.Common.{ℕ, List, length, ◌≡◌, ◌++◌, ◌∙◌, sym, ap, subst, rw, take, drop, rules, arith}
+use Rattle.ktree.specs.View.{stmt_of}
+use Rattle.law_scopes.specs.Apart.{handed}
 use Rattle.schedule.specs.Sched.{kind_said}
 use Rattle.team.specs.Together.{LeavesTogether}
 use Rattle.lower_code.specs.Machine.{Fits, machine}
+use Rattle.lower_code.proofs.Starting.{put_back}
 use Rattle.store.specs.Flat.{values_of}
+use Rattle.lower_run.specs.Walk.{Arrives}
 use Rattle.ompk_run.proofs.Handing.{loop_arrives}
 use Rattle.ompk_run.proofs.teaming.run_team_loop.Goals as goal
 
@@ -11,8 +15,13 @@ returns-clause-ran g c layout mark serial text fits s stand some =
     let l = c.args.construct.now in
     let ks = c.args.store.now in
     let ks' = c.share_loop.new.store in
-    let rs = c.args.registers.now.items in
+    let old = c.args.registers.now.items in
+    let new = c.share_loop.new.registers in
     let kind = kind_said l.lowered.schedule c.args.team.now.sched in
-    let leaves = subst (λ r. LeavesTogether l.lowered r ks ks' kind c.args.team.now.workers) c.as_slice.ensures.value c.in_ok-share_loop.ensures.leaves in
-    let words = subst (λ r. Fits (machine r (values_of ks'))) c.as_slice-2.ensures.value c.confirm_words.ensures.words in
-    loop_arrives layout mark s rs ks stand serial l fits kind c.args.team.now.workers c.confirm_cut.ensures.sized c.confirm_cut.ensures.some ks' leaves c.share_loop.ensures.shape words c.confirm_words.ensures.room text some
+    let size : c.args.registers.now.len ≡ length old = search rules in
+    let count : length new ≡ length old = c.share_loop.ensures.long ∙ ap (λ (l : List ℕ). length l) c.as_mut_slice.ensures.value in
+    let back : take c.args.registers.now.len (new ++ drop (length new) old) ≡ new = put_back c.args.registers.now.len new old (omega arith) (omega arith) in
+    let leaves = subst (λ r. LeavesTogether l.lowered r new ks ks' kind c.args.team.now.workers) c.as_mut_slice.ensures.value c.in_ok-share_loop.ensures.leaves in
+    let words : Fits (machine new (values_of ks')) = rw (c.as_slice.ensures.value ∙ back) at c.confirm_words.ensures.words in
+    subst (λ rs. Arrives layout mark (handed serial (stmt_of l.statement.now) s) s rs ks' text text) (sym back)
+    (loop_arrives layout mark s old ks stand serial l fits kind c.args.team.now.workers c.confirm_cut.ensures.sized c.confirm_cut.ensures.some new ks' leaves c.share_loop.ensures.shape words c.confirm_words.ensures.room text some)
