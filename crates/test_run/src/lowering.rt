@@ -166,8 +166,8 @@ fn is_run<R: Threads + Wait + Sync, G: Gate + Sync>(
     gate: &G,
 ) -> bool {
     match Vec::from_elem(alloc, turn, 8) {
-        Ok(registers) => {
-            let registers = registers.as_slice();
+        Ok(mut registers) => {
+            let registers = registers.as_mut_slice();
             run_loop(rt, alloc, lowered, registers, store, workers, runtime, gate).is_ok()
         }
         Err(_error) => false,
