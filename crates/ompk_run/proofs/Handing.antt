@@ -20,6 +20,7 @@ use Rattle.law_commute.specs.Joining.{DeclaresLocals}
 use Rattle.law_commute.specs.Targets.{targets_outside, is_local}
 use Rattle.law_commute.proofs.Values as both
 use Rattle.law_nests.specs.Merging.{left_by}
+use Rattle.law_roles.specs.Reducing.{AreHeld}
 use Rattle.law_scopes.specs.Apart.{shared_effect, holds_number, hold_values, hold_some, is_at_turn, handed}
 use Rattle.law_scopes.proofs.Shared.{shares}
 use Rattle.law_scopes.proofs.Spots.{some_of}
@@ -114,7 +115,7 @@ module _ (layout : List Laid) (mark : ℕ) (s : State) (rs : List ℕ) (ks : Lis
         let us = some_of (iterations fits.loops s) (fits.commutes.there fits.loops fits.body s fits.nest turn) in
         let apart = fits.commutes.chunks fits.loops fits.body s us.0 (chunked us.0 (cut kind (length us.0) workers)) e fits.nest turn (declares loop fits.locals) own us.1 (cover us.0 kind workers sized some) ran in
         let merged = leaves layout mark no_roles fits.loops fits.body s us.0 apart.effects
-        (record { box = fits.box; lowered = fits.lowered; stand = stand; counters = λ x counter. at_turn s serial here x (fits.known x counter); are = us.1; different = refl; apart = refl; held = λ x op is. absurd (none-some op is) }) apart.each (all_of _ apart.effects (λ f x op is. absurd (none-some op is))) in
+        (record { box = fits.box; lowered = fits.lowered; stand = stand; counters = λ x counter. at_turn s serial here x (fits.known x counter); are = us.1; different = refl; apart = refl; held = λ x op is. absurd (none-some op is) }) apart.each (all_of (λ (f : Effect). AreHeld [] (overwritten s f.writes)) apart.effects (λ f x op is. absurd (none-some op is))) in
         let cells : (x : ℕ) (is : List ℕ) → cell_at (shapes_of layout) (values_of ks') x is ≡ left_by s e x is = apart.merge (λ x is. cell_at (shapes_of layout) (values_of ks') x is) (λ x is. merged.cells x is refl) in
         let shared = shares s e in
         record {

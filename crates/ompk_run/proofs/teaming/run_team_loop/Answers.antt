@@ -1,4 +1,4 @@
-use Rattle.std.proofs.Common.{ℕ, List, length, ◌≡◌, ◌++◌, ◌∙◌, sym, ap, subst, rw, take, drop, rules, arith}
+use Rattle.std.proofs.Common.{ℕ, List, length, ◌≡◌, ◌++◌, ◌∙◌, sym, ap, subst, take, drop, rules, arith}
 use Rattle.ktree.specs.View.{stmt_of}
 use Rattle.law_scopes.specs.Apart.{handed}
 use Rattle.schedule.specs.Sched.{kind_said}
