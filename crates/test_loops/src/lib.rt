@@ -4,6 +4,8 @@
 #[cfg(test)]
 mod affine_expr_rows;
 #[cfg(test)]
+mod flow_reduction_rows;
+#[cfg(test)]
 mod flow_rows;
 #[cfg(test)]
 mod nest_loop_rows;

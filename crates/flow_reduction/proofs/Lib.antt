@@ -1,0 +1,2 @@
+mod SameLemmas
+mod UpdateLemmas
