@@ -230,7 +230,8 @@ def try_crate(rt, crate, files, was_proved):
         else:
             edits.append(edit)
     with tempfile.TemporaryDirectory(prefix="edits-") as room:
-        kept, before = f"{room}/kept", rt.work_for(crate)
+        # some kits know of kept work of other checkouts on this machine
+        kept, before = f"{room}/kept", rt.work_for(crate) if hasattr(rt, "work_for") else None
         if before:
             rt.linked(before, kept)
         else:
@@ -278,8 +279,8 @@ class Tried:
         return dict(row.split() for row in rows)
 
     def sum_of(self, crate):
-        """The sum of a crate's sources with its edits, of what those below promise, and of the toolchain."""
-        found = hashlib.sha256(read(f"{self.rt.KIT}/KIT-ID").encode())
+        """The sum of a crate's sources with its edits, of what those below promise, and of the toolchain's logic, which its kits share."""
+        found = hashlib.sha256(read(f"{self.rt.KIT}/KIT-ID").partition(" ")[2].strip().encode())
         own = [(crate, it, str) for it in ("src", "specs", "proofs", "edits")]
         below = [(dep, part, seen) for dep in crate.below() for part, seen in (("src", promises), ("specs", str))]
         for owner, part, seen in own + below:

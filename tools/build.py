@@ -37,8 +37,9 @@ def main(program):
     os.chdir(kit.TOP)
     rt = kit.load()
     rt.rtlib.guarded()
-    # a library that another checkout on this machine built of the same sources is taken from there
-    rt.share_work(is_alone=True)
+    # some kits take a library that another checkout on this machine built of the same sources from there
+    if hasattr(rt, "share_work"):
+        rt.share_work(is_alone=True)
     kit.sum_once(rt.rtlib)
     found = [it for it in rt.rtlib.crates_below(kit.TOP) if it.name == program]
     if not found:

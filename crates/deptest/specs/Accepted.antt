@@ -1,11 +1,10 @@
 -- Kernels whose parallel loops are shown to be independent, and what is kept of an accepted text. (OpenMP 5.2, 1.4.1 and 11.5; C11 5.1.2.4)
-use Rattle.std.specs.Prelude.{ℕ, ◌≡◌, true, List, [], map, filter, flat_map, length, Some}
+use Rattle.std.specs.Prelude.{ℕ, ◌≡◌, true, List, [], map, length, Some}
 use Rattle.semantics.specs.Tree.{Kernel, strip}
 use Rattle.semantics.specs.Source.Grammar.{ReadsText}
 use Rattle.law_lines.specs.Without.{IsTreeOf}
-use Rattle.semantics.specs.Meaning.Definite.{Privates, IsDefinite}
+use Rattle.semantics.specs.Meaning.Definite.{IsDefinite}
 use Rattle.semantics.specs.Directives.Annotated.{Directives, clauses_at}
-use Rattle.semantics.specs.Directives.Clauses.{private_of}
 use Rattle.semantics.specs.Directives.Naming.{IsAttached}
 use Rattle.ktree.specs.View.{kernel_of}
 use Rattle.ktree.specs.declared.statement.Kernel as code
@@ -18,13 +17,12 @@ use Rattle.pragma_region.specs.Regions.{alone}
 use Rattle.pragma_region.specs.Counted.{counted_in}
 use Rattle.pragma_region.specs.Listed.{regions_of, parts_of, part_said}
 use Rattle.pragma_region.specs.declared.listing.RegionPart.{RegionPart}
-use Rattle.flow.specs.Judged.{is_local}
-use Rattle.flow.specs.Private.{ItemsPrivate}
+use Rattle.flow.specs.Roles.{LineRoles, line_roles, privates_by, ItemsHaveBy, ItemsKeepRoles}
 use Rattle.flow_clauses.specs.Fitting.{fit_clauses}
 use Rattle.flow.specs.Parallel.{AreParallelLoops}
 use Rattle.flow.specs.declared.environment.ParallelLoop.{ParallelLoop}
 use Rattle.law_independence.specs.IndependenceLaws.{IsIndependentNest}
-use Rattle.law_independence.specs.OrderLaws.{CommutesAsNest}
+use Rattle.law_independence.specs.OrderLaws.{SharesBy}
 
 -- a text, and its tree with the directive lines
 pub record Program : Type 0 where
@@ -43,11 +41,11 @@ clauses_said k ds line = known_clauses (Some (clauses_at k ds line))
 abbrev pub clauses_counted : List ℕ → Kernel → Directives → Lines
 clauses_counted text k ds = counted_in text k (clauses_said k ds)
 
--- the locals in the private lists among them (OpenMP 5.2, 5.4.3)
-abbrev pub privates_counted : List ℕ → Kernel → Directives → Privates
-privates_counted text k ds line = filter (is_local (length k.variables)) (flat_map private_of (clauses_counted text k ds line))
+-- what they say of the scalars that the loop assigns (OpenMP 5.2, 5.4.3, 5.4.5 and 5.5.8)
+abbrev pub roles_counted : List ℕ → Kernel → Directives → LineRoles
+roles_counted text k ds line = line_roles (length k.variables) (clauses_counted text k ds line)
 
--- what is known before the dependence test: the tree is one of the text, whose directives are attached to the whole of it; its loops are canonical and never wrap, no subscript leaves its array, each directive line left in it is that of a loop directly behind it that holds no other, with a right nest, that writes no scalar but its own and the private ones, which it assigns before it reads them, and prints nothing, and no local is read before it is assigned; the private ones are those of the clauses that count for a loop, and these name what they may
+-- what is known before the dependence test: the tree is one of the text, whose directives are attached to the whole of it; its loops are canonical and never wrap, no subscript leaves its array, each directive line left in it is that of a loop directly behind it that holds no other, with a right nest, that prints nothing, writes no scalar but its own and those with a role, and keeps their roles, and no local is read before it is assigned; the roles are those of the clauses that count for a loop, and these name what they may
 pub record HasPassed (text : List ℕ) (k : Kernel) : Type 0 where
   pub reads : IsTreeOf text k
   pub directives : Directives
@@ -55,14 +53,18 @@ pub record HasPassed (text : List ℕ) (k : Kernel) : Type 0 where
   pub in_range : IsInRange k
   pub directed : IsDirected text k
   pub nested : AreRightNests text k
-  pub definite : IsDefinite (privates_counted text reads.whole directives) k
-  pub private : ItemsPrivate text (privates_counted text reads.whole directives) [] k.body
+  pub definite : IsDefinite (privates_by (roles_counted text reads.whole directives)) k
+  pub roles : ItemsKeepRoles text (roles_counted text reads.whole directives) [] k.body
   pub fit : fit_clauses (clauses_counted text reads.whole directives) k ≡ true
 
--- at each turn of the serial loops round a parallel loop no two of its iterations conflict, and in any order they leave the same elements
+-- the roles of a kernel that has passed
+abbrev pub roles_passed : {text : List ℕ} {k : Kernel} → HasPassed text k → LineRoles
+roles_passed {text} passed = roles_counted text passed.reads.whole passed.directives
+
+-- at each turn of the serial loops round a parallel loop no two of its iterations conflict, and chunks of them, with the roles of what it assigns, leave together what it leaves, without reductions in any order
 pub record AreIndependent (text : List ℕ) (k : Kernel) : Type 0 where
   pub apart : ItemsHave text IsIndependentNest [] k.body
-  pub commute : ItemsHave text CommutesAsNest [] k.body
+  pub share : (passed : HasPassed text k) → ItemsHaveBy text (SharesBy k.variables (roles_passed passed)) [] k.body
 
 -- what holds of each accepted text
 pub record IsAccepted (p : Program) : Type 0 where
@@ -76,8 +78,17 @@ pub record AreRegions (text : List ℕ) (k : Kernel) (parts : List RegionPart) :
   pub dissolved : k ≡ alone text whole
   pub are : map part_said parts ≡ parts_of (regions_of text whole)
 
+-- a kernel has passed, and these are its parallel loops, in the order of the text
+pub record HasLoops (text : List ℕ) (k : Kernel) (loops : List ParallelLoop) : Type 0 where
+  pub passed : HasPassed text k
+  pub listed : AreParallelLoops text (roles_passed passed) k loops
+
+-- so it is of an accepted text
+pub record KeepsLoops (p : Program) (loops : List ParallelLoop) : Type 0 where
+  pub accepted : IsAccepted p
+  pub listed : AreParallelLoops p.text (roles_passed accepted.passed) (kernel_of p.kernel) loops
+
 -- and what is kept of it: its parallel loops and the parts of its parallel regions, in the order of the text
 pub record IsKept (p : Program) (loops : List ParallelLoop) (parts : List RegionPart) : Type 0 where
-  pub accepted : IsAccepted p
-  pub listed : AreParallelLoops p.text (kernel_of p.kernel) loops
+  pub keeps : KeepsLoops p loops
   pub regions : AreRegions p.text (kernel_of p.kernel) parts

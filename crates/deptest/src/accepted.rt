@@ -3,8 +3,7 @@
 ghost use Rattle.std.specs.Prelude.{◌≡◌, map, IfOk, IfErr};
 ghost use Rattle.ktree.specs.View.{declaration_of, kernel_of};
 ghost use Rattle.nest.specs.Judged.{IsTableOf};
-ghost use Rattle.flow.specs.Parallel.{AreParallelLoops};
-ghost use Rattle.deptest.specs.Accepted.{tree_of, HasPassed, AreIndependent, AreRegions, IsAccepted};
+ghost use Rattle.deptest.specs.Accepted.{tree_of, HasPassed, HasLoops, KeepsLoops, AreIndependent, AreRegions, IsAccepted};
 ghost use Rattle.deptest.specs.Refused.{RefusesLoops};
 
 use crate::independent::check;
@@ -65,7 +64,7 @@ impl Checked {
 
     /// Its parallel loops, in the order of the text, each with what its directive line says.
     pub fn loops(&self) -> &[ParallelLoop]
-        ensures { AreParallelLoops self.now.text (kernel_of self.now.kernel) result.now }
+        ensures { KeepsLoops self.now result.now }
     {
         self.parallel.loops.as_slice()
     }
@@ -117,9 +116,8 @@ pub fn accept(
     parallel: Parallel,
 ) -> Result<Checked, Refusal>
     requires lines { directives.now ≡ text.now }
-    requires passed { HasPassed text.now (kernel_of kernel) }
+    requires passed { HasLoops text.now (kernel_of kernel) parallel.loops.items }
     requires table { IsTableOf (kernel_of kernel) table.now }
-    requires listed { AreParallelLoops text.now (kernel_of kernel) parallel.loops.items }
     requires regions { AreRegions text.now (kernel_of kernel) parallel.regions.items }
     ensures is { IfOk result (λ checked. checked ≡ record { text = text.now; kernel = kernel }) }
     ensures err { IfErr result (RefusesLoops text.now (kernel_of kernel)) }

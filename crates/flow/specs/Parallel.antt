@@ -8,15 +8,24 @@ use Rattle.ktree.specs.declared.place.VarId.{VarId}
 use Rattle.pragma.specs.Clauses.{ReadsLoop}
 use Rattle.pragma.specs.Parallel.{associated}
 use Rattle.pragma.specs.Views.{scheduled}
+use Rattle.semantics.specs.Loops.Piece.{Roles}
+use Rattle.flow_reduction.specs.Reduced.{reduced}
 use Rattle.flow.specs.Private.{first_stmt_of}
+use Rattle.flow.specs.Roles.{LineRoles}
+use Rattle.flow.specs.declared.environment.LoopRoles.{LoopRoles}
 use Rattle.flow.specs.declared.environment.ParallelLoop.{ParallelLoop}
 
 -- the numbers of variables
 abbrev pub numbers : List VarId → List Variable
 numbers vs = map (λ v. v.0) vs
 
--- a `parallel for` on a line, before these items: private are the variables of its loops, and what their body declares (OpenMP 5.2, 5.1.1)
-pub record IsParallelLoop (text : List ℕ) (line : ℕ) (rest : Items) (l : ParallelLoop) : Type 0 where
+-- these are the reduction variables and the lastprivate ones of some roles, in their order
+pub record AreRolesOf (roles : Roles) (l : LoopRoles) : Type 0 where
+  pub reductions : reduced l.reductions.items ≡ roles.reductions
+  pub lasts : numbers l.lasts.items ≡ roles.lasts
+
+-- a `parallel for` on a line, before these items: private are the variables of its loops, and what their body declares (OpenMP 5.2, 5.1.1); of those with a role by its line the ones are kept that leave something behind it
+pub record IsParallelLoop (text : List ℕ) (R : LineRoles) (line : ℕ) (rest : Items) (l : ParallelLoop) : Type 0 where
   pub at_line : l.line.line ≡ line
   pub reads : ReadsLoop (line_at text line) (scheduled l.directive) l.directive.collapse
   pub statement : Stmt
@@ -25,6 +34,7 @@ pub record IsParallelLoop (text : List ℕ) (line : ℕ) (rest : Items) (l : Par
   pub stands : first_stmt_of rest ≡ Some statement
   pub nest : nest_of (associated l.directive.collapse) statement ≡ Some (loops, body)
   pub privates : numbers l.private.items ≡ map (λ h. h.variable) loops ++ declared_in body
+  pub roles : AreRolesOf (R line) l.roles
 
 -- what is said of a list of parallel loops
 abbrev pub OfLoops : Type 1
@@ -36,40 +46,40 @@ Joined P Q ls = (first : List ParallelLoop) × (others : List ParallelLoop) × (
 
 abbrev mutual
   -- these are the parallel loops in a statement, in the order of the text
-  pub LoopsAre : List ℕ → Stmt → OfLoops
-  LoopsAre text (Assign x is e) ls = ls ≡ []
-  LoopsAre text (Update x is op e) ls = ls ≡ []
-  LoopsAre text (If c a) ls = LoopsAre text a ls
-  LoopsAre text (IfElse c a b) ls = Joined (LoopsAre text a) (LoopsAre text b) ls
-  LoopsAre text (For x name start test step body) ls = LoopsAre text body ls
-  LoopsAre text (Block items) ls = ItemsAre text items ls
-  LoopsAre text (Print parts) ls = ls ≡ []
+  pub LoopsAre : List ℕ → LineRoles → Stmt → OfLoops
+  LoopsAre text R (Assign x is e) ls = ls ≡ []
+  LoopsAre text R (Update x is op e) ls = ls ≡ []
+  LoopsAre text R (If c a) ls = LoopsAre text R a ls
+  LoopsAre text R (IfElse c a b) ls = Joined (LoopsAre text R a) (LoopsAre text R b) ls
+  LoopsAre text R (For x name start test step body) ls = LoopsAre text R body ls
+  LoopsAre text R (Block items) ls = ItemsAre text R items ls
+  LoopsAre text R (Print parts) ls = ls ≡ []
 
   -- among a block's items: one for each directive line
-  pub ItemsAre : List ℕ → Items → OfLoops
-  ItemsAre text no_items ls = ls ≡ []
-  ItemsAre text (mark line rest) ls =
-      (l : ParallelLoop) × (others : List ParallelLoop) × (ls ≡ l ∷ others) × IsParallelLoop text line rest l × ItemsAre text rest others
-  ItemsAre text (local x name start rest) ls = ItemsAre text rest ls
-  ItemsAre text (stmt s rest) ls = Joined (LoopsAre text s) (ItemsAre text rest) ls
+  pub ItemsAre : List ℕ → LineRoles → Items → OfLoops
+  ItemsAre text R no_items ls = ls ≡ []
+  ItemsAre text R (mark line rest) ls =
+      (l : ParallelLoop) × (others : List ParallelLoop) × (ls ≡ l ∷ others) × IsParallelLoop text R line rest l × ItemsAre text R rest others
+  ItemsAre text R (local x name start rest) ls = ItemsAre text R rest ls
+  ItemsAre text R (stmt s rest) ls = Joined (LoopsAre text R s) (ItemsAre text R rest) ls
 
 -- they are those of a whole text
-abbrev pub AreParallelLoops : List ℕ → Kernel → OfLoops
-AreParallelLoops text k ls = ItemsAre text k.body ls
+abbrev pub AreParallelLoops : List ℕ → LineRoles → Kernel → OfLoops
+AreParallelLoops text R k ls = ItemsAre text R k.body ls
 
 -- the one of a line
-abbrev pub IsOfLine : List ℕ → ℕ → Items → OfLoops
-IsOfLine text line rest ls = (l : ParallelLoop) × (ls ≡ l ∷ []) × IsParallelLoop text line rest l
+abbrev pub IsOfLine : List ℕ → LineRoles → ℕ → Items → OfLoops
+IsOfLine text R line rest ls = (l : ParallelLoop) × (ls ≡ l ∷ []) × IsParallelLoop text R line rest l
 
 -- what the first of these items has, as a directive line before others
-abbrev pub FirstLineIs : List ℕ → Items → Items → OfLoops
-FirstLineIs text (mark line items) rest ls = IsOfLine text line rest ls
-FirstLineIs text _ rest ls = ls ≡ []
+abbrev pub FirstLineIs : List ℕ → LineRoles → Items → Items → OfLoops
+FirstLineIs text R (mark line items) rest ls = IsOfLine text R line rest ls
+FirstLineIs text R _ rest ls = ls ≡ []
 
 -- and as a statement
-abbrev pub FirstLoopsAre : List ℕ → Items → OfLoops
-FirstLoopsAre text (stmt s items) ls = LoopsAre text s ls
-FirstLoopsAre text _ ls = ls ≡ []
+abbrev pub FirstLoopsAre : List ℕ → LineRoles → LineRoles → Items → OfLoops
+FirstLoopsAre text R (stmt s items) ls = LoopsAre text R s ls
+FirstLoopsAre text R _ ls = ls ≡ []
 
 -- such loops stand behind those that were there
 abbrev pub Adds : OfLoops → List ParallelLoop → List ParallelLoop → Type 0

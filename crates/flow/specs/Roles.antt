@@ -1,18 +1,37 @@
 -- What the clauses of parallel loops say of their scalars, and loops that keep to it. (OpenMP 5.2, 5.1.1, 5.4.3, 5.4.5 and 5.5.8)
-use Rattle.std.specs.Prelude.{ℕ, true, ◌≡◌, List, [], ◌∷◌, ◌++◌, map, Some, IsSome}
+use Rattle.std.specs.Prelude.{ℕ, true, ◌≡◌, List, [], ◌∷◌, ◌++◌, map, filter, flat_map, Some, IsSome}
 use Rattle.std.specs.List.{list_all}
 use Rattle.semantics.specs.Tree.{Variable, Stmt, Assign, Update, If, IfElse, For, Block, Print, Items, no_items, mark, local, stmt}
 use Rattle.semantics.specs.Meaning.Definite.{Privates, no_privates, definite}
 use Rattle.semantics.specs.Loops.Nest.{Loop, nest_of}
 use Rattle.semantics.specs.Loops.Piece.{Roles}
+use Rattle.semantics.specs.Directives.Directive.{Clause}
+use Rattle.semantics.specs.Directives.Clauses.{private_of, last_of, reduction_of}
 use Rattle.law_roles.specs.Updates.{is_plain, reduces}
 use Rattle.law_roles.specs.Sharing.{assigned_first, role_variables, are_different, AssignsAll}
 use Rattle.pragma.specs.Parallel.{AskedOfLoop, LineHas}
+use Rattle.pragma_named.specs.Known.{Known, lines_known}
+use Rattle.flow.specs.Judged.{is_local}
 use Rattle.flow.specs.Private.{is_private_body, all_but}
 
 -- the roles that the clauses of each directive line give, by its number
 abbrev pub LineRoles : Type 0
 LineRoles = ℕ → Roles
+
+-- what the clauses of a line say of the scalars that their loop assigns, where so many variables stand at file scope: the locals in private lists, the lastprivate variables and those that are reduced (OpenMP 5.2, 5.4.3, 5.4.5 and 5.5.8)
+abbrev pub line_roles : ℕ → List (Clause Variable) → Roles
+line_roles files cs =
+    record {
+      privates = filter (is_local files) (flat_map private_of cs);
+      firsts = [];
+      lasts = flat_map last_of cs;
+      conditionals = [];
+      reductions = flat_map reduction_of cs;
+    }
+
+-- so of each line, by what is known of its clauses
+abbrev pub roles_known : Known → ℕ → LineRoles
+roles_known known files line = line_roles files (lines_known known line)
 
 -- the private locals of each line
 abbrev pub privates_by : LineRoles → Privates

@@ -6,17 +6,29 @@ ghost use Rattle.semantics.specs.Meaning.Agrees.{declared_in, declared_among};
 ghost use Rattle.ktree.specs.View.{stmt_of, with_item, items_of};
 ghost use Rattle.flow.specs.Parallel.{numbers};
 
+use flow_reduction::Reduction;
 use ktree::{Item, Place, Stmt, VarId};
 use pragma::ParallelFor;
 use std::alloc::{AllocError, Global};
 
-/// A parallel loop of a kernel: where its directive line stands, what that says of its iterations, and the variables that are
-/// private without a clause: those of its associated loops and those that its body declares (OpenMP 5.2, 5.1.1 and 11.5).
+/// The variables that clauses of a loop name and that leave something behind it, in the order of the clauses (OpenMP 5.2, 5.4.5 and
+/// 5.5.8).
+#[derive(Drop)]
+pub struct LoopRoles {
+    pub reductions: Vec<Reduction>,
+    /// Those of `lastprivate`.
+    pub lasts: Vec<VarId>,
+}
+
+/// A parallel loop of a kernel: where its directive line stands, what that says of its iterations, the variables that are
+/// private without a clause: those of its associated loops and those that its body declares (OpenMP 5.2, 5.1.1 and 11.5), and those
+/// that leave something behind it.
 #[derive(Drop)]
 pub struct ParallelLoop {
     pub line: Place,
     pub directive: ParallelFor,
     pub private: Vec<VarId>,
+    pub roles: LoopRoles,
 }
 
 /// Puts what a statement declares behind other variables.

@@ -14,6 +14,6 @@ mod reading;
 mod sharing;
 
 pub use classifying::classify;
-pub use environment::ParallelLoop;
+pub use environment::{LoopRoles, ParallelLoop};
 pub use fault::DataFault;
 pub use judging::definite;

@@ -49,8 +49,7 @@ use Rattle.law_independence.proofs.Numbering.{undeclared}
 use Rattle.law_independence.proofs.Naming.{IsNamed, NamesCounters, counters_inside, stmt_named}
 use Rattle.law_independence.proofs.Starts.{AreBelow, below_later, below_with, next_unknown, all_start}
 use Rattle.law_apart.specs.Apart.{apart_items}
-use Rattle.law_scopes.specs.Laws.{LeavesTheSame}
-use Rattle.law_apart.specs.Laws.{AcceptedKernelsRunApart}
+use Rattle.law_apart.specs.Laws.{LeavesTheSame, AcceptedKernelsRunApart}
 use Rattle.law_scopes.proofs.Associated.{at_least_one}
 use Rattle.law_scopes.proofs.Spots.{some_of, no_spot, Spot, spot_turn}
 use Rattle.law_scopes.proofs.Staying.{loop_is_known, loop_knows, stays}

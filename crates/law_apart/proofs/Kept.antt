@@ -36,8 +36,9 @@ use Rattle.law_roles.specs.Reducing.{takes_all}
 use Rattle.law_roles.specs.Sharing.{assigned_first, role_variables, TakesOperands}
 use Rattle.law_independence.specs.OrderLaws.{HaveTurns, LeavesOthers, StandsThere, used_roles}
 use Rattle.law_independence.proofs.Targeted.{in_either, outside_visible, outside_target}
+use Rattle.law_starts.specs.Begun.{told_apart}
 use Rattle.law_scopes.specs.Apart.{is_at_turn}
-use Rattle.law_apart.specs.Apart.{left_slot, left_effect, LeavesApart, told_apart, stands_there, is_at_hand, handed, apart, apart_items, apart_behind}
+use Rattle.law_apart.specs.Apart.{left_slot, left_effect, LeavesApart, stands_there, is_at_hand, handed, apart, apart_items, apart_behind}
 use Rattle.law_independence.proofs.Hiding.{still_inside}
 use Rattle.law_scopes.proofs.Shared.{there_same}
 use Rattle.law_apart.proofs.Shared.{same_kind, left_apart}

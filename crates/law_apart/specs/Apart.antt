@@ -12,6 +12,7 @@ use Rattle.flow.specs.Roles.{LineRoles}
 use Rattle.law_roles.specs.Updates.{operands}
 use Rattle.law_roles.specs.Reducing.{takes_all}
 use Rattle.law_roles.specs.Sharing.{role_variables}
+use Rattle.law_starts.specs.Begun.{told_apart}
 use Rattle.law_independence.specs.OrderLaws.{used_roles}
 use Rattle.law_scopes.specs.Apart.{written_as, shared_write, is_at_turn}
 
@@ -41,10 +42,6 @@ pub record LeavesApart (xs : List Variable) (s : State) (e : Effect) : Type 0 wh
 
 abbrev pub EffectsAreLeftApart : Type 0
 EffectsAreLeftApart = (xs : List Variable) (s : State) (e : Effect) → LeavesApart xs s e
-
--- lastprivate and reduction variables
-abbrev pub told_apart : Roles → List Variable
-told_apart roles = roles.lasts ++ map (λ r. r.0) roles.reductions
 
 -- a scalar stands there, as a local or at file scope
 abbrev pub stands_there : State → Variable → Bool

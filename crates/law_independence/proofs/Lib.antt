@@ -28,4 +28,3 @@ pub mod PrivateNests
 pub mod RoleNests
 pub mod Taking
 pub mod Hiding
-pub mod PlainKernels

@@ -8,7 +8,7 @@ use Rattle.semantics.specs.Source.Statements.{ReadsIncrement, ReadsStmt}
 use Rattle.law_lines.specs.Without.{IsTreeOf}
 use Rattle.semantics.specs.Meaning.State.{State, Outside, Holds, is_there, overwritten}
 use Rattle.semantics.specs.Meaning.Agrees.{is_among, visible_behind}
-use Rattle.semantics.specs.Meaning.Definite.{Privates, no_privates, definite, IsDefinite}
+use Rattle.semantics.specs.Meaning.Definite.{no_privates, definite, IsDefinite}
 use Rattle.semantics.specs.Loops.Nest.{Loop, Vector, nest_of, iterations}
 use Rattle.semantics.specs.Meaning.Runs.{Effect, run}
 use Rattle.semantics.specs.Loops.Operator.{ReduceOp}
@@ -16,14 +16,11 @@ use Rattle.semantics.specs.Loops.Piece.{Roles, SharedLoop, is_outside}
 use Rattle.semantics.specs.Theorems.{is_declared, IsTurn, CommutesInAnyOrder}
 use Rattle.law_commute.specs.Joining.{DeclaresLocals}
 use Rattle.law_commute.specs.Targets.{targets_outside, is_local}
-use Rattle.law_nests.specs.Merging.{WalkApart}
 use Rattle.law_roles.specs.Updates.{operator_of}
 use Rattle.law_roles.specs.Sharing.{role_variables, IsScalar, HoldsNumber, TakesOperands, MayStart, changed_from, SharesFrom}
 use Rattle.nest_loop.specs.Constants.{Each, IsSmall}
-use Rattle.pragma.specs.Parallel.{ItemsHave}
 use Rattle.nest.specs.Nests.{IsInRange}
 use Rattle.deptest_verdict.specs.Shown.{AreShownLoops}
-use Rattle.flow.specs.Private.{ItemsPrivate}
 use Rattle.flow.specs.Roles.{LineRoles, privates_by, AskedByLine, ItemsHaveBy, ItemsKeepRoles}
 
 -- at each turn of the serial loops round a nest of so many loops at which the scalars that its body assigns from outside are locals, its iterations leave the same elements in any order
@@ -55,34 +52,6 @@ HasStepsRead n s = (loops : List Loop) (body : Stmt) → nest_of n s ≡ Some (l
 -- its iterations are there
 abbrev pub IterateAtTurns : List Loop → ℕ → Stmt → Type 0
 IterateAtTurns serial n s = (loops : List Loop) (body : Stmt) (outer : State) → nest_of n s ≡ Some (loops, body) → IsTurn serial outer → IsSome (iterations loops outer)
-
--- and wherever it has a run there, and the scalars that it assigns from outside are locals, chunks of them, each from the state before the nest, have a run each, and what they change, put together, is what it leaves
-abbrev pub WalkApartAtTurns : List Loop → ℕ → Stmt → Type 0
-WalkApartAtTurns serial n s =
-    (loops : List Loop) (body : Stmt) (outer : State) (us : List Vector) (chunks : List (List Vector)) (e : Effect)
-    → nest_of n s ≡ Some (loops, body) → IsTurn serial outer → DeclaresLocals s outer → list_all (is_local outer) (targets_outside s) ≡ true
-    → iterations loops outer ≡ Some us → flat_map (λ vs. vs) chunks ≡ us → run s outer ≡ Some e → WalkApart s loops body chunks outer e
-
--- a statement is a nest of so many loops, whose iterations may be run in any order and in chunks
-pub record CommutesAsNest (serial : List Loop) (n : ℕ) (s : Stmt) : Type 0 where
-  pub nest : IsSome (nest_of n s)
-  pub round : HaveTurns serial
-  pub steps : HasStepsRead n s
-  pub order : CommutesAtTurns serial n s
-  pub there : IterateAtTurns serial n s
-  pub chunks : WalkApartAtTurns serial n s
-
--- the private scalars of parallel loops are locals, which have the numbers behind the variables of the file
-abbrev pub ArePrivateLocals : Kernel → Privates → Type 0
-ArePrivateLocals k P = (line : ℕ) (x : Variable) → is_among (P line) x ≡ true → length k.variables ≤ x
-
--- so each parallel loop of a kernel of the grammar, where no subscript leaves its dimension, no local is read before it is assigned, parallel loops keep to their own scalars and their private ones, print nothing and assign each private one before they read it, and the test of pairs shows all of them to be independent
-abbrev pub AcceptedLoopsCommute : Type 0
-AcceptedLoopsCommute =
-    (text : List ℕ) (k : Kernel) (P : Privates) → IsTreeOf text k → IsInRange k → IsDefinite P k → ArePrivateLocals k P → ItemsPrivate text P [] k.body
-    → AreShownLoops text k → ItemsHave text CommutesAsNest [] k.body
-
--- ---- with roles
 
 -- the roles of the scalars from outside that a loop assigns; firstprivate ones are none of them
 abbrev pub used_roles : Stmt → Roles → Roles

@@ -3,7 +3,7 @@
 #![tactic(auto)]
 
 ghost use Rattle.law_independence.specs.IndependenceLaws.{ShownBodiesAreIndependent, ShownLoopsAreIndependent, ShownKernelsAreIndependent};
-ghost use Rattle.law_independence.specs.OrderLaws.{AcceptedLoopsCommute, AcceptedLoopsShare};
+ghost use Rattle.law_independence.specs.OrderLaws.{AcceptedLoopsShare};
 ghost use Rattle.law_independence.specs.ConflictLaws.{RefusalsAreTold};
 
 /// No two iterations of a nest conflict whose body's accesses are shown to be independent, at any turn of the serial loops round it
@@ -21,13 +21,6 @@ pub fn shown_loops_are_independent()
 /// (C11 5.1.2.4, 4; OpenMP 5.2, 1.4.1 and 11.5).
 pub fn shown_kernels_are_independent()
     ensures { ShownKernelsAreIndependent }
-{}
-
-/// The iterations of each parallel loop of a kernel leave the same elements in any order as in sequence, where no subscript leaves its
-/// dimension, no local is read before it is assigned, parallel loops keep to their own scalars and their private ones, assign each of these
-/// before they read it and print nothing, and the test of pairs shows all of them to be independent (OpenMP 5.2, 1.4.1, 5.4.3 and 11.5).
-pub fn accepted_loops_commute()
-    ensures { AcceptedLoopsCommute }
 {}
 
 /// Chunks of each parallel loop of a kernel, each from a state in which it may start, leave together what the loop leaves, where no subscript leaves

@@ -4,5 +4,3 @@ pub mod Staying
 pub mod Named
 pub mod Associated
 pub mod Spots
-pub mod Kept
-pub mod Accepted

@@ -1,14 +1,12 @@
--- Runs in which each parallel loop leaves the locals as they were, as a team does. (C11 6.2.1 and 6.2.4; OpenMP 5.2, 11.5)
-use Rattle.std.specs.Prelude.{ℕ, Bool, true, false, ◌≡◌, ◌==◌, ◌&&◌, if◌then◌else◌, List, [], ◌∷◌, ◌++◌, flat_map, Option, Some, None}
-use Rattle.std.specs.List.{list_any, list_all}
-use Rattle.semantics.specs.Tree.{Variable, Stmt, If, IfElse, For, Block, Items, no_items, mark, local, stmt}
+-- Effects on the objects at file scope alone, and states at a turn of loops. (C11 6.2.1 and 6.2.4; OpenMP 5.2, 4.4.2)
+use Rattle.std.specs.Prelude.{ℕ, Bool, true, false, ◌≡◌, ◌==◌, ◌&&◌, if◌then◌else◌, List, [], ◌∷◌, flat_map, Option, Some, None}
+use Rattle.std.specs.List.{list_any}
+use Rattle.semantics.specs.Tree.{Variable}
 use Rattle.semantics.specs.Meaning.State.{State, Slot, Outside, Empty, Holds, Write, Declared, Assigned, overwritten}
-use Rattle.semantics.specs.Meaning.Value.{holds, by_test, map_option}
-use Rattle.semantics.specs.Meaning.Runs.{Effect, nothing, then_from, declared, incremented, turns, greatest_trip_count, run}
+use Rattle.semantics.specs.Meaning.Runs.{Effect}
 use Rattle.semantics.specs.Loops.Nest.{Loop, Vector, iterations}
 use Rattle.semantics.specs.Loops.Piece.{is_outside}
 use Rattle.semantics.specs.Theorems.{IsTurn}
-use Rattle.law_commute.specs.Targets.{targets_outside, is_local}
 
 -- an object is written with what it holds, if it is there
 abbrev pub written_as : Variable → List ℕ → Option ℕ → List Write
@@ -56,32 +54,3 @@ is_at_turn ls s = hold_some ls s (iterations ls s)
 
 abbrev pub StatesAtTurnsAreTurns : Type 0
 StatesAtTurnsAreTurns = (ls : List Loop) (s : State) → is_at_turn ls s ≡ true → IsTurn ls s
-
--- a parallel loop inside serial ones as a team runs it: at a turn of these, where the scalars that it assigns from outside are locals
-abbrev pub handed : List Loop → Stmt → State → Option Effect
-handed serial a s =
-    if is_at_turn serial s && list_all (is_local s) (targets_outside a) then map_option (shared_effect s) (run a s) else None
-
-abbrev mutual
-  -- a statement inside serial loops, with the parallel loops in it run so
-  pub apart : List Loop → Stmt → State → Option Effect
-  apart serial (If c a) s = by_test (holds s c) (apart serial a s) (Some nothing)
-  apart serial (IfElse c a b) s = by_test (holds s c) (apart serial a s) (apart serial b s)
-  apart serial (For x name start test step body) s =
-      then_from s (declared s x (Some start))
-      (turns greatest_trip_count (λ t. holds t test) (apart (serial ++ record { variable = x; start = start; test = test; step = step } ∷ []) body) (λ t. incremented t step))
-  apart serial (Block items) s = apart_items serial items s
-  apart serial a s = run a s
-
-  -- the items of a block: behind a directive line stands a parallel loop
-  pub apart_items : List Loop → Items → State → Option Effect
-  apart_items serial no_items s = Some nothing
-  apart_items serial (mark line rest) s = apart_behind serial rest s
-  apart_items serial (local x name start rest) s = then_from s (declared s x start) (apart_items serial rest)
-  apart_items serial (stmt a rest) s = then_from s (apart serial a s) (apart_items serial rest)
-
-  pub apart_behind : List Loop → Items → State → Option Effect
-  apart_behind serial no_items s = Some nothing
-  apart_behind serial (mark line rest) s = apart_behind serial rest s
-  apart_behind serial (local x name start rest) s = then_from s (declared s x start) (apart_items serial rest)
-  apart_behind serial (stmt a rest) s = then_from s (handed serial a s) (apart_items serial rest)

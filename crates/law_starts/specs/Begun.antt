@@ -1,5 +1,5 @@
 -- The state in which a chunk begins that has no copies. (OpenMP 5.2, 5.5.2)
-use Rattle.std.specs.Prelude.{ℕ, true, ◌≡◌, List, [], ◌∷◌, map, Some, IsSome}
+use Rattle.std.specs.Prelude.{ℕ, true, ◌≡◌, List, [], ◌∷◌, ◌++◌, map, Some, IsSome}
 use Rattle.semantics.specs.Tree.{Variable, Stmt}
 use Rattle.semantics.specs.Meaning.State.{State, look, overwritten}
 use Rattle.semantics.specs.Meaning.Value.{map_option}
@@ -12,6 +12,10 @@ use Rattle.semantics.specs.Loops.Joined.{given}
 use Rattle.law_nests.specs.Walks.{walk}
 use Rattle.law_roles.specs.Reducing.{AreHeld}
 use Rattle.law_roles.specs.Sharing.{role_variables, are_different, IsScalar, begins_with, MayStart}
+
+-- lastprivate and reduction variables: what they hold is told by a chunk apart from what else it leaves
+abbrev pub told_apart : Roles → List Variable
+told_apart roles = roles.lasts ++ map (λ r. r.0) roles.reductions
 
 -- reduction variables that hold a number take what a chunk may begin with, one after another
 abbrev pub begun_with : List (Variable × ReduceOp) → State → State

@@ -1,17 +1,17 @@
 -- Outlines whose code does what their statements do. (C11 6.8)
 use Rattle.std.specs.Prelude.{ℕ, ◌≡◌, true, List, [], ◌∷◌, ◌++◌, map, Contains, Some}
 use Rattle.semantics.specs.Tree
-use Rattle.semantics.specs.Tree.{Variable, Stmt}
+use Rattle.semantics.specs.Tree.{Variable, Stmt, Declaration}
 use Rattle.semantics.specs.Meaning.Agrees.{declared_in}
 use Rattle.semantics.specs.Meaning.Runs.{declared, incremented, run, run_items}
 use Rattle.semantics.specs.Loops.Nest.{Loop, nest_of}
-use Rattle.semantics.specs.Loops.Piece.{no_roles}
 use Rattle.ktree.specs.View.{source_of, cond_of, increment_of, stmt_of, with_item}
 use Rattle.ktree.specs.declared.statement.Head.{Head}
 use Rattle.affine.specs.declared.interval.Side.{Side}
 use Rattle.affine_expr.specs.Forms.{is_counter}
 use Rattle.nest.specs.Heads.{head_of}
-use Rattle.law_independence.specs.OrderLaws.{CommutesAsNest}
+use Rattle.flow.specs.Roles.{LineRoles}
+use Rattle.law_independence.specs.OrderLaws.{SharesAsNest}
 use Rattle.lower_code.specs.declared.term.Laid.{Laid}
 use Rattle.lower_code.specs.Meaning.{MeansTest, AreLocals}
 use Rattle.lower_block.specs.declared.op.Compiled.{Compiled}
@@ -21,6 +21,7 @@ use Rattle.outline.specs.declared.shape.LoweredHead.{LoweredHead}
 use Rattle.outline.specs.declared.shape.TeamLoop.{TeamLoop}
 use Rattle.outline.specs.declared.shape.Outline.{Outline, Serial, Team, If', For', Block', Held-Outline-If-3, None', Some', Row_of-OutlineItem, end_of-OutlineItem, more_of-OutlineItem}
 use Rattle.outline.specs.declared.shape.OutlineItem.{OutlineItem, Plain, Statement'}
+use Rattle.outline.specs.View.{roles_in}
 
 -- what a loop's variable takes first, and what the loop does behind each turn
 abbrev pub EntryPerforms : List Laid → ℕ → Head → Compiled → Type 0
@@ -35,45 +36,46 @@ pub record HeadFits (layout : List Laid) (mark : ℕ) (h : Head) (l : LoweredHea
   pub test : MeansTest layout (cond_of h.test) l.test
   pub step : StepPerforms layout mark h l.step
 
--- a loop for a team is lowered from a nest inside serial loops, and the nest's chunks may be run apart
-pub record TeamFits (layout : List Laid) (mark : ℕ) (serial : List Loop) (l : TeamLoop) : Type 0 where
+-- a loop for a team is lowered from a nest inside serial loops with what its line says of the scalars that it assigns, and the nest's chunks may be run apart
+pub record TeamFits (layout : List Laid) (mark : ℕ) (R : LineRoles) (serial : List Loop) (l : TeamLoop) : Type 0 where
   pub loops : List Loop
   pub body : Stmt
   pub nest : nest_of l.depth (stmt_of l.statement.now) ≡ Some (loops, body)
   pub box : List Side
   pub known : (x : Variable) → is_counter box x ≡ true → Contains (map (λ h. h.variable) serial) x
-  pub lowered : IsLoweredFrom layout mark box no_roles loops body l.lowered
+  pub lowered : IsLoweredFrom layout mark box (roles_in R l) loops body l.lowered
   pub locals : AreLocals layout mark (declared_in (stmt_of l.statement.now))
-  pub commutes : CommutesAsNest serial l.depth (stmt_of l.statement.now)
+  pub declarations : List Declaration
+  pub shares : SharesAsNest declarations (roles_in R l) serial l.depth (stmt_of l.statement.now)
 
 abbrev mutual
   -- so does all code of an outline inside serial loops
-  pub Fits : List Laid → ℕ → List Loop → Outline → Type 0
-  Fits layout mark serial (Serial code s) = Performs layout mark (run (stmt_of s.now)) code
-  Fits layout mark serial (Team l) = TeamFits layout mark serial l
-  Fits layout mark serial (If' test c p a b) = MeansTest layout (cond_of c.now) test × Fits layout mark serial a × ElseFits layout mark serial b
-  Fits layout mark serial (For' lowered head p body) = HeadFits layout mark head.now lowered × Fits layout mark (serial ++ head_of head.now ∷ []) body
-  Fits layout mark serial (Block' _ items) = RowFits layout mark serial items
+  pub Fits : List Laid → ℕ → LineRoles → List Loop → Outline → Type 0
+  Fits layout mark R serial (Serial code s) = Performs layout mark (run (stmt_of s.now)) code
+  Fits layout mark R serial (Team l) = TeamFits layout mark R serial l
+  Fits layout mark R serial (If' test c p a b) = MeansTest layout (cond_of c.now) test × Fits layout mark R serial a × ElseFits layout mark R serial b
+  Fits layout mark R serial (For' lowered head p body) = HeadFits layout mark head.now lowered × Fits layout mark R (serial ++ head_of head.now ∷ []) body
+  Fits layout mark R serial (Block' _ items) = RowFits layout mark R serial items
 
   -- behind `else`
-  pub ElseFits : List Laid → ℕ → List Loop → Held-Outline-If-3 → Type 0
-  ElseFits layout mark serial None' = Unit {0}
-  ElseFits layout mark serial (Some' p b) = Fits layout mark serial b
+  pub ElseFits : List Laid → ℕ → LineRoles → List Loop → Held-Outline-If-3 → Type 0
+  ElseFits layout mark R serial None' = Unit {0}
+  ElseFits layout mark R serial (Some' p b) = Fits layout mark R serial b
 
   -- in an item
-  pub ItemFits : List Laid → ℕ → List Loop → OutlineItem → Type 0
-  ItemFits layout mark serial (Plain code i) = Performs layout mark (run_items (with_item i.now Tree.no_items)) code
-  ItemFits layout mark serial (Statement' p s) = Fits layout mark serial s
+  pub ItemFits : List Laid → ℕ → LineRoles → List Loop → OutlineItem → Type 0
+  ItemFits layout mark R serial (Plain code i) = Performs layout mark (run_items (with_item i.now Tree.no_items)) code
+  ItemFits layout mark R serial (Statement' p s) = Fits layout mark R serial s
 
   -- in a block
-  pub RowFits : List Laid → ℕ → List Loop → {m : _} → Row_of-OutlineItem m → Type 0
-  RowFits layout mark serial end_of-OutlineItem = Unit {0}
-  RowFits layout mark serial (more_of-OutlineItem i rest) = ItemFits layout mark serial i × RowFits layout mark serial rest
+  pub RowFits : List Laid → ℕ → LineRoles → List Loop → {m : _} → Row_of-OutlineItem m → Type 0
+  RowFits layout mark R serial end_of-OutlineItem = Unit {0}
+  RowFits layout mark R serial (more_of-OutlineItem i rest) = ItemFits layout mark R serial i × RowFits layout mark R serial rest
 
 -- in each item of a list
-abbrev pub AllFit : List Laid → ℕ → List Loop → List OutlineItem → Type 0
-AllFit layout mark serial [] = Unit {0}
-AllFit layout mark serial (i ∷ is) = ItemFits layout mark serial i × AllFit layout mark serial is
+abbrev pub AllFit : List Laid → ℕ → LineRoles → List Loop → List OutlineItem → Type 0
+AllFit layout mark R serial [] = Unit {0}
+AllFit layout mark R serial (i ∷ is) = ItemFits layout mark R serial i × AllFit layout mark R serial is
 
 -- where the locals of these numbers have registers
 abbrev pub WithLocals : List Laid → ℕ → List ℕ → Type 0 → Type 0

@@ -5,6 +5,7 @@ use Rattle.semantics.specs.Source.Text.{line_at}
 use Rattle.semantics.specs.Meaning.Runs.{run}
 use Rattle.semantics.specs.Meaning.Agrees.{declared_in}
 use Rattle.semantics.specs.Loops.Nest.{Loop, nest_of}
+use Rattle.semantics.specs.Loops.Piece.{Roles}
 use Rattle.ktree.specs.declared.place.Place.{Place}
 use Rattle.ktree.specs.declared.place.VarId.{VarId}
 use Rattle.ktree.specs.View.{stmt_of}
@@ -14,11 +15,17 @@ use Rattle.pragma.specs.Clauses.{ReadsLoop}
 use Rattle.pragma.specs.Parallel.{associated}
 use Rattle.pragma.specs.Views.{scheduled}
 use Rattle.nest.specs.Perfect.{AreRectangular}
+use Rattle.flow_reduction.specs.Reduced.{reduced}
+use Rattle.flow.specs.Roles.{LineRoles}
+use Rattle.flow.specs.Parallel.{numbers, AreRolesOf}
+use Rattle.flow.specs.declared.environment.LoopRoles.{LoopRoles}
 use Rattle.flow.specs.declared.environment.ParallelLoop.{ParallelLoop}
+use Rattle.law_independence.specs.OrderLaws.{used_roles}
 use Rattle.lower_code.specs.declared.term.Laid.{Laid}
 use Rattle.lower_code.specs.Meaning.{AreLocals}
 use Rattle.lower_block.specs.declared.op.Compiled.{Compiled}
 use Rattle.lower_run.specs.Walk.{Performs}
+use Rattle.lower.specs.Roles.{AreRolesAt}
 use Rattle.lower.specs.declared.lowered.LoweredLoop.{LoweredLoop}
 use Rattle.outline.specs.declared.shape.TeamLoop.{TeamLoop}
 
@@ -30,9 +37,14 @@ StandsAt loops line l = Contains loops l × (l.line ≡ line)
 abbrev pub NoneStandsAt : List ParallelLoop → Place → Type 0
 NoneStandsAt loops line = All (λ l. l.line ≡ line → ⊥) loops
 
--- of each of some loops the directive line of the text says what is kept of it
-abbrev pub AreOfText : List ℕ → List ParallelLoop → Type 0
-AreOfText text loops = All (λ l. ReadsLoop (line_at text l.line.line) (scheduled l.directive) l.directive.collapse) loops
+-- the directive line of a loop says what is kept of it
+pub record IsOfText (text : List ℕ) (R : LineRoles) (l : ParallelLoop) : Type 0 where
+  pub reads : ReadsLoop (line_at text l.line.line) (scheduled l.directive) l.directive.collapse
+  pub roles : AreRolesOf (R l.line.line) l.roles
+
+-- so it is of each of some loops
+abbrev pub AreOfText : List ℕ → LineRoles → List ParallelLoop → Type 0
+AreOfText text R loops = All (IsOfText text R) loops
 
 -- the locals among the variables of a box stand in a list
 abbrev pub ListsLocals : ℕ → List Side → List VarId → Type 0
@@ -48,22 +60,26 @@ pub record IsBodyCode (layout : List Laid) (mark : ℕ) (n : ℕ) (s : Stmt) (co
   pub is : IsBodyOf n s body
   pub performs : AreLocals layout mark (declared_in body) → Performs layout mark (run body) code
 
--- a lowered loop is this nest inside the loops of a box: its loops in their canonical form, and its body as code; no variable of it leaves anything behind it
-pub record IsLowered (layout : List Laid) (mark : ℕ) (box : List Side) (n : ℕ) (s : Stmt) (l : LoweredLoop) : Type 0 where
+-- the roles that are kept of a loop
+abbrev pub roles_of : LoopRoles → Roles
+roles_of l = record { privates = []; firsts = []; lasts = numbers l.lasts.items; conditionals = []; reductions = reduced l.reductions.items }
+
+-- a lowered loop is this nest inside the loops of a box: its loops in their canonical form, its body as code, and where those of its variables stand that it assigns from outside and that leave something behind it
+pub record IsLowered (layout : List Laid) (mark : ℕ) (box : List Side) (n : ℕ) (s : Stmt) (kept : LoopRoles) (l : LoweredLoop) : Type 0 where
   pub loops : List Loop
   pub body : Stmt
   pub nest : nest_of n s ≡ Some (loops, body)
   pub around : ListsLocals mark box l.around.items
   pub heads : AreRectangular box loops l.loops.items
   pub code : AreLocals layout mark (declared_in body) → Performs layout mark (run body) l.body
-  pub no_reductions : l.roles.reductions.items ≡ []
-  pub no_lasts : l.roles.lasts.items ≡ []
+  pub roles : AreRolesAt layout mark (used_roles s (roles_of kept)) l.roles
 
 -- a statement behind the directive line at this place is handed over, as many loops of it as that line associates, with its schedule (OpenMP 5.2, 11.5.3)
 pub record IsHanded (layout : List Laid) (mark : ℕ) (box : List Side) (loops : List ParallelLoop) (line : Place) (s : Stmt) (l : TeamLoop) : Type 0 where
   pub parallel : ParallelLoop
   pub stands : StandsAt loops line parallel
   pub statement : stmt_of l.statement.now ≡ s
+  pub at : l.line ≡ line.line
   pub depth : l.depth ≡ associated parallel.directive.collapse
   pub schedule : l.lowered.schedule ≡ parallel.directive.schedule
-  pub lowered : IsLowered layout mark box l.depth s l.lowered
+  pub lowered : IsLowered layout mark box l.depth s parallel.roles l.lowered

@@ -7,9 +7,10 @@ ghost use Rattle.ktree.specs.View.{stmt_of, items_of, cond_of, if_of};
 ghost use Rattle.ktree.specs.declared.refusal.Refusal.TheVariants.{OutOfMemory};
 ghost use Rattle.affine.specs.declared.interval.Side.{Side};
 ghost use Rattle.flow.specs.declared.environment.ParallelLoop.{ParallelLoop};
-ghost use Rattle.pragma.specs.Parallel.{ItemsHave};
-ghost use Rattle.law_independence.specs.OrderLaws.{CommutesAsNest};
-ghost use Rattle.law_scopes.specs.Apart.{apart_items};
+ghost use Rattle.semantics.specs.Tree.{Declaration};
+ghost use Rattle.flow.specs.Roles.{LineRoles, ItemsHaveBy};
+ghost use Rattle.law_independence.specs.OrderLaws.{SharesBy};
+ghost use Rattle.law_apart.specs.Apart.{apart_items};
 ghost use Rattle.outline.specs.Handed.{AreOfText};
 ghost use Rattle.pragma.specs.Plain.{has_line};
 ghost use Rattle.outline.specs.Made.{line_of, loop_with, IsInside, IsMade, IsMadeItem, AreMade};
@@ -250,14 +251,14 @@ pub fn outline<'k>(
     loops: &[ParallelLoop],
     target: Target<'_>,
 ) -> Result<Vec<OutlineItem<'k>>, Refusal>
-    ensures is { IfOk result
-        (λ os. items_performed [] os.items ≡ apart_items [] (items_of items.now)) }
+    ensures is { IfOk result (λ os. (R : LineRoles)
+        → items_performed R [] os.items ≡ apart_items R [] (items_of items.now)) }
     ensures fits { IfOk result
-        (λ os. (text : List ℕ) → AreOfText text loops.now
-        → ItemsHave text CommutesAsNest [] (items_of items.now)
+        (λ os. (text : List ℕ) (ds : List Declaration) (R : LineRoles) → AreOfText text R loops.now
+        → ItemsHaveBy text (SharesBy ds R) [] (items_of items.now)
         → WithLocals target.entry.layout.now target.entry.registers
         (declared_among (items_of items.now))
-        (AllFit target.entry.layout.now target.entry.registers [] os.items)) }
+        (AllFit target.entry.layout.now target.entry.registers R [] os.items)) }
     ensures refusal { IfErr result (λ refusal. refusal ≡ OutOfMemory) }
 {
     let mut bounds = VarBox::new(alloc);

@@ -5,10 +5,12 @@ use lower::LoweredLoop;
 use lower_block::Compiled;
 use lower_code::Test;
 
-/// A loop that a team runs: the statement, how many loops of it are associated (OpenMP 5.2, 4.4.3), and what it is lowered to.
+/// A loop that a team runs: the statement, the number of the directive line before it, how many loops of it are associated
+/// (OpenMP 5.2, 4.4.3), and what it is lowered to.
 #[derive(Drop)]
 pub struct TeamLoop<'k> {
     pub statement: &'k Stmt,
+    pub line: u32,
     pub depth: u64,
     pub lowered: LoweredLoop,
 }

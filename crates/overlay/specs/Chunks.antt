@@ -1,5 +1,5 @@
 -- What a chunk of a lowered loop leaves. (OpenMP 5.2, 5.4.5, 5.5.2 and 11.5; C11 6.8.5.3)
-use Rattle.std.specs.Prelude.{ℕ, true, false, ◌≡◌, ◌+◌, ◌<◌, List, [], ◌++◌, map, length, take, drop, Some, slice_get, slice_index}
+use Rattle.std.specs.Prelude.{ℕ, true, false, ◌≡◌, ◌+◌, ◌<◌, List, [], map, length, take, drop, Some, slice_get, slice_index}
 use Rattle.semantics.specs.Tree.{Variable, Stmt}
 use Rattle.semantics.specs.Meaning.State.{State, overwritten, look}
 use Rattle.semantics.specs.Meaning.Runs.{Effect}
@@ -9,7 +9,7 @@ use Rattle.semantics.specs.Loops.Piece.{Roles}
 use Rattle.law_nests.specs.Walks.{walk}
 use Rattle.law_roles.specs.Reducing.{AreHeld}
 use Rattle.law_roles.specs.Sharing.{changed_from}
-use Rattle.law_starts.specs.Begun.{begun}
+use Rattle.law_starts.specs.Begun.{told_apart, begun}
 use Rattle.reduce.specs.Partial.{partial_of}
 use Rattle.store.specs.Kept.{Kept}
 use Rattle.store.specs.Flat.{values_of}
@@ -25,10 +25,6 @@ use Rattle.overlay.specs.declared.worker.Work.{Work}
 -- changes of these cells: each is one of them, and holds another number then
 abbrev pub ChangeOnly : List Kept → List Change → Type 0
 ChangeOnly ks cs = (place n : ℕ) → writes_of cs place ≡ Some n → (place < length (values_of ks)) × (slice_index (values_of ks) place ≡ n → ⊥)
-
--- the variables of which a chunk tells apart what it leaves
-abbrev pub told_apart : Roles → List Variable
-told_apart roles = roles.lasts ++ map (λ r. r.0) roles.reductions
 
 -- an effect from this state is told: written over the store, the changes leave all other objects at file scope as it does, and those that are told apart as before the loop; and a partial of each reduction variable is told, where each holds a number behind it
 pub record LeavesPiece (layout : List Laid) (roles : Roles) (outer start : State) (ks : List Kept) (e : Effect) (p : Piece) : Type 0 where

@@ -47,6 +47,8 @@ fn with_clause(clause: &Clause<Written>, said: ParallelFor) -> Option<ParallelFo
         | Clause::Shared(_)
         | Clause::Private(_)
         | Clause::Firstprivate(_)
+        | Clause::Lastprivate(_)
+        | Clause::Reduction(_, _)
         | Clause::Nowait => Some(said),
         _ => None,
     }

@@ -43,9 +43,9 @@ known_clause (ScheduledBy k) said then e = record { ordering = refl; value = ref
 known_clause (Collapse c) said then e = record { ordering = refl; value = refl }
 known_clause Ordered (k, c) then e = absurd (cc e)
 known_clause (OrderedLoops n) (k, c) then e = absurd (cc e)
-known_clause (Lastprivate xs) (k, c) then e = absurd (cc e)
+known_clause (Lastprivate xs) said then e = record { ordering = refl; value = refl }
 known_clause (LastConditional xs) (k, c) then e = absurd (cc e)
-known_clause (Reduction op xs) (k, c) then e = absurd (cc e)
+known_clause (Reduction op xs) said then e = record { ordering = refl; value = refl }
 known_clause (Inscan op x) (k, c) then e = absurd (cc e)
 
 -- all of a directive's

@@ -1,7 +1,7 @@
--- Directives and clauses that the grammar has and that are not known so far, each by the number that refuses it. (OpenMP 5.2, 4.4.4, 5.4.5, 5.5.8, 5.6 and 15.10)
+-- Directives and clauses that the grammar has and that are not known so far, each by the number that refuses it. (OpenMP 5.2, 4.4.4, 5.4.5, 5.6 and 15.10)
 use Rattle.std.specs.Prelude.{ℕ, List, [], ◌∷◌, Option, Some, None}
 use Rattle.semantics.specs.Tree.{Name, Stmt, Assign, Update, If, IfElse, For, Block, Print, Items, no_items, mark, local, stmt}
-use Rattle.semantics.specs.Directives.Directive.{Clause, Ordered, OrderedLoops, Lastprivate, LastConditional, Reduction, Inscan, Directive, ParallelFor, Parallel, Worksharing, ScanInclusive, ScanExclusive, OrderedRegion, DoacrossSource, DoacrossSink}
+use Rattle.semantics.specs.Directives.Directive.{Clause, Ordered, OrderedLoops, LastConditional, Inscan, Directive, ParallelFor, Parallel, Worksharing, ScanInclusive, ScanExclusive, OrderedRegion, DoacrossSource, DoacrossSink}
 use Rattle.pragma_attach.specs.Standing.{directive_on}
 use Rattle.pragma_region.specs.declared.unknown.Unknown.{Unknown}
 use Rattle.pragma_region.specs.declared.unknown.Unknown.TheVariants as unknown
@@ -17,12 +17,10 @@ ordering_number Ordered = Some 18
 ordering_number (OrderedLoops n) = Some 18
 ordering_number _ = None
 
--- a clause that gives variables a value behind the loop: K15 for `lastprivate` (OpenMP 5.2, 5.4.5), K16 for `reduction` (5.5.8)
+-- a clause of variables: K15 for `lastprivate` of the last assignment (OpenMP 5.2, 5.4.5), K17 for the reduction of a scan (5.6)
 abbrev pub value_number : Clause Name → Option ℕ
-value_number (Lastprivate xs) = Some 15
 value_number (LastConditional xs) = Some 15
-value_number (Reduction op xs) = Some 16
-value_number (Inscan op x) = Some 16
+value_number (Inscan op x) = Some 17
 value_number _ = None
 
 -- the first of a line's clauses that is one
@@ -70,7 +68,6 @@ abbrev mutual
 
 -- the number of what is told
 abbrev pub number_told : Unknown → ℕ
-number_told (unknown.Lastprivate place) = 15
-number_told (unknown.Reduction place) = 16
+number_told (unknown.Conditional place) = 15
 number_told (unknown.Scan place) = 17
 number_told (unknown.Ordered place) = 18

@@ -16,11 +16,9 @@ use pragma::Directives;
 /// What is not known so far, and where that is told.
 #[derive(Clone, Copy, Debug, PartialEq, Eq)]
 pub enum Unknown {
-    /// A `lastprivate` clause: the place of its first name (OpenMP 5.2, 5.4.5).
-    Lastprivate(Place),
-    /// A `reduction` clause: the place of its first name (OpenMP 5.2, 5.5.8).
-    Reduction(Place),
-    /// A `scan` directive: the place of its `#` (OpenMP 5.2, 5.6).
+    /// A `lastprivate` clause of the last assignment: the place of its first name (OpenMP 5.2, 5.4.5).
+    Conditional(Place),
+    /// A `scan` directive: the place of its `#`; or the reduction of a scan: the place of its name (OpenMP 5.2, 5.6).
     Scan(Place),
     /// An `ordered` clause or directive, of a doacross nest too: the place of the line's `#` (OpenMP 5.2, 4.4.4 and 15.10).
     Ordered(Place),
@@ -32,8 +30,7 @@ impl Unknown {
         ensures { number_of result ≡ number_told self }
     {
         match self {
-            Unknown::Lastprivate(place) => Refusal::PrivateVariable(place),
-            Unknown::Reduction(place) => Refusal::Reduction(place),
+            Unknown::Conditional(place) => Refusal::PrivateVariable(place),
             Unknown::Scan(place) => Refusal::Scan(place),
             Unknown::Ordered(place) => Refusal::Ordered(place),
         }
@@ -73,15 +70,13 @@ fn first_place(names: &[Written], line: Place) -> Place {
     }
 }
 
-/// What is told of a clause that gives variables a value behind the loop, at its first name.
+/// What is told of a clause of variables, at its first name.
 fn value(clause: &Clause<Written>, line: Place) -> Option<Unknown>
     ensures { option_map number_told result ≡ value_number (written_clause clause.now) }
 {
     match clause {
-        Clause::Lastprivate(names) => Some(Unknown::Lastprivate(first_place(names, line))),
-        Clause::LastConditional(names) => Some(Unknown::Lastprivate(first_place(names, line))),
-        Clause::Reduction(_, names) => Some(Unknown::Reduction(first_place(names, line))),
-        Clause::Inscan(_, name) => Some(Unknown::Reduction(name.place)),
+        Clause::LastConditional(names) => Some(Unknown::Conditional(first_place(names, line))),
+        Clause::Inscan(_, name) => Some(Unknown::Scan(name.place)),
         _ => None,
     }
 }
@@ -194,7 +189,7 @@ fn item_unknown(directives: &Directives, item: &Item) -> Option<Unknown>
 }
 
 /// What is told of the first directive line of a kernel that is not known so far, in the order of the text: `ordered` where the line
-/// begins, `lastprivate` and `reduction` where they name a variable (OpenMP 5.2, 4.4.4, 5.4.5, 5.5.8, 5.6 and 15.10). Where one is
+/// begins, `lastprivate(conditional: )` and the reduction of a scan where they name a variable (OpenMP 5.2, 4.4.4, 5.4.5, 5.6 and 15.10). Where one is
 /// told, not every line of the kernel is that of a loop of known clauses.
 pub fn first_unknown(kernel: &Kernel, directives: &Directives) -> Option<Unknown>
     ensures number { option_map number_told result

@@ -26,7 +26,7 @@ use Rattle.law_nests.specs.Merging.{NoneChanges, left_by}
 use Rattle.law_roles.specs.Updates.{operator_of, is_plain}
 use Rattle.law_roles.specs.Reducing.{AreHeld}
 use Rattle.law_roles.specs.Sharing.{MergesAt, last_filled, or_filled, changed_from}
-use Rattle.law_starts.specs.Begun.{begun}
+use Rattle.law_starts.specs.Begun.{begun, told_apart}
 use Rattle.law_starts.proofs.Beginning.{begun_cells}
 use Rattle.reduce.specs.Partial.{partial_of}
 use Rattle.store.specs.Kept.{Kept}
@@ -39,7 +39,7 @@ use Rattle.lower_code.proofs.Values.{no_object}
 use Rattle.overlay_pages.specs.Over.{Writes, or_else, writes_of, written_over}
 use Rattle.overlay_pages.proofs.Overlays.{length_over}
 use Rattle.overlay.specs.declared.worker.Piece.{Piece}
-use Rattle.overlay.specs.Chunks.{LeavesPiece, told_apart}
+use Rattle.overlay.specs.Chunks.{LeavesPiece}
 use Rattle.lower.specs.declared.lowered.LoweredLoop.{LoweredLoop}
 use Rattle.semantics.specs.Loops.Piece.{no_roles}
 use Rattle.lower.specs.Lowered.{IsReached}

@@ -14,12 +14,11 @@ use Rattle.law_nests.specs.Walks.{walk}
 use Rattle.law_roles.specs.Updates.{operator_of}
 use Rattle.law_roles.specs.Reducing.{AreHeld}
 use Rattle.law_roles.specs.Sharing.{MergesAt, last_filled, changed_from}
-use Rattle.law_starts.specs.Begun.{begun}
+use Rattle.law_starts.specs.Begun.{told_apart, begun}
 use Rattle.store.specs.Kept.{Kept}
 use Rattle.store.specs.Flat.{values_of}
 use Rattle.lower_code.specs.declared.term.Laid.{Laid}
 use Rattle.lower_code.specs.Layout.{shapes_of, cell_at}
-use Rattle.overlay.specs.Chunks.{told_apart}
 use Rattle.lower.specs.declared.lowered.LoweredLoop.{LoweredLoop}
 use Rattle.lower.specs.Lowered.{IsReached}
 
