@@ -1,8 +1,8 @@
 -- Outlines whose code does what their statements do. (C11 6.8)
-use Rattle.std.specs.Prelude.{ℕ, ◌≡◌, true, List, [], ◌∷◌, ◌++◌, map, Contains, Some}
+use Rattle.std.specs.Prelude.{ℕ, ◌≡◌, ◌≤◌, true, List, [], ◌∷◌, ◌++◌, length, map, Contains, Some}
 use Rattle.semantics.specs.Tree
 use Rattle.semantics.specs.Tree.{Variable, Stmt, Declaration}
-use Rattle.semantics.specs.Meaning.Agrees.{declared_in}
+use Rattle.semantics.specs.Meaning.Agrees.{is_among, declared_in}
 use Rattle.semantics.specs.Meaning.Runs.{declared, incremented, run, run_items}
 use Rattle.semantics.specs.Loops.Nest.{Loop, nest_of}
 use Rattle.ktree.specs.View.{source_of, cond_of, increment_of, stmt_of, with_item}
@@ -45,6 +45,7 @@ pub record TeamFits (layout : List Laid) (mark : ℕ) (R : LineRoles) (serial : 
   pub known : (x : Variable) → is_counter box x ≡ true → Contains (map (λ h. h.variable) serial) x
   pub lowered : IsLoweredFrom layout mark box (roles_in R l) loops body l.lowered
   pub locals : AreLocals layout mark (declared_in (stmt_of l.statement.now))
+  pub privates : (x : Variable) → is_among (roles_in R l).privates x ≡ true → length layout ≤ x
   pub declarations : List Declaration
   pub shares : SharesAsNest declarations (roles_in R l) serial l.depth (stmt_of l.statement.now)
 

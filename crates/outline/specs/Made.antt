@@ -1,5 +1,5 @@
 -- Outlines that are made of statements inside the loops of a box. (C11 6.8; OpenMP 5.2, 11.5)
-use Rattle.std.specs.Prelude.{ℕ, ◌≡◌, List, [], ◌∷◌, Option, Some, None, string_bytes}
+use Rattle.std.specs.Prelude.{ℕ, ◌≡◌, List, [], ◌∷◌, length, Option, Some, None, string_bytes}
 use Rattle.semantics.specs.Tree
 use Rattle.semantics.specs.Tree.{Stmt}
 use Rattle.semantics.specs.Source.Text.{line_at}
@@ -66,12 +66,12 @@ ItemShares text ds R serial d (Statement' p s) = SharesBehind text ds R serial d
 -- an outline does what its statement does behind such a line or behind none, and its code fits where the statement is one of an accepted kernel
 pub record IsMade (layout : List Laid) (mark : ℕ) (loops : List ParallelLoop) (box : List Side) (d : Option Place) (a : Stmt) (o : Outline) : Type 0 where
   pub performs : (R : LineRoles) (serial : List Loop) → performed R serial o ≡ run_behind R d serial a
-  pub fits : (text : List ℕ) (ds : List Tree.Declaration) (R : LineRoles) (serial : List Loop) → IsGiven mark text R loops serial box → SharesBehind text ds R serial d a → AreLocals layout mark (declared_in a) → Fits layout mark R serial o
+  pub fits : (text : List ℕ) (ds : List Tree.Declaration) (R : LineRoles) (serial : List Loop) → IsGiven (length layout) mark text R loops serial box → SharesBehind text ds R serial d a → AreLocals layout mark (declared_in a) → Fits layout mark R serial o
 
 -- one of an item does what the item does before others
 pub record IsMadeItem (layout : List Laid) (mark : ℕ) (loops : List ParallelLoop) (box : List Side) (d : Option Place) (item : Item) (o : OutlineItem) : Type 0 where
   pub performs : (R : LineRoles) (serial : List Loop) (rest : Tree.Items) → items_behind R d serial (with_item item rest) ≡ (λ s. then_from s (item_performed R serial o s) (items_behind R (line_of item) serial rest))
-  pub fits : (text : List ℕ) (ds : List Tree.Declaration) (R : LineRoles) (serial : List Loop) → IsGiven mark text R loops serial box → ItemShares text ds R serial d item → AreLocals layout mark (declared_among (with_item item Tree.no_items)) → ItemFits layout mark R serial o
+  pub fits : (text : List ℕ) (ds : List Tree.Declaration) (R : LineRoles) (serial : List Loop) → IsGiven (length layout) mark text R loops serial box → ItemShares text ds R serial d item → AreLocals layout mark (declared_among (with_item item Tree.no_items)) → ItemFits layout mark R serial o
 
 -- those of items, the first of which stands behind such a line or behind none
 abbrev pub AreMade : List Laid → ℕ → List ParallelLoop → List Side → Option Place → List Item → List OutlineItem → Type 0

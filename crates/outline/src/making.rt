@@ -1,6 +1,6 @@
 //! The outline of a kernel.
 
-ghost use Rattle.std.specs.Prelude.{◌≡◌, ℕ, false, List, [], Some, None, IfOk, IfErr, OnOk};
+ghost use Rattle.std.specs.Prelude.{◌≡◌, ℕ, false, List, [], length, Some, None, IfOk, IfErr, OnOk};
 ghost use Rattle.semantics.specs.Tree as tree;
 ghost use Rattle.semantics.specs.Meaning.Agrees.{declared_among};
 ghost use Rattle.ktree.specs.View.{stmt_of, items_of, cond_of, if_of};
@@ -11,6 +11,7 @@ ghost use Rattle.semantics.specs.Tree.{Declaration};
 ghost use Rattle.flow.specs.Roles.{LineRoles, ItemsHaveBy};
 ghost use Rattle.law_independence.specs.OrderLaws.{SharesBy};
 ghost use Rattle.law_apart.specs.Apart.{apart_items};
+ghost use Rattle.outline.specs.Given.{ArePrivateLocals};
 ghost use Rattle.outline.specs.Handed.{AreOfText};
 ghost use Rattle.pragma.specs.Plain.{has_line};
 ghost use Rattle.outline.specs.Made.{line_of, loop_with, IsInside, IsMade, IsMadeItem, AreMade};
@@ -254,7 +255,8 @@ pub fn outline<'k>(
     ensures is { IfOk result (λ os. (R : LineRoles)
         → items_performed R [] os.items ≡ apart_items R [] (items_of items.now)) }
     ensures fits { IfOk result
-        (λ os. (text : List ℕ) (ds : List Declaration) (R : LineRoles) → AreOfText text R loops.now
+        (λ os. (text : List ℕ) (ds : List Declaration) (R : LineRoles)
+        → ArePrivateLocals (length target.entry.layout.now) R → AreOfText text R loops.now
         → ItemsHaveBy text (SharesBy ds R) [] (items_of items.now)
         → WithLocals target.entry.layout.now target.entry.registers
         (declared_among (items_of items.now))
