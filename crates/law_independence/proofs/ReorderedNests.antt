@@ -227,6 +227,8 @@ module _ (ds : List Declaration) (short : HaveShort ds) (round : Nesting) (outer
         leaves = λ outside e ran x seen other.
             sym (steady_keeps (λ y. visible_behind s y && not (is_among xs y)) s nest_keeps_apart.steady outside e ran x
             (and_from (visible_behind s x) (not (is_among xs x)) seen (ap not (sym (assigned x) ∙ other)))).locals;
+        different = used_different s roles different;
+        apart = used_apart s roles apart;
         chunks = λ loops inside outside start us chunks e is turn alone at may are all ran.
             let r = ready loops inside outside us is turn are in
             join_in_place used n s loops inside outside start chunks e

@@ -1,5 +1,5 @@
 -- The iterations of parallel loops that are accepted may run in any order. (OpenMP 5.2, 1.4.1 and 11.5)
-use Rattle.std.specs.Prelude.{ℕ, Bool, true, false, ◌≡◌, ◌≤◌, ◌<◌, List, [], ◌∷◌, length, filter, flat_map, Some, IsSome, slice_get}
+use Rattle.std.specs.Prelude.{ℕ, Bool, true, false, ◌≡◌, ◌≤◌, ◌<◌, List, [], ◌∷◌, length, map, filter, flat_map, Some, IsSome, slice_get}
 use Rattle.std.specs.List.{list_all, AllByRecursion}
 use Rattle.semantics.specs.Tree.{Variable, Stmt, Declaration, Kernel}
 use Rattle.semantics.specs.Source.Token.{Token}
@@ -16,8 +16,8 @@ use Rattle.semantics.specs.Loops.Piece.{Roles, SharedLoop, is_outside}
 use Rattle.semantics.specs.Theorems.{is_declared, IsTurn, CommutesInAnyOrder}
 use Rattle.law_commute.specs.Joining.{DeclaresLocals}
 use Rattle.law_commute.specs.Targets.{targets_outside, is_local}
-use Rattle.law_roles.specs.Updates.{operator_of}
-use Rattle.law_roles.specs.Sharing.{role_variables, IsScalar, HoldsNumber, TakesOperands, MayStart, changed_from, SharesFrom}
+use Rattle.law_roles.specs.Updates.{operator_of, is_plain}
+use Rattle.law_roles.specs.Sharing.{assigned_first, role_variables, are_different, IsScalar, HoldsNumber, TakesOperands, MayStart, changed_from, SharesFrom}
 use Rattle.nest_loop.specs.Constants.{Each, IsSmall}
 use Rattle.nest.specs.Nests.{IsInRange}
 use Rattle.deptest_verdict.specs.Shown.{AreShownLoops}
@@ -112,7 +112,7 @@ TakesAtTurns ds roles serial s =
     → ReadsStmt scope order next tokens s next' → IsTurn serial outer → IsMet ds scope next known serial outer
     → IsSome (definite no_privates s known) → TakesOperands roles.reductions s outer
 
--- a statement is a nest of so many loops, whose iterations may be run in any order and in chunks, with these roles of what it assigns
+-- a statement is a nest of so many loops, whose iterations may be run in any order and in chunks, with these roles of what it assigns, of which no variable has two
 pub record SharesAsNest (ds : List Declaration) (roles : Roles) (serial : List Loop) (n : ℕ) (s : Stmt) : Type 0 where
   pub nest : IsSome (nest_of n s)
   pub round : HaveTurns serial
@@ -123,6 +123,8 @@ pub record SharesAsNest (ds : List Declaration) (roles : Roles) (serial : List L
   pub leaves : LeavesOthers s
   pub takes : TakesAtTurns ds roles serial s
   pub chunks : SharesAtTurns roles serial n s
+  pub different : are_different (map (λ r. r.0) roles.reductions) ≡ true
+  pub apart : list_all (is_plain roles.reductions) (assigned_first roles) ≡ true
 
 -- so the loop behind each directive line, with the roles that the line gives
 abbrev pub SharesBy : List Declaration → LineRoles → AskedByLine

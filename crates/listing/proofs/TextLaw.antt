@@ -10,7 +10,7 @@ use Rattle.semantics.specs.Source.Scope.{Scope, AVariable}
 use Rattle.semantics.specs.Meaning.Value.{map_option}
 use Rattle.semantics.specs.Loops.Nest.{Loop, as_loop, only_loop, holds_none, nest_of}
 use Rattle.semantics.specs.Source.Grammar.{ReadsText}
-use Rattle.semantics.specs.Directives.Directive.{Schedule, StaticPlain, Clause, DefaultShared, DefaultNone, Nowait, Shared, Private, Firstprivate, ScheduledBy, Collapse, Directive, ParallelFor, Parallel, Worksharing, ScanInclusive, ScanExclusive, OrderedRegion, DoacrossSource, DoacrossSink}
+use Rattle.semantics.specs.Directives.Directive.{Schedule, StaticPlain, Clause, DefaultShared, DefaultNone, Nowait, Shared, Private, Firstprivate, Lastprivate, Reduction, ScheduledBy, Collapse, Directive, ParallelFor, Parallel, Worksharing, ScanInclusive, ScanExclusive, OrderedRegion, DoacrossSource, DoacrossSink}
 use Rattle.semantics.specs.Directives.Annotated.{Directives, directive_at, file_scope, lines_in, lines_among, lines_of, ReadsDirectives}
 use Rattle.semantics.specs.Directives.Clauses.{depth_of, schedule_of, doacross_of, reduction_of, is_scan}
 use Rattle.semantics.specs.Directives.Regions as meant
@@ -27,10 +27,10 @@ use Rattle.pragma_attach.specs.Standing.{directive_on}
 use Rattle.pragma_attach.specs.Attached.{directives_of}
 use Rattle.pragma_attach.proofs.LinesLaw.{Read, AllRead, both_read, Found, AllFound, found_first, found_second, all_found, are_read}
 use Rattle.pragma_region.specs.Regions.{is_region_line, alone}
-use Rattle.pragma_region.specs.Listed.{one_loop, shared_line, shared_behind, shared_among, shared_in, region_line, region_behind, regions_in, regions_among, regions_of, part_said}
+use Rattle.pragma_region.specs.Listed.{one_loop, line_loop, shared_line, shared_behind, shared_among, shared_in, region_line, region_behind, regions_in, regions_among, regions_of, part_said}
 use Rattle.pragma_region.specs.declared.listing.RegionPart.{RegionPart}
 use Rattle.deptest.specs.Accepted.{AreRegions}
-use Rattle.listing.specs.Regions.{plain_said, printed}
+use Rattle.listing.specs.Regions.{listed_loop, printed}
 use Rattle.listing.proofs.Printed.{printed_regions}
 
 -- ---- what known clauses say
@@ -38,7 +38,6 @@ use Rattle.listing.proofs.Printed.{printed_regions}
 record IsPlain (cs : List (Clause Name)) (k : Option Schedule) : Type 0 where
   schedule : schedule_of cs ≡ unwrap_or k StaticPlain
   doacross : doacross_of cs ≡ None
-  reductions : flat_map reduction_of cs ≡ []
   scan : is_scan cs ≡ false
 
 first_said : {s t : Said} → Some s ≡ Some t → s.0 ≡ t.0
@@ -51,57 +50,59 @@ one_more : (c : Clause Name) (cs : List (Clause Name)) (j : Option Schedule) (d 
 one_more (ScheduledBy s) cs None d k e p f = record {
   schedule = ap (λ o. unwrap_or o StaticPlain) (first_said f);
   doacross = p.doacross;
-  reductions = p.reductions;
   scan = p.scan;
 }
 one_more (ScheduledBy s) cs (Some t) d k e p f = absurd (cc f)
 one_more (Collapse n) cs j None k e p f = record {
   schedule = p.schedule ∙ ap (λ o. unwrap_or o StaticPlain) (first_said f);
   doacross = p.doacross;
-  reductions = p.reductions;
   scan = p.scan;
 }
 one_more (Collapse n) cs j (Some m) k e p f = absurd (cc f)
 one_more DefaultShared cs j d k e p f = record {
   schedule = p.schedule ∙ ap (λ o. unwrap_or o StaticPlain) (first_said f);
   doacross = p.doacross;
-  reductions = p.reductions;
   scan = p.scan;
 }
 one_more DefaultNone cs j d k e p f = record {
   schedule = p.schedule ∙ ap (λ o. unwrap_or o StaticPlain) (first_said f);
   doacross = p.doacross;
-  reductions = p.reductions;
   scan = p.scan;
 }
 one_more (Shared xs) cs j d k e p f = record {
   schedule = p.schedule ∙ ap (λ o. unwrap_or o StaticPlain) (first_said f);
   doacross = p.doacross;
-  reductions = p.reductions;
   scan = p.scan;
 }
 one_more (Private xs) cs j d k e p f = record {
   schedule = p.schedule ∙ ap (λ o. unwrap_or o StaticPlain) (first_said f);
   doacross = p.doacross;
-  reductions = p.reductions;
   scan = p.scan;
 }
 one_more (Firstprivate xs) cs j d k e p f = record {
   schedule = p.schedule ∙ ap (λ o. unwrap_or o StaticPlain) (first_said f);
   doacross = p.doacross;
-  reductions = p.reductions;
+  scan = p.scan;
+}
+one_more (Lastprivate xs) cs j d k e p f = record {
+  schedule = p.schedule ∙ ap (λ o. unwrap_or o StaticPlain) (first_said f);
+  doacross = p.doacross;
+  scan = p.scan;
+}
+one_more (Reduction op xs) cs j d k e p f = record {
+  schedule = p.schedule ∙ ap (λ o. unwrap_or o StaticPlain) (first_said f);
+  doacross = p.doacross;
   scan = p.scan;
 }
 one_more Nowait cs j d k e p f = record {
   schedule = p.schedule ∙ ap (λ o. unwrap_or o StaticPlain) (first_said f);
   doacross = p.doacross;
-  reductions = p.reductions;
   scan = p.scan;
 }
 one_more c cs j d k e p f = absurd (cc f)
 
 are_plain : (cs : List (Clause Name)) (k : Option Schedule) (c : Option ℕ) → said_by cs ≡ Some (k, c) → IsPlain cs k
-are_plain [] k c e = record { schedule = ap (λ o. unwrap_or o StaticPlain) (first_said e); doacross = refl; reductions = refl; scan = refl }
+are_plain [] k c e = record { schedule = ap (λ o. unwrap_or o StaticPlain) (first_said e); doacross = refl; scan = refl }
 are_plain (x ∷ cs) k c e = go (said_by cs) refl (are_plain cs) e
   where
     go : (o : Option Said) → said_by cs ≡ o → ((j : Option Schedule) (d : Option ℕ) → said_by cs ≡ Some (j, d) → IsPlain cs j)
@@ -262,15 +263,15 @@ module _ (text : List ℕ) (ds : Directives) where
 
   -- the loop behind a line of these clauses
   one_listed : (n : ℕ) (d : Directive Name) (cs : List (Clause Name)) (scope : Scope) (s : Stmt) (rest : Items) → directive_on text n ≡ Some d → loop_of d ≡ said_by cs → AllFound text ds (lines_in scope s)
-      → (serial : List Loop) × LineHas text IsPlainLoop serial n (stmt (without_in out s) (without_among out rest)) → map plain_said (one_loop (said_by cs)) ≡ meant.listed ds cs s ∷ []
+      → (serial : List Loop) × LineHas text IsPlainLoop serial n (stmt (without_in out s) (without_among out rest)) → map listed_loop (line_loop cs) ≡ meant.listed ds cs s ∷ []
   one_listed n d cs scope s rest on is found (serial, (k, c, r, first)) =
       let same = same_directive (sym (line_read (line_at text n) r.directive r.reads) ∙ on) in
       let says : said_by cs ≡ Some (k, c) = sym is ∙ ap loop_of (sym same) ∙ r.says in
       let plain = are_plain cs k c says in
       let quiet = quiet_in scope s found (plain_for (without_in out s) first) in
       let sinks : sinks_in ds (nest_of (depth_of cs) s) ≡ [] = alone (nest_of (depth_of cs) s) ∙ no_sinks_of ds (depth_of cs) (λ ls. ls) s quiet in
-      ap (λ o. map plain_said (one_loop o)) says
-      ∙ (λ i. record { schedule = sym plain.schedule i; doacross = sym plain.doacross i; sinks = sym sinks i; reductions = sym plain.reductions i; scan = sym plain.scan i } ∷ [])
+      ap (λ o. map listed_loop (one_loop o (flat_map reduction_of cs))) says
+      ∙ (λ i. record { schedule = sym plain.schedule i; doacross = sym plain.doacross i; sinks = sym sinks i; reductions = flat_map reduction_of cs; scan = sym plain.scan i } ∷ [])
     where
       alone : (o : Option (List Loop × Stmt)) → sinks_in ds o ≡ sinks_in ds (map_option (λ (inner : List Loop × Stmt). (inner.0, inner.1)) o)
       alone None = refl
@@ -282,21 +283,21 @@ module _ (text : List ℕ) (ds : Directives) where
 
   -- a loop of a `parallel` block
   one_shared : (before : Option ℕ) (o : Option (Directive Name)) (scope : Scope) (s : Stmt) (rest : Items) → Before before o → Behind before (stmt s rest) → AllFound text ds (lines_in scope s)
-      → map plain_said (shared_behind text before) ≡ meant.shared_by ds o s
+      → map listed_loop (shared_behind text before) ≡ meant.shared_by ds o s
   one_shared None o scope s rest b h found = ap (λ p. meant.shared_by ds p s) (sym b)
   one_shared (Some n) o scope s rest b h found = go (directive_on text n) refl ∙ ap (λ p. meant.shared_by ds p s) (sym b)
     where
-      go : (p : Option (Directive Name)) → directive_on text n ≡ p → map plain_said (shared_line (directive_on text n)) ≡ meant.shared_by ds (directive_on text n) s
+      go : (p : Option (Directive Name)) → directive_on text n ≡ p → map listed_loop (shared_line (directive_on text n)) ≡ meant.shared_by ds (directive_on text n) s
       go (Some (Worksharing cs)) e =
-          ap (λ p. map plain_said (shared_line p)) e ∙ one_listed n (Worksharing cs) cs scope s rest e refl found (h (left_in n (Some (Worksharing cs)) e refl)) ∙ ap (λ p. meant.shared_by ds p s) (sym e)
-      go None e = ap (λ p. map plain_said (shared_line p)) e ∙ ap (λ p. meant.shared_by ds p s) (sym e)
-      go (Some (ParallelFor cs)) e = ap (λ p. map plain_said (shared_line p)) e ∙ ap (λ p. meant.shared_by ds p s) (sym e)
-      go (Some (Parallel cs)) e = ap (λ p. map plain_said (shared_line p)) e ∙ ap (λ p. meant.shared_by ds p s) (sym e)
-      go (Some (ScanInclusive x)) e = ap (λ p. map plain_said (shared_line p)) e ∙ ap (λ p. meant.shared_by ds p s) (sym e)
-      go (Some (ScanExclusive x)) e = ap (λ p. map plain_said (shared_line p)) e ∙ ap (λ p. meant.shared_by ds p s) (sym e)
-      go (Some OrderedRegion) e = ap (λ p. map plain_said (shared_line p)) e ∙ ap (λ p. meant.shared_by ds p s) (sym e)
-      go (Some DoacrossSource) e = ap (λ p. map plain_said (shared_line p)) e ∙ ap (λ p. meant.shared_by ds p s) (sym e)
-      go (Some (DoacrossSink es)) e = ap (λ p. map plain_said (shared_line p)) e ∙ ap (λ p. meant.shared_by ds p s) (sym e)
+          ap (λ p. map listed_loop (shared_line p)) e ∙ one_listed n (Worksharing cs) cs scope s rest e refl found (h (left_in n (Some (Worksharing cs)) e refl)) ∙ ap (λ p. meant.shared_by ds p s) (sym e)
+      go None e = ap (λ p. map listed_loop (shared_line p)) e ∙ ap (λ p. meant.shared_by ds p s) (sym e)
+      go (Some (ParallelFor cs)) e = ap (λ p. map listed_loop (shared_line p)) e ∙ ap (λ p. meant.shared_by ds p s) (sym e)
+      go (Some (Parallel cs)) e = ap (λ p. map listed_loop (shared_line p)) e ∙ ap (λ p. meant.shared_by ds p s) (sym e)
+      go (Some (ScanInclusive x)) e = ap (λ p. map listed_loop (shared_line p)) e ∙ ap (λ p. meant.shared_by ds p s) (sym e)
+      go (Some (ScanExclusive x)) e = ap (λ p. map listed_loop (shared_line p)) e ∙ ap (λ p. meant.shared_by ds p s) (sym e)
+      go (Some OrderedRegion) e = ap (λ p. map listed_loop (shared_line p)) e ∙ ap (λ p. meant.shared_by ds p s) (sym e)
+      go (Some DoacrossSource) e = ap (λ p. map listed_loop (shared_line p)) e ∙ ap (λ p. meant.shared_by ds p s) (sym e)
+      go (Some (DoacrossSink es)) e = ap (λ p. map listed_loop (shared_line p)) e ∙ ap (λ p. meant.shared_by ds p s) (sym e)
 
   -- what is known of a block's items behind a line that is passed
   behind_mark : (serial : List Loop) (n : ℕ) (rest : Items) → ItemsHave text IsPlainLoop serial (without_among out (mark n rest)) → Behind (Some n) rest × ItemsHave text IsPlainLoop serial (without_among out rest)
@@ -313,18 +314,18 @@ module _ (text : List ℕ) (ds : Directives) where
   found_before n f = f.2 ∙ sym f.1
 
   shared_listed : (scope : Scope) (serial : List Loop) (before : Option ℕ) (o : Option (Directive Name)) (items : Items) → Before before o → Behind before items → ItemsHave text IsPlainLoop serial (without_among out items)
-      → AllFound text ds (lines_among scope items) → map plain_said (shared_among text before items) ≡ meant.loops_among ds o items
+      → AllFound text ds (lines_among scope items) → map listed_loop (shared_among text before items) ≡ meant.loops_among ds o items
   shared_listed scope serial before o no_items b h have f = refl
   shared_listed scope serial before o (mark n rest) b h have (found, f) =
       let p = behind_mark serial n rest have in
       shared_listed scope serial (Some n) (directive_at ds n) rest (found_before n found) p.0 p.1 f
   shared_listed scope serial before o (local x name start rest) b h have f = shared_listed ((name, AVariable x 0) ∷ scope) serial None None rest refl tt have f
   shared_listed scope serial before o (stmt s rest) b h have f =
-      map-append plain_said (shared_behind text before) (shared_among text None rest)
-      ∙ ap (λ xs. xs ++ map plain_said (shared_among text None rest)) (one_shared before o scope s rest b h (found_first text ds (lines_in scope s) (lines_among scope rest) f))
+      map-append listed_loop (shared_behind text before) (shared_among text None rest)
+      ∙ ap (λ xs. xs ++ map listed_loop (shared_among text None rest)) (one_shared before o scope s rest b h (found_first text ds (lines_in scope s) (lines_among scope rest) f))
       ∙ ap (λ xs. meant.shared_by ds o s ++ xs) (shared_listed scope serial None None rest refl tt have.1 (found_second text ds (lines_in scope s) (lines_among scope rest) f))
 
-  block_listed : (scope : Scope) (serial : List Loop) (s : Stmt) → LoopsHave text IsPlainLoop serial (without_in out s) → AllFound text ds (lines_in scope s) → map plain_said (shared_in text s) ≡ meant.loops_in ds s
+  block_listed : (scope : Scope) (serial : List Loop) (s : Stmt) → LoopsHave text IsPlainLoop serial (without_in out s) → AllFound text ds (lines_in scope s) → map listed_loop (shared_in text s) ≡ meant.loops_in ds s
   block_listed scope serial (Block items) have f = shared_listed scope serial None None items refl tt have f
   block_listed scope serial (Assign x is v) have f = refl
   block_listed scope serial (Update x is op v) have f = refl
@@ -335,13 +336,13 @@ module _ (text : List ℕ) (ds : Directives) where
 
   -- a region behind a line, or those inside the statement
   one_region : (before : Option ℕ) (o : Option (Directive Name)) (scope : Scope) (serial : List Loop) (s : Stmt) (rest : Items) → Before before o → Behind before (stmt s rest)
-      → LoopsHave text IsPlainLoop serial (without_in out s) → AllFound text ds (lines_in scope s) → map (map plain_said) (regions_in text s) ≡ meant.regions_in ds s
-      → map (map plain_said) (region_behind text before s (regions_in text s)) ≡ meant.region_by ds o s (meant.regions_in ds s)
+      → LoopsHave text IsPlainLoop serial (without_in out s) → AllFound text ds (lines_in scope s) → map (map listed_loop) (regions_in text s) ≡ meant.regions_in ds s
+      → map (map listed_loop) (region_behind text before s (regions_in text s)) ≡ meant.region_by ds o s (meant.regions_in ds s)
   one_region None o scope serial s rest b h have found inside = inside ∙ ap (λ p. meant.region_by ds p s (meant.regions_in ds s)) (sym b)
   one_region (Some n) o scope serial s rest b h have found inside = go (directive_on text n) refl ∙ ap (λ p. meant.region_by ds p s (meant.regions_in ds s)) (sym b)
     where
       mine : Option (Directive Name) → List (List ListedLoop)
-      mine p = map (map plain_said) (region_line p (shared_in text s) (regions_in text s))
+      mine p = map (map listed_loop) (region_line p (shared_in text s) (regions_in text s))
 
       theirs : Option (Directive Name) → List (List ListedLoop)
       theirs p = meant.region_by ds p s (meant.regions_in ds s)
@@ -358,13 +359,13 @@ module _ (text : List ℕ) (ds : Directives) where
       go (Some (DoacrossSink es)) e = ap mine e ∙ inside ∙ ap theirs (sym e)
 
   mutual
-    of_stmt : (scope : Scope) (serial : List Loop) (s : Stmt) → LoopsHave text IsPlainLoop serial (without_in out s) → AllFound text ds (lines_in scope s) → map (map plain_said) (regions_in text s) ≡ meant.regions_in ds s
+    of_stmt : (scope : Scope) (serial : List Loop) (s : Stmt) → LoopsHave text IsPlainLoop serial (without_in out s) → AllFound text ds (lines_in scope s) → map (map listed_loop) (regions_in text s) ≡ meant.regions_in ds s
     of_stmt scope serial (Assign x is v) have f = refl
     of_stmt scope serial (Update x is op v) have f = refl
     of_stmt scope serial (If c a) have f = of_stmt scope serial a have f
     of_stmt scope serial (IfElse c a b) have f =
-        map-append (map plain_said) (regions_in text a) (regions_in text b)
-        ∙ ap (λ xs. xs ++ map (map plain_said) (regions_in text b)) (of_stmt scope serial a have.0 (found_first text ds (lines_in scope a) (lines_in scope b) f))
+        map-append (map listed_loop) (regions_in text a) (regions_in text b)
+        ∙ ap (λ xs. xs ++ map (map listed_loop) (regions_in text b)) (of_stmt scope serial a have.0 (found_first text ds (lines_in scope a) (lines_in scope b) f))
         ∙ ap (λ xs. meant.regions_in ds a ++ xs) (of_stmt scope serial b have.1 (found_second text ds (lines_in scope a) (lines_in scope b) f))
     of_stmt scope serial (For x name start test step body) have f =
         of_stmt ((name, AVariable x 0) ∷ scope) (serial ++ record { variable = x; start = start; test = test; step = step } ∷ []) body have f
@@ -372,7 +373,7 @@ module _ (text : List ℕ) (ds : Directives) where
     of_stmt scope serial (Print parts) have f = refl
 
     of_items : (scope : Scope) (serial : List Loop) (before : Option ℕ) (o : Option (Directive Name)) (items : Items) → Before before o → Behind before items → ItemsHave text IsPlainLoop serial (without_among out items)
-        → AllFound text ds (lines_among scope items) → map (map plain_said) (regions_among text before items) ≡ meant.regions_among ds o items
+        → AllFound text ds (lines_among scope items) → map (map listed_loop) (regions_among text before items) ≡ meant.regions_among ds o items
     of_items scope serial before o no_items b h have f = refl
     of_items scope serial before o (mark n rest) b h have (found, f) =
         let p = behind_mark serial n rest have in
@@ -380,8 +381,8 @@ module _ (text : List ℕ) (ds : Directives) where
     of_items scope serial before o (local x name start rest) b h have f = of_items ((name, AVariable x 0) ∷ scope) serial None None rest refl tt have f
     of_items scope serial before o (stmt s rest) b h have f =
         let first = found_first text ds (lines_in scope s) (lines_among scope rest) f in
-        map-append (map plain_said) (region_behind text before s (regions_in text s)) (regions_among text None rest)
-        ∙ ap (λ xs. xs ++ map (map plain_said) (regions_among text None rest)) (one_region before o scope serial s rest b h have.0 first (of_stmt scope serial s have.0 first))
+        map-append (map listed_loop) (region_behind text before s (regions_in text s)) (regions_among text None rest)
+        ∙ ap (λ xs. xs ++ map (map listed_loop) (regions_among text None rest)) (one_region before o scope serial s rest b h have.0 first (of_stmt scope serial s have.0 first))
         ∙ ap (λ xs. meant.region_by ds o s (meant.regions_in ds s) ++ xs) (of_items scope serial None None rest refl tt have.1 (found_second text ds (lines_in scope s) (lines_among scope rest) f))
 
 -- ---- each line is read

@@ -4,11 +4,13 @@ use Rattle.std.specs.Fmt.{decimal}
 use Rattle.std.proofs.Common.{refl, sym, ap, ◌∙◌, subst, append_assoc, inl, inr}
 use Rattle.std.proofs.lemmas.Grind.{flat_map-append}
 use Rattle.semantics.specs.Directives.Directive.{Schedule, StaticPlain, StaticSize, DynamicSize, GuidedSize, Auto, Runtime}
-use Rattle.semantics.specs.Directives.Listing.{Lines, is_static, begin_lines, end_lines, loop_lines, numbered}
+use Rattle.semantics.specs.Directives.Listing.{Lines, is_static, begin_lines, end_lines, reduce_lines, loop_lines, numbered}
 use Rattle.ktree.specs.declared.directive.Schedule as code
 use Rattle.ktree.specs.declared.directive.Schedule.TheVariants as kind
 use Rattle.ktree.specs.DirectiveView.{schedule_of}
-use Rattle.listing.specs.Regions.{plain_loop}
+use Rattle.semantics.specs.Tree.{Name}
+use Rattle.semantics.specs.Loops.Operator.{ReduceOp}
+use Rattle.listing.specs.Regions.{listed_with}
 
 numbered-append : (r l : ℕ) (xs ys : Lines) → numbered r l (xs ++ ys) ≡ numbered r l xs ++ numbered r l ys
 numbered-append r l xs ys = flat_map-append (λ line. decimal r ++ 46 ∷ (decimal l ++ 32 ∷ (line ++ 10 ∷ []))) xs ys
@@ -37,16 +39,19 @@ pub ended_ok : {T E : Type 0} (q : Result T E) (r l : ℕ) (a b : List ℕ) (s :
 ended_ok q r l a b s e o =
     subst (λ (t : Bool). OnOk q (b ≡ a ++ numbered r l (if t then codes "__kmpc_for_static_fini" ∷ [] else []))) (sym e) o
 
--- begin, end and barrier are its lines
-loop_parts : (s : Schedule) → (begin_lines s ++ end_lines s) ++ codes "__kmpc_barrier" ∷ [] ≡ loop_lines (plain_loop s)
-loop_parts StaticPlain = refl
-loop_parts (StaticSize k) = refl
-loop_parts (DynamicSize k) = refl
-loop_parts (GuidedSize k) = refl
-loop_parts Auto = refl
-loop_parts Runtime = refl
+-- begin, end, reductions and barrier are its lines
+loop_parts : (s : Schedule) (rs : List (Name × ReduceOp)) → ((begin_lines s ++ end_lines s) ++ reduce_lines rs) ++ codes "__kmpc_barrier" ∷ [] ≡ loop_lines (listed_with s rs)
+loop_parts StaticPlain rs = refl
+loop_parts (StaticSize k) rs = refl
+loop_parts (DynamicSize k) rs = refl
+loop_parts (GuidedSize k) rs = refl
+loop_parts Auto rs = refl
+loop_parts Runtime rs = refl
 
-pub loop_ok : {T E : Type 0} (q : Result T E) (r l : ℕ) (a b c d : List ℕ) (s : Schedule) → b ≡ a ++ numbered r l (begin_lines s) → c ≡ b ++ numbered r l (end_lines s) → OnOk q (d ≡ c ++ numbered r l (codes "__kmpc_barrier" ∷ [])) → OnOk q (d ≡ a ++ numbered r l (loop_lines (plain_loop s)))
-loop_ok q r l a b c d s e f o =
-    subst (λ (xs : Lines). OnOk q (d ≡ a ++ numbered r l xs)) (loop_parts s)
-    (both_added_ok q r l a c d (begin_lines s ++ end_lines s) (codes "__kmpc_barrier" ∷ []) (both_added r l a b c (begin_lines s) (end_lines s) e f) o)
+pub loop_ok : {T E : Type 0} (q : Result T E) (r l : ℕ) (a b c d e : List ℕ) (s : Schedule) (rs : List (Name × ReduceOp)) → b ≡ a ++ numbered r l (begin_lines s) → c ≡ b ++ numbered r l (end_lines s)
+    → d ≡ c ++ numbered r l (reduce_lines rs) → OnOk q (e ≡ d ++ numbered r l (codes "__kmpc_barrier" ∷ [])) → OnOk q (e ≡ a ++ numbered r l (loop_lines (listed_with s rs)))
+loop_ok q r l a b c d e s rs f g h o =
+    let ended = both_added r l a b c (begin_lines s) (end_lines s) f g in
+    let reduced = both_added r l a c d (begin_lines s ++ end_lines s) (reduce_lines rs) ended h in
+    subst (λ (xs : Lines). OnOk q (e ≡ a ++ numbered r l xs)) (loop_parts s rs)
+    (both_added_ok q r l a d e ((begin_lines s ++ end_lines s) ++ reduce_lines rs) (codes "__kmpc_barrier" ∷ []) reduced o)

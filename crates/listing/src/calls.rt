@@ -1,14 +1,17 @@
 //! The calls that stand for a loop, by its schedule.
 
-ghost use Rattle.std.specs.Prelude.{◌≡◌, ◌++◌, ◌∷◌, [], codes, OnOk};
+ghost use Rattle.std.specs.Prelude.{◌≡◌, ◌++◌, ◌∷◌, [], codes, map, flat_map, OnOk};
 ghost use Rattle.semantics.specs.Theorems.{Begins};
-ghost use Rattle.semantics.specs.Directives.Listing.{is_static as are_static, begin_lines, end_lines, loop_lines, numbered};
-ghost use Rattle.ktree.specs.DirectiveView.{schedule_of};
-ghost use Rattle.listing.specs.Regions.{plain_loop};
+ghost use Rattle.semantics.specs.Directives.Listing.{is_static as are_static, begin_lines, end_lines, reduce_lines, loop_lines, numbered};
+ghost use Rattle.semantics.specs.Directives.Directive.{op_text};
+ghost use Rattle.ktree.specs.DirectiveView.{schedule_of, operator_of};
+ghost use Rattle.pragma_region.specs.Listed.{reduction_named};
+ghost use Rattle.listing.specs.Regions.{listed_with, reduction_words};
 
-use crate::lines::add_line;
+use crate::lines::{add_front, add_line, add_parts};
 use itoa::Buffer;
-use ktree::Schedule;
+use ktree::{ReductionOperator, Schedule};
+use pragma_region::NamedReduction;
 use std::alloc::AllocError;
 
 // A loop that asks for chunks: its begin, and the first call that asks.
@@ -121,8 +124,59 @@ fn add_end(
     }
 }
 
-/// Adds the lines of a loop with this schedule (OpenMP 5.2, 11.5.3): its begin and end, and the barrier behind it
-/// (`__kmpc_barrier`; 11.5).
+// An operator as it stands in a clause (OpenMP 5.2, 5.5.1).
+fn operator_text(operator: &ReductionOperator) -> &'static [u8]
+    ensures { result.now ≡ op_text (operator_of operator.now) }
+{
+    match operator {
+        ReductionOperator::Sum => b"+",
+        ReductionOperator::Product => b"*",
+        ReductionOperator::And => b"&",
+        ReductionOperator::Or => b"|",
+        ReductionOperator::Xor => b"^",
+        ReductionOperator::LogicalAnd => b"&&",
+        ReductionOperator::LogicalOr => b"||",
+        ReductionOperator::Max => b"max",
+        ReductionOperator::Min => b"min",
+    }
+}
+
+// Adds the variables of reductions, each behind its operator.
+fn add_reduced(text: &mut Vec<u8>, reductions: &[NamedReduction]) -> Result<(), AllocError>
+    ensures added { OnOk result (text.new.items
+        ≡ text.old.items ++ flat_map reduction_words (map reduction_named reductions.now)) }
+    ensures front { Begins text.old.items text.new.items }
+{
+    for reduction in reductions {
+        let operator = operator_text(&reduction.operator);
+        add_parts(text, &[b" ", operator, b":", reduction.name.as_bytes()])?;
+    }
+    Ok(())
+}
+
+// Adds the calls that put reductions together (`__kmpc_reduce`, `__kmpc_end_reduce`; OpenMP 5.2, 5.5.8), none where there is none.
+fn add_reductions(
+    text: &mut Vec<u8>,
+    region: usize,
+    number: usize,
+    reductions: &[NamedReduction],
+) -> Result<(), AllocError>
+    ensures added { OnOk result (text.new.items
+        ≡ text.old.items ++ numbered region number
+        (reduce_lines (map reduction_named reductions.now))) }
+    ensures front { Begins text.old.items text.new.items }
+{
+    if reductions.is_empty() {
+        return Ok(());
+    }
+    add_front(text, region, number, b"__kmpc_reduce")?;
+    add_reduced(text, reductions)?;
+    add_parts(text, &[b"\n"])?;
+    add_line(text, region, number, b"__kmpc_end_reduce", b"")
+}
+
+/// Adds the lines of a loop with this schedule (OpenMP 5.2, 11.5.3) and these reductions (5.5.8): its begin and end, the calls that put
+/// reductions together, and the barrier behind it (`__kmpc_barrier`; 11.5).
 ///
 /// # Errors
 ///
@@ -133,13 +187,16 @@ pub(crate) fn add_loop(
     region: usize,
     number: usize,
     schedule: &Schedule,
+    reductions: &[NamedReduction],
 ) -> Result<(), AllocError>
     ensures added { OnOk result (text.new.items
         ≡ text.old.items ++ numbered region number
-        (loop_lines (plain_loop (schedule_of schedule.now)))) }
+        (loop_lines (listed_with (schedule_of schedule.now)
+        (map reduction_named reductions.now)))) }
     ensures front { Begins text.old.items text.new.items }
 {
     add_begin(text, region, number, schedule)?;
     add_end(text, region, number, schedule)?;
+    add_reductions(text, region, number, reductions)?;
     add_line(text, region, number, b"__kmpc_barrier", b"")
 }

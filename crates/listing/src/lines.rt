@@ -3,12 +3,17 @@
 ghost use Rattle.std.specs.Prelude.{◌≡◌, ◌++◌, ◌∷◌, [], flat_map, OnOk};
 ghost use Rattle.semantics.specs.Theorems.{Begins};
 ghost use Rattle.semantics.specs.Directives.Listing.{numbered};
+ghost use Rattle.listing.specs.Regions.{fronted};
 
 use itoa::Buffer;
 use std::alloc::AllocError;
 
-// Adds these one behind another.
-fn add_parts(text: &mut Vec<u8>, parts: &[&[u8]]) -> Result<(), AllocError>
+/// Adds these one behind another.
+///
+/// # Errors
+///
+/// Where memory runs out, with part of them added; so for all that add to a text.
+pub(crate) fn add_parts(text: &mut Vec<u8>, parts: &[&[u8]]) -> Result<(), AllocError>
     ensures added { OnOk result (text.new.items
         ≡ text.old.items ++ flat_map (λ part. part.now) parts.now) }
     ensures front { Begins text.old.items text.new.items }
@@ -19,21 +24,15 @@ fn add_parts(text: &mut Vec<u8>, parts: &[&[u8]]) -> Result<(), AllocError>
     Ok(())
 }
 
-/// Adds a line: the numbers of the region and, within it, of the loop, 0 before its loops; words; and a size right behind
-/// them, which may be empty.
-///
-/// # Errors
-///
-/// Where memory runs out, with part of the line added; so for all that add to a text.
-pub(crate) fn add_line(
+/// Adds the front of a line: the numbers of the region and, within it, of the loop, 0 before its loops, and words.
+pub(crate) fn add_front(
     text: &mut Vec<u8>,
     region: usize,
     number: usize,
     words: &[u8],
-    size: &[u8],
 ) -> Result<(), AllocError>
     ensures added { OnOk result (text.new.items
-        ≡ text.old.items ++ numbered region number ((words.now ++ size.now) ∷ [])) }
+        ≡ text.old.items ++ fronted region number words.now) }
     ensures front { Begins text.old.items text.new.items }
 {
     let (mut first, mut second) = (Buffer::new(), Buffer::new());
@@ -45,8 +44,22 @@ pub(crate) fn add_line(
             second.format(number).as_bytes(),
             b" ",
             words,
-            size,
-            b"\n",
         ],
     )
+}
+
+/// Adds a line: its numbers, words, and a size right behind them, which may be empty.
+pub(crate) fn add_line(
+    text: &mut Vec<u8>,
+    region: usize,
+    number: usize,
+    words: &[u8],
+    size: &[u8],
+) -> Result<(), AllocError>
+    ensures added { OnOk result (text.new.items
+        ≡ text.old.items ++ numbered region number ((words.now ++ size.now) ∷ [])) }
+    ensures front { Begins text.old.items text.new.items }
+{
+    add_front(text, region, number, words)?;
+    add_parts(text, &[size, b"\n"])
 }

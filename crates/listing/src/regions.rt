@@ -3,8 +3,7 @@
 ghost use Rattle.std.specs.Prelude.{◌≡◌, ◌+◌, ◌<◌, ◌^◌, ◌++◌, map, OnOk, OnErr, IfOk, IfErr};
 ghost use Rattle.semantics.specs.Theorems.{Begins};
 ghost use Rattle.ktree.specs.DirectiveView.{schedule_of};
-ghost use Rattle.pragma.specs.Views.{said_of};
-ghost use Rattle.pragma_region.specs.Listed.{part_said};
+ghost use Rattle.pragma_region.specs.Listed.{loop_said, part_said};
 ghost use Rattle.listing.specs.Regions.{schedule_listed, printed, AddsListing, AddsPart};
 
 use crate::calls::add_loop;
@@ -12,7 +11,7 @@ use crate::lines::add_line;
 use deptest::Checked;
 use ktree::{Refusal, Schedule};
 use pragma::ParallelFor;
-use pragma_region::RegionPart;
+use pragma_region::{RegionLoop, RegionPart};
 use std::alloc::AllocError;
 
 // The schedule of a loop: plain static where its line says none (OpenMP 5.2, 11.5.3).
@@ -47,16 +46,16 @@ fn add_fork(text: &mut Vec<u8>, before: Listed) -> Result<Listed, AllocError>
 fn add_next_loop(
     text: &mut Vec<u8>,
     before: Listed,
-    directive: ParallelFor,
+    region_loop: &RegionLoop,
 ) -> Result<Listed, AllocError>
     requires { before.loops + 1 < 2 ^ 64 }
-    ensures added { IfOk result (AddsPart (Some (said_of directive)) before text.old.items
+    ensures added { IfOk result (AddsPart (Some (loop_said region_loop.now)) before text.old.items
         text.new.items) }
     ensures front { Begins text.old.items text.new.items }
 {
-    let schedule = schedule_for(directive);
+    let schedule = schedule_for(region_loop.said);
     let loops = before.loops + 1;
-    add_loop(text, before.regions, loops, &schedule)?;
+    add_loop(text, before.regions, loops, &schedule, &region_loop.reductions)?;
     Ok(Listed {
         regions: before.regions,
         loops,
@@ -64,15 +63,15 @@ fn add_next_loop(
 }
 
 // Adds the lines of a part.
-fn add_part(text: &mut Vec<u8>, before: Listed, part: RegionPart) -> Result<Listed, AllocError>
+fn add_part(text: &mut Vec<u8>, before: Listed, part: &RegionPart) -> Result<Listed, AllocError>
     requires regions { before.regions + 1 < 2 ^ 64 }
     requires loops { before.loops + 1 < 2 ^ 64 }
-    ensures added { IfOk result (AddsPart (part_said part) before text.old.items text.new.items) }
+    ensures added { IfOk result (AddsPart (part_said part.now) before text.old.items text.new.items) }
     ensures front { Begins text.old.items text.new.items }
 {
-    match part.said {
+    match &part.said {
         None => add_fork(text, before),
-        Some(directive) => add_next_loop(text, before, directive),
+        Some(region_loop) => add_next_loop(text, before, region_loop),
     }
 }
 
@@ -87,7 +86,7 @@ fn add_parts(text: &mut Vec<u8>, parts: &[RegionPart]) -> Result<(), AllocError>
         loops: 0,
     };
     for part in parts {
-        listed = add_part(text, listed, *part)?;
+        listed = add_part(text, listed, part)?;
     }
     Ok(())
 }

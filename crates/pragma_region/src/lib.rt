@@ -8,5 +8,5 @@ mod unknown;
 
 pub use counting::count_clauses;
 pub use dissolving::dissolve_regions;
-pub use listing::{RegionPart, regions_of};
+pub use listing::{NamedReduction, RegionLoop, RegionPart, regions_of};
 pub use unknown::{Unknown, first_unknown};

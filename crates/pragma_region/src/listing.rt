@@ -1,24 +1,39 @@
 //! The parallel regions of a kernel, with their loops.
 
-ghost use Rattle.std.specs.Prelude.{◌≡◌, List, [], ◌∷◌, None, Some, map, option_map, OnOk, IfOk};
+ghost use Rattle.std.specs.Prelude.{◌≡◌, ◌++◌, List, [], ◌∷◌, None, Some, map, flat_map, option_map, OnOk, IfOk};
 ghost use Rattle.semantics.specs.Tree.{Stmt as Tree};
 ghost use Rattle.ktree.specs.View.{stmt_of, with_item, items_of, kernel_of};
-ghost use Rattle.ktree.specs.DirectiveView.{name_of, directive_of};
-ghost use Rattle.pragma.specs.Clauses.{Said};
+ghost use Rattle.semantics.specs.Directives.Clauses.{reduction_of};
+ghost use Rattle.ktree.specs.DirectiveView.{name_of, operator_of, directive_of};
+ghost use Rattle.pragma_clause.specs.Views.{written_clause};
 ghost use Rattle.pragma.specs.Views.{said_of};
 ghost use Rattle.pragma_attach.specs.Standing.{directive_on};
-ghost use Rattle.pragma_region.specs.Listed.{one_loop, shared_line, shared_among, shared_in, region_line, region_behind, regions_in, regions_among, regions_of, parts_of, part_said, line_of, opens, AddsParts, AddsOpened, AddsShared, AddsRegions};
+ghost use Rattle.pragma_region.specs.Listed.{LoopSaid, reduction_named, directive_loop, loop_there, shared_line, shared_among, shared_in, region_line, region_behind, regions_in, regions_among, regions_of, parts_of, part_said, line_of, opens, AddsParts, AddsOpened, AddsShared, AddsRegions};
 
-use ktree::{Directive, Item, Kernel, Place, Stmt, Written};
+use ktree::{Clause, Directive, Item, Kernel, Place, ReductionOperator, Stmt, Written};
 use pragma::{Directives, ParallelFor, loop_of};
 use std::alloc::{AllocError, Global};
 
+/// A reduction variable, by the name that stands in its clause (OpenMP 5.2, 5.5.8).
+#[derive(Drop)]
+pub struct NamedReduction {
+    pub operator: ReductionOperator,
+    pub name: String,
+}
+
+/// What the line of a loop says: of its iterations, and of the variables that it reduces, in the order of its clauses.
+#[derive(Drop)]
+pub struct RegionLoop {
+    pub said: ParallelFor,
+    pub reductions: Vec<NamedReduction>,
+}
+
 /// A part of the parallel regions of a kernel, as they stand one behind another: the begin of a region, or a loop of the one that has
 /// begun last (OpenMP 5.2, 10.1).
-#[derive(Clone, Copy, Debug, PartialEq, Eq)]
+#[derive(Drop)]
 pub struct RegionPart {
     /// What the line of a loop says; none at the begin of a region.
-    pub said: Option<ParallelFor>,
+    pub said: Option<RegionLoop>,
 }
 
 /// Adds the begin of a region.
@@ -29,41 +44,130 @@ fn begin_region(parts: &mut Vec<RegionPart>) -> Result<(), AllocError>
     Ok(())
 }
 
-/// Adds a loop, if its clauses are known.
-fn add_loop(parts: &mut Vec<RegionPart>, said: Option<ParallelFor>) -> Result<(), AllocError>
-    ensures { OnOk result (AddsParts (map Some (one_loop (option_map said_of said)))
-        parts.old.items parts.new.items) }
+/// Adds the variables of a list that are reduced by an operator.
+fn add_reduced(
+    operator: ReductionOperator,
+    names: &[Written],
+    reductions: &mut Vec<NamedReduction>,
+) -> Result<(), AllocError>
+    ensures { OnOk result (map reduction_named reductions.new.items
+        ≡ map reduction_named reductions.old.items
+        ++ map (λ x. (x, operator_of operator)) (map name_of names.now)) }
 {
-    if said.is_some() {
-        parts.push(RegionPart { said })?;
+    for written in names {
+        let name = written.name.clone()?;
+        reductions.push(NamedReduction { operator, name })?;
     }
     Ok(())
 }
 
-/// What a `for` directive says.
-fn shared_said(directive: &Directive<Written>) -> Option<ParallelFor>
-    ensures { one_loop (option_map said_of result)
+/// Adds those of a clause.
+fn add_clause(
+    clause: &Clause<Written>,
+    reductions: &mut Vec<NamedReduction>,
+) -> Result<(), AllocError>
+    ensures { OnOk result (map reduction_named reductions.new.items
+        ≡ map reduction_named reductions.old.items ++ reduction_of (written_clause clause.now)) }
+{
+    match clause {
+        Clause::Reduction(operator, names) => add_reduced(*operator, names, reductions),
+        _ => Ok(()),
+    }
+}
+
+/// The variables that some clauses reduce.
+fn reductions_of(
+    alloc: Global,
+    clauses: &[Clause<Written>],
+) -> Result<Vec<NamedReduction>, AllocError>
+    ensures { IfOk result (λ reductions. map reduction_named reductions.items
+        ≡ flat_map reduction_of (map written_clause clauses.now)) }
+{
+    let mut reductions = Vec::new(alloc);
+    for clause in clauses {
+        add_clause(clause, &mut reductions)?;
+    }
+    Ok(reductions)
+}
+
+/// Adds a loop that says this, with these clauses.
+fn add_loop(
+    alloc: Global,
+    parts: &mut Vec<RegionPart>,
+    said: ParallelFor,
+    clauses: &[Clause<Written>],
+) -> Result<(), AllocError>
+    ensures { OnOk result (AddsParts (Some (said_of said, flat_map reduction_of
+        (map written_clause clauses.now)) ∷ []) parts.old.items parts.new.items) }
+{
+    let reductions = reductions_of(alloc, clauses)?;
+    parts.push(RegionPart {
+        said: Some(RegionLoop { said, reductions }),
+    })?;
+    Ok(())
+}
+
+/// Adds the loop of a directive, if it is one's and its clauses are known.
+fn add_loop_of(
+    alloc: Global,
+    parts: &mut Vec<RegionPart>,
+    directive: &Directive<Written>,
+) -> Result<(), AllocError>
+    ensures { OnOk result (AddsParts (map Some (directive_loop
+        (directive_of name_of directive.now))) parts.old.items parts.new.items) }
+{
+    let Some(said) = loop_of(directive) else {
+        return Ok(());
+    };
+    match directive {
+        Directive::ParallelFor(clauses) | Directive::For(clauses) => {
+            add_loop(alloc, parts, said, clauses.as_slice())
+        }
+        _ => Ok(()),
+    }
+}
+
+/// A `for` directive, and no other.
+fn shared_loop(directive: &Directive<Written>) -> Option<&Directive<Written>>
+    ensures { loop_there (option_map (λ d. directive_of name_of d.now) result)
         ≡ shared_line (Some (directive_of name_of directive.now)) }
 {
     match directive {
-        Directive::For(_) => loop_of(directive),
+        Directive::For(_) => Some(directive),
         _ => None,
     }
 }
 
-/// What the `for` directive at a place says.
-fn shared_at(directives: &Directives, place: Place) -> Option<ParallelFor>
-    ensures { one_loop (option_map said_of result)
+/// The `for` directive at a place.
+fn shared_at<'d>(directives: &'d Directives, place: Place) -> Option<&'d Directive<Written>>
+    ensures { loop_there (option_map (λ d. directive_of name_of d.now) result)
         ≡ shared_line (directive_on directives.now place.line) }
 {
     let Ok(directive) = directives.directive(place) else {
         return None;
     };
-    shared_said(directive)
+    shared_loop(directive)
+}
+
+/// Adds the loop of the `for` directive at a place.
+fn add_shared_at(
+    alloc: Global,
+    directives: &Directives,
+    place: Place,
+    parts: &mut Vec<RegionPart>,
+) -> Result<(), AllocError>
+    ensures { OnOk result (AddsParts (map Some (shared_line
+        (directive_on directives.now place.line))) parts.old.items parts.new.items) }
+{
+    match shared_at(directives, place) {
+        None => Ok(()),
+        Some(directive) => add_loop_of(alloc, parts, directive),
+    }
 }
 
 /// Adds what an item of a `parallel` block is a loop of, behind this line; gives the line behind which the next item stands.
 fn add_shared_item(
+    alloc: Global,
     directives: &Directives,
     before: Option<Place>,
     item: &Item,
@@ -77,7 +181,7 @@ fn add_shared_item(
         Item::Local(_) => Ok(None),
         Item::Statement(_) => {
             if let Some(place) = before {
-                add_loop(parts, shared_at(directives, place))?;
+                add_shared_at(alloc, directives, place, parts)?;
             }
             Ok(None)
         }
@@ -86,6 +190,7 @@ fn add_shared_item(
 
 /// Adds the loops of a `parallel` block.
 fn add_shared_among(
+    alloc: Global,
     directives: &Directives,
     items: &[Item],
     parts: &mut Vec<RegionPart>,
@@ -95,7 +200,7 @@ fn add_shared_among(
 {
     let mut before = None;
     for item in items {
-        before = add_shared_item(directives, before, item, parts)?;
+        before = add_shared_item(alloc, directives, before, item, parts)?;
     }
     Ok(())
 }
@@ -103,6 +208,7 @@ fn add_shared_among(
 /// Adds those of a statement, where it is a block.
 #[tactic(auto, using(ktree::proofs::Trees::block_items))]
 fn add_shared(
+    alloc: Global,
     directives: &Directives,
     statement: &Stmt,
     parts: &mut Vec<RegionPart>,
@@ -111,33 +217,33 @@ fn add_shared(
         parts.old.items parts.new.items) }
 {
     match statement {
-        Stmt::Block(items) => add_shared_among(directives, items, parts),
+        Stmt::Block(items) => add_shared_among(alloc, directives, items, parts),
         _ => Ok(()),
     }
 }
 
-/// What stands behind a directive line: a loop, by what the line says, a region of loops, or neither.
-enum Opened {
-    Loop(Option<ParallelFor>),
+/// What stands behind a directive line: a loop, by its directive, a region of loops, or neither.
+enum Opened<'d> {
+    Loop(&'d Directive<Written>),
     Region,
     Nothing,
 }
 
 /// What a directive opens.
-fn opened_by(directive: &Directive<Written>) -> Opened
-    ensures { (shared : List Said) (inside : List (List Said)) → opens result shared inside
+fn opened_by(directive: &Directive<Written>) -> Opened<'_>
+    ensures { (shared : List LoopSaid) (inside : List (List LoopSaid)) → opens result shared inside
         ≡ region_line (Some (directive_of name_of directive.now)) shared inside }
 {
     match directive {
-        Directive::ParallelFor(_) => Opened::Loop(loop_of(directive)),
+        Directive::ParallelFor(_) => Opened::Loop(directive),
         Directive::Parallel(_) => Opened::Region,
         _ => Opened::Nothing,
     }
 }
 
 /// What the line before opens, if one stands there.
-fn opened_behind(directives: &Directives, before: Option<Place>) -> Opened
-    ensures { (statement : Tree) (inside : List (List Said)) → opens result
+fn opened_behind<'d>(directives: &'d Directives, before: Option<Place>) -> Opened<'d>
+    ensures { (statement : Tree) (inside : List (List LoopSaid)) → opens result
         (shared_in directives.now statement) inside
         ≡ region_behind directives.now (line_of before) statement inside }
 {
@@ -152,6 +258,7 @@ fn opened_behind(directives: &Directives, before: Option<Place>) -> Opened
 
 /// Adds the region that the line before opens with this statement, and says whether it opens one.
 fn add_opened(
+    alloc: Global,
     directives: &Directives,
     before: Option<Place>,
     statement: &Stmt,
@@ -161,14 +268,14 @@ fn add_opened(
         (stmt_of statement.now) opens parts.old.items parts.new.items) }
 {
     match opened_behind(directives, before) {
-        Opened::Loop(said) => {
+        Opened::Loop(directive) => {
             begin_region(parts)?;
-            add_loop(parts, said)?;
+            add_loop_of(alloc, parts, directive)?;
             Ok(true)
         }
         Opened::Region => {
             begin_region(parts)?;
-            add_shared(directives, statement, parts)?;
+            add_shared(alloc, directives, statement, parts)?;
             Ok(true)
         }
         Opened::Nothing => Ok(false),
@@ -179,6 +286,7 @@ fn add_opened(
 #[cycle(regions)]
 #[tactic(auto, using(ktree::proofs::Trees::block_items))]
 fn add_in(
+    alloc: Global,
     directives: &Directives,
     statement: &Stmt,
     parts: &mut Vec<RegionPart>,
@@ -190,14 +298,14 @@ fn add_in(
         Stmt::Assign(_, _) => Ok(()),
         Stmt::Update(_, _, _) => Ok(()),
         Stmt::If(_, then, other) => {
-            add_in(directives, then, parts)?;
+            add_in(alloc, directives, then, parts)?;
             match other {
                 None => Ok(()),
-                Some(other) => add_in(directives, other, parts),
+                Some(other) => add_in(alloc, directives, other, parts),
             }
         }
-        Stmt::For(_, body) => add_in(directives, body, parts),
-        Stmt::Block(items) => add_among(directives, items, parts),
+        Stmt::For(_, body) => add_in(alloc, directives, body, parts),
+        Stmt::Block(items) => add_among(alloc, directives, items, parts),
         Stmt::Print(_, _) => Ok(()),
     }
 }
@@ -205,6 +313,7 @@ fn add_in(
 /// Adds those that a statement is or has in it, behind this line.
 #[cycle(regions)]
 fn add_behind(
+    alloc: Global,
     directives: &Directives,
     before: Option<Place>,
     statement: &Stmt,
@@ -214,15 +323,16 @@ fn add_behind(
         (stmt_of statement.now) (regions_in directives.now (stmt_of statement.now))))
         parts.old.items parts.new.items) }
 {
-    if add_opened(directives, before, statement, parts)? {
+    if add_opened(alloc, directives, before, statement, parts)? {
         return Ok(());
     }
-    add_in(directives, statement, parts)
+    add_in(alloc, directives, statement, parts)
 }
 
 /// Adds those of an item behind this line; gives the line behind which the next item stands.
 #[cycle(regions)]
 fn add_item(
+    alloc: Global,
     directives: &Directives,
     before: Option<Place>,
     item: &Item,
@@ -235,7 +345,7 @@ fn add_item(
         Item::Directive(place) => Ok(Some(*place)),
         Item::Local(_) => Ok(None),
         Item::Statement(statement) => {
-            add_behind(directives, before, statement, parts)?;
+            add_behind(alloc, directives, before, statement, parts)?;
             Ok(None)
         }
     }
@@ -244,6 +354,7 @@ fn add_item(
 /// Adds those among a block's items.
 #[cycle(regions)]
 fn add_among(
+    alloc: Global,
     directives: &Directives,
     items: &[Item],
     parts: &mut Vec<RegionPart>,
@@ -253,7 +364,7 @@ fn add_among(
 {
     let mut before = None;
     for item in items {
-        before = add_item(directives, before, item, parts)?;
+        before = add_item(alloc, directives, before, item, parts)?;
     }
     Ok(())
 }
@@ -274,6 +385,6 @@ pub fn regions_of(
         ≡ parts_of (regions_of directives.now (kernel_of kernel.now))) }
 {
     let mut parts = Vec::new(alloc);
-    add_among(directives, kernel.body.as_slice(), &mut parts)?;
+    add_among(alloc, directives, kernel.body.as_slice(), &mut parts)?;
     Ok(parts)
 }

@@ -1,13 +1,14 @@
 use Rattle.std.proofs.Common.{refl, ap, ◌∙◌, ◌+◌, ◌++◌}
 use Rattle.semantics.specs.Directives.Directive.{Schedule}
 use Rattle.semantics.specs.Directives.Listing.{numbered, loop_lines}
-use Rattle.pragma.specs.Views.{said_of}
-use Rattle.listing.specs.Regions.{plain_loop}
+use Rattle.pragma_region.specs.Listed.{loop_said}
+use Rattle.listing.specs.Regions.{listed_with}
 use Rattle.listing.proofs.Printed.{loop_added}
 use Rattle.listing.proofs.regions.add_next_loop.Goals as goal
 
 pub returns-clause-added : goal.returns-clause-added
 returns-clause-added c =
-    loop_added c.args.before (c.args.before.loops + 1) (said_of c.args.directive) c.args.text.now.items _ refl
+    let said = loop_said c.args.region_loop.now in
+    loop_added c.args.before (c.args.before.loops + 1) said c.args.text.now.items _ refl
     (c.in_ok-add_loop.ensures.added
-    ∙ ap (λ (s : Schedule). c.args.text.now.items ++ numbered c.args.before.regions (c.args.before.loops + 1) (loop_lines (plain_loop s))) c.schedule_for-schedule.ensures)
+    ∙ ap (λ (s : Schedule). c.args.text.now.items ++ numbered c.args.before.regions (c.args.before.loops + 1) (loop_lines (listed_with s said.1))) c.schedule_for-schedule.ensures)
