@@ -22,7 +22,7 @@ use Rattle.ktree.proofs.Trees.{next_item}
 use Rattle.pragma.proofs.PlainLaw.{all_behind}
 use Rattle.flow.specs.Private.{first_stmt_of}
 use Rattle.flow.specs.Roles.{LineRoles, KeepsRolesThere, LoopsKeepRoles, ItemsKeepRoles, FirstLineKeepsRoles, FirstLoopsKeepRoles}
-use Rattle.flow.specs.Parallel.{numbers, AreRolesOf, IsParallelLoop, LoopsAre, ItemsAre, FirstLineIs, FirstLoopsAre, Adds}
+use Rattle.flow.specs.Parallel.{numbers, AreRolesOf, IsParallelLoop, Joined, LoopsAre, ItemsAre, FirstLineIs, FirstLoopsAre, Adds}
 use Rattle.flow.specs.declared.environment.LoopRoles.{LoopRoles}
 use Rattle.flow.specs.declared.environment.ParallelLoop.{ParallelLoop}
 use Rattle.flow.proofs.PrivateLemmas.{asked, same_round, loop_of, item_cut}
@@ -116,6 +116,14 @@ body_listed text R before after s head body inner e f listed =
     let is : loop_of head (stmt_of inner) ≡ stmt_of s = ap (λ b. loop_of head (stmt_of b)) f ∙ sym (ap stmt_of e) in
     let here : LoopsKeepRoles text R [] (loop_of head (stmt_of inner)) → Adds (LoopsAre text R (loop_of head (stmt_of inner))) before after = λ h. listed (same_round text R _ [] (stmt_of inner) h) in
     subst (λ t. LoopsKeepRoles text R [] t → Adds (LoopsAre text R t) before after) is here
+
+-- those of both branches
+pub both_listed : (text : List ℕ) (R : LineRoles) (a b : Tree.Stmt) (before mid after : List ParallelLoop) → (LoopsKeepRoles text R [] a → Adds (LoopsAre text R a) before mid)
+    → (LoopsKeepRoles text R [] b → Adds (LoopsAre text R b) mid after) → LoopsKeepRoles text R [] a × LoopsKeepRoles text R [] b → Adds (Joined (LoopsAre text R a) (LoopsAre text R b)) before after
+both_listed text R a b before mid after one other h =
+    let p = one h.0 in
+    let q = other h.1 in
+    (p.0 ++ q.0, q.1 ∙ ap (λ xs. xs ++ q.0) p.1 ∙ append_assoc before p.0 q.0, (p.0, q.0, refl, p.2, q.2))
 
 -- an item's, and those of the others
 joined_item : (text : List ℕ) (R : LineRoles) (i : Item) (rest : Tree.Items) (a b c : List ParallelLoop) → FirstLineIs text R (with_item i Tree.no_items) rest a

@@ -2,11 +2,24 @@ use Rattle.std.specs.Prelude.{[], OnOk}
 use Rattle.std.proofs.Common.{sym, subst}
 use Rattle.std.proofs.lemmas.Result.{on_ok_weaker}
 use Rattle.pragma_named.specs.Known.{kept}
+use Rattle.ktree.specs.View.{stmt_of}
 use Rattle.ktree.proofs.Trees.{block_is}
 use Rattle.flow.specs.Roles.{roles_known, LoopsKeepRoles}
 use Rattle.flow.specs.Parallel.{Adds, LoopsAre}
-use Rattle.flow.proofs.ParallelLemmas.{body_listed, all_listed, item_listed}
+use Rattle.flow.proofs.ParallelLemmas.{body_listed, both_listed, all_listed, item_listed}
 use Rattle.flow.proofs.listing.+listing.Goals as goal
+
+pub add_statement-returns-in-None : goal.add_statement-returns-in-None
+add_statement-returns-in-None t c = rw (c.in-If.is, c.in-None.is) (rw c.deref.ensures at c.in_ok-add_statement-in-If.ensures)
+
+pub add_statement-returns-in-Some : goal.add_statement-returns-in-Some
+add_statement-returns-in-Some t c =
+    rw (c.in-If.is, c.in-Some.is) (
+    on_ok_weaker c.add_statement-in-Some.result
+    (both_listed c.args.directives.now (roles_known (kept c.args.lines.now) c.args.files) (stmt_of c.in-If.then.value) (stmt_of c.in-Some.other.value) c.args.loops.now.items c.add_statement.new.loops.items
+    c.add_statement-in-Some.new.loops.items (rw c.deref.ensures at c.in_ok-add_statement-in-If.ensures))
+    (rw c.deref-in-Some.ensures at c.add_statement-in-Some.ensures)
+    )
 
 pub add_statement-returns-in-For : goal.add_statement-returns-in-For
 add_statement-returns-in-For t c =
