@@ -80,8 +80,7 @@ module _ (roles : Roles) (n : ℕ) (s body : Stmt) (nest : Some body ≡ nest_bo
 
   parts_of : KeepsItsRoles roles n s → Parts roles s body
   parts_of its =
-      let same : its.body ≡ body = cc (nest, body_of_nest n s its.body its.loops its.nest) in
-      (
+      let same : its.body ≡ body = cc (nest, body_of_nest n s its.body its.loops its.nest) in (
         subst (λ b. is_private_body (role_variables roles) b ≡ true) same its.keeps,
         (its.first, (subst (AssignsLasts roles) same its.last, ((its.different, its.apart), its.updates))),
       )

@@ -123,7 +123,15 @@ pub(crate) fn add_items(
         (items_of items.now)) loops.old.items loops.new.items) }
 {
     for (i, item) in items.iter().enumerate() {
-        add_line(alloc, directives, lines, files, item, &items[i + 1..], loops)?;
+        add_line(
+            alloc,
+            directives,
+            lines,
+            files,
+            item,
+            &items[i + 1..],
+            loops,
+        )?;
         add_item(alloc, directives, lines, files, item, loops)?;
     }
     Ok(())
@@ -147,6 +155,8 @@ fn add_item(
     match item {
         Item::Directive(_) => Ok(()),
         Item::Local(_) => Ok(()),
-        Item::Statement(statement) => add_statement(alloc, directives, lines, files, statement, loops),
+        Item::Statement(statement) => add_statement(
+            alloc, directives, lines, files, statement, loops,
+        ),
     }
 }

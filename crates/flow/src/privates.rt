@@ -67,10 +67,7 @@ pub(crate) fn forget_line(
 }
 
 /// Forgets the variables of some names.
-pub(crate) fn forget_all(
-    names: &[Named],
-    known: &mut DefinitelyAssigned,
-) -> Result<(), AllocError>
+pub(crate) fn forget_all(names: &[Named], known: &mut DefinitelyAssigned) -> Result<(), AllocError>
     ensures { OnOk result (known_of known.new
         ≡ without (known_of known.old) (map variable_named names.now)) }
 {

@@ -39,10 +39,7 @@ fn add_names(
 }
 
 /// Puts those of a clause there.
-fn add_clause(
-    clause: &Clause<Named>,
-    reductions: &mut Vec<Reduction>,
-) -> Result<(), AllocError>
+fn add_clause(clause: &Clause<Named>, reductions: &mut Vec<Reduction>) -> Result<(), AllocError>
     ensures { OnOk result (reduced reductions.new.items
         ≡ reduced reductions.old.items ++ reduction_of (resolved_clause clause.now)) }
 {
