@@ -1,5 +1,5 @@
 -- What a fault of the data tells of, statement by statement.
-use Rattle.std.specs.Prelude.{ℕ, zero, suc, ◌+◌, ◌-◌, Bool, ◌≡◌, ◌⊎◌, ◌<◌, List, [], ◌∷◌, length, get_or, take, drop, Option, Some, None, IfSome}
+use Rattle.std.specs.Prelude.{ℕ, zero, suc, ◌+◌, ◌-◌, Bool, ◌≡◌, ◌<◌, List, [], ◌∷◌, length, get_or, take, drop, Option, Some, None, IfSome}
 use Rattle.std.proofs.Common.{Box, Global, sym, ap, ◌∙◌, subst, inl, inr}
 use Rattle.semantics.specs.Tree
 use Rattle.semantics.specs.Tree.{Variable}

@@ -13,7 +13,6 @@ use Rattle.semantics.specs.Loops.Operator.{ReduceOp}
 use Rattle.semantics.specs.Meaning.Agrees.{is_among}
 use Rattle.semantics.proofs.EraseTokenLaw.{first_of, second_of}
 use Rattle.law_roles.specs.Updates.{operator_of, is_plain}
-use Rattle.law_roles.specs.Sharing.{are_different}
 use Rattle.flow.specs.Private.{all_but}
 
 -- ---- all of a list

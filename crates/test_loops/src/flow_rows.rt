@@ -1,8 +1,6 @@
 //! Whether locals are assigned before they are read, and the data of parallel loops.
 
-use crate::texts::{
-    I, J, OUT_OF_MEMORY, S, X, add_last, at, kernel, name, no_other, parsed, text,
-};
+use crate::texts::{I, J, OUT_OF_MEMORY, S, X, add_last, at, kernel, name, no_other, parsed, text};
 use flow::*;
 use flow_reduction::Reduction;
 use ktree::{
@@ -623,7 +621,8 @@ fn fault_of_two_roles(alloc: Global, kernel: &Kernel) -> Result<Option<DataFault
 }
 
 /// A parallel loop on the line 2.
-const PLAIN_LOOP: &str = "uint64_t A[8]; uint64_t B[2][3]; uint64_t s; void kernel(void) { uint64_t x;
+const PLAIN_LOOP: &str =
+    "uint64_t A[8]; uint64_t B[2][3]; uint64_t s; void kernel(void) { uint64_t x;
 #pragma omp parallel for
 for (uint64_t i = 0; i < 8; i++) A[i] = 1;
 }

@@ -1,4 +1,4 @@
-use Rattle.std.specs.Prelude.{◌||◌, map, flat_map}
+use Rattle.std.specs.Prelude.{◌||◌, map}
 use Rattle.std.proofs.Common.{sym, ap, ◌∙◌}
 use Rattle.semantics.specs.Meaning.Agrees.{is_among}
 use Rattle.law_roles.specs.Sharing.{assigned_first}

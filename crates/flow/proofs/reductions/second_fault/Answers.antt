@@ -1,5 +1,5 @@
-use Rattle.std.specs.Prelude.{map, is_none}
-use Rattle.std.proofs.Common.{sym, ap, ◌∙◌, inr, refl}
+use Rattle.std.specs.Prelude.{map}
+use Rattle.std.proofs.Common.{ap, ◌∙◌, inr, refl}
 use Rattle.pragma_named.specs.Known.{kept, lines_known}
 use Rattle.pragma_named.specs.Views.{variable_named}
 use Rattle.flow.specs.Roles.{roles_known}
