@@ -1,7 +1,7 @@
 use Rattle.std.proofs.Common.{◌≡◌, map, drop}
 use Rattle.semantics.specs.Meaning.Agrees.{is_among}
 use Rattle.pragma_named.specs.Views.{variable_named}
-use Rattle.flow.proofs.privates.names.Given as goal
+use Rattle.flow.proofs.name_lists.has_name.Given as goal
 
 -- the names that are left decide
 abbrev pub invariant-loop-name : goal.invariant-loop-name
