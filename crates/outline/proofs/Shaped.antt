@@ -162,8 +162,8 @@ module _ (layout : List Laid) (mark : ℕ) (loops : List ParallelLoop) where
             };
             locals = subst (λ a. AreLocals layout mark (declared_in a)) (sym h.statement) all;
             privates = λ x e.
-            let f = is_among (targets_outside (stmt_of l.statement.now)) in
-            given.privates l.line x (second_of (f x) (is_among (R l.line).privates x) (sym (among_left f (R l.line).privates x) ∙ e));
+                let f = is_among (targets_outside (stmt_of l.statement.now)) in
+                given.privates l.line x (second_of (f x) (is_among (R l.line).privates x) (sym (among_left f (R l.line).privates x) ∙ e));
             declarations = ds;
             shares = subst (λ a. SharesAsNest ds (roles_in R l) serial l.depth a) (sym h.statement) shares;
           }

@@ -1,7 +1,7 @@
 -- Where the variables with a role stand, one after another.
 use Rattle.std.specs.Prelude.{ℕ, zero, suc, Bool, true, false, ◌≡◌, ◌+◌, ◌*◌, ◌<◌, ◌≤◌, if◌then◌else◌, List, [], ◌∷◌, ◌++◌, length, get_or, take, drop, map, filter, Some, slice_get}
 use Rattle.std.proofs.Common.{refl, sym, ap, ◌∙◌, arith, add-one, drop-cons, subst}
-use Rattle.std.proofs.lemmas.List.{take_more, take_all, drop_all}
+use Rattle.std.proofs.lemmas.List.{take_more, drop_all}
 use Rattle.std.proofs.lemmas.List.Elements.{filter-append}
 use Rattle.semantics.specs.Tree.{Variable}
 use Rattle.semantics.specs.Loops.Operator.{ReduceOp}
@@ -9,18 +9,16 @@ use Rattle.semantics.specs.Meaning.Places.{size}
 use Rattle.ktree.specs.DirectiveView.{operator_of}
 use Rattle.ktree.specs.declared.place.VarId.{VarId}
 use Rattle.flow_reduction.specs.Reduced.{reduction_of, reduced}
+use Rattle.flow.specs.Parallel.{numbers}
 use Rattle.flow_reduction.specs.declared.reduction.Reduction.{Reduction}
 use Rattle.lower_code.specs.declared.term.Laid.{Laid}
-use Rattle.lower_code.specs.Layout.{first_of, shapes_of, spot}
+use Rattle.lower_code.specs.Layout.{first_of, shapes_of, spot_in, spot}
 use Rattle.lower.specs.declared.roles.Spot.{Spot}
 use Rattle.lower.specs.declared.roles.LoweredReduction.{LoweredReduction}
 use Rattle.lower.specs.Roles.{StandsAt, StandEach, AreReduced}
 
 abbrev number : VarId → Variable
 number v = v.0
-
-abbrev numbers : List VarId → List Variable
-numbers vs = map (λ v. v.0) vs
 
 -- ---- cells
 
@@ -64,7 +62,7 @@ none_left (x ∷ xs) e = absurd (omega arith)
 -- a scalar's only element is the first
 pub spot_is : (layout : List Laid) (x : ℕ) (l : Laid) (first : ℕ) → x < length layout → l ≡ get_or layout x l → l.lengths.items ≡ [] → first ≡ first_of (shapes_of layout) x → spot (shapes_of layout) x [] ≡ Some first
 spot_is layout x l first lt is none at =
-    ap (λ o. Rattle.lower_code.specs.Layout.spot_in o (first_of (shapes_of layout) x) []) (there layout x lt is ∙ ap Some none) ∙ ap Some (same ∙ sym at)
+    ap (λ o. spot_in o (first_of (shapes_of layout) x) []) (there layout x lt is ∙ ap Some none) ∙ ap Some (same ∙ sym at)
   where
     same : first_of (shapes_of layout) x + 0 ≡ first_of (shapes_of layout) x
     same = omega arith

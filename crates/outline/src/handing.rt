@@ -140,7 +140,7 @@ fn lower(
 // # Errors
 //
 // `OutOfMemory` alone. It stands also for a statement that is no nest of as many loops as its line associates, or with no line of its
-// own among these: a kernel that is accepted has no such one.
+// own among these, and for a variable with a role that is no scalar: a kernel that is accepted has no such one.
 pub(crate) fn loop_for_team<'k>(
     alloc: Global,
     loops: &[ParallelLoop],

@@ -61,6 +61,7 @@ fn cell_of(layout: &[Laid], variable: VarId) -> Option<u64>
 }
 
 // Where a scalar stands: at file scope are the variables of the layout, and a local has the register of its number (C11 6.2.1).
+// None for an array, and for a local without a register.
 fn spot_of(variable: VarId, target: Target<'_>) -> Option<Spot>
     ensures { IfSome result
         (StandsAt target.entry.layout.now target.entry.registers variable.0) }

@@ -1,5 +1,5 @@
 use Rattle.std.proofs.Common.{refl}
-use Rattle.outline.proofs.Standing.{product_on, product_over}
+use Rattle.outline.proofs.Standing.{product_on}
 use Rattle.outline.proofs.spots.elements.Goals as goal
 
 pub loop-length-preserved : goal.loop-length-preserved
