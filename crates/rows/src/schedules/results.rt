@@ -19,7 +19,7 @@ pub(super) const ROWS: &[Row] = &[
         output: "A = 3 10 6 2 9 5 1 8\ns = 1995840\nt = 0\nx = 0\n",
     },
     Row {
-        before: "for (uint64_t k = 0; k < 8; k++) { A[k] = (k * 7 + 3) % 11; }\ns = 18446744073709551615ULL;",
+        before: "for (uint64_t k = 0; k < 8; k++) { A[k] = (k * 7 + 3) % 11; }\ns = 18446744073709551615ull;",
         clause: "reduction(&: s)",
         loops: "for (uint64_t i = 0; i < 8; i++) { s &= A[i] | 24; }",
         output: "A = 3 10 6 2 9 5 1 8\ns = 24\nt = 0\nx = 0\n",
@@ -91,9 +91,9 @@ pub(super) const ROWS: &[Row] = &[
         output: "A = 3 10 6 2 9 5 1 8\ns = 37\nt = 0\nx = 0\n",
     },
     Row {
-        before: "for (uint64_t k = 0; k < 8; k++) { A[k] = (k * 7 + 3) % 11; }\ns = 18446744073709551615ULL;",
+        before: "for (uint64_t k = 0; k < 8; k++) { A[k] = (k * 7 + 3) % 11; }\ns = 18446744073709551615ull;",
         clause: "reduction(+: s)",
-        loops: "for (uint64_t i = 0; i < 8; i++) { s += i * 4611686018427387904ULL; }",
+        loops: "for (uint64_t i = 0; i < 8; i++) { s += i * 4611686018427387904ull; }",
         output: "A = 3 10 6 2 9 5 1 8\ns = 18446744073709551615\nt = 0\nx = 0\n",
     },
     Row {
