@@ -33,8 +33,8 @@ pub(super) const ROWS: &[Row] = &[
     Row {
         before: "for (uint64_t k = 0; k < 8; k++) { A[k] = (k * 7 + 3) % 11; }\ns = 9;",
         clause: "reduction(^: s)",
-        loops: "for (uint64_t i = 0; i < 8; i++) { if (i != 4) s ^= A[i] << i; }",
-        output: "A = 3 10 6 2 9 5 1 8\ns = 1270\nt = 0\nx = 0\n",
+        loops: "for (uint64_t i = 0; i < 8; i++) { if (i != 4) s ^= A[i] << 3; }",
+        output: "A = 3 10 6 2 9 5 1 8\ns = 1\nt = 0\nx = 0\n",
     },
     Row {
         before: "for (uint64_t k = 0; k < 8; k++) { A[k] = (k * 7 + 3) % 11; }\ns = 5;",
