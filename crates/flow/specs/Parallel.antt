@@ -77,7 +77,7 @@ FirstLineIs text R (mark line items) rest ls = IsOfLine text R line rest ls
 FirstLineIs text R _ rest ls = ls ≡ []
 
 -- and as a statement
-abbrev pub FirstLoopsAre : List ℕ → LineRoles → LineRoles → Items → OfLoops
+abbrev pub FirstLoopsAre : List ℕ → LineRoles → Items → OfLoops
 FirstLoopsAre text R (stmt s items) ls = LoopsAre text R s ls
 FirstLoopsAre text R _ ls = ls ≡ []
 

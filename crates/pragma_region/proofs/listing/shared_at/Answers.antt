@@ -6,4 +6,4 @@ pub returns-in_default : goal.returns-in_default
 returns-in_default c = shared_none c.args.directives.now c.args.place.line c.in_default.ensures.err.1
 
 pub returns : goal.returns
-returns c = shared_read c.args.directives.now c.args.place.line (directive_of name_of c.in-Ok.directive.now) _ c.in-Ok.ensures.ok c.shared_said.ensures
+returns c = shared_read c.args.directives.now c.args.place.line (directive_of name_of c.in-Ok.directive.now) _ c.in-Ok.ensures.ok c.shared_loop.ensures
