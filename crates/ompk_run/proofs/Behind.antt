@@ -1,5 +1,5 @@
 -- What registers and cells hold behind a loop that a team ran.
-use Rattle.std.specs.Prelude.{ℕ, Bool, true, false, ◌≡◌, ◌<◌, ◌≤◌, List, [], ◌∷◌, length, nat_lt, Option, Some, None, slice_index}
+use Rattle.std.specs.Prelude.{ℕ, Bool, true, false, not, ◌≡◌, ◌<◌, ◌≤◌, List, [], ◌∷◌, length, nat_lt, Option, Some, None, slice_index}
 use Rattle.std.specs.List.{list_all}
 use Rattle.std.proofs.Common.{refl, sym, ap, ◌∙◌, inl, inr, arith}
 use Rattle.std.proofs.lemmas.Bool.{true≢false, ltb-true, ltb-false}
@@ -9,7 +9,6 @@ use Rattle.semantics.specs.Meaning.State.{State, Slot, Outside, Empty, Holds, lo
 use Rattle.semantics.specs.Meaning.Runs.{Effect, run}
 use Rattle.semantics.specs.Loops.Nest.{Loop, Vector, nest_of}
 use Rattle.semantics.specs.Loops.Piece.{Roles, is_outside}
-use Rattle.law_private.proofs.Chunks.{not_true}
 use Rattle.law_roles.specs.Updates.{is_plain}
 use Rattle.law_roles.specs.Sharing.{assigned_first, role_variables, IsScalar, IsFileScalar, SharesFrom, changed_from}
 use Rattle.law_starts.specs.Begun.{told_apart, begun}
@@ -27,6 +26,11 @@ use Rattle.team.specs.Together.{PutTogether}
 use Rattle.ompk_run.proofs.AtHand.{alone}
 use Rattle.ompk_run.proofs.Leaving.{none_told, role_told, IsTold, holds, stays, empty, told_scalar}
 use Rattle.ompk_run.proofs.Numbered.{no_cell}
+
+-- a name that is visible behind a statement is not declared in it
+undeclared : (b : Bool) → not b ≡ true → b ≡ false
+undeclared true h = absurd (true≢false (sym h))
+undeclared false h = refl
 
 -- where no object was there is none
 none_behind : (o p : Option ℕ) → is_there p ≡ is_there o → o ≡ None → p ≡ None
@@ -107,7 +111,7 @@ module _ (layout : List Laid) (mark : ℕ) (s : State) (rs : List ℕ) (ks : Lis
       file : (js : List ℕ) → x < length layout → is_among (told_apart roles) x ≡ true → is_among (role_variables roles) x ≡ true → IsScalar s x → after.cells x js ≡ cell_at (shapes_of layout) (values_of ks') x js
       file js lt k role (inl up) = absurd (true≢false (sym (ap is_outside (stand.machine.file_scope x lt)) ∙ up))
       file [] lt k role (inr scalar) =
-          cell_told layout s after rs rs' ks ks' x lt scalar.outside (runs_outside x a (not_true (is_among (declared_in a) x) (seen x role)) s e ran scalar.outside) (stand.machine.cell x []) (told x k)
+          cell_told layout s after rs rs' ks ks' x lt scalar.outside (runs_outside x a (undeclared (is_among (declared_in a) x) (seen x role)) s e ran scalar.outside) (stand.machine.cell x []) (told x k)
       file (i ∷ js) lt k role (inr scalar) =
           none_behind (s.cells x (i ∷ js)) (after.cells x (i ∷ js)) (there_same e.writes s x (i ∷ js)) (scalar.alone i js) ∙ sym (alone layout mark s rs ks stand x scalar.there (values_of ks') i js)
 
