@@ -1,5 +1,5 @@
 -- What is at hand where a team is handed a loop: scalars, and numbers of 64 bits.
-use Rattle.std.specs.Prelude.{ℕ, Bool, true, false, not, ◌≡◌, ◌==◌, ◌&&◌, ◌||◌, ◌<◌, ◌^◌, ◌⊎◌, List, [], ◌∷◌, map, is_some, Option, Some, None, IsSome, slice_get, slice_index, option_and_then}
+use Rattle.std.specs.Prelude.{ℕ, Bool, true, false, not, ◌≡◌, ◌==◌, ◌&&◌, ◌||◌, ◌<◌, ◌^◌, List, [], ◌∷◌, is_some, Option, Some, None, IsSome, slice_get, option_and_then}
 use Rattle.std.specs.List.{list_all}
 use Rattle.std.proofs.Common.{refl, sym, ap, ◌∙◌, subst, cond, inl, inr}
 use Rattle.std.proofs.lemmas.Bool.{eqb-true, or_cases, true≢false}
@@ -11,9 +11,9 @@ use Rattle.semantics.specs.Meaning.Runs.{run}
 use Rattle.semantics.specs.Loops.Operator.{ReduceOp}
 use Rattle.semantics.specs.Loops.Piece.{Roles, is_outside}
 use Rattle.law_commute.proofs.Values.{first_of, second_of}
-use Rattle.law_roles.specs.Updates.{operator_of, is_plain, operands}
+use Rattle.law_roles.specs.Updates.{operator_of, operands}
 use Rattle.law_roles.specs.Reducing.{takes_all}
-use Rattle.law_roles.specs.Sharing.{role_variables, IsScalar, IsFileScalar, HoldsNumber, TakesOperands}
+use Rattle.law_roles.specs.Sharing.{role_variables, IsScalar, HoldsNumber, TakesOperands}
 use Rattle.law_independence.specs.OrderLaws.{AreAtHand}
 use Rattle.law_apart.specs.Apart.{stands_there, is_at_hand}
 use Rattle.store.specs.Kept.{Kept}

@@ -1,5 +1,5 @@
 -- At a turn of serial loops their variables hold numbers.
-use Rattle.std.specs.Prelude.{ℕ, Bool, true, false, ◌≡◌, ◌==◌, ◌||◌, ◌&&◌, List, [], ◌∷◌, map, Contains, Option, Some, None}
+use Rattle.std.specs.Prelude.{ℕ, Bool, true, false, ◌≡◌, ◌||◌, ◌&&◌, List, [], ◌∷◌, map, Contains, Option, Some, None}
 use Rattle.std.specs.List.{list_any, AllByRecursion}
 use Rattle.std.proofs.Common.{refl}
 use Rattle.std.proofs.lemmas.List.Elements.{All-contains, All-from_recursion}

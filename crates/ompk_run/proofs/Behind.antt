@@ -1,7 +1,7 @@
 -- What registers and cells hold behind a loop that a team ran.
 use Rattle.std.specs.Prelude.{ℕ, Bool, true, false, not, ◌≡◌, ◌<◌, ◌≤◌, List, [], ◌∷◌, length, nat_lt, Option, Some, None, slice_index}
 use Rattle.std.specs.List.{list_all}
-use Rattle.std.proofs.Common.{refl, sym, ap, ◌∙◌, inl, inr, arith}
+use Rattle.std.proofs.Common.{refl, sym, ap, ◌∙◌, inl, inr}
 use Rattle.std.proofs.lemmas.Bool.{true≢false, ltb-true, ltb-false}
 use Rattle.semantics.specs.Tree.{Variable, Stmt}
 use Rattle.semantics.specs.Meaning.Agrees.{is_among, declared_in, visible_behind}
@@ -10,7 +10,7 @@ use Rattle.semantics.specs.Meaning.Runs.{Effect, run}
 use Rattle.semantics.specs.Loops.Nest.{Loop, Vector, nest_of}
 use Rattle.semantics.specs.Loops.Piece.{Roles, is_outside}
 use Rattle.law_roles.specs.Updates.{is_plain}
-use Rattle.law_roles.specs.Sharing.{assigned_first, role_variables, IsScalar, IsFileScalar, SharesFrom, changed_from}
+use Rattle.law_roles.specs.Sharing.{assigned_first, role_variables, IsScalar, SharesFrom, changed_from}
 use Rattle.law_starts.specs.Begun.{told_apart, begun}
 use Rattle.law_independence.specs.OrderLaws.{AreAtHand}
 use Rattle.law_scopes.proofs.Shared.{there_same}

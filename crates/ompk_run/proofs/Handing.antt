@@ -1,5 +1,5 @@
 -- A loop that a team ran leaves the locals as they were but for lastprivate and reduction variables, and the file-scope objects as the loop's run does.
-use Rattle.std.specs.Prelude.{ℕ, Bool, true, false, ◌≡◌, ◌<◌, ◌≤◌, ◌^◌, ◌&&◌, if◌then◌else◌, List, [], ◌∷◌, ◌++◌, length, Option, Some, None, IsSome}
+use Rattle.std.specs.Prelude.{ℕ, Bool, true, false, ◌≡◌, ◌<◌, ◌≤◌, ◌^◌, ◌&&◌, if◌then◌else◌, List, ◌++◌, length, Option, Some, None, IsSome}
 use Rattle.std.specs.List.{list_all}
 use Rattle.std.proofs.Common.{refl, sym, ap, ◌∙◌, subst, append-nil}
 use Rattle.std.proofs.lemmas.List.Folds.{list_all-append}
@@ -10,7 +10,7 @@ use Rattle.semantics.specs.Meaning.Value.{map_option}
 use Rattle.semantics.specs.Meaning.Runs.{Effect, run}
 use Rattle.semantics.specs.Loops.Chunk.{Kind, IsSized, cut}
 use Rattle.semantics.specs.Loops.Joined.{chunked}
-use Rattle.semantics.specs.Loops.Nest.{Vector, Loop, iterations}
+use Rattle.semantics.specs.Loops.Nest.{Loop, iterations}
 use Rattle.semantics.specs.Loops.Piece.{Roles}
 use Rattle.ktree.specs.View.{stmt_of}
 use Rattle.law_commute.proofs.Values.{first_of, second_of}

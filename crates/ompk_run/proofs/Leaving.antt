@@ -1,24 +1,24 @@
 -- What a team leaves in the variables with a role.
-use Rattle.std.specs.Prelude.{ℕ, Bool, true, false, not, ◌≡◌, ◌==◌, ◌&&◌, ◌||◌, ◌<◌, ◌≤◌, ◌^◌, List, [], ◌∷◌, ◌++◌, length, map, flat_map, Option, Some, None, IsSome, slice_index, All, is_none}
+use Rattle.std.specs.Prelude.{ℕ, Bool, true, false, not, ◌≡◌, ◌==◌, ◌&&◌, ◌||◌, ◌<◌, ◌≤◌, ◌^◌, List, [], ◌∷◌, ◌++◌, length, map, flat_map, Option, Some, None, IsSome, slice_index, All, is_some, is_none}
 use Rattle.std.specs.List.{list_all}
-use Rattle.std.proofs.Common.{refl, sym, ap, ◌∙◌, subst, inl, inr, arith}
-use Rattle.std.proofs.lemmas.Bool.{true≢false, or_cases, or_parts}
+use Rattle.std.proofs.Common.{refl, sym, ap, ◌∙◌, subst, inl, inr}
+use Rattle.std.proofs.lemmas.Bool.{true≢false, or_parts}
 use Rattle.std.proofs.lemmas.List.Elements.{All-nil, All-cons}
 use Rattle.std.proofs.lemmas.List.Folds.{list_any-append}
-use Rattle.std.proofs.lemmas.Option.{none-some, same_Some}
+use Rattle.std.proofs.lemmas.Option.{none-some}
 use Rattle.semantics.specs.Tree.{Variable, Stmt}
 use Rattle.semantics.specs.Meaning.State.{State, Slot, Outside, Empty, Holds, look, look_in, is_there, overwritten}
 use Rattle.semantics.specs.Meaning.Agrees.{is_among, visible_behind}
-use Rattle.semantics.specs.Meaning.Runs.{Effect, run}
+use Rattle.semantics.specs.Meaning.Runs.{Effect}
 use Rattle.semantics.specs.Loops.Nest.{Loop, Vector, nest_of}
-use Rattle.semantics.specs.Loops.Operator.{ReduceOp, combined_all}
+use Rattle.semantics.specs.Loops.Operator.{ReduceOp}
 use Rattle.semantics.specs.Loops.Piece.{Roles, is_outside}
 use Rattle.law_nests.specs.Walks.{walk}
 use Rattle.law_roles.specs.Updates.{operator_of, is_plain}
 use Rattle.law_roles.specs.Reducing.{AreHeld}
 use Rattle.law_roles.specs.Sharing.{assigned_first, role_variables, or_filled, last_filled, IsScalar, SharesFrom, changed_from}
 use Rattle.law_roles.proofs.Seen.{look_of}
-use Rattle.law_roles.proofs.Starts.{reduced_of, among_of}
+use Rattle.law_roles.proofs.Starts.{reduced_of}
 use Rattle.law_starts.specs.Begun.{told_apart, begun}
 use Rattle.law_starts.proofs.Beginning.{begun_locals, begun_cells}
 use Rattle.law_starts.proofs.Holding.{walks_keep, chunks_keep}
@@ -156,16 +156,18 @@ module _ (layout : List Laid) (s : State) (rs rs' : List ℕ) (ks ks' : List Kep
         leaves : look after x [] ≡ look (overwritten start f.writes) x []
         leaves = shares.lasts x f h is
 
+        lost : look (overwritten start f.writes) x [] ≡ None → (k : Slot) → s.locals x ≡ k → is_some (look_in k s x []) ≡ true → ⊥
+        lost none k e some = true≢false (sym (last_keeps x h f is (ap (λ l. is_some (look_in l s x [])) e ∙ some)) ∙ ap is_some none)
+
+        there_some : (o : Option ℕ) → is_there o ≡ true → is_some o ≡ true
+        there_some None q = absurd (true≢false (sym q))
+        there_some (Some v) q = refl
+
         nothing : look (overwritten start f.writes) x [] ≡ None → (k : Slot) → s.locals x ≡ k → IsScalar s x → Told x
         nothing none Outside e (inl up) = absurd (true≢false (ap is_outside (sym e) ∙ up))
-        nothing none Outside e (inr file) =
-            absurd (true≢false (sym (last_keeps x h f is (ap (λ l. Rattle.std.specs.Prelude.is_some (look_in l s x [])) e ∙ there_some (s.cells x []) file.there)) ∙ ap Rattle.std.specs.Prelude.is_some none))
-          where
-            there_some : (o : Option ℕ) → is_there o ≡ true → Rattle.std.specs.Prelude.is_some o ≡ true
-            there_some None q = absurd (true≢false (sym q))
-            there_some (Some v) q = refl
+        nothing none Outside e (inr file) = absurd (lost none Outside e (there_some (s.cells x []) file.there))
         nothing none Empty e scalar = empty e (leaves ∙ none)
-        nothing none (Holds v) e scalar = absurd (true≢false (sym (last_keeps x h f is (ap (λ l. Rattle.std.specs.Prelude.is_some (look_in l s x [])) e)) ∙ ap Rattle.std.specs.Prelude.is_some none))
+        nothing none (Holds v) e scalar = absurd (lost none (Holds v) e refl)
 
         go : (o : Option ℕ) → look (overwritten start f.writes) x [] ≡ o → Told x
         go None q = nothing q (s.locals x) refl (hand.scalars x (first_role roles x (last_first roles x h)))

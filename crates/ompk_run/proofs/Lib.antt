@@ -15,3 +15,4 @@ pub mod AtTurn
 pub mod Behind
 pub mod Leaving
 pub mod Numbered
+pub mod Carried

@@ -1,5 +1,5 @@
 -- Locals have numbers behind those of the file-scope variables, and no objects there.
-use Rattle.std.specs.Prelude.{ℕ, Bool, true, false, not, ◌≡◌, ◌==◌, ◌≤◌, ◌||◌, List, [], ◌∷◌, length, map, None, slice_get, option_and_then}
+use Rattle.std.specs.Prelude.{ℕ, Bool, true, false, not, ◌≡◌, ◌==◌, ◌≤◌, ◌||◌, List, [], ◌∷◌, length, None, slice_get, option_and_then}
 use Rattle.std.proofs.Common.{refl, sym, ap, ◌∙◌, subst}
 use Rattle.std.proofs.lemmas.Bool.{eqb-true}
 use Rattle.std.proofs.lemmas.List.{length-map}

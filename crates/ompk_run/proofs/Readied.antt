@@ -31,7 +31,7 @@ use Rattle.law_independence.specs.OrderLaws.{SharesBy}
 use Rattle.ktree.specs.declared.statement.Item.{Item}
 use Rattle.deptest.specs.Accepted.{Program, tree_of, roles_passed, IsAccepted}
 use Rattle.deptest.proofs.Locals.{private_locals}
-use Rattle.ompk_run.specs.Ready.{AreReady, IsPrepared}
+use Rattle.ompk_run.specs.Ready.{IsPrepared}
 
 -- registers and a store stand for the state where no local stands
 stand_first : (layout : List Laid) (mark : ℕ) (registers : List ℕ) (ks : List Kept) → IsLaid layout → shapes_of layout ≡ lengths_of ks → mark ≤ length registers → Fits (machine registers (values_of ks)) → length (values_of ks) < 2 ^ 64 → AreFilled ks

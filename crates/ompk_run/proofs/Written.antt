@@ -1,9 +1,7 @@
 -- What a run leaves and writes.
-use Rattle.std.specs.Prelude.{ℕ, ◌≡◌, List, [], ◌++◌, length, Option, Some, None, IsSome}
-use Rattle.std.proofs.Common.{refl, sym, ap, ◌∙◌, subst, append-nil, append_assoc, arith}
-use Rattle.std.proofs.lemmas.List.{length-map}
-use Rattle.std.proofs.lemmas.Option.{same_Some, slice_get_past}
-use Rattle.semantics.specs.Tree.{Declaration}
+use Rattle.std.specs.Prelude.{ℕ, ◌≡◌, List, [], ◌++◌, Option, Some, None, IsSome}
+use Rattle.std.proofs.Common.{refl, sym, ap, ◌∙◌, subst, append-nil, append_assoc}
+use Rattle.std.proofs.lemmas.Option.{same_Some}
 use Rattle.semantics.specs.Meaning.State.{State, overwritten}
 use Rattle.semantics.specs.Meaning.Runs.{Effect, run_items}
 use Rattle.semantics.specs.Meaning.Output.{dump, output}
@@ -12,7 +10,7 @@ use Rattle.ktree.specs.View.{kernel_of, items_of}
 use Rattle.law_apart.specs.Apart.{apart_items}
 use Rattle.law_apart.specs.Laws.{StartsWith, LeavesTheSame}
 use Rattle.law_apart.proofs.Accepted.{accepted_apart}
-use Rattle.store.specs.Kept.{Kept, cell_of, state_of}
+use Rattle.store.specs.Kept.{Kept, state_of}
 use Rattle.seqrun_value.specs.Standing.{standing}
 use Rattle.seqrun.specs.Ran.{Ran, text_of}
 use Rattle.seqrun_io.specs.Told.{AddsBeginning}
