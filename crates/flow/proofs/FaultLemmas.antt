@@ -1,9 +1,8 @@
 -- What a fault of the data tells of, statement by statement.
-use Rattle.std.specs.Prelude.{ℕ, zero, suc, ◌+◌, ◌-◌, Bool, ◌≡◌, ◌⊎◌, ◌<◌, List, [], ◌∷◌, length, get_or, take, drop, Option, Some, None, IfSome}
+use Rattle.std.specs.Prelude.{ℕ, zero, suc, ◌+◌, ◌-◌, Bool, ◌≡◌, ◌<◌, List, [], ◌∷◌, length, get_or, take, drop, Option, Some, None, IfSome}
 use Rattle.std.proofs.Common.{Box, Global, sym, ap, ◌∙◌, subst, inl, inr}
 use Rattle.semantics.specs.Tree
 use Rattle.semantics.specs.Tree.{Variable}
-use Rattle.semantics.specs.Meaning.Definite.{Privates}
 use Rattle.semantics.specs.Source.Text.{line_at}
 use Rattle.ktree.specs.View.{stmt_of, items_of, with_item}
 use Rattle.ktree.specs.declared.statement.Stmt.{Stmt, For}
@@ -14,29 +13,26 @@ use Rattle.pragma.specs.Clauses.{ReadsLoop}
 use Rattle.pragma.specs.Parallel.{associated}
 use Rattle.ktree.proofs.Trees.{next_item}
 use Rattle.pragma.proofs.PlainLaw.{all_behind}
-use Rattle.flow.specs.Private.{nest_body_of, first_stmt_of, TellsOfAny, TellsOfBody, TellsOfUnassigned, TellsOfNest, TellsOfLine, TellsOfLoops, TellsOfItems, TellsOfFirstLine, TellsOfFirstLoops}
+use Rattle.flow.specs.Private.{nest_body_of, first_stmt_of}
+use Rattle.flow.specs.Roles.{LineRoles}
+use Rattle.flow.specs.Told.{TellsOfAny, TellsOfRoles, TellsOfNest, TellsOfLine, TellsOfLoops, TellsOfItems, TellsOfFirstLine, TellsOfFirstLoops}
 use Rattle.flow.specs.declared.fault.DataFault.{DataFault}
 use Rattle.flow.proofs.PrivateLemmas.{first_is, nest_with, loop_of}
 
--- a directive with a nest behind it: of two faults, one tells of its body and one of its private scalars, and one of them is told
-pub nest_told : (text : List ℕ) (P : Privates) (line : ℕ) (rest : Tree.Items) (k : Option Schedule) (c : Option ℕ) → ReadsLoop (line_at text line) k c → (s : Tree.Stmt) → Some s ≡ first_stmt_of rest
-    → (o q f : Option DataFault) (b : Tree.Stmt) → Some b ≡ nest_body_of (associated c) s → IfSome o (λ e. TellsOfBody e (P line) b) → IfSome q (λ e. TellsOfUnassigned e (P line) s)
-    → IfSome f (λ e. (o ≡ Some e) ⊎ (q ≡ Some e)) → IfSome f (λ e. TellsOfLine e text P line rest)
-nest_told text P line rest k c reads s first o q None b nest told read some = tt
-nest_told text P line rest k c reads s first o q (Some e) b nest told read some =
+-- a directive with a nest behind it
+pub nest_told : (text : List ℕ) (R : LineRoles) (line : ℕ) (rest : Tree.Items) (k : Option Schedule) (c : Option ℕ) → ReadsLoop (line_at text line) k c → (s : Tree.Stmt) → Some s ≡ first_stmt_of rest
+    → (o : Option DataFault) (b : Tree.Stmt) → Some b ≡ nest_body_of (associated c) s → IfSome o (λ e. TellsOfRoles e (R line) s b) → IfSome o (λ e. TellsOfLine e text R line rest)
+nest_told text R line rest k c reads s first None b nest told = tt
+nest_told text R line rest k c reads s first (Some e) b nest told =
     let found = nest_with (associated c) s b nest in
-    inl (k, c, reads, (first_is (TellsOfNest e (P line)) (associated c) rest s first).1 (found.0, b, found.1, which some))
-  where
-    which : (o ≡ Some e) ⊎ (q ≡ Some e) → TellsOfBody e (P line) b ⊎ TellsOfUnassigned e (P line) s
-    which (inl is) = inl (subst (λ o. IfSome o (λ e. TellsOfBody e (P line) b)) is told)
-    which (inr is) = inr (subst (λ o. IfSome o (λ e. TellsOfUnassigned e (P line) s)) is read)
+    inl (k, c, reads, (first_is (TellsOfNest e (R line)) (associated c) rest s first).1 (found.0, b, found.1, told))
 
 -- a loop, of whose body it tells
-pub loop_told : (o : Option DataFault) (text : List ℕ) (P : Privates) (s : Stmt) (head : Head) (body : Box Stmt Global) (inner : Stmt) → s ≡ For head body → inner ≡ body.value
-    → IfSome o (λ f. TellsOfLoops f text P (stmt_of inner)) → IfSome o (λ f. TellsOfLoops f text P (stmt_of s))
-loop_told o text P s head body inner e f h =
+pub loop_told : (o : Option DataFault) (text : List ℕ) (R : LineRoles) (s : Stmt) (head : Head) (body : Box Stmt Global) (inner : Stmt) → s ≡ For head body → inner ≡ body.value
+    → IfSome o (λ f. TellsOfLoops f text R (stmt_of inner)) → IfSome o (λ f. TellsOfLoops f text R (stmt_of s))
+loop_told o text R s head body inner e f h =
     let is : loop_of head (stmt_of inner) ≡ stmt_of s = ap (λ b. loop_of head (stmt_of b)) f ∙ sym (ap stmt_of e) in
-    subst (λ t. IfSome o (λ f. TellsOfLoops f text P t)) is h
+    subst (λ t. IfSome o (λ f. TellsOfLoops f text R t)) is h
 
 -- what it tells of in an item of a body, it tells of in all of them
 module _ (f : DataFault) (own : Variable → Bool) where
@@ -62,32 +58,32 @@ module _ (f : DataFault) (own : Variable → Bool) where
       told_behind i is (subst (TellsOfAny f own) (sym (next_item is i e lt at)) (told_before e rest h))
 
 -- and so with the directive lines among the items of a text
-module _ (f : DataFault) (text : List ℕ) (P : Privates) where
-  line_before : (i : Item) (rest : Tree.Items) → TellsOfFirstLine f text P (with_item i Tree.no_items) rest → TellsOfItems f text P (with_item i rest)
+module _ (f : DataFault) (text : List ℕ) (R : LineRoles) where
+  line_before : (i : Item) (rest : Tree.Items) → TellsOfFirstLine f text R (with_item i Tree.no_items) rest → TellsOfItems f text R (with_item i rest)
   line_before (Directive place) rest h = inl h
   line_before (Local l) rest h = absurd h
   line_before (Statement' p s) rest h = absurd h
 
-  loops_before : (i : Item) (rest : Tree.Items) → TellsOfFirstLoops f text P (with_item i Tree.no_items) → TellsOfItems f text P (with_item i rest)
+  loops_before : (i : Item) (rest : Tree.Items) → TellsOfFirstLoops f text R (with_item i Tree.no_items) → TellsOfItems f text R (with_item i rest)
   loops_before (Directive place) rest h = absurd h
   loops_before (Local l) rest h = absurd h
   loops_before (Statement' p s) rest h = inl h
 
-  lines_later : (i : Item) (rest : Tree.Items) → TellsOfItems f text P rest → TellsOfItems f text P (with_item i rest)
+  lines_later : (i : Item) (rest : Tree.Items) → TellsOfItems f text R rest → TellsOfItems f text R (with_item i rest)
   lines_later (Directive place) rest h = inr h
   lines_later (Local l) rest h = h
   lines_later (Statement' p s) rest h = inr h
 
-  lines_behind : (i : ℕ) (is : List Item) → TellsOfItems f text P (items_of (drop i is)) → TellsOfItems f text P (items_of is)
+  lines_behind : (i : ℕ) (is : List Item) → TellsOfItems f text R (items_of (drop i is)) → TellsOfItems f text R (items_of is)
   lines_behind zero is h = h
   lines_behind (suc i) [] h = h
   lines_behind (suc i) (e ∷ is) h = lines_later e (items_of is) (lines_behind i is h)
 
   module _ (is : List Item) (i : ℕ) (e : Item) (lt : i < length is) (at : e ≡ get_or is i e) where
-    pub told_line : TellsOfFirstLine f text P (with_item e Tree.no_items) (items_of (take (length is - (i + 1)) (drop (i + 1) is))) → TellsOfItems f text P (items_of is)
+    pub told_line : TellsOfFirstLine f text R (with_item e Tree.no_items) (items_of (take (length is - (i + 1)) (drop (i + 1) is))) → TellsOfItems f text R (items_of is)
     told_line h =
-        let here = subst (λ xs. TellsOfFirstLine f text P (with_item e Tree.no_items) (items_of xs)) (all_behind is (i + 1)) h in
-        lines_behind i is (subst (TellsOfItems f text P) (sym (next_item is i e lt at)) (line_before e (items_of (drop (i + 1) is)) here))
+        let here = subst (λ xs. TellsOfFirstLine f text R (with_item e Tree.no_items) (items_of xs)) (all_behind is (i + 1)) h in
+        lines_behind i is (subst (TellsOfItems f text R) (sym (next_item is i e lt at)) (line_before e (items_of (drop (i + 1) is)) here))
 
-    pub told_loops : TellsOfFirstLoops f text P (with_item e Tree.no_items) → TellsOfItems f text P (items_of is)
-    told_loops h = lines_behind i is (subst (TellsOfItems f text P) (sym (next_item is i e lt at)) (loops_before e (items_of (drop (i + 1) is)) h))
+    pub told_loops : TellsOfFirstLoops f text R (with_item e Tree.no_items) → TellsOfItems f text R (items_of is)
+    told_loops h = lines_behind i is (subst (TellsOfItems f text R) (sym (next_item is i e lt at)) (loops_before e (items_of (drop (i + 1) is)) h))

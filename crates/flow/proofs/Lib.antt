@@ -4,4 +4,6 @@ pub mod JudgeLemmas
 pub mod PrivateLemmas
 pub mod FaultLemmas
 pub mod ParallelLemmas
+pub mod ListLemmas
+pub mod NestLemmas
 mod PrivatesLemmas

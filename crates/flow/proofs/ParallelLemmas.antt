@@ -6,7 +6,6 @@ use Rattle.semantics.specs.Tree
 use Rattle.semantics.specs.Tree.{Variable}
 use Rattle.semantics.specs.Source.Text.{line_at}
 use Rattle.semantics.specs.Meaning.Agrees.{declared_in, declared_among}
-use Rattle.semantics.specs.Meaning.Definite.{Privates}
 use Rattle.semantics.specs.Meaning.Value.{map_option}
 use Rattle.semantics.specs.Loops.Nest.{Loop, as_loop, only_loop, nest_of}
 use Rattle.ktree.specs.View.{stmt_of, items_of, with_item}
@@ -21,8 +20,10 @@ use Rattle.pragma.specs.Views.{scheduled}
 use Rattle.pragma.specs.declared.combined.ParallelFor.{ParallelFor}
 use Rattle.ktree.proofs.Trees.{next_item}
 use Rattle.pragma.proofs.PlainLaw.{all_behind}
-use Rattle.flow.specs.Private.{IsPrivate, LoopsPrivate, ItemsPrivate, first_stmt_of, FirstLineIsPrivate, FirstLoopsArePrivate}
-use Rattle.flow.specs.Parallel.{numbers, IsParallelLoop, LoopsAre, ItemsAre, FirstLineIs, FirstLoopsAre, Adds}
+use Rattle.flow.specs.Private.{first_stmt_of}
+use Rattle.flow.specs.Roles.{LineRoles, KeepsRolesThere, LoopsKeepRoles, ItemsKeepRoles, FirstLineKeepsRoles, FirstLoopsKeepRoles}
+use Rattle.flow.specs.Parallel.{numbers, AreRolesOf, IsParallelLoop, Joined, LoopsAre, ItemsAre, FirstLineIs, FirstLoopsAre, Adds}
+use Rattle.flow.specs.declared.environment.LoopRoles.{LoopRoles}
 use Rattle.flow.specs.declared.environment.ParallelLoop.{ParallelLoop}
 use Rattle.flow.proofs.PrivateLemmas.{asked, same_round, loop_of, item_cut}
 
@@ -92,10 +93,10 @@ nest_declares (suc n) s loops body f = go (as_loop s) refl f (nest_declares n)
 
 -- the parallel loop of a line
 pub loop_listed : (text : List ℕ) (place : Place) (rest : Tree.Items) (said : ParallelFor) → ReadsLoop (line_at text place.line) (scheduled said) said.collapse
-    → (s : Tree.Stmt) → Some s ≡ first_stmt_of rest → (private : Vec VarId Global) → numbers private.items ≡ declared_in s → (ps : List Variable) → LineHas text (IsPrivate ps) [] place.line rest
-    → IsParallelLoop text place.line rest (record { line = place; directive = said; private = private })
-loop_listed text place rest said reads s first private declares ps h =
-    let found = asked text place.line rest (scheduled said) said.collapse reads s first (IsPrivate ps) h in
+    → (s : Tree.Stmt) → Some s ≡ first_stmt_of rest → (private : Vec VarId Global) → numbers private.items ≡ declared_in s → (R : LineRoles) (roles : LoopRoles) → AreRolesOf (R place.line) roles
+    → LineHas text (KeepsRolesThere (R place.line)) [] place.line rest → IsParallelLoop text R place.line rest (record { line = place; directive = said; private = private; roles = roles })
+loop_listed text place rest said reads s first private declares R roles are h =
+    let found = asked text place.line rest (scheduled said) said.collapse reads s first (KeepsRolesThere (R place.line)) h in
     record {
       at_line = refl;
       reads = reads;
@@ -105,53 +106,62 @@ loop_listed text place rest said reads s first private declares ps h =
       stands = sym first;
       nest = found.nest;
       privates = declares ∙ nest_declares (associated said.collapse) s found.loops found.body found.nest;
+      roles = are;
     }
 
 -- a loop's are those of its body
-pub body_listed : (text : List ℕ) (before after : List ParallelLoop) (s : Stmt) (head : Head) (body : Box Stmt Global) (inner : Stmt) → s ≡ For head body → inner ≡ body.value
-    → ((P : Privates) → LoopsPrivate text P [] (stmt_of inner) → Adds (LoopsAre text (stmt_of inner)) before after)
-    → (P : Privates) → LoopsPrivate text P [] (stmt_of s) → Adds (LoopsAre text (stmt_of s)) before after
-body_listed text before after s head body inner e f listed P =
+pub body_listed : (text : List ℕ) (R : LineRoles) (before after : List ParallelLoop) (s : Stmt) (head : Head) (body : Box Stmt Global) (inner : Stmt) → s ≡ For head body → inner ≡ body.value
+    → (LoopsKeepRoles text R [] (stmt_of inner) → Adds (LoopsAre text R (stmt_of inner)) before after) → LoopsKeepRoles text R [] (stmt_of s) → Adds (LoopsAre text R (stmt_of s)) before after
+body_listed text R before after s head body inner e f listed =
     let is : loop_of head (stmt_of inner) ≡ stmt_of s = ap (λ b. loop_of head (stmt_of b)) f ∙ sym (ap stmt_of e) in
-    let here : LoopsPrivate text P [] (loop_of head (stmt_of inner)) → Adds (LoopsAre text (loop_of head (stmt_of inner))) before after = λ h. listed P (same_round text P _ [] (stmt_of inner) h) in
-    subst (λ t. LoopsPrivate text P [] t → Adds (LoopsAre text t) before after) is here
+    let here : LoopsKeepRoles text R [] (loop_of head (stmt_of inner)) → Adds (LoopsAre text R (loop_of head (stmt_of inner))) before after = λ h. listed (same_round text R _ [] (stmt_of inner) h) in
+    subst (λ t. LoopsKeepRoles text R [] t → Adds (LoopsAre text R t) before after) is here
+
+-- those of both branches
+pub both_listed : (text : List ℕ) (R : LineRoles) (a b : Tree.Stmt) (before mid after : List ParallelLoop) → (LoopsKeepRoles text R [] a → Adds (LoopsAre text R a) before mid)
+    → (LoopsKeepRoles text R [] b → Adds (LoopsAre text R b) mid after) → LoopsKeepRoles text R [] a × LoopsKeepRoles text R [] b → Adds (Joined (LoopsAre text R a) (LoopsAre text R b)) before after
+both_listed text R a b before mid after one other h =
+    let p = one h.0 in
+    let q = other h.1 in
+    (p.0 ++ q.0, q.1 ∙ ap (λ xs. xs ++ q.0) p.1 ∙ append_assoc before p.0 q.0, (p.0, q.0, refl, p.2, q.2))
 
 -- an item's, and those of the others
-joined_item : (text : List ℕ) (i : Item) (rest : Tree.Items) (a b c : List ParallelLoop) → FirstLineIs text (with_item i Tree.no_items) rest a → FirstLoopsAre text (with_item i Tree.no_items) b
-    → ItemsAre text rest c → ItemsAre text (with_item i rest) (a ++ (b ++ c))
-joined_item text (Directive place) rest a b c p q r = (p.0, c, ap (λ xs. xs ++ (b ++ c)) p.1 ∙ ap (λ xs. p.0 ∷ (xs ++ c)) q, p.2, r)
-joined_item text (Local l) rest a b c p q r = subst (ItemsAre text rest) (sym (ap (λ xs. xs ++ (b ++ c)) p ∙ ap (λ xs. xs ++ c) q)) r
-joined_item text (Statement' at s) rest a b c p q r = (b, c, ap (λ xs. xs ++ (b ++ c)) p, q, r)
+joined_item : (text : List ℕ) (R : LineRoles) (i : Item) (rest : Tree.Items) (a b c : List ParallelLoop) → FirstLineIs text R (with_item i Tree.no_items) rest a
+    → FirstLoopsAre text R (with_item i Tree.no_items) b → ItemsAre text R rest c → ItemsAre text R (with_item i rest) (a ++ (b ++ c))
+joined_item text R (Directive place) rest a b c p q r = (p.0, c, ap (λ xs. xs ++ (b ++ c)) p.1 ∙ ap (λ xs. p.0 ∷ (xs ++ c)) q, p.2, r)
+joined_item text R (Local l) rest a b c p q r = subst (ItemsAre text R rest) (sym (ap (λ xs. xs ++ (b ++ c)) p ∙ ap (λ xs. xs ++ c) q)) r
+joined_item text R (Statement' at s) rest a b c p q r = (b, c, ap (λ xs. xs ++ (b ++ c)) p, q, r)
 
 -- those of the first items are listed; with those that are left they are all
-abbrev pub Listed : List ℕ → List Item → ℕ → List ParallelLoop → List ParallelLoop → Type 0
-Listed text is i before now =
-    (P : Privates) → ItemsPrivate text P [] (items_of is)
-    → ItemsPrivate text P [] (items_of (drop i is)) × Adds (λ added. (rest : List ParallelLoop) → ItemsAre text (items_of (drop i is)) rest → ItemsAre text (items_of is) (added ++ rest)) before now
+abbrev pub Listed : List ℕ → LineRoles → List Item → ℕ → List ParallelLoop → List ParallelLoop → Type 0
+Listed text R is i before now =
+    ItemsKeepRoles text R [] (items_of is)
+    → ItemsKeepRoles text R [] (items_of (drop i is))
+    × Adds (λ added. (rest : List ParallelLoop) → ItemsAre text R (items_of (drop i is)) rest → ItemsAre text R (items_of is) (added ++ rest)) before now
 
 -- all in the end
-pub all_listed : (text : List ℕ) (is : List Item) (i : ℕ) (before now : List ParallelLoop) → length is ≤ i → Listed text is i before now
-    → (P : Privates) → ItemsPrivate text P [] (items_of is) → Adds (ItemsAre text (items_of is)) before now
-all_listed text is i before now far left P h =
-    let found = (left P h).1 in
-    let none : ItemsAre text (items_of (drop i is)) [] = subst (λ xs. ItemsAre text (items_of xs) []) (sym (drop_all i is far)) refl in
-    (found.0, found.1, subst (ItemsAre text (items_of is)) (append-nil found.0) (found.2 [] none))
+pub all_listed : (text : List ℕ) (R : LineRoles) (is : List Item) (i : ℕ) (before now : List ParallelLoop) → length is ≤ i → Listed text R is i before now
+    → ItemsKeepRoles text R [] (items_of is) → Adds (ItemsAre text R (items_of is)) before now
+all_listed text R is i before now far left h =
+    let found = (left h).1 in
+    let none : ItemsAre text R (items_of (drop i is)) [] = subst (λ xs. ItemsAre text R (items_of xs) []) (sym (drop_all i is far)) refl in
+    (found.0, found.1, subst (ItemsAre text R (items_of is)) (append-nil found.0) (found.2 [] none))
 
 -- one item more
-pub item_listed : (text : List ℕ) (is : List Item) (i : ℕ) (e : Item) → i < length is → e ≡ get_or is i e → (before now mid after : List ParallelLoop) → Listed text is i before now
-    → ((P : Privates) → FirstLineIsPrivate text P (with_item e Tree.no_items) (items_of (take (length is - (i + 1)) (drop (i + 1) is)))
-    → Adds (FirstLineIs text (with_item e Tree.no_items) (items_of (take (length is - (i + 1)) (drop (i + 1) is)))) now mid)
-    → ((P : Privates) → FirstLoopsArePrivate text P (with_item e Tree.no_items) → Adds (FirstLoopsAre text (with_item e Tree.no_items)) mid after)
-    → Listed text is (i + 1) before after
-item_listed text is i e lt at before now mid after left line loops P h =
+pub item_listed : (text : List ℕ) (R : LineRoles) (is : List Item) (i : ℕ) (e : Item) → i < length is → e ≡ get_or is i e → (before now mid after : List ParallelLoop) → Listed text R is i before now
+    → (FirstLineKeepsRoles text R (with_item e Tree.no_items) (items_of (take (length is - (i + 1)) (drop (i + 1) is)))
+    → Adds (FirstLineIs text R (with_item e Tree.no_items) (items_of (take (length is - (i + 1)) (drop (i + 1) is)))) now mid)
+    → (FirstLoopsKeepRoles text R (with_item e Tree.no_items) → Adds (FirstLoopsAre text R (with_item e Tree.no_items)) mid after)
+    → Listed text R is (i + 1) before after
+item_listed text R is i e lt at before now mid after left line loops h =
     let first = with_item e Tree.no_items in
     let behind = items_of (drop (i + 1) is) in
     let next = next_item is i e lt at in
-    let so_far = left P h in
-    let parts = (item_cut text P e behind).0 (subst (ItemsPrivate text P []) next so_far.0) in
-    let of_line : Adds (FirstLineIs text first behind) now mid =
-    subst (λ xs. FirstLineIsPrivate text P first (items_of xs) → Adds (FirstLineIs text first (items_of xs)) now mid) (all_behind is (i + 1)) (line P) parts.0 in
-    let of_loops : Adds (FirstLoopsAre text first) mid after = loops P parts.1 in
+    let so_far = left h in
+    let parts = (item_cut text R e behind).0 (subst (ItemsKeepRoles text R []) next so_far.0) in
+    let of_line : Adds (FirstLineIs text R first behind) now mid =
+    subst (λ xs. FirstLineKeepsRoles text R first (items_of xs) → Adds (FirstLineIs text R first (items_of xs)) now mid) (all_behind is (i + 1)) line parts.0 in
+    let of_loops : Adds (FirstLoopsAre text R first) mid after = loops parts.1 in
     let a = so_far.1.0 in
     let b = of_line.0 in
     let c = of_loops.0 in
@@ -162,7 +172,7 @@ item_listed text is i e lt at before now mid after left line loops P h =
         a ++ (b ++ c),
         all,
         λ rest r.
-            subst (ItemsAre text (items_of is)) (sym (append_assoc a (b ++ c) rest ∙ ap (λ xs. a ++ xs) (append_assoc b c rest)))
-            (so_far.1.2 (b ++ (c ++ rest)) (subst (λ items. ItemsAre text items (b ++ (c ++ rest))) (sym next) (joined_item text e behind b c rest of_line.2 of_loops.2 r))),
+            subst (ItemsAre text R (items_of is)) (sym (append_assoc a (b ++ c) rest ∙ ap (λ xs. a ++ xs) (append_assoc b c rest)))
+            (so_far.1.2 (b ++ (c ++ rest)) (subst (λ items. ItemsAre text R items (b ++ (c ++ rest))) (sym next) (joined_item text R e behind b c rest of_line.2 of_loops.2 r))),
       ),
     )

@@ -1,13 +1,12 @@
 -- The data of parallel loops, statement by statement.
-use Rattle.std.specs.Prelude.{ℕ, suc, ◌+◌, ◌-◌, Bool, true, false, ◌||◌, ◌&&◌, ◌==◌, ◌≡◌, ◌⊎◌, ◌<◌, ◌≤◌, ◌↔◌, List, [], ◌∷◌, ◌++◌, length, get_or, take, drop, Option, Some, None, IsSome, IfSome, is_none, option_map, option_and_then, string_bytes}
+use Rattle.std.specs.Prelude.{ℕ, suc, ◌+◌, ◌-◌, Bool, true, false, ◌||◌, ◌&&◌, ◌==◌, ◌≡◌, ◌⊎◌, ◌<◌, ◌≤◌, ◌↔◌, List, [], ◌∷◌, ◌++◌, length, get_or, take, drop, Option, Some, None, option_map, option_and_then, string_bytes}
 use Rattle.std.proofs.Common.{Box, Global, refl, sym, ap, ◌∙◌, subst, cond, arith, inl, inr}
-use Rattle.std.proofs.lemmas.Option.{same_Some}
 use Rattle.std.proofs.lemmas.List.Folds.{list_any-append}
 use Rattle.semantics.specs.Tree
 use Rattle.semantics.specs.Tree.{Variable}
 use Rattle.semantics.specs.Source.Text.{line_at}
 use Rattle.semantics.specs.Meaning.Agrees.{is_among, declared_in, declared_among}
-use Rattle.semantics.specs.Meaning.Definite.{Privates, no_privates, definite}
+use Rattle.semantics.specs.Loops.Piece.{Roles}
 use Rattle.semantics.specs.Meaning.Value.{map_option}
 use Rattle.semantics.specs.Loops.Nest.{Loop, as_loop, holds_none, nest_of}
 use Rattle.ktree.specs.View.{exprs_of, source_of, cond_of, increment_of, stmt_of, items_of, with_item}
@@ -23,7 +22,9 @@ use Rattle.ktree.proofs.Trees.{next_item}
 use Rattle.pragma.proofs.PlainLaw.{all_behind}
 use Rattle.flow.specs.declared.fault.DataFault.{DataFault}
 use Rattle.flow.specs.declared.fault.DataFault.TheVariants.{OutOfMemory}
-use Rattle.flow.specs.Private.{is_own, keeps, keeps_all, is_private_body, all_but, IsPrivate, LoopsPrivate, ItemsPrivate, Finds, loop_body_of, nest_body_of, only_body_of, first_stmt_of, FirstLineIsPrivate, FirstLoopsArePrivate, IsNest}
+use Rattle.flow.specs.Private.{is_own, keeps, keeps_all, loop_body_of, nest_body_of, only_body_of, first_stmt_of}
+use Rattle.flow.specs.Roles.{LineRoles, KeepsItsRoles, KeepsRolesThere, LoopsKeepRoles, ItemsKeepRoles, FirstLineKeepsRoles, FirstLoopsKeepRoles}
+use Rattle.flow.specs.Told.{Finds, IsNest}
 
 or_false : (b : Bool) → (b || false) ≡ b
 or_false true = refl
@@ -148,11 +149,17 @@ first_is P n (Tree.stmt t rest) s e =
     (subst (P [] n) (sym same), subst (P [] n) same)
 
 -- no statement stands first
-pub no_first : (ps : List Variable) (n : ℕ) (rest : Tree.Items) → None ≡ first_stmt_of rest → FirstHas (IsPrivate ps) [] n rest → ⊥
-no_first ps n Tree.no_items e h = h
-no_first ps n (Tree.mark line rest) e h = h
-no_first ps n (Tree.local x name start rest) e h = h
-no_first ps n (Tree.stmt t rest) e h = absurd (cc e)
+pub no_first : (P : AskedOfLoop) (n : ℕ) (rest : Tree.Items) → None ≡ first_stmt_of rest → FirstHas P [] n rest → ⊥
+no_first P n Tree.no_items e h = h
+no_first P n (Tree.mark line rest) e h = h
+no_first P n (Tree.local x name start rest) e h = h
+no_first P n (Tree.stmt t rest) e h = absurd (cc e)
+
+-- what is found of the one, is found of the other
+pub finds_same : {A B : Type 0} (o : Option DataFault) → (A → B) → (B → A) → Finds o A → Finds o B
+finds_same None one other h = one h
+finds_same (Some f) one other (inl out) = inl out
+finds_same (Some f) one other (inr not) = inr (λ b. not (other b))
 
 -- a directive that has a statement behind it
 module _ (text : List ℕ) (line : ℕ) (rest : Tree.Items) (k : Option Schedule) (c : Option ℕ) (reads : ReadsLoop (line_at text line) k c) (s : Tree.Stmt) (first : Some s ≡ first_stmt_of rest) where
@@ -168,101 +175,82 @@ module _ (text : List ℕ) (line : ℕ) (rest : Tree.Items) (k : Option Schedule
   pub not_nested : None ≡ nest_body_of (associated c) s → LineHas text IsNest [] line rest → ⊥
   not_nested none h = no_nest none (asked IsNest h)
 
-  pub not_private : (ps : List Variable) → None ≡ nest_body_of (associated c) s → LineHas text (IsPrivate ps) [] line rest → ⊥
-  not_private ps none h =
-      let private = asked (IsPrivate ps) h in
-      no_nest none (private.loops, private.body, private.nest)
+  pub not_kept : (roles : Roles) → None ≡ nest_body_of (associated c) s → LineHas text (KeepsRolesThere roles) [] line rest → ⊥
+  not_kept roles none h =
+      let its = asked (KeepsRolesThere roles) h in
+      no_nest none (its.loops, its.body, its.nest)
 
-  -- and a nest: neither its body is at fault, nor what it reads of its private scalars
-  pub nest_judged : (ps : List Variable) (o q f : Option DataFault) (b : Tree.Stmt) → Some b ≡ nest_body_of (associated c) s → is_none o ≡ is_private_body ps b
-      → Finds q (IsSome (definite no_privates s (all_but ps))) → is_none f ≡ (is_none o && is_none q) → IfSome f (λ e. (o ≡ Some e) ⊎ (q ≡ Some e)) → Finds f (LineHas text (IsPrivate ps) [] line rest)
-  nest_judged ps None None None b nest judged read none some =
-      let found = nest_with (associated c) s b nest in
-      (k, c, reads, (first_is (IsPrivate ps) (associated c) rest s first).1 (record { loops = found.0; body = b; nest = found.1; keeps = sym judged; first = read }))
-  nest_judged ps None None (Some e) b nest judged read none some = absurd (cc none)
-  nest_judged ps None (Some e) None b nest judged read none some = absurd (cc none)
-  nest_judged ps (Some d) q None b nest judged read none some = absurd (cc none)
-  nest_judged ps None (Some d) (Some e) b nest judged read none (inl is) = absurd (cc is)
-  nest_judged ps None (Some d) (Some e) b nest judged (inl out) none (inr is) = inl (sym (same_Some d e is) ∙ out)
-  nest_judged ps None (Some d) (Some e) b nest judged (inr not) none (inr is) = inr (λ h. not (asked (IsPrivate ps) h).first)
-  nest_judged ps (Some d) q (Some e) b nest judged read none some = inr (λ h.
-      let private = asked (IsPrivate ps) h in
-      let same : b ≡ private.body = cc (nest, body_of_nest (associated c) s private.body private.loops private.nest) in
-      absurd (cc (judged, ap (is_private_body ps) same, private.keeps)))
+  -- and a nest
+  pub nest_judged : (roles : Roles) (o : Option DataFault) → Finds o (KeepsItsRoles roles (associated c) s) → Finds o (LineHas text (KeepsRolesThere roles) [] line rest)
+  nest_judged roles o h = finds_same o (λ its. (k, c, reads, (first_is (KeepsRolesThere roles) (associated c) rest s first).1 its)) (asked (KeepsRolesThere roles)) h
 
 abbrev mutual
   -- whatever stands round a statement, the same is asked of the loops in it
-  pub same_round : (text : List ℕ) (P : Privates) (a b : List Loop) (s : Tree.Stmt) → LoopsPrivate text P a s → LoopsPrivate text P b s
-  same_round text P a b (Tree.Assign x is e) h = h
-  same_round text P a b (Tree.Update x is op e) h = h
-  same_round text P a b (Tree.If c s) h = same_round text P a b s h
-  same_round text P a b (Tree.IfElse c s t) h = (same_round text P a b s h.0, same_round text P a b t h.1)
-  same_round text P a b (Tree.For x name start test step body) h = same_round text P (a ++ _) (b ++ _) body h
-  same_round text P a b (Tree.Block items) h = same_items text P a b items h
-  same_round text P a b (Tree.Print parts) h = h
+  pub same_round : (text : List ℕ) (R : LineRoles) (a b : List Loop) (s : Tree.Stmt) → LoopsKeepRoles text R a s → LoopsKeepRoles text R b s
+  same_round text R a b (Tree.Assign x is e) h = h
+  same_round text R a b (Tree.Update x is op e) h = h
+  same_round text R a b (Tree.If c s) h = same_round text R a b s h
+  same_round text R a b (Tree.IfElse c s t) h = (same_round text R a b s h.0, same_round text R a b t h.1)
+  same_round text R a b (Tree.For x name start test step body) h = same_round text R (a ++ _) (b ++ _) body h
+  same_round text R a b (Tree.Block items) h = same_items text R a b items h
+  same_round text R a b (Tree.Print parts) h = h
 
-  same_items : (text : List ℕ) (P : Privates) (a b : List Loop) (items : Tree.Items) → ItemsPrivate text P a items → ItemsPrivate text P b items
-  same_items text P a b Tree.no_items h = h
-  same_items text P a b (Tree.mark line rest) h = (same_line text P a b line rest h.0, same_items text P a b rest h.1)
-  same_items text P a b (Tree.local x name start rest) h = same_items text P a b rest h
-  same_items text P a b (Tree.stmt s rest) h = (same_round text P a b s h.0, same_items text P a b rest h.1)
+  same_items : (text : List ℕ) (R : LineRoles) (a b : List Loop) (items : Tree.Items) → ItemsKeepRoles text R a items → ItemsKeepRoles text R b items
+  same_items text R a b Tree.no_items h = h
+  same_items text R a b (Tree.mark line rest) h = (same_line text R a b line rest h.0, same_items text R a b rest h.1)
+  same_items text R a b (Tree.local x name start rest) h = same_items text R a b rest h
+  same_items text R a b (Tree.stmt s rest) h = (same_round text R a b s h.0, same_items text R a b rest h.1)
 
-  same_line : (text : List ℕ) (P : Privates) (a b : List Loop) (line : ℕ) (rest : Tree.Items) → LineHas text (IsPrivate (P line)) a line rest → LineHas text (IsPrivate (P line)) b line rest
-  same_line text P a b line Tree.no_items h = h
-  same_line text P a b line (Tree.mark other rest) h = h
-  same_line text P a b line (Tree.local x name start rest) h = h
-  same_line text P a b line (Tree.stmt s rest) h = h
-
--- what is found of the one, is found of the other
-finds_same : {A B : Type 0} (o : Option DataFault) → (A → B) → (B → A) → Finds o A → Finds o B
-finds_same None one other h = one h
-finds_same (Some f) one other (inl out) = inl out
-finds_same (Some f) one other (inr not) = inr (λ b. not (other b))
+  same_line : (text : List ℕ) (R : LineRoles) (a b : List Loop) (line : ℕ) (rest : Tree.Items) → LineHas text (KeepsRolesThere (R line)) a line rest → LineHas text (KeepsRolesThere (R line)) b line rest
+  same_line text R a b line Tree.no_items h = h
+  same_line text R a b line (Tree.mark other rest) h = h
+  same_line text R a b line (Tree.local x name start rest) h = h
+  same_line text R a b line (Tree.stmt s rest) h = h
 
 -- a loop's statement, by its head and body
 abbrev pub loop_of : Head → Tree.Stmt → Tree.Stmt
 loop_of head body = Tree.For head.variable.0 (string_bytes head.name) (source_of head.start) (cond_of head.test) (increment_of head.step) body
 
 -- a loop is judged by its body
-pub loop_judged : (o : Option DataFault) (text : List ℕ) (P : Privates) (s : Stmt) (head : Head) (body : Box Stmt Global) (inner : Stmt) → s ≡ For head body → inner ≡ body.value
-    → Finds o (LoopsPrivate text P [] (stmt_of inner)) → Finds o (LoopsPrivate text P [] (stmt_of s))
-loop_judged o text P s head body inner e f h =
+pub loop_judged : (o : Option DataFault) (text : List ℕ) (R : LineRoles) (s : Stmt) (head : Head) (body : Box Stmt Global) (inner : Stmt) → s ≡ For head body → inner ≡ body.value
+    → Finds o (LoopsKeepRoles text R [] (stmt_of inner)) → Finds o (LoopsKeepRoles text R [] (stmt_of s))
+loop_judged o text R s head body inner e f h =
     let is : loop_of head (stmt_of inner) ≡ stmt_of s = ap (λ b. loop_of head (stmt_of b)) f ∙ sym (ap stmt_of e) in
-    subst (λ t. Finds o (LoopsPrivate text P [] t)) is (finds_same o (same_round text P [] _ (stmt_of inner)) (same_round text P _ [] (stmt_of inner)) h)
+    subst (λ t. Finds o (LoopsKeepRoles text R [] t)) is (finds_same o (same_round text R [] _ (stmt_of inner)) (same_round text R _ [] (stmt_of inner)) h)
 
 -- an item, and the others
-pub item_cut : (text : List ℕ) (P : Privates) (i : Item) (rest : Tree.Items)
-    → ItemsPrivate text P [] (with_item i rest) ↔ FirstLineIsPrivate text P (with_item i Tree.no_items) rest × FirstLoopsArePrivate text P (with_item i Tree.no_items) × ItemsPrivate text P [] rest
-item_cut text P (Directive place) rest = (λ h. (h.0, tt, h.1), λ h. (h.0, h.2))
-item_cut text P (Local l) rest = (λ h. (tt, tt, h), λ h. h.2)
-item_cut text P (Statement' p s) rest = (λ h. (tt, h.0, h.1), λ h. (h.1, h.2))
+pub item_cut : (text : List ℕ) (R : LineRoles) (i : Item) (rest : Tree.Items)
+    → ItemsKeepRoles text R [] (with_item i rest) ↔ FirstLineKeepsRoles text R (with_item i Tree.no_items) rest × FirstLoopsKeepRoles text R (with_item i Tree.no_items) × ItemsKeepRoles text R [] rest
+item_cut text R (Directive place) rest = (λ h. (h.0, tt, h.1), λ h. (h.0, h.2))
+item_cut text R (Local l) rest = (λ h. (tt, tt, h), λ h. h.2)
+item_cut text R (Statement' p s) rest = (λ h. (tt, h.0, h.1), λ h. (h.1, h.2))
 
 -- the items that are left decide
-abbrev pub Left : List ℕ → Privates → List Item → ℕ → Type 0
-Left text P is i = ItemsPrivate text P [] (items_of (drop i is)) ↔ ItemsPrivate text P [] (items_of is)
+abbrev pub Left : List ℕ → LineRoles → List Item → ℕ → Type 0
+Left text R is i = ItemsKeepRoles text R [] (items_of (drop i is)) ↔ ItemsKeepRoles text R [] (items_of is)
 
-module _ (text : List ℕ) (P : Privates) (is : List Item) (i : ℕ) (e : Item) (lt : i < length is) (at : e ≡ get_or is i e) (left : Left text P is i) where
+module _ (text : List ℕ) (R : LineRoles) (is : List Item) (i : ℕ) (e : Item) (lt : i < length is) (at : e ≡ get_or is i e) (left : Left text R is i) where
   -- an item that is so
-  pub item_more : FirstLineIsPrivate text P (with_item e Tree.no_items) (items_of (take (length is - (i + 1)) (drop (i + 1) is))) → FirstLoopsArePrivate text P (with_item e Tree.no_items) → Left text P is (i + 1)
+  pub item_more : FirstLineKeepsRoles text R (with_item e Tree.no_items) (items_of (take (length is - (i + 1)) (drop (i + 1) is))) → FirstLoopsKeepRoles text R (with_item e Tree.no_items) → Left text R is (i + 1)
   item_more line loops =
-      let cut = item_cut text P e (items_of (drop (i + 1) is)) in
+      let cut = item_cut text R e (items_of (drop (i + 1) is)) in
       let next = next_item is i e lt at in
-      let here = subst (λ xs. FirstLineIsPrivate text P (with_item e Tree.no_items) (items_of xs)) (all_behind is (i + 1)) line in
-      (λ h. left.0 (subst (ItemsPrivate text P []) (sym next) (cut.1 (here, loops, h))), λ h. (cut.0 (subst (ItemsPrivate text P []) next (left.1 h))).2)
+      let here = subst (λ xs. FirstLineKeepsRoles text R (with_item e Tree.no_items) (items_of xs)) (all_behind is (i + 1)) line in
+      (λ h. left.0 (subst (ItemsKeepRoles text R []) (sym next) (cut.1 (here, loops, h))), λ h. (cut.0 (subst (ItemsKeepRoles text R []) next (left.1 h))).2)
 
   -- what the whole asks of an item
-  pub item_parts : ItemsPrivate text P [] (items_of is) → FirstLineIsPrivate text P (with_item e Tree.no_items) (items_of (drop (i + 1) is)) × FirstLoopsArePrivate text P (with_item e Tree.no_items)
+  pub item_parts : ItemsKeepRoles text R [] (items_of is) → FirstLineKeepsRoles text R (with_item e Tree.no_items) (items_of (drop (i + 1) is)) × FirstLoopsKeepRoles text R (with_item e Tree.no_items)
   item_parts h =
-      let parts = (item_cut text P e (items_of (drop (i + 1) is))).0 (subst (ItemsPrivate text P []) (next_item is i e lt at) (left.1 h)) in
+      let parts = (item_cut text R e (items_of (drop (i + 1) is))).0 (subst (ItemsKeepRoles text R []) (next_item is i e lt at) (left.1 h)) in
       (parts.0, parts.1)
 
   -- a line before these items that is not so
-  pub line_refused : (f : DataFault) → (f ≡ OutOfMemory) ⊎ (FirstLineIsPrivate text P (with_item e Tree.no_items) (items_of (take (length is - (i + 1)) (drop (i + 1) is))) → ⊥)
-      → (f ≡ OutOfMemory) ⊎ (ItemsPrivate text P [] (items_of is) → ⊥)
+  pub line_refused : (f : DataFault) → (f ≡ OutOfMemory) ⊎ (FirstLineKeepsRoles text R (with_item e Tree.no_items) (items_of (take (length is - (i + 1)) (drop (i + 1) is))) → ⊥)
+      → (f ≡ OutOfMemory) ⊎ (ItemsKeepRoles text R [] (items_of is) → ⊥)
   line_refused f (inl out) = inl out
-  line_refused f (inr none) = inr (λ h. none (subst (λ xs. FirstLineIsPrivate text P (with_item e Tree.no_items) (items_of xs)) (sym (all_behind is (i + 1))) (item_parts h).0))
+  line_refused f (inr none) = inr (λ h. none (subst (λ xs. FirstLineKeepsRoles text R (with_item e Tree.no_items) (items_of xs)) (sym (all_behind is (i + 1))) (item_parts h).0))
 
   -- an item that is not so
-  pub loops_refused : (f : DataFault) → (f ≡ OutOfMemory) ⊎ (FirstLoopsArePrivate text P (with_item e Tree.no_items) → ⊥) → (f ≡ OutOfMemory) ⊎ (ItemsPrivate text P [] (items_of is) → ⊥)
+  pub loops_refused : (f : DataFault) → (f ≡ OutOfMemory) ⊎ (FirstLoopsKeepRoles text R (with_item e Tree.no_items) → ⊥) → (f ≡ OutOfMemory) ⊎ (ItemsKeepRoles text R [] (items_of is) → ⊥)
   loops_refused f (inl out) = inl out
   loops_refused f (inr none) = inr (λ h. none (item_parts h).1)

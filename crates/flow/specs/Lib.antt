@@ -1,4 +1,6 @@
 pub mod Judged
 pub mod Private
+pub mod Lists
 pub mod Parallel
 pub mod Roles
+pub mod Told

@@ -82,3 +82,25 @@ ItemsKeepRoles text R serial items = ItemsHaveBy text (λ line. KeepsRolesThere 
 
 abbrev pub LoopsKeepRoles : List ℕ → LineRoles → List Loop → Stmt → Type 0
 LoopsKeepRoles text R serial s = LoopsHaveBy text (λ line. KeepsRolesThere (R line)) serial s
+
+-- what the first of these items asks for as a directive line before others
+abbrev pub FirstLineKeepsRoles : List ℕ → LineRoles → Items → Items → Type 0
+FirstLineKeepsRoles text R (mark line items) rest = LineHas text (KeepsRolesThere (R line)) [] line rest
+FirstLineKeepsRoles text R _ rest = Unit {0}
+
+-- and as a statement
+abbrev pub FirstLoopsKeepRoles : List ℕ → LineRoles → Items → Type 0
+FirstLoopsKeepRoles text R (stmt s items) = LoopsKeepRoles text R [] s
+FirstLoopsKeepRoles text R _ = Unit {0}
+
+-- a nest assigns its private and lastprivate scalars before it reads them
+abbrev pub ReadsAssigned : Roles → Stmt → Type 0
+ReadsAssigned roles s = IsSome (definite no_privates s (all_but (assigned_first roles)))
+
+-- a loop's body assigns each lastprivate scalar on every path, if there are any
+abbrev pub AssignsLasts : Roles → Stmt → Type 0
+AssignsLasts roles body = (roles.lasts ≡ [] → ⊥) → AssignsAll (assigned_first roles) roles.lasts body
+
+-- no reduction variable has a second role
+abbrev pub HaveOneRole : Roles → Type 0
+HaveOneRole roles = (are_different (map (λ r. r.0) roles.reductions) ≡ true) × (list_all (is_plain roles.reductions) (assigned_first roles) ≡ true)

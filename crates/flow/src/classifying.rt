@@ -5,17 +5,16 @@ ghost use Rattle.semantics.specs.Tree.{no_items};
 ghost use Rattle.ktree.specs.View.{stmt_of, with_item, items_of, kernel_of};
 ghost use Rattle.pragma.specs.Parallel.{LineHas};
 ghost use Rattle.pragma_named.specs.Known.{kept};
-ghost use Rattle.flow.specs.Judged.{private_locals};
-ghost use Rattle.flow.specs.Private.{IsPrivate, LoopsPrivate, ItemsPrivate, Finds, FirstLineIsPrivate, FirstLoopsArePrivate, TellsOfLine, TellsOfLoops, TellsOfItems, TellsOfFirstLine, TellsOfFirstLoops};
+ghost use Rattle.flow.specs.Roles.{roles_known, KeepsRolesThere, LoopsKeepRoles, ItemsKeepRoles, FirstLineKeepsRoles, FirstLoopsKeepRoles};
+ghost use Rattle.flow.specs.Told.{Finds, TellsOfLine, TellsOfLoops, TellsOfItems, TellsOfFirstLine, TellsOfFirstLoops};
 ghost use Rattle.flow.specs.Parallel.{AreParallelLoops};
 ghost use Rattle.flow.specs.declared.fault.DataFault.TheVariants.{OutOfMemory};
 
 use crate::bodies::{first_statement, nest_body};
 use crate::environment::ParallelLoop;
-use crate::fault::{DataFault, earlier};
-use crate::firsts::unassigned_fault;
+use crate::fault::DataFault;
+use crate::keeping::nest_fault;
 use crate::listing::add_items;
-use crate::sharing::body_fault;
 use ktree::{Item, Kernel, Place, Stmt};
 use pragma::Directives;
 use pragma_named::LineClauses;
@@ -31,10 +30,10 @@ fn loop_fault(
     rest: &[Item],
 ) -> Option<DataFault>
     ensures judged { Finds result
-        (LineHas directives.now (IsPrivate (private_locals (kept lines.now) files place.line)) []
-        place.line (items_of rest.now)) }
+        (LineHas directives.now (KeepsRolesThere (roles_known (kept lines.now) files place.line))
+        [] place.line (items_of rest.now)) }
     ensures cause { IfSome result
-        (λ f. TellsOfLine f directives.now (private_locals (kept lines.now) files) place.line
+        (λ f. TellsOfLine f directives.now (roles_known (kept lines.now) files) place.line
         (items_of rest.now)) }
 {
     let Ok(said) = directives.at(place) else {
@@ -46,10 +45,7 @@ fn loop_fault(
     let Some(body) = nest_body(statement, said.associated_loops()) else {
         return Some(DataFault::Directive(place));
     };
-    earlier(
-        body_fault(body, place.line, lines, files),
-        unassigned_fault(alloc, statement, place.line, lines, files),
-    )
+    nest_fault(alloc, statement, body, place.line, lines, files)
 }
 
 /// What is wrong with an item that is a directive line, before these items.
@@ -62,10 +58,10 @@ fn line_fault(
     rest: &[Item],
 ) -> Option<DataFault>
     ensures judged { Finds result
-        (FirstLineIsPrivate directives.now (private_locals (kept lines.now) files)
+        (FirstLineKeepsRoles directives.now (roles_known (kept lines.now) files)
         (with_item item.now no_items) (items_of rest.now)) }
     ensures cause { IfSome result
-        (λ f. TellsOfFirstLine f directives.now (private_locals (kept lines.now) files)
+        (λ f. TellsOfFirstLine f directives.now (roles_known (kept lines.now) files)
         (with_item item.now no_items) (items_of rest.now)) }
 {
     match item {
@@ -85,10 +81,10 @@ fn statement_fault(
     statement: &Stmt,
 ) -> Option<DataFault>
     ensures judged { Finds result
-        (LoopsPrivate directives.now (private_locals (kept lines.now) files) []
+        (LoopsKeepRoles directives.now (roles_known (kept lines.now) files) []
         (stmt_of statement.now)) }
     ensures cause { IfSome result
-        (λ f. TellsOfLoops f directives.now (private_locals (kept lines.now) files)
+        (λ f. TellsOfLoops f directives.now (roles_known (kept lines.now) files)
         (stmt_of statement.now)) }
 {
     match statement {
@@ -119,10 +115,10 @@ fn items_fault(
     items: &[Item],
 ) -> Option<DataFault>
     ensures judged { Finds result
-        (ItemsPrivate directives.now (private_locals (kept lines.now) files) []
+        (ItemsKeepRoles directives.now (roles_known (kept lines.now) files) []
         (items_of items.now)) }
     ensures cause { IfSome result
-        (λ f. TellsOfItems f directives.now (private_locals (kept lines.now) files)
+        (λ f. TellsOfItems f directives.now (roles_known (kept lines.now) files)
         (items_of items.now)) }
 {
     for (i, item) in items.iter().enumerate() {
@@ -146,10 +142,10 @@ fn item_fault(
     item: &Item,
 ) -> Option<DataFault>
     ensures judged { Finds result
-        (FirstLoopsArePrivate directives.now (private_locals (kept lines.now) files)
+        (FirstLoopsKeepRoles directives.now (roles_known (kept lines.now) files)
         (with_item item.now no_items)) }
     ensures cause { IfSome result
-        (λ f. TellsOfFirstLoops f directives.now (private_locals (kept lines.now) files)
+        (λ f. TellsOfFirstLoops f directives.now (roles_known (kept lines.now) files)
         (with_item item.now no_items)) }
 {
     match item {
@@ -159,9 +155,10 @@ fn item_fault(
     }
 }
 
-/// The parallel loops of a kernel, in the order of the text. The iterations of each keep to data of their own: its body writes no
-/// shared scalar, prints nothing, and assigns each private scalar of its line before it reads it (OpenMP 5.2, 5.1.1, 5.4.3, 11.5 and
-/// 15.10). `lines` has the clauses of the directive lines.
+/// The parallel loops of a kernel, in the order of the text. The iterations of each keep to data of their own: its body prints
+/// nothing, writes no shared scalar, assigns each private and lastprivate scalar of its line before it reads it, and each lastprivate
+/// one on every path; a reduction variable has no second role, and the loop names it in updates by its operator alone (OpenMP 5.2,
+/// 5.1.1, 5.4.3, 5.4.5, 5.5.8, 11.5 and 15.10). `lines` has the clauses of the directive lines.
 ///
 /// # Errors
 ///
@@ -172,15 +169,15 @@ pub fn classify(
     directives: &Directives,
     lines: &LineClauses,
 ) -> Result<Vec<ParallelLoop>, DataFault>
-    ensures ok { IfOk result (λ loops. AreParallelLoops directives.now (kernel_of kernel.now)
-        loops.items) }
-    ensures private { OnOk result (ItemsPrivate directives.now (private_locals (kept lines.now)
+    ensures ok { IfOk result (λ loops. AreParallelLoops directives.now (roles_known (kept lines.now)
+        (length (kernel_of kernel.now).variables)) (kernel_of kernel.now) loops.items) }
+    ensures roles { OnOk result (ItemsKeepRoles directives.now (roles_known (kept lines.now)
         (length (kernel_of kernel.now).variables)) [] (kernel_of kernel.now).body) }
     ensures err { IfErr result (λ f. (f ≡ OutOfMemory)
-        ⊎ (ItemsPrivate directives.now (private_locals (kept lines.now)
+        ⊎ (ItemsKeepRoles directives.now (roles_known (kept lines.now)
         (length (kernel_of kernel.now).variables)) [] (kernel_of kernel.now).body → ⊥)) }
     ensures cause { IfErr result (λ f. (f ≡ OutOfMemory)
-        ⊎ TellsOfItems f directives.now (private_locals (kept lines.now)
+        ⊎ TellsOfItems f directives.now (roles_known (kept lines.now)
         (length (kernel_of kernel.now).variables)) (kernel_of kernel.now).body) }
 {
     let files = kernel.variables.len();
@@ -189,6 +186,6 @@ pub fn classify(
         return Err(fault);
     }
     let mut loops = Vec::new(alloc);
-    add_items(alloc, directives, items, &mut loops)?;
+    add_items(alloc, directives, lines, files, items, &mut loops)?;
     Ok(loops)
 }

@@ -1,20 +1,25 @@
 //! What keeps the data of a parallel loop from being private.
 
 ghost use Rattle.std.specs.Prelude.{◌≡◌, ◌⊎◌, ◌&&◌, Some, is_none, IfSome};
-ghost use Rattle.flow.specs.Private.{data_refusal_of};
+ghost use Rattle.flow.specs.Told.{data_refusal_of};
 
 use ktree::{Place, Refusal};
 use std::alloc::AllocError;
 
-/// Why the iterations of a parallel loop do not keep to data of their own (OpenMP 5.2, 5.1.1).
+/// Why the iterations of a parallel loop do not keep to data of their own (OpenMP 5.2, 5.1.1, 5.4.5 and 5.5.8).
 #[derive(Clone, Copy, Debug, PartialEq, Eq)]
 pub enum DataFault {
     /// A shared scalar is written: the place of its name.
     Written(Place),
     /// A `firstprivate` scalar is written, whose copies no clause brings back: the place of its name.
     Copied(Place),
-    /// A private scalar may be read before the iteration assigns it: the place of its name.
+    /// A private or lastprivate scalar may be read before the iteration assigns it: the place of its name.
     Unassigned(Place),
+    /// A `lastprivate` scalar is not assigned on every path through the body: the place of its name in the clause.
+    LastUnassigned(Place),
+    /// A reduction variable is named outside an update by its own operator: the place of its name; or it has a second role: the
+    /// place of its name in the clause.
+    Reduced(Place),
     /// A parallel loop prints: the place of the word `printf`.
     Printed(Place),
     /// A directive line that is no `parallel for`, or has no nest of its depth behind it: the place of its `#`.
@@ -32,6 +37,8 @@ impl DataFault {
             DataFault::Written(place) => Refusal::SharedScalarWritten(place),
             DataFault::Copied(place) => Refusal::PrivateVariable(place),
             DataFault::Unassigned(place) => Refusal::PrivateVariable(place),
+            DataFault::LastUnassigned(place) => Refusal::PrivateVariable(place),
+            DataFault::Reduced(place) => Refusal::Reduction(place),
             DataFault::Printed(place) => Refusal::Ordered(place),
             DataFault::Directive(place) => Refusal::Directive(place),
             DataFault::OutOfMemory => Refusal::OutOfMemory,
@@ -46,6 +53,8 @@ impl DataFault {
             DataFault::Written(place) => Some(place),
             DataFault::Copied(place) => Some(place),
             DataFault::Unassigned(place) => Some(place),
+            DataFault::LastUnassigned(place) => Some(place),
+            DataFault::Reduced(place) => Some(place),
             DataFault::Printed(place) => Some(place),
             DataFault::Directive(place) => Some(place),
             DataFault::OutOfMemory => None,

@@ -111,7 +111,7 @@ impl DefinitelyAssigned {
     }
 
     /// Whether the variable of a number may be read.
-    fn knows(&self, index: usize) -> bool
+    pub(crate) fn knows(&self, index: usize) -> bool
         ensures { result ≡ known_of self.now index }
     {
         match self.slots.get(index) {

@@ -7,10 +7,14 @@ mod environment;
 mod fault;
 mod firsts;
 mod judging;
+mod keeping;
 mod known;
 mod listing;
+mod name_lists;
 mod privates;
 mod reading;
+mod reductions;
+mod role_lists;
 mod sharing;
 
 pub use classifying::classify;

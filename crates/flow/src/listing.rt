@@ -3,15 +3,17 @@
 ghost use Rattle.std.specs.Prelude.{[], OnOk};
 ghost use Rattle.semantics.specs.Tree.{no_items};
 ghost use Rattle.ktree.specs.View.{stmt_of, with_item, items_of};
-ghost use Rattle.semantics.specs.Meaning.Definite.{Privates};
 ghost use Rattle.pragma.specs.Parallel.{LineHas};
-ghost use Rattle.flow.specs.Private.{IsPrivate, LoopsPrivate, ItemsPrivate, FirstLineIsPrivate, FirstLoopsArePrivate};
+ghost use Rattle.pragma_named.specs.Known.{kept};
+ghost use Rattle.flow.specs.Roles.{roles_known, KeepsRolesThere, LoopsKeepRoles, ItemsKeepRoles, FirstLineKeepsRoles, FirstLoopsKeepRoles};
 ghost use Rattle.flow.specs.Parallel.{Adds, IsOfLine, LoopsAre, ItemsAre, FirstLineIs, FirstLoopsAre};
 
 use crate::bodies::first_statement;
 use crate::environment::{ParallelLoop, declared_variables};
+use crate::role_lists::loop_roles;
 use ktree::{Item, Place, Stmt};
 use pragma::Directives;
+use pragma_named::LineClauses;
 use std::alloc::{AllocError, Global};
 
 /// Puts the parallel loop of the directive line at a place, before these items, behind others; nothing where there is
@@ -23,15 +25,17 @@ use std::alloc::{AllocError, Global};
 fn add_loop(
     alloc: Global,
     directives: &Directives,
+    lines: &LineClauses,
+    files: usize,
     place: Place,
     rest: &[Item],
     loops: &mut Vec<ParallelLoop>,
 ) -> Result<(), AllocError>
-    ensures { OnOk result ((P : Privates)
-        → LineHas directives.now (IsPrivate (P place.line)) [] place.line
+    ensures { OnOk result (LineHas directives.now
+        (KeepsRolesThere (roles_known (kept lines.now) files place.line)) [] place.line
         (items_of rest.now)
-        → Adds (IsOfLine directives.now place.line (items_of rest.now)) loops.old.items
-        loops.new.items) }
+        → Adds (IsOfLine directives.now (roles_known (kept lines.now) files) place.line
+        (items_of rest.now)) loops.old.items loops.new.items) }
 {
     let Ok(directive) = directives.at(place) else {
         return Ok(());
@@ -40,10 +44,12 @@ fn add_loop(
         return Ok(());
     };
     let private = declared_variables(alloc, statement)?;
+    let roles = loop_roles(alloc, place.line, lines)?;
     loops.push(ParallelLoop {
         line: place,
         directive,
         private,
+        roles,
     })?;
     Ok(())
 }
@@ -52,17 +58,19 @@ fn add_loop(
 fn add_line(
     alloc: Global,
     directives: &Directives,
+    lines: &LineClauses,
+    files: usize,
     item: &Item,
     rest: &[Item],
     loops: &mut Vec<ParallelLoop>,
 ) -> Result<(), AllocError>
-    ensures { OnOk result ((P : Privates)
-        → FirstLineIsPrivate directives.now P (with_item item.now no_items)
-        (items_of rest.now) → Adds (FirstLineIs directives.now (with_item item.now no_items)
-        (items_of rest.now)) loops.old.items loops.new.items) }
+    ensures { OnOk result (FirstLineKeepsRoles directives.now
+        (roles_known (kept lines.now) files) (with_item item.now no_items) (items_of rest.now)
+        → Adds (FirstLineIs directives.now (roles_known (kept lines.now) files)
+        (with_item item.now no_items) (items_of rest.now)) loops.old.items loops.new.items) }
 {
     match item {
-        Item::Directive(place) => add_loop(alloc, directives, *place, rest, loops),
+        Item::Directive(place) => add_loop(alloc, directives, lines, files, *place, rest, loops),
         Item::Local(_) => Ok(()),
         Item::Statement(_) => Ok(()),
     }
@@ -73,24 +81,28 @@ fn add_line(
 fn add_statement(
     alloc: Global,
     directives: &Directives,
+    lines: &LineClauses,
+    files: usize,
     statement: &Stmt,
     loops: &mut Vec<ParallelLoop>,
 ) -> Result<(), AllocError>
-    ensures { OnOk result ((P : Privates) → LoopsPrivate directives.now P [] (stmt_of statement.now)
-        → Adds (LoopsAre directives.now (stmt_of statement.now)) loops.old.items loops.new.items) }
+    ensures { OnOk result (LoopsKeepRoles directives.now (roles_known (kept lines.now) files) []
+        (stmt_of statement.now)
+        → Adds (LoopsAre directives.now (roles_known (kept lines.now) files)
+        (stmt_of statement.now)) loops.old.items loops.new.items) }
 {
     match statement {
         Stmt::Assign(_, _) => Ok(()),
         Stmt::Update(_, _, _) => Ok(()),
         Stmt::If(_, then, other) => {
-            add_statement(alloc, directives, then, loops)?;
+            add_statement(alloc, directives, lines, files, then, loops)?;
             match other {
                 None => Ok(()),
-                Some(other) => add_statement(alloc, directives, other, loops),
+                Some(other) => add_statement(alloc, directives, lines, files, other, loops),
             }
         }
-        Stmt::For(_, body) => add_statement(alloc, directives, body, loops),
-        Stmt::Block(items) => add_items(alloc, directives, items, loops),
+        Stmt::For(_, body) => add_statement(alloc, directives, lines, files, body, loops),
+        Stmt::Block(items) => add_items(alloc, directives, lines, files, items, loops),
         Stmt::Print(_, _) => Ok(()),
     }
 }
@@ -100,15 +112,27 @@ fn add_statement(
 pub(crate) fn add_items(
     alloc: Global,
     directives: &Directives,
+    lines: &LineClauses,
+    files: usize,
     items: &[Item],
     loops: &mut Vec<ParallelLoop>,
 ) -> Result<(), AllocError>
-    ensures { OnOk result ((P : Privates) → ItemsPrivate directives.now P [] (items_of items.now)
-        → Adds (ItemsAre directives.now (items_of items.now)) loops.old.items loops.new.items) }
+    ensures { OnOk result (ItemsKeepRoles directives.now (roles_known (kept lines.now) files) []
+        (items_of items.now)
+        → Adds (ItemsAre directives.now (roles_known (kept lines.now) files)
+        (items_of items.now)) loops.old.items loops.new.items) }
 {
     for (i, item) in items.iter().enumerate() {
-        add_line(alloc, directives, item, &items[i + 1..], loops)?;
-        add_item(alloc, directives, item, loops)?;
+        add_line(
+            alloc,
+            directives,
+            lines,
+            files,
+            item,
+            &items[i + 1..],
+            loops,
+        )?;
+        add_item(alloc, directives, lines, files, item, loops)?;
     }
     Ok(())
 }
@@ -118,17 +142,21 @@ pub(crate) fn add_items(
 fn add_item(
     alloc: Global,
     directives: &Directives,
+    lines: &LineClauses,
+    files: usize,
     item: &Item,
     loops: &mut Vec<ParallelLoop>,
 ) -> Result<(), AllocError>
-    ensures { OnOk result ((P : Privates)
-        → FirstLoopsArePrivate directives.now P (with_item item.now no_items)
-        → Adds (FirstLoopsAre directives.now (with_item item.now no_items)) loops.old.items
-        loops.new.items) }
+    ensures { OnOk result (FirstLoopsKeepRoles directives.now
+        (roles_known (kept lines.now) files) (with_item item.now no_items)
+        → Adds (FirstLoopsAre directives.now (roles_known (kept lines.now) files)
+        (with_item item.now no_items)) loops.old.items loops.new.items) }
 {
     match item {
         Item::Directive(_) => Ok(()),
         Item::Local(_) => Ok(()),
-        Item::Statement(statement) => add_statement(alloc, directives, statement, loops),
+        Item::Statement(statement) => add_statement(
+            alloc, directives, lines, files, statement, loops,
+        ),
     }
 }

@@ -1,17 +1,16 @@
 //! The private locals of directive lines, which may not be read behind their constructs.
 
-ghost use Rattle.std.specs.Prelude.{◌≡◌, map, filter, flat_map, OnOk};
+ghost use Rattle.std.specs.Prelude.{◌≡◌, map, filter, OnOk};
 ghost use Rattle.semantics.specs.Tree.{no_items};
-ghost use Rattle.semantics.specs.Directives.Clauses.{private_of, first_of};
-ghost use Rattle.semantics.specs.Meaning.Agrees.{is_among};
+ghost use Rattle.semantics.specs.Directives.Clauses.{private_of};
 ghost use Rattle.semantics.specs.Meaning.Definite.{without, privates_in, privates_among};
 ghost use Rattle.ktree.specs.View.{stmt_of, items_of, with_item};
 ghost use Rattle.pragma_named.specs.Views.{variable_named, resolved_clause};
-ghost use Rattle.pragma_named.specs.Known.{kept, lines_known};
+ghost use Rattle.pragma_named.specs.Known.{kept};
 ghost use Rattle.flow.specs.Judged.{is_local, private_locals, known_of};
 
 use crate::known::DefinitelyAssigned;
-use ktree::{Clause, Item, Stmt, VarId};
+use ktree::{Clause, Item, Stmt};
 use pragma_named::{LineClauses, Named, clauses_known};
 use std::alloc::AllocError;
 
@@ -63,6 +62,17 @@ pub(crate) fn forget_line(
 {
     for clause in clauses_known(lines, line) {
         forget_clause(clause, files, known)?;
+    }
+    Ok(())
+}
+
+/// Forgets the variables of some names.
+pub(crate) fn forget_all(names: &[Named], known: &mut DefinitelyAssigned) -> Result<(), AllocError>
+    ensures { OnOk result (known_of known.new
+        ≡ without (known_of known.old) (map variable_named names.now)) }
+{
+    for name in names {
+        known.forget(name.variable)?;
     }
     Ok(())
 }
@@ -127,77 +137,4 @@ fn forget_item(
         Item::Local(_) => Ok(()),
         Item::Statement(statement) => forget_inside(statement, lines, files, known),
     }
-}
-
-/// Whether a list of names has a variable.
-fn names(list: &[Named], variable: VarId) -> bool
-    ensures { result ≡ is_among (map variable_named list.now) variable.0 }
-{
-    for name in list {
-        if name.variable == variable {
-            return true;
-        }
-    }
-    false
-}
-
-/// The names of a private list.
-fn privates_in(clause: &Clause<Named>) -> &[Named]
-    ensures { map variable_named result.now ≡ private_of (resolved_clause clause.now) }
-{
-    match clause {
-        Clause::Private(list) => list.as_slice(),
-        _ => &[],
-    }
-}
-
-/// The names of a `firstprivate` list.
-fn copies_in(clause: &Clause<Named>) -> &[Named]
-    ensures { map variable_named result.now ≡ first_of (resolved_clause clause.now) }
-{
-    match clause {
-        Clause::Firstprivate(list) => list.as_slice(),
-        _ => &[],
-    }
-}
-
-/// Whether a variable stands in a private list of some clauses.
-fn lists_private(variable: VarId, clauses: &[Clause<Named>]) -> bool
-    ensures { result ≡ is_among (flat_map private_of (map resolved_clause clauses.now)) variable.0 }
-{
-    for clause in clauses {
-        if names(privates_in(clause), variable) {
-            return true;
-        }
-    }
-    false
-}
-
-/// Whether it stands in a `firstprivate` list of theirs.
-fn lists_copied(variable: VarId, clauses: &[Clause<Named>]) -> bool
-    ensures { result ≡ is_among (flat_map first_of (map resolved_clause clauses.now)) variable.0 }
-{
-    for clause in clauses {
-        if names(copies_in(clause), variable) {
-            return true;
-        }
-    }
-    false
-}
-
-/// Whether a variable stands in a private list of a directive line, and is a local.
-pub(crate) fn is_private(variable: VarId, line: u32, lines: &LineClauses, files: usize) -> bool
-    ensures { result ≡ is_among (private_locals (kept lines.now) files line) variable.0 }
-{
-    if (variable.0 as usize) < files {
-        return false;
-    }
-    lists_private(variable, clauses_known(lines, line))
-}
-
-/// Whether a variable stands in a `firstprivate` list of a directive line (OpenMP 5.2, 5.4.4).
-pub(crate) fn is_copied(variable: VarId, line: u32, lines: &LineClauses) -> bool
-    ensures { result ≡ is_among (flat_map first_of (lines_known (kept lines.now) line)) variable.0 }
-{
-    lists_copied(variable, clauses_known(lines, line))
 }

@@ -5,11 +5,13 @@ ghost use Rattle.semantics.specs.Tree.{Variable, Exprs, no_items};
 ghost use Rattle.semantics.specs.Meaning.Agrees.{is_among, declared_in, declared_among};
 ghost use Rattle.ktree.specs.View.{stmt_of, with_item, items_of, exprs_of};
 ghost use Rattle.pragma_named.specs.Known.{kept};
-ghost use Rattle.flow.specs.Judged.{private_locals};
-ghost use Rattle.flow.specs.Private.{is_own, keeps, keeps_all, is_private_body, TellsOfWrite, TellsOf, TellsOfAny, TellsOfBody};
+ghost use Rattle.law_roles.specs.Sharing.{role_variables};
+ghost use Rattle.flow.specs.Private.{is_own, keeps, keeps_all, is_private_body};
+ghost use Rattle.flow.specs.Roles.{roles_known};
+ghost use Rattle.flow.specs.Told.{TellsOfWrite, TellsOf, TellsOfAny, TellsOfBody};
 
 use crate::fault::DataFault;
-use crate::privates::{is_copied, is_private};
+use crate::name_lists::{ListKind, has_role, is_listed};
 use ktree::{Item, Stmt, Target, VarId};
 use pragma_named::LineClauses;
 
@@ -64,7 +66,7 @@ fn written(target: &Target, line: u32, lines: &LineClauses) -> DataFault
     ensures { (own : Variable → Bool) (is : Exprs) → is_own own target.now.variable.0 is ≡ false
         → TellsOfWrite result own target.now.variable.0 is }
 {
-    if is_copied(target.variable, line, lines) {
+    if is_listed(ListKind::Firstprivate, target.variable, line, lines) {
         DataFault::Copied(target.mention.name)
     } else {
         DataFault::Written(target.mention.name)
@@ -72,7 +74,7 @@ fn written(target: &Target, line: u32, lines: &LineClauses) -> DataFault
 }
 
 /// What is wrong with an assignment in a body behind a directive line: of scalars it may write those alone that the body declares,
-/// and the private ones of the line.
+/// and those with a role by the line.
 fn target_fault(
     target: &Target,
     body: &Stmt,
@@ -82,11 +84,11 @@ fn target_fault(
 ) -> Option<DataFault>
     ensures judged { is_none result
         ≡ is_own (is_among (declared_in (stmt_of body.now)
-        ++ private_locals (kept lines.now) files line)) target.now.variable.0
+        ++ role_variables (roles_known (kept lines.now) files line))) target.now.variable.0
         (exprs_of target.now.subscripts.items) }
     ensures cause { IfSome result
         (λ f. TellsOfWrite f (is_among (declared_in (stmt_of body.now)
-        ++ private_locals (kept lines.now) files line)) target.now.variable.0
+        ++ role_variables (roles_known (kept lines.now) files line))) target.now.variable.0
         (exprs_of target.now.subscripts.items)) }
 {
     if !target.subscripts.is_empty() {
@@ -95,7 +97,7 @@ fn target_fault(
     if declares(body, target.variable) {
         return None;
     }
-    if is_private(target.variable, line, lines, files) {
+    if has_role(target.variable, line, lines, files) {
         return None;
     }
     Some(written(target, line, lines))
@@ -112,10 +114,10 @@ fn statement_fault(
 ) -> Option<DataFault>
     ensures judged { is_none result
         ≡ keeps (is_among (declared_in (stmt_of body.now)
-        ++ private_locals (kept lines.now) files line)) (stmt_of statement.now) }
+        ++ role_variables (roles_known (kept lines.now) files line))) (stmt_of statement.now) }
     ensures cause { IfSome result
         (λ f. TellsOf f (is_among (declared_in (stmt_of body.now)
-        ++ private_locals (kept lines.now) files line)) (stmt_of statement.now)) }
+        ++ role_variables (roles_known (kept lines.now) files line))) (stmt_of statement.now)) }
 {
     match statement {
         Stmt::Assign(target, _) => target_fault(target, body, line, lines, files),
@@ -146,10 +148,10 @@ fn block_fault(
 ) -> Option<DataFault>
     ensures judged { is_none result
         ≡ keeps_all (is_among (declared_in (stmt_of body.now)
-        ++ private_locals (kept lines.now) files line)) (items_of items.now) }
+        ++ role_variables (roles_known (kept lines.now) files line))) (items_of items.now) }
     ensures cause { IfSome result
         (λ f. TellsOfAny f (is_among (declared_in (stmt_of body.now)
-        ++ private_locals (kept lines.now) files line)) (items_of items.now)) }
+        ++ role_variables (roles_known (kept lines.now) files line))) (items_of items.now)) }
 {
     for item in items {
         if let Some(fault) = item_fault(item, body, line, lines, files) {
@@ -170,10 +172,10 @@ fn item_fault(
 ) -> Option<DataFault>
     ensures judged { is_none result
         ≡ keeps_all (is_among (declared_in (stmt_of body.now)
-        ++ private_locals (kept lines.now) files line)) (with_item item.now no_items) }
+        ++ role_variables (roles_known (kept lines.now) files line))) (with_item item.now no_items) }
     ensures cause { IfSome result
         (λ f. TellsOfAny f (is_among (declared_in (stmt_of body.now)
-        ++ private_locals (kept lines.now) files line))
+        ++ role_variables (roles_known (kept lines.now) files line)))
         (with_item item.now no_items)) }
 {
     match item {
@@ -183,16 +185,17 @@ fn item_fault(
     }
 }
 
-/// The first fault of a parallel loop's body behind a directive line: printf, or a scalar that is assigned, declared outside and not private.
+/// The first fault of a parallel loop's body behind a directive line: printf, or a scalar that is assigned, declared outside and without a role.
 pub(crate) fn body_fault(
     body: &Stmt,
     line: u32,
     lines: &LineClauses,
     files: usize,
 ) -> Option<DataFault>
-    ensures judged { is_none result ≡ is_private_body (private_locals (kept lines.now) files line)
+    ensures judged { is_none result ≡ is_private_body
+        (role_variables (roles_known (kept lines.now) files line))
         (stmt_of body.now) }
-    ensures cause { IfSome result (λ f. TellsOfBody f (private_locals (kept lines.now) files line)
+    ensures cause { IfSome result (λ f. TellsOfBody f (roles_known (kept lines.now) files line)
         (stmt_of body.now)) }
 {
     statement_fault(body, body, line, lines, files)

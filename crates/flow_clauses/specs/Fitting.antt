@@ -1,11 +1,13 @@
 -- Which variables the data clauses of directive lines may name (OpenMP 5.2, 5.4).
-use Rattle.std.specs.Prelude.{Bool, true, not, ◌&&◌, List, [], ◌∷◌, ◌++◌, length, nat_eq, nat_lt, Option, Some, None, slice_get}
+use Rattle.std.specs.Prelude.{ℕ, Bool, true, not, ◌&&◌, List, [], ◌∷◌, ◌++◌, length, nat_eq, nat_lt, Option, Some, None, slice_get}
 use Rattle.std.specs.List.{list_all}
 use Rattle.semantics.specs.Tree.{Variable, Declaration, Stmt, Assign, Update, If, IfElse, For, Block, Print, Items, no_items, mark, local, stmt, Kernel}
 use Rattle.semantics.specs.Meaning.Agrees.{is_among}
-use Rattle.semantics.specs.Directives.Directive.{Clause, Private, Firstprivate}
+use Rattle.semantics.specs.Directives.Directive.{Clause, Private, Firstprivate, Lastprivate, Reduction}
 use Rattle.pragma_named.specs.Known.{Lines}
 use Rattle.pragma_named.specs.Lines.{Question, each_among}
+use Rattle.flow_clauses.specs.declared.judging.Misuse.{Misuse}
+use Rattle.flow_clauses.specs.declared.judging.Misuse.TheVariants.{Privatised, Reduced}
 
 abbrev mutual
   -- the variables of the loops in a statement (C11 6.8.5.3)
@@ -38,10 +40,16 @@ is_scalar ds x = is_scalar_there (slice_get ds x)
 abbrev pub is_private_local : List Declaration → (Variable → Bool) → Variable → Bool
 is_private_local ds loops x = not (nat_lt x (length ds)) && not (loops x)
 
--- a private list names such locals alone (OpenMP 5.2, 5.4.3), a `firstprivate` list scalars alone (5.4.4)
+-- a scalar that is no loop's variable
+abbrev pub is_result : List Declaration → (Variable → Bool) → Variable → Bool
+is_result ds loops x = is_scalar ds x && not (loops x)
+
+-- a private list names such locals alone (OpenMP 5.2, 5.4.3), a `firstprivate` list scalars alone (5.4.4), a `lastprivate` or `reduction` list scalars that are no loop's variables (5.4.5, 5.5.8)
 abbrev pub fits : List Declaration → (Variable → Bool) → Clause Variable → Bool
 fits ds loops (Private xs) = list_all (is_private_local ds loops) xs
 fits ds loops (Firstprivate xs) = list_all (is_scalar ds) xs
+fits ds loops (Lastprivate xs) = list_all (is_result ds loops) xs
+fits ds loops (Reduction op xs) = list_all (is_result ds loops) xs
 fits ds loops _ = true
 
 -- each clause of a line fits, whatever statement is behind it
@@ -51,3 +59,8 @@ line_fits ds loops lines n s = list_all (fits ds loops) (lines n)
 -- so it is of each construct of a kernel
 abbrev pub fit_clauses : Lines → Kernel → Bool
 fit_clauses lines k = each_among (line_fits k.variables (is_among (loop_variables_among k.body)) lines) None k.body
+
+-- the number of what is told: K15 of private variables, K16 of reductions
+abbrev pub number_told : Misuse → ℕ
+number_told (Privatised place) = 15
+number_told (Reduced place) = 16

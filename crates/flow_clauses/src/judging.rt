@@ -5,11 +5,33 @@ ghost use Rattle.std.specs.List.{list_all};
 ghost use Rattle.ktree.specs.View.{declaration_of};
 ghost use Rattle.pragma_mention.specs.Sets.{holds};
 ghost use Rattle.pragma_named.specs.Views.{variable_named, resolved_clause};
-ghost use Rattle.flow_clauses.specs.Fitting.{is_scalar, is_private_local, fits};
+ghost use Rattle.ktree.specs.Numbers.{number_of};
+ghost use Rattle.flow_clauses.specs.Fitting.{is_scalar, is_private_local, is_result, fits, number_told};
 
-use ktree::{Clause, Declaration, Place};
+use ktree::{Clause, Declaration, Place, Refusal};
 use pragma_named::Named;
 use std::collections::HashSet;
+
+/// A name that may not stand in its clause, by its place.
+#[derive(Clone, Copy, Debug, PartialEq, Eq)]
+pub enum Misuse {
+    /// In a `private`, `firstprivate` or `lastprivate` clause (OpenMP 5.2, 5.4.3 to 5.4.5).
+    Privatised(Place),
+    /// In a `reduction` clause (OpenMP 5.2, 5.5.8).
+    Reduced(Place),
+}
+
+impl Misuse {
+    /// The refusal that tells it.
+    pub fn refusal(self) -> Refusal
+        ensures { number_of result ≡ number_told self }
+    {
+        match self {
+            Misuse::Privatised(place) => Refusal::PrivateVariable(place),
+            Misuse::Reduced(place) => Refusal::Reduction(place),
+        }
+    }
+}
 
 /// Whether a name is that of a scalar.
 fn is_scalar(files: &[Declaration], named: &Named) -> bool
@@ -60,28 +82,74 @@ fn copied_fault(files: &[Declaration], names: &[Named]) -> Option<Place>
     None
 }
 
-/// Where a clause does.
+/// Whether a name is that of a scalar, and of no loop's variable.
+fn is_result(files: &[Declaration], loops: &HashSet<u32>, named: &Named) -> bool
+    ensures { result ≡ is_result (map declaration_of files.now) (holds loops.now)
+        (variable_named named.now) }
+{
+    if !is_scalar(files, named) {
+        return false;
+    }
+    !loops.contains(&named.variable.0)
+}
+
+/// Where a `lastprivate` or `reduction` list does (OpenMP 5.2, 5.4.5 and 5.5.8).
+fn result_fault(files: &[Declaration], loops: &HashSet<u32>, names: &[Named]) -> Option<Place>
+    ensures { is_none result ≡ list_all (is_result (map declaration_of files.now) (holds loops.now))
+        (map variable_named names.now) }
+{
+    for named in names {
+        if !is_result(files, loops, named) {
+            return Some(named.place);
+        }
+    }
+    None
+}
+
+/// A place in a list of private variables.
+fn privatised(place: Option<Place>) -> Option<Misuse>
+    ensures { is_none result ≡ is_none place }
+{
+    match place {
+        None => None,
+        Some(place) => Some(Misuse::Privatised(place)),
+    }
+}
+
+/// A place in a list of reduction variables.
+fn reduced(place: Option<Place>) -> Option<Misuse>
+    ensures { is_none result ≡ is_none place }
+{
+    match place {
+        None => None,
+        Some(place) => Some(Misuse::Reduced(place)),
+    }
+}
+
+/// The first name that may not stand in a clause.
 fn clause_fault(
     files: &[Declaration],
     loops: &HashSet<u32>,
     clause: &Clause<Named>,
-) -> Option<Place>
+) -> Option<Misuse>
     ensures { is_none result
         ≡ fits (map declaration_of files.now) (holds loops.now) (resolved_clause clause.now) }
 {
     match clause {
-        Clause::Private(names) => private_fault(files, loops, names),
-        Clause::Firstprivate(names) => copied_fault(files, names),
+        Clause::Private(names) => privatised(private_fault(files, loops, names)),
+        Clause::Firstprivate(names) => privatised(copied_fault(files, names)),
+        Clause::Lastprivate(names) => privatised(result_fault(files, loops, names)),
+        Clause::Reduction(_, names) => reduced(result_fault(files, loops, names)),
         _ => None,
     }
 }
 
-/// Where some clauses do.
+/// The first in some clauses.
 pub(crate) fn clauses_fault(
     files: &[Declaration],
     loops: &HashSet<u32>,
     clauses: &[Clause<Named>],
-) -> Option<Place>
+) -> Option<Misuse>
     ensures { is_none result ≡ list_all (fits (map declaration_of files.now) (holds loops.now))
         (map resolved_clause clauses.now) }
 {

@@ -5,4 +5,5 @@ mod gathering;
 mod judging;
 mod walking;
 
+pub use judging::Misuse;
 pub use walking::first_misuse;

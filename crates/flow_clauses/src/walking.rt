@@ -9,20 +9,20 @@ ghost use Rattle.pragma_named.specs.Lines.{each_construct, each_among, line_in};
 ghost use Rattle.flow_clauses.specs.Fitting.{line_fits, fit_clauses};
 
 use crate::gathering::loop_variables;
-use crate::judging::clauses_fault;
-use ktree::{Declaration, Item, Kernel, Place, Stmt};
+use crate::judging::{Misuse, clauses_fault};
+use ktree::{Declaration, Item, Kernel, Stmt};
 use pragma_named::{LineClauses, clauses_known, line_of};
 use std::alloc::{AllocError, Global};
 use std::collections::HashSet;
 
-/// Where the clauses of the constructs in a statement first name what may not stand there.
+/// The first name in the clauses of the constructs in a statement that may not stand there.
 #[cycle(walking)]
 fn inner_fault(
     files: &[Declaration],
     loops: &HashSet<u32>,
     lines: &LineClauses,
     statement: &Stmt,
-) -> Option<Place>
+) -> Option<Misuse>
     ensures { is_none result ≡ each_construct
         (line_fits (map declaration_of files.now) (holds loops.now) (lines_known (kept lines.now)))
         (stmt_of statement.now) }
@@ -43,14 +43,14 @@ fn inner_fault(
     }
 }
 
-/// Where those in a block do.
+/// The first in a block.
 #[cycle(walking)]
 fn items_fault(
     files: &[Declaration],
     loops: &HashSet<u32>,
     lines: &LineClauses,
     items: &[Item],
-) -> Option<Place>
+) -> Option<Misuse>
     ensures { is_none result ≡ each_among
         (line_fits (map declaration_of files.now) (holds loops.now) (lines_known (kept lines.now)))
         None (items_of items.now) }
@@ -66,7 +66,7 @@ fn items_fault(
     None
 }
 
-/// Where the line before an item does, or those inside the item.
+/// The first of the line before an item, or inside the item.
 #[cycle(walking)]
 fn item_fault(
     files: &[Declaration],
@@ -74,7 +74,7 @@ fn item_fault(
     lines: &LineClauses,
     before: Option<u32>,
     item: &Item,
-) -> Option<Place>
+) -> Option<Misuse>
     ensures { (rest : Items) → each_among
         (line_fits (map declaration_of files.now) (holds loops.now) (lines_known (kept lines.now)))
         before (with_item item.now rest)
@@ -95,7 +95,9 @@ fn item_fault(
     }
 }
 
-/// Where a kernel's data clauses first name, in the order of the text, what may not stand there: in a `private` list a file-scope variable or a loop's variable, in a `firstprivate` list an array (OpenMP 5.2, 5.4).
+/// The first name of a kernel's data clauses, in the order of the text, that may not stand there: in a `private` list a file-scope
+/// variable or a loop's variable, in a `firstprivate` list an array, in a `lastprivate` or `reduction` list an array or a loop's variable
+/// (OpenMP 5.2, 5.4 and 5.5.8).
 ///
 /// # Errors
 ///
@@ -104,7 +106,7 @@ pub fn first_misuse(
     alloc: Global,
     kernel: &Kernel,
     lines: &LineClauses,
-) -> Result<Option<Place>, AllocError>
+) -> Result<Option<Misuse>, AllocError>
     ensures { IfOk result (λ found. is_none found
         ≡ fit_clauses (lines_known (kept lines.now)) (kernel_of kernel.now)) }
 {

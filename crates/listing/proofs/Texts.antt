@@ -1,7 +1,7 @@
 -- The texts of lines and regions, taken apart.
-use Rattle.std.specs.Prelude.{ℕ, Bool, true, ◌≡◌, if◌then◌else◌, ◌⊎◌, List, [], ◌∷◌, ◌++◌, codes, Result, Ok, Err, OnOk}
+use Rattle.std.specs.Prelude.{ℕ, Bool, true, ◌≡◌, if◌then◌else◌, ◌⊎◌, List, [], ◌∷◌, ◌++◌, length, flat_map, codes, Result, Ok, Err, OnOk}
 use Rattle.std.specs.Fmt.{decimal}
-use Rattle.std.proofs.Common.{refl, sym, ap, ◌∙◌, subst, append_assoc, inl, inr}
+use Rattle.std.proofs.Common.{refl, sym, ap, ◌∙◌, subst, append_assoc, append-nil, inl, inr}
 use Rattle.std.proofs.lemmas.Grind.{flat_map-append}
 use Rattle.semantics.specs.Directives.Directive.{Schedule, StaticPlain, StaticSize, DynamicSize, GuidedSize, Auto, Runtime}
 use Rattle.semantics.specs.Directives.Listing.{Lines, is_static, begin_lines, end_lines, reduce_lines, loop_lines, numbered}
@@ -10,7 +10,7 @@ use Rattle.ktree.specs.declared.directive.Schedule.TheVariants as kind
 use Rattle.ktree.specs.DirectiveView.{schedule_of}
 use Rattle.semantics.specs.Tree.{Name}
 use Rattle.semantics.specs.Loops.Operator.{ReduceOp}
-use Rattle.listing.specs.Regions.{listed_with}
+use Rattle.listing.specs.Regions.{listed_with, fronted, reduction_words}
 
 numbered-append : (r l : ℕ) (xs ys : Lines) → numbered r l (xs ++ ys) ≡ numbered r l xs ++ numbered r l ys
 numbered-append r l xs ys = flat_map-append (λ line. decimal r ++ 46 ∷ (decimal l ++ 32 ∷ (line ++ 10 ∷ []))) xs ys
@@ -38,6 +38,23 @@ plain_ok q r l a b s (inr e) o = begun_ok q r l a b s kind.Auto _ e refl o
 pub ended_ok : {T E : Type 0} (q : Result T E) (r l : ℕ) (a b : List ℕ) (s : Schedule) → is_static s ≡ true → OnOk q (b ≡ a ++ numbered r l (codes "__kmpc_for_static_fini" ∷ [])) → OnOk q (b ≡ a ++ numbered r l (end_lines s))
 ended_ok q r l a b s e o =
     subst (λ (t : Bool). OnOk q (b ≡ a ++ numbered r l (if t then codes "__kmpc_for_static_fini" ∷ [] else []))) (sym e) o
+
+-- words go on
+fronted_more : (r l : ℕ) (words more : List ℕ) → fronted r l words ++ more ≡ fronted r l (words ++ more)
+fronted_more r l words more = append_assoc (decimal r) (46 ∷ (decimal l ++ 32 ∷ words)) more ∙ ap (λ t. decimal r ++ 46 ∷ t) (append_assoc (decimal l) (32 ∷ words) more)
+
+-- the words of reductions, the end of their line, and the line behind it
+pub reduced_ok : {T E : Type 0} (q : Result T E) (r l : ℕ) (a b c d e : List ℕ) (rs : List (Name × ReduceOp)) → (length rs ≡ 0 → ⊥) → b ≡ a ++ fronted r l (codes "__kmpc_reduce") → c ≡ b ++ flat_map reduction_words rs
+    → d ≡ c ++ 10 ∷ [] → OnOk q (e ≡ d ++ numbered r l (codes "__kmpc_end_reduce" ∷ [])) → OnOk q (e ≡ a ++ numbered r l (reduce_lines rs))
+reduced_ok q r l a b c d e [] some f g h o = absurd (some refl)
+reduced_ok q r l a b c d e (x ∷ xs) some f g h o =
+    let words = flat_map reduction_words (x ∷ xs) in
+    let front = fronted r l (codes "__kmpc_reduce") in
+    let line : d ≡ a ++ (fronted r l (codes "__kmpc_reduce" ++ words) ++ 10 ∷ []) =
+    h ∙ ap (λ t. t ++ 10 ∷ []) (g ∙ ap (λ t. t ++ words) f ∙ append_assoc a front words ∙ ap (λ t. a ++ t) (fronted_more r l (codes "__kmpc_reduce") words)) ∙ append_assoc a (fronted r l (codes "__kmpc_reduce" ++ words)) (10 ∷ []) in
+    let first : d ≡ a ++ numbered r l ((codes "__kmpc_reduce" ++ words) ∷ []) =
+    line ∙ ap (λ t. a ++ t) (fronted_more r l (codes "__kmpc_reduce" ++ words) (10 ∷ []) ∙ sym (append-nil (fronted r l ((codes "__kmpc_reduce" ++ words) ++ 10 ∷ [])))) in
+    both_added_ok q r l a d e ((codes "__kmpc_reduce" ++ words) ∷ []) (codes "__kmpc_end_reduce" ∷ []) first o
 
 -- begin, end, reductions and barrier are its lines
 loop_parts : (s : Schedule) (rs : List (Name × ReduceOp)) → ((begin_lines s ++ end_lines s) ++ reduce_lines rs) ++ codes "__kmpc_barrier" ∷ [] ≡ loop_lines (listed_with s rs)

@@ -141,6 +141,15 @@ fn operator_text(operator: &ReductionOperator) -> &'static [u8]
     }
 }
 
+// Adds a variable behind its operator.
+fn add_named<'w>(text: &mut Vec<u8>, operator: &'w [u8], name: &'w [u8]) -> Result<(), AllocError>
+    ensures added { OnOk result (text.new.items
+        ≡ text.old.items ++ 32 ∷ (operator.now ++ 58 ∷ name.now)) }
+    ensures front { Begins text.old.items text.new.items }
+{
+    add_parts(text, &[b" ", operator, b":", name])
+}
+
 // Adds the variables of reductions, each behind its operator.
 fn add_reduced(text: &mut Vec<u8>, reductions: &[NamedReduction]) -> Result<(), AllocError>
     ensures added { OnOk result (text.new.items
@@ -149,7 +158,7 @@ fn add_reduced(text: &mut Vec<u8>, reductions: &[NamedReduction]) -> Result<(), 
 {
     for reduction in reductions {
         let operator = operator_text(&reduction.operator);
-        add_parts(text, &[b" ", operator, b":", reduction.name.as_bytes()])?;
+        add_named(text, operator, reduction.name.as_bytes())?;
     }
     Ok(())
 }

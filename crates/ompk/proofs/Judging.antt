@@ -1,12 +1,11 @@
 -- What the passes before the dependence test find out together, and which of them refuses.
-use Rattle.std.specs.Prelude.{ℕ, ◌≡◌, List, [], filter, flat_map, length, Some}
+use Rattle.std.specs.Prelude.{ℕ, ◌≡◌, List, [], length, Some}
 use Rattle.std.proofs.Common.{sym, ap, ◌∙◌, subst, inr}
 use Rattle.std.proofs.Math.Path.{fun_ext}
 use Rattle.semantics.specs.Tree.{Kernel, strip}
 use Rattle.semantics.specs.Source.Grammar.{ReadsText}
-use Rattle.semantics.specs.Meaning.Definite.{Privates, IsDefinite}
+use Rattle.semantics.specs.Meaning.Definite.{IsDefinite}
 use Rattle.semantics.specs.Directives.Annotated.{Directives, clauses_at}
-use Rattle.semantics.specs.Directives.Clauses.{private_of}
 use Rattle.semantics.specs.Directives.Naming.{IsAttached}
 use Rattle.semantics.specs.Theorems.{StandsFor}
 use Rattle.semantics.proofs.EraseTextLaw.{text_erased}
@@ -15,10 +14,11 @@ use Rattle.ktree.specs.declared.refusal.Refusal.{Refusal}
 use Rattle.pragma_named.specs.Known.{Known, Lines, known_clauses, lines_known}
 use Rattle.pragma_region.specs.Regions.{is_region_line, alone}
 use Rattle.pragma_region.specs.Counted.{counted_in}
-use Rattle.flow.specs.Private.{ItemsPrivate}
-use Rattle.flow.specs.Judged.{is_local, private_locals}
+use Rattle.flow.specs.Roles.{LineRoles, line_roles, roles_known, privates_by, ItemsKeepRoles}
+use Rattle.flow.specs.Parallel.{AreParallelLoops}
+use Rattle.flow.specs.declared.environment.ParallelLoop.{ParallelLoop}
 use Rattle.flow_clauses.specs.Fitting.{fit_clauses}
-use Rattle.deptest.specs.Accepted.{Program, tree_of, clauses_said, clauses_counted, privates_counted, HasPassed}
+use Rattle.deptest.specs.Accepted.{Program, tree_of, clauses_said, clauses_counted, roles_counted, HasPassed, HasLoops}
 use Rattle.ompk.specs.Judged.{IsLineKernel, IsOfKernel}
 use Rattle.ompk.specs.Refused.{IsJudged, RefusesAlone, RefusesKernel}
 
@@ -31,13 +31,13 @@ pub counted_are : (text : List ℕ) (k : Kernel) (ds : Directives) (before after
     → lines_known after ≡ counted_in text k (lines_known before) → clauses_counted text k ds ≡ lines_known after
 counted_are text k ds before after each is = ap (counted_in text k) (clauses_are k ds before each) ∙ sym is
 
-pub privates_are : (text : List ℕ) (k : Kernel) (ds : Directives) (known : Known) → clauses_counted text k ds ≡ lines_known known → privates_counted text k ds ≡ private_locals known (length k.variables)
-privates_are text k ds known is =
-    let locals : Lines → Privates = λ lines n. filter (is_local (length k.variables)) (flat_map private_of (lines n)) in
-    ap locals is
+pub roles_are : (text : List ℕ) (k : Kernel) (ds : Directives) (known : Known) → clauses_counted text k ds ≡ lines_known known → roles_counted text k ds ≡ roles_known known (length k.variables)
+roles_are text k ds known is =
+    let roles : Lines → LineRoles = λ lines n. line_roles (length k.variables) (lines n) in
+    ap roles is
 
 -- a kernel that is judged has passed
-pub has_passed : (text : List ℕ) (k : Kernel) (known : Known) → IsLineKernel text k known → IsJudged text k (private_locals known (length k.variables)) (lines_known known) → HasPassed text k
+pub has_passed : (text : List ℕ) (k : Kernel) (known : Known) → IsLineKernel text k known → IsJudged text k (roles_known known (length k.variables)) (lines_known known) → HasPassed text k
 has_passed text k known stands judged =
     record {
       reads = stands.reads;
@@ -46,31 +46,37 @@ has_passed text k known stands judged =
       in_range = judged.in_range;
       directed = judged.right.0;
       nested = judged.right.1;
-      definite = subst (λ (P : Privates). IsDefinite P k) (sym stands.privates) judged.environment.0;
-      private = subst (λ (P : Privates). ItemsPrivate text P [] k.body) (sym stands.privates) judged.environment.1;
+      definite = subst (λ (R : LineRoles). IsDefinite (privates_by R) k) (sym stands.roles) judged.environment.0;
+      roles = subst (λ (R : LineRoles). ItemsKeepRoles text R [] k.body) (sym stands.roles) judged.environment.1;
       fit = ap (λ (lines : Lines). fit_clauses lines k) stands.clauses ∙ judged.environment.2;
     }
 
+-- and has these loops
+pub has_loops : (text : List ℕ) (k : Kernel) (known : Known) (loops : List ParallelLoop) → IsLineKernel text k known → IsJudged text k (roles_known known (length k.variables)) (lines_known known)
+    → AreParallelLoops text (roles_known known (length k.variables)) k loops → HasLoops text k loops
+has_loops text k known loops stands judged listed =
+    record { passed = has_passed text k known stands judged; listed = subst (λ (R : LineRoles). AreParallelLoops text R k loops) (sym stands.roles) listed }
+
 -- a kernel whose directives are attached, with its parallel regions dissolved
 pub line_kernel : (text : List ℕ) (tree k : Kernel) (ds : Directives) (known : Known) → ReadsText text tree → IsAttached text tree ds → clauses_counted text tree ds ≡ lines_known known
-    → privates_counted text tree ds ≡ private_locals known (length tree.variables) → k ≡ alone text tree → IsLineKernel text k known
-line_kernel text tree k ds known reads attached clauses privates is =
+    → roles_counted text tree ds ≡ roles_known known (length tree.variables) → k ≡ alone text tree → IsLineKernel text k known
+line_kernel text tree k ds known reads attached clauses roles is =
     record {
       reads = record { whole = tree; reads = reads; left_out = is_region_line text; is = is };
       directives = ds;
       attached = attached;
       clauses = clauses;
-      privates = privates ∙ ap (λ (j : Kernel). private_locals known (length j.variables)) (sym is);
+      roles = roles ∙ ap (λ (j : Kernel). roles_known known (length j.variables)) (sym is);
     }
 
 -- it is refused
 pub alone_refused : (text : List ℕ) (tree k : Kernel) (ds : Directives) (known : Known) (r : Refusal) → IsAttached text tree ds → clauses_counted text tree ds ≡ lines_known known
-    → privates_counted text tree ds ≡ private_locals known (length tree.variables) → k ≡ alone text tree
-    → RefusesAlone text k (private_locals known (length k.variables)) (lines_known known) r → RefusesKernel text tree r
-alone_refused text tree k ds known r attached clauses privates is refused =
-    let there = subst (λ (j : Kernel). RefusesAlone text j (private_locals known (length j.variables)) (lines_known known) r) is refused in
-    let by_lines = subst (λ (lines : Lines). RefusesAlone text (alone text tree) (private_locals known (length tree.variables)) lines r) (sym clauses) there in
-    inr (ds, attached, subst (λ (P : Privates). RefusesAlone text (alone text tree) P (clauses_counted text tree ds) r) (sym privates) by_lines)
+    → roles_counted text tree ds ≡ roles_known known (length tree.variables) → k ≡ alone text tree
+    → RefusesAlone text k (roles_known known (length k.variables)) (lines_known known) r → RefusesKernel text tree r
+alone_refused text tree k ds known r attached clauses roles is refused =
+    let there = subst (λ (j : Kernel). RefusesAlone text j (roles_known known (length j.variables)) (lines_known known) r) is refused in
+    let by_lines = subst (λ (lines : Lines). RefusesAlone text (alone text tree) (roles_known known (length tree.variables)) lines r) (sym clauses) there in
+    inr (ds, attached, subst (λ (R : LineRoles). RefusesAlone text (alone text tree) R (clauses_counted text tree ds) r) (sym roles) by_lines)
 
 -- what is kept stands for the text
 pub stands_for : (text : List ℕ) (tree : Kernel) (p : Program) → ReadsText text tree → IsOfKernel text tree p → StandsFor text (tree_of p)

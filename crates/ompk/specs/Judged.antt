@@ -7,8 +7,8 @@ use Rattle.law_lines.specs.Without.{IsTreeOf}
 use Rattle.ktree.specs.View.{kernel_of}
 use Rattle.pragma_named.specs.Known.{Known, lines_known}
 use Rattle.pragma_region.specs.Regions.{alone}
-use Rattle.flow.specs.Judged.{private_locals}
-use Rattle.deptest.specs.Accepted.{Program, clauses_counted, privates_counted}
+use Rattle.flow.specs.Roles.{roles_known}
+use Rattle.deptest.specs.Accepted.{Program, clauses_counted, roles_counted}
 
 -- a tree of a text, whose directives are attached to the whole of it, and this is known of the clauses that count for each line
 pub record IsLineKernel (text : List ℕ) (tree : Kernel) (known : Known) : Type 0 where
@@ -16,7 +16,7 @@ pub record IsLineKernel (text : List ℕ) (tree : Kernel) (known : Known) : Type
   pub directives : Directives
   pub attached : IsAttached text reads.whole directives
   pub clauses : clauses_counted text reads.whole directives ≡ lines_known known
-  pub privates : privates_counted text reads.whole directives ≡ private_locals known (length tree.variables)
+  pub roles : roles_counted text reads.whole directives ≡ roles_known known (length tree.variables)
 
 -- what is kept of a text that reads as a tree: the text, and the tree with its parallel regions dissolved
 pub record IsOfKernel (text : List ℕ) (tree : Kernel) (p : Program) : Type 0 where

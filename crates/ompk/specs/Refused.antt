@@ -2,7 +2,7 @@
 use Rattle.std.specs.Prelude.{ℕ, ◌≡◌, ◌⊎◌, true, false, List, [], Some, None}
 use Rattle.semantics.specs.Tree.{Kernel}
 use Rattle.semantics.specs.Source.Grammar.{ReadsText}
-use Rattle.semantics.specs.Meaning.Definite.{Privates, IsDefinite}
+use Rattle.semantics.specs.Meaning.Definite.{IsDefinite}
 use Rattle.ktree.specs.Numbers.{number_of}
 use Rattle.ktree.specs.declared.place.Place.{Place}
 use Rattle.ktree.specs.declared.refusal.Refusal.{Refusal}
@@ -21,11 +21,13 @@ use Rattle.pragma_region.specs.NotKnown.{unknown_among}
 use Rattle.nest.specs.Nests.{IsNested, IsInRange}
 use Rattle.nest.specs.Leaves.{LeavesSomewhere}
 use Rattle.nest.specs.Perfect.{AreRightNests}
-use Rattle.flow.specs.Private.{ItemsPrivate, TellsOfItems, data_refusal_of}
+use Rattle.flow.specs.Roles.{LineRoles, privates_by, ItemsKeepRoles}
+use Rattle.flow.specs.Told.{TellsOfItems, data_refusal_of}
 use Rattle.flow.specs.declared.fault.DataFault.{DataFault}
 use Rattle.pragma_named.specs.Known.{Lines}
-use Rattle.flow_clauses.specs.Fitting.{fit_clauses}
-use Rattle.deptest.specs.Accepted.{clauses_counted, privates_counted, HasPassed}
+use Rattle.flow_clauses.specs.Fitting.{fit_clauses, number_told}
+use Rattle.flow_clauses.specs.declared.judging.Misuse.{Misuse}
+use Rattle.deptest.specs.Accepted.{clauses_counted, roles_counted, HasPassed}
 use Rattle.deptest.specs.Refused.{RefusesLoops}
 
 -- memory was refused, or a loop is not canonical or may wrap, or a subscript is not affine, or a parallel loop has no right nest
@@ -56,42 +58,42 @@ RefusesPlaced text tree r = (unknown_among text tree.body ≡ None) × ((f : lin
 abbrev pub RefusesPlaces : List ℕ → Kernel → Refusal → Type 0
 RefusesPlaces text tree r = (IsDirected text tree → ⊥) × (RefusesUnknown text tree r ⊎ RefusesPlaced text tree r)
 
--- memory was refused, or a local may be read before it is assigned; or a parallel loop writes a shared scalar, or reads a private one that it has not assigned, or prints, or a line has no nest, whichever is told
-abbrev pub RefusesScalars : List ℕ → Kernel → Privates → Refusal → Type 0
-RefusesScalars text tree P r =
-    (r ≡ OutOfMemory) ⊎ (((number_of r ≡ 10) × (IsDefinite P tree → ⊥)) ⊎ ((f : DataFault) × (r ≡ data_refusal_of f) × TellsOfItems f text P tree.body))
+-- memory was refused, or a local may be read before it is assigned; or a parallel loop writes a shared scalar, or prints, or does not keep the roles of its scalars, or a line has no nest, whichever is told
+abbrev pub RefusesScalars : List ℕ → Kernel → LineRoles → Refusal → Type 0
+RefusesScalars text tree R r =
+    (r ≡ OutOfMemory) ⊎ (((number_of r ≡ 10) × (IsDefinite (privates_by R) tree → ⊥)) ⊎ ((f : DataFault) × (r ≡ data_refusal_of f) × TellsOfItems f text R tree.body))
 
--- memory was refused, or a clause names what it may not
+-- memory was refused, or a clause names what it may not (K15, and K16 of reductions)
 abbrev pub RefusesClauses : Lines → Kernel → Refusal → Type 0
-RefusesClauses lines tree r = (r ≡ OutOfMemory) ⊎ ((number_of r ≡ 15) × (fit_clauses lines tree ≡ false))
+RefusesClauses lines tree r = (r ≡ OutOfMemory) ⊎ ((m : Misuse) × (number_of r ≡ number_told m) × (fit_clauses lines tree ≡ false))
 
 -- one of both
-abbrev pub RefusesData : List ℕ → Kernel → Privates → Lines → Refusal → Type 0
-RefusesData text tree P lines r = RefusesScalars text tree P r ⊎ RefusesClauses lines tree r
+abbrev pub RefusesData : List ℕ → Kernel → LineRoles → Lines → Refusal → Type 0
+RefusesData text tree R lines r = RefusesScalars text tree R r ⊎ RefusesClauses lines tree r
 
 -- the passes before that of the data find nothing wrong, nor does that of the data
 abbrev pub IsNestedRightly : List ℕ → Kernel → Type 0
 IsNestedRightly text tree = IsDirected text tree × AreRightNests text tree
 
-abbrev pub HasRightData : List ℕ → Kernel → Privates → Lines → Type 0
-HasRightData text tree P lines = IsDefinite P tree × ItemsPrivate text P [] tree.body × (fit_clauses lines tree ≡ true)
+abbrev pub HasRightData : List ℕ → Kernel → LineRoles → Lines → Type 0
+HasRightData text tree R lines = IsDefinite (privates_by R) tree × ItemsKeepRoles text R [] tree.body × (fit_clauses lines tree ≡ true)
 
 -- the data are wrong, or they are right and a subscript leaves its array
-abbrev pub RefusesDataOrRanges : List ℕ → Kernel → Privates → Lines → Refusal → Type 0
-RefusesDataOrRanges text tree P lines r = RefusesData text tree P lines r ⊎ (HasRightData text tree P lines × RefusesRanges tree r)
+abbrev pub RefusesDataOrRanges : List ℕ → Kernel → LineRoles → Lines → Refusal → Type 0
+RefusesDataOrRanges text tree R lines r = RefusesData text tree R lines r ⊎ (HasRightData text tree R lines × RefusesRanges tree r)
 
 -- memory was refused, or the first pass that finds something wrong tells it: places of lines, then nests, then data, then ranges
-abbrev pub RefusesPasses : List ℕ → Kernel → Privates → Lines → Refusal → Type 0
-RefusesPasses text tree P lines r =
+abbrev pub RefusesPasses : List ℕ → Kernel → LineRoles → Lines → Refusal → Type 0
+RefusesPasses text tree R lines r =
     (r ≡ OutOfMemory)
     ⊎ (RefusesPlaces text tree r
     ⊎ ((IsDirected text tree × RefusesNests text tree r)
-    ⊎ (IsNestedRightly text tree × RefusesDataOrRanges text tree P lines r)))
+    ⊎ (IsNestedRightly text tree × RefusesDataOrRanges text tree R lines r)))
 
 -- none of them finds anything, by the clauses that are known of each line
-pub record IsJudged (text : List ℕ) (tree : Kernel) (P : Privates) (lines : Lines) : Type 0 where
+pub record IsJudged (text : List ℕ) (tree : Kernel) (R : LineRoles) (lines : Lines) : Type 0 where
   pub right : IsNestedRightly text tree
-  pub environment : HasRightData text tree P lines
+  pub environment : HasRightData text tree R lines
   pub in_range : IsInRange tree
 
 -- all of that is well, and the dependence test refuses the tree, or memory was refused
@@ -99,12 +101,12 @@ abbrev pub RefusesPairs : List ℕ → Kernel → Refusal → Type 0
 RefusesPairs text tree r = HasPassed text tree × RefusesLoops text tree r
 
 -- a tree whose parallel regions are dissolved is refused by one of these passes or by that test
-abbrev pub RefusesAlone : List ℕ → Kernel → Privates → Lines → Refusal → Type 0
-RefusesAlone text tree P lines r = RefusesPasses text tree P lines r ⊎ RefusesPairs text tree r
+abbrev pub RefusesAlone : List ℕ → Kernel → LineRoles → Lines → Refusal → Type 0
+RefusesAlone text tree R lines r = RefusesPasses text tree R lines r ⊎ RefusesPairs text tree r
 
 -- the directives are attached, and the tree with its parallel regions dissolved is refused, by the clauses that count for its lines
 abbrev pub RefusesAttached : List ℕ → Kernel → Refusal → Type 0
-RefusesAttached text tree r = (ds : Directives) × IsAttached text tree ds × RefusesAlone text (alone text tree) (privates_counted text tree ds) (clauses_counted text tree ds) r
+RefusesAttached text tree r = (ds : Directives) × IsAttached text tree ds × RefusesAlone text (alone text tree) (roles_counted text tree ds) (clauses_counted text tree ds) r
 
 -- the tree is none that is run
 abbrev pub RefusesKernel : List ℕ → Kernel → Refusal → Type 0

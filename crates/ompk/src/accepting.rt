@@ -1,9 +1,8 @@
 //! Which texts are accepted.
 
 ghost use Rattle.std.specs.Prelude.{◌≡◌, ◌⊎◌, [], true, length, OnOk, IfOk, IfErr};
-ghost use Rattle.flow.specs.Private.{ItemsPrivate};
 ghost use Rattle.flow_clauses.specs.Fitting.{fit_clauses};
-ghost use Rattle.flow.specs.Judged.{private_locals};
+ghost use Rattle.flow.specs.Roles.{roles_known, privates_by, ItemsKeepRoles};
 ghost use Rattle.pragma_named.specs.Known.{kept, lines_known};
 ghost use Rattle.pragma_attach.specs.Attached.{directives_of};
 ghost use Rattle.semantics.specs.Directives.Naming.{IsAttached};
@@ -16,7 +15,7 @@ ghost use Rattle.pragma.specs.Plain.{IsDirected};
 ghost use Rattle.nest.specs.Nests.{IsInRange};
 ghost use Rattle.nest.specs.Perfect.{AreRightNests};
 ghost use Rattle.nest.specs.Judged.{IsTableOf};
-ghost use Rattle.deptest.specs.Accepted.{tree_of, clauses_counted, privates_counted, AreRegions, IsAccepted};
+ghost use Rattle.deptest.specs.Accepted.{tree_of, clauses_counted, roles_counted, AreRegions, IsAccepted};
 ghost use Rattle.ompk.specs.Judged.{IsLineKernel, IsOfKernel};
 ghost use Rattle.ompk.specs.Refused.{IsJudged, RefusesLines, RefusesPlaces, RefusesNests, RefusesRanges, RefusesScalars, RefusesClauses, RefusesPasses, RefusesAlone, RefusesKernel, RefusesText};
 
@@ -43,9 +42,9 @@ fn judge_lines(
         (directives_of directives.now (kernel_of kernel.now))) }
     ensures clauses { IfOk result (λ lines. clauses_counted directives.now (kernel_of kernel.now)
         (directives_of directives.now (kernel_of kernel.now)) ≡ lines_known (kept lines)) }
-    ensures privates { IfOk result (λ lines. privates_counted directives.now
-        (kernel_of kernel.now) (directives_of directives.now (kernel_of kernel.now))
-        ≡ private_locals (kept lines) (length (kernel_of kernel.now).variables)) }
+    ensures roles { IfOk result (λ lines. roles_counted directives.now (kernel_of kernel.now)
+        (directives_of directives.now (kernel_of kernel.now))
+        ≡ roles_known (kept lines) (length (kernel_of kernel.now).variables)) }
     ensures refusal { IfErr result (RefusesLines directives.now (kernel_of kernel.now)) }
 {
     let mut lines = attach(alloc, kernel, directives)?;
@@ -100,23 +99,24 @@ fn stands_before(fault: DataFault, refusal: &Refusal) -> bool {
     }
 }
 
-// What refuses a kernel in which a parallel loop writes a shared scalar, reads a private one that it has not assigned, or prints, or a
-// local may be read before it is assigned.
+// What refuses a kernel in which a parallel loop writes a shared scalar, prints, or does not keep the roles of its scalars, or a local may
+// be read before it is assigned.
 fn judge_scalars(
     alloc: Global,
     kernel: &Kernel,
     directives: &Directives,
     lines: &LineClauses,
 ) -> Result<Vec<ParallelLoop>, Refusal>
-    ensures listed { IfOk result (λ loops. AreParallelLoops directives.now (kernel_of kernel.now)
-        loops.items) }
-    ensures definite { IfOk result (λ _. IsDefinite (private_locals (kept lines.now)
-        (length (kernel_of kernel.now).variables)) (kernel_of kernel.now)) }
-    ensures private { IfOk result (λ _. ItemsPrivate directives.now
-        (private_locals (kept lines.now) (length (kernel_of kernel.now).variables)) []
+    ensures listed { IfOk result (λ loops. AreParallelLoops directives.now
+        (roles_known (kept lines.now) (length (kernel_of kernel.now).variables))
+        (kernel_of kernel.now) loops.items) }
+    ensures definite { IfOk result (λ _. IsDefinite (privates_by (roles_known (kept lines.now)
+        (length (kernel_of kernel.now).variables))) (kernel_of kernel.now)) }
+    ensures roles { IfOk result (λ _. ItemsKeepRoles directives.now
+        (roles_known (kept lines.now) (length (kernel_of kernel.now).variables)) []
         (kernel_of kernel.now).body) }
     ensures refusal { IfErr result (RefusesScalars directives.now (kernel_of kernel.now)
-        (private_locals (kept lines.now) (length (kernel_of kernel.now).variables))) }
+        (roles_known (kept lines.now) (length (kernel_of kernel.now).variables))) }
 {
     match (
         definite(alloc, kernel, lines),
@@ -144,7 +144,7 @@ fn judge_clauses(alloc: Global, kernel: &Kernel, lines: &LineClauses) -> Result<
 {
     match first_misuse(alloc, kernel, lines)? {
         None => Ok(()),
-        Some(place) => Err(Refusal::PrivateVariable(place)),
+        Some(misuse) => Err(misuse.refusal()),
     }
 }
 
@@ -166,17 +166,18 @@ fn judge_data(
     directives: &Directives,
     lines: &LineClauses,
 ) -> Result<Vec<ParallelLoop>, Refusal>
-    ensures listed { IfOk result (λ loops. AreParallelLoops directives.now (kernel_of kernel.now)
-        loops.items) }
-    ensures definite { IfOk result (λ _. IsDefinite (private_locals (kept lines.now)
-        (length (kernel_of kernel.now).variables)) (kernel_of kernel.now)) }
-    ensures private { IfOk result (λ _. ItemsPrivate directives.now
-        (private_locals (kept lines.now) (length (kernel_of kernel.now).variables)) []
+    ensures listed { IfOk result (λ loops. AreParallelLoops directives.now
+        (roles_known (kept lines.now) (length (kernel_of kernel.now).variables))
+        (kernel_of kernel.now) loops.items) }
+    ensures definite { IfOk result (λ _. IsDefinite (privates_by (roles_known (kept lines.now)
+        (length (kernel_of kernel.now).variables))) (kernel_of kernel.now)) }
+    ensures roles { IfOk result (λ _. ItemsKeepRoles directives.now
+        (roles_known (kept lines.now) (length (kernel_of kernel.now).variables)) []
         (kernel_of kernel.now).body) }
     ensures fit { IfOk result (λ _. fit_clauses (lines_known (kept lines.now))
         (kernel_of kernel.now) ≡ true) }
     ensures refusal { IfErr result (λ r. RefusesScalars directives.now (kernel_of kernel.now)
-        (private_locals (kept lines.now) (length (kernel_of kernel.now).variables)) r
+        (roles_known (kept lines.now) (length (kernel_of kernel.now).variables)) r
         ⊎ RefusesClauses (lines_known (kept lines.now)) (kernel_of kernel.now) r) }
 {
     match (
@@ -211,13 +212,14 @@ fn judge(
     lines: &LineClauses,
 ) -> Result<KnownLoops, Refusal>
     ensures judged { IfOk result (λ _. IsJudged directives.now (kernel_of kernel.now)
-        (private_locals (kept lines.now) (length (kernel_of kernel.now).variables))
+        (roles_known (kept lines.now) (length (kernel_of kernel.now).variables))
         (lines_known (kept lines.now))) }
     ensures table { IfOk result (λ known. IsTableOf (kernel_of kernel.now) known.table) }
-    ensures listed { IfOk result (λ known. AreParallelLoops directives.now (kernel_of kernel.now)
-        known.loops.items) }
+    ensures listed { IfOk result (λ known. AreParallelLoops directives.now
+        (roles_known (kept lines.now) (length (kernel_of kernel.now).variables))
+        (kernel_of kernel.now) known.loops.items) }
     ensures refusal { IfErr result (RefusesPasses directives.now (kernel_of kernel.now)
-        (private_locals (kept lines.now) (length (kernel_of kernel.now).variables))
+        (roles_known (kept lines.now) (length (kernel_of kernel.now).variables))
         (lines_known (kept lines.now))) }
 {
     judge_places(kernel, directives)?;
@@ -241,7 +243,7 @@ fn accept_alone(
     requires regions { AreRegions text.now (kernel_of kernel) regions.items }
     ensures is { IfOk result (λ checked. checked ≡ record { text = text.now; kernel = kernel }) }
     ensures refusal { IfErr result (RefusesAlone text.now (kernel_of kernel)
-        (private_locals (kept lines.now) (length (kernel_of kernel).variables))
+        (roles_known (kept lines.now) (length (kernel_of kernel).variables))
         (lines_known (kept lines.now))) }
 {
     let KnownLoops { table, loops } = judge(alloc, &kernel, directives, lines)?;

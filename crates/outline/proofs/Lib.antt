@@ -1,6 +1,8 @@
+pub mod Assigned
 pub mod Blocks
 pub mod Found
 pub mod Lookups
 pub mod Nested
 pub mod Shaped
+pub mod Standing
 pub mod Whole

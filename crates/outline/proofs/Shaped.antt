@@ -1,5 +1,5 @@
 -- Outlines made of parts that are made right.
-use Rattle.std.specs.Prelude.{ℕ, zero, suc, Bool, true, false, ◌≡◌, ◌+◌, ◌<◌, ◌≤◌, ◌==◌, List, [], ◌∷◌, ◌++◌, length, map, take, Option, Some, None, All, Contains, option_and_then}
+use Rattle.std.specs.Prelude.{filter, ℕ, zero, suc, Bool, true, false, ◌≡◌, ◌+◌, ◌<◌, ◌≤◌, ◌==◌, List, [], ◌∷◌, ◌++◌, length, map, take, Option, Some, None, All, Contains, option_and_then}
 use Rattle.std.proofs.Common.{Vec, Box, Bor, Global, refl, sym, ap, ◌∙◌, subst, cond, arith, get_or, append-nil}
 use Rattle.std.proofs.lemmas.Bool.{eqb-true}
 use Rattle.std.proofs.lemmas.List.{take_more, take_all}
@@ -10,9 +10,10 @@ use Rattle.semantics.specs.Tree.{Variable, Stmt}
 use Rattle.semantics.specs.Source.Text.{line_at}
 use Rattle.semantics.specs.Meaning.State.{State}
 use Rattle.semantics.specs.Meaning.Value.{holds, by_test, map_option}
-use Rattle.semantics.specs.Meaning.Agrees.{declared_in, declared_among}
+use Rattle.semantics.specs.Meaning.Agrees.{is_among, declared_in, declared_among}
 use Rattle.semantics.specs.Meaning.Runs.{Effect, nothing, joined, then_from, declared, incremented, turns, greatest_trip_count, run, run_items}
 use Rattle.semantics.specs.Loops.Nest.{Loop, as_loop, nest_of}
+use Rattle.semantics.proofs.EraseTokenLaw.{second_of}
 use Rattle.ktree.specs.View.{source_of, start_of, cond_of, increment_of, stmt_of, items_of, with_item}
 use Rattle.ktree.specs.declared.place.Place.{Place}
 use Rattle.ktree.specs.declared.expression.Cond as trees
@@ -26,29 +27,35 @@ use Rattle.nest_space.specs.Heads.{AreHeadsOf}
 use Rattle.nest.specs.Heads.{head_of}
 use Rattle.nest.specs.Perfect.{AreRectangular}
 use Rattle.pragma.specs.Clauses.{ReadsLoop}
-use Rattle.pragma.specs.Parallel.{associated, ItemsHave, LineHas}
+use Rattle.pragma.specs.Parallel.{associated, LineHas}
 use Rattle.pragma.specs.Views.{scheduled}
 use Rattle.pragma.proofs.LoopLaw.{read_once}
+use Rattle.flow.specs.Roles.{LineRoles, ItemsHaveBy}
+use Rattle.flow.specs.Parallel.{AreRolesOf}
+use Rattle.flow.specs.declared.environment.LoopRoles.{LoopRoles}
 use Rattle.flow.specs.declared.environment.ParallelLoop.{ParallelLoop}
-use Rattle.law_independence.specs.OrderLaws.{AreStepsRead, CommutesAsNest}
-use Rattle.law_scopes.specs.Apart.{apart_items, apart_behind, handed}
+use Rattle.law_commute.specs.Targets.{targets_outside}
+use Rattle.law_independence.specs.OrderLaws.{AreStepsRead, SharesAsNest, SharesBy, used_roles}
+use Rattle.law_apart.specs.Apart.{apart_items, apart_behind, handed}
 use Rattle.lower_code.specs.declared.term.Laid.{Laid}
 use Rattle.lower_code.specs.declared.term.Test.{Test}
 use Rattle.lower_code.specs.Meaning.{AreLocals, MeansTest}
 use Rattle.lower_code.proofs.Whole.{locals_left, locals_right}
 use Rattle.lower_block.specs.declared.op.Compiled.{Compiled}
 use Rattle.lower_run.specs.Walk.{Performs}
-use Rattle.lower.specs.Roles.{StandEach, AreReduced}
+use Rattle.lower.specs.Roles.{StandEach, AreReduced, AreRolesAt}
+use Rattle.lower.specs.declared.roles.LoweredRoles.{LoweredRoles}
 use Rattle.outline.specs.declared.shape.LoweredHead.{LoweredHead}
 use Rattle.outline.specs.declared.shape.TeamLoop.{TeamLoop}
 use Rattle.outline.specs.declared.shape.Outline.{Outline, Serial, Team, If, For, Block}
 use Rattle.outline.specs.declared.shape.OutlineItem.{OutlineItem, Plain, Statement}
 use Rattle.outline.specs.Fit.{AllFit, HeadFits, TeamFits}
-use Rattle.outline.specs.Given.{IsRound, IsGiven}
-use Rattle.outline.specs.Handed.{AreOfText, IsHanded}
+use Rattle.outline.specs.Given.{IsRound, ArePrivateLocals, IsGiven}
+use Rattle.outline.specs.Handed.{IsOfText, AreOfText, IsHanded, roles_of}
 use Rattle.pragma.specs.Plain.{has_line}
-use Rattle.outline.specs.Made.{line_of, loop_with, IsInside, run_behind, items_behind, CommutesBehind, ItemCommutes, IsMade, IsMadeItem, AreMade}
-use Rattle.outline.specs.View.{performed, item_performed, items_performed}
+use Rattle.outline.specs.Made.{line_of, loop_with, IsInside, run_behind, items_behind, SharesBehind, ItemShares, IsMade, IsMadeItem, AreMade}
+use Rattle.outline.specs.View.{roles_in, performed, item_performed, items_performed}
+use Rattle.outline.proofs.Assigned.{among_left}
 use Rattle.outline.proofs.Blocks.{block_performed, block_fits}
 use Rattle.outline.proofs.Whole.{whole}
 
@@ -110,23 +117,33 @@ module _ (layout : List Laid) (mark : ℕ) (loops : List ParallelLoop) where
 
   pub serial_made : (box : List Side) (code : Compiled) (s : Bor statements.Stmt) → has_line (stmt_of s.now) ≡ false → (AreLocals layout mark (declared_in (stmt_of s.now)) → Performs layout mark (run (stmt_of s.now)) code)
       → IsMade layout mark loops box None (stmt_of s.now) (Serial code s)
-  serial_made box code s none code_fits = record { performs = λ serial. sym (whole (stmt_of s.now) serial none); fits = λ text serial given commutes all. code_fits all }
+  serial_made box code s none code_fits = record { performs = λ R serial. sym (whole (stmt_of s.now) R serial none); fits = λ text ds R serial given shares all. code_fits all }
 
   -- ---- a loop for a team
 
+  -- the variables with a role are those that the line gives
+  roles_by_line : (roles : LoopRoles) (R : LineRoles) (line : ℕ) (s : Stmt) (ls : LoweredRoles) → AreRolesOf (R line) roles → AreRolesAt layout mark (used_roles s (roles_of roles)) ls → AreRolesAt layout mark (used_roles s (R line)) ls
+  roles_by_line roles R line s ls e at = record {
+    reductions = subst (λ rs. AreReduced layout mark (filter (λ r. is_among (targets_outside s) r.0) rs) ls.reductions.items) e.reductions at.reductions;
+    lasts = subst (λ xs. StandEach layout mark (filter (is_among (targets_outside s)) xs) ls.lasts.items) e.lasts at.lasts;
+  }
+
   pub team_made : (box : List Side) (line : Place) (s : Stmt) (l : TeamLoop) → IsHanded layout mark box loops line s l → IsMade layout mark loops box (Some line) s (Team l)
   team_made box line s l h = record {
-    performs = λ serial. ap (handed serial) h.statement;
-    fits = λ text serial given commutes all. team_fits text serial given commutes all;
+    performs = λ R serial. ap (λ a. handed (used_roles a (R l.line)) serial a) h.statement ∙ ap (λ m. handed (used_roles s (R m)) serial s) h.at;
+    fits = λ text ds R serial given shares all. team_fits text ds R serial given shares all;
   }
     where
-      team_fits : (text : List ℕ) (serial : List Loop) → IsGiven mark text loops serial box → CommutesBehind text serial (Some line) s → AreLocals layout mark (declared_in s) → TeamFits layout mark serial l
-      team_fits text serial given (k, c, reads, commute) all =
-          let own = of_all (λ (p : ParallelLoop). ReadsLoop (line_at text p.line.line) (scheduled p.directive) p.directive.collapse) loops h.parallel given.table h.stands.0 in
-          let here = subst (λ (p : Place). ReadsLoop (line_at text p.line) (scheduled h.parallel.directive) h.parallel.directive.collapse) h.stands.1 own in
+      team_fits : (text : List ℕ) (ds : List Tree.Declaration) (R : LineRoles) (serial : List Loop) → IsGiven (length layout) mark text R loops serial box → SharesBehind text ds R serial (Some line) s → AreLocals layout mark (declared_in s)
+          → TeamFits layout mark R serial l
+      team_fits text ds R serial given (k, c, reads, share) all =
+          let own = of_all (IsOfText text R) loops h.parallel given.table h.stands.0 in
+          let here = subst (λ (p : Place). ReadsLoop (line_at text p.line) (scheduled h.parallel.directive) h.parallel.directive.collapse) h.stands.1 own.reads in
+          let kept = subst (λ (p : Place). AreRolesOf (R p.line) h.parallel.roles) h.stands.1 own.roles in
           let same = (read_once (line_at text line.line) (scheduled h.parallel.directive) h.parallel.directive.collapse k c here reads).1 in
           let depth : associated c ≡ l.depth = ap associated (sym same) ∙ sym h.depth in
-          let commutes : CommutesAsNest serial l.depth s = subst (λ d. CommutesAsNest serial d s) depth commute in
+          let roles : used_roles s (R line.line) ≡ roles_in R l = sym (ap (λ a. used_roles a (R l.line)) h.statement ∙ ap (λ m. used_roles s (R m)) h.at) in
+          let shares : SharesAsNest ds (roles_in R l) serial l.depth s = subst (λ rs. SharesAsNest ds rs serial l.depth s) roles (subst (λ d. SharesAsNest ds (used_roles s (R line.line)) serial d s) depth share) in
           let n = h.lowered in
           let parts = nest_locals l.depth s n.loops n.body n.nest in
           let both = subst (AreLocals layout mark) parts all in
@@ -138,13 +155,17 @@ module _ (layout : List Laid) (mark : ℕ) (loops : List ParallelLoop) where
             known = λ x is. (given.round x is).1;
             lowered = record {
               around = λ x is. n.around x (given.round x is).0 is;
-              heads = heads_of box n.loops l.lowered.loops.items n.heads (commutes.steps n.loops n.body n.nest);
+              heads = heads_of box n.loops l.lowered.loops.items n.heads (shares.steps n.loops n.body n.nest);
               own = locals_left layout mark (map (λ q. q.variable) n.loops) (declared_in n.body) both;
               body = n.code (locals_right layout mark (map (λ q. q.variable) n.loops) (declared_in n.body) both);
-              roles_at = record { reductions = subst (AreReduced layout mark []) (sym n.no_reductions) tt; lasts = subst (StandEach layout mark []) (sym n.no_lasts) tt };
+              roles_at = subst (λ rs. AreRolesAt layout mark rs l.lowered.roles) roles (roles_by_line h.parallel.roles R line.line s l.lowered.roles kept n.roles);
             };
             locals = subst (λ a. AreLocals layout mark (declared_in a)) (sym h.statement) all;
-            commutes = subst (λ a. CommutesAsNest serial l.depth a) (sym h.statement) commutes;
+            privates = λ x e.
+                let f = is_among (targets_outside (stmt_of l.statement.now)) in
+                given.privates l.line x (second_of (f x) (is_among (R l.line).privates x) (sym (among_left f (R l.line).privates x) ∙ e));
+            declarations = ds;
+            shares = subst (λ a. SharesAsNest ds (roles_in R l) serial l.depth a) (sym h.statement) shares;
           }
 
   -- ---- a serial loop
@@ -165,11 +186,11 @@ module _ (layout : List Laid) (mark : ℕ) (loops : List ParallelLoop) where
   pub loop_made : (box within : List Side) (head : Bor Head) (lowered : LoweredHead) (inner : Box Outline Global) (a : Stmt) → IsInside head.now box within → (AreLocals layout mark (head.now.variable.0 ∷ []) → HeadFits layout mark head.now lowered)
       → IsMade layout mark loops within None a inner.value → IsMade layout mark loops box None (loop_with head.now a) (For lowered head inner)
   loop_made box within head lowered inner a is head_fits made = record {
-    performs = λ serial i s. then_from s (declared s head.now.variable.0 (Some (source_of head.now.start)))
-        (turns greatest_trip_count (λ t. holds t (cond_of head.now.test)) (made.performs (serial ++ head_of head.now ∷ []) i) (λ t. incremented t (increment_of head.now.step)));
-    fits = λ text serial given commutes all. (
+    performs = λ R serial i s. then_from s (declared s head.now.variable.0 (Some (source_of head.now.start)))
+        (turns greatest_trip_count (λ t. holds t (cond_of head.now.test)) (made.performs R (serial ++ head_of head.now ∷ []) i) (λ t. incremented t (increment_of head.now.step)));
+    fits = λ text ds R serial given shares all. (
       head_fits (all.0, tt),
-      made.fits text (serial ++ head_of head.now ∷ []) (record { round = inside_round box within head.now serial is all.0.1 given.round; table = given.table }) commutes all.1,
+      made.fits text ds R (serial ++ head_of head.now ∷ []) (record { round = inside_round box within head.now serial is all.0.1 given.round; table = given.table; privates = given.privates }) shares all.1,
     );
   }
 
@@ -178,11 +199,11 @@ module _ (layout : List Laid) (mark : ℕ) (loops : List ParallelLoop) where
   pub two_made : (box : List Side) (test : Test) (cond : Bor trees.Cond) (then other : Box Outline Global) (a b : Stmt) → MeansTest layout (cond_of cond.now) test → IsMade layout mark loops box None a then.value → IsMade layout mark loops box None b other.value
       → IsMade layout mark loops box None (Tree.IfElse (cond_of cond.now) a b) (If test cond then (Some other))
   two_made box test cond then other a b means one two = record {
-    performs = λ serial i s. by_test (holds s (cond_of cond.now)) (one.performs serial i s) (two.performs serial i s);
-    fits = λ text serial given commutes all. (
+    performs = λ R serial i s. by_test (holds s (cond_of cond.now)) (one.performs R serial i s) (two.performs R serial i s);
+    fits = λ text ds R serial given shares all. (
       means,
-      one.fits text serial given commutes.0 (locals_left layout mark (declared_in a) (declared_in b) all),
-      two.fits text serial given commutes.1 (locals_right layout mark (declared_in a) (declared_in b) all),
+      one.fits text ds R serial given shares.0 (locals_left layout mark (declared_in a) (declared_in b) all),
+      two.fits text ds R serial given shares.1 (locals_right layout mark (declared_in a) (declared_in b) all),
     );
   }
 
@@ -208,28 +229,28 @@ module _ (layout : List Laid) (mark : ℕ) (loops : List ParallelLoop) where
   IsNoStatement (Local l) = Unit {0}
   IsNoStatement (Statement' p s) = ⊥
 
-  plain_performs : (d : Option Place) (item : Item) → IsNoStatement item → (serial : List Loop) (rest : Tree.Items)
-      → items_behind d serial (with_item item rest) ≡ (λ s. then_from s (run_items (with_item item Tree.no_items) s) (items_behind (line_of item) serial rest))
-  plain_performs None (Directive place) h serial rest = λ i s. sym (nothing_first s (apart_behind serial rest)) i
-  plain_performs (Some line) (Directive place) h serial rest = λ i s. sym (nothing_first s (apart_behind serial rest)) i
-  plain_performs None (Local l) h serial rest = λ i s. then_from s (sym (alone s (declared s l.variable.0 (start_of l.start))) i) (apart_items serial rest)
-  plain_performs (Some line) (Local l) h serial rest = λ i s. then_from s (sym (alone s (declared s l.variable.0 (start_of l.start))) i) (apart_items serial rest)
-  plain_performs d (Statement' p s) h serial rest = absurd h
+  plain_performs : (d : Option Place) (item : Item) → IsNoStatement item → (R : LineRoles) (serial : List Loop) (rest : Tree.Items)
+      → items_behind R d serial (with_item item rest) ≡ (λ s. then_from s (run_items (with_item item Tree.no_items) s) (items_behind R (line_of item) serial rest))
+  plain_performs None (Directive place) h R serial rest = λ i s. sym (nothing_first s (apart_behind R place.line serial rest)) i
+  plain_performs (Some line) (Directive place) h R serial rest = λ i s. sym (nothing_first s (apart_behind R place.line serial rest)) i
+  plain_performs None (Local l) h R serial rest = λ i s. then_from s (sym (alone s (declared s l.variable.0 (start_of l.start))) i) (apart_items R serial rest)
+  plain_performs (Some line) (Local l) h R serial rest = λ i s. then_from s (sym (alone s (declared s l.variable.0 (start_of l.start))) i) (apart_items R serial rest)
+  plain_performs d (Statement' p s) h R serial rest = absurd h
 
   pub plain_made : (box : List Side) (d : Option Place) (item : Bor Item) (code : Compiled) → IsNoStatement item.now
       → (AreLocals layout mark (declared_among (with_item item.now Tree.no_items)) → Performs layout mark (run_items (with_item item.now Tree.no_items)) code) → IsMadeItem layout mark loops box d item.now (Plain code item)
-  plain_made box d item code none code_fits = record { performs = λ serial rest. plain_performs d item.now none serial rest; fits = λ text serial given commutes all. code_fits all }
+  plain_made box d item code none code_fits = record { performs = λ R serial rest. plain_performs d item.now none R serial rest; fits = λ text ds R serial given shares all. code_fits all }
 
   pub statement_made : (box : List Side) (d : Option Place) (p : _) (s : statements.Stmt) (inner : Box Outline Global) → IsMade layout mark loops box d (stmt_of s) inner.value → IsMadeItem layout mark loops box d (Statement' p s) (Statement inner)
   statement_made box d p s inner made = record {
-    performs = λ serial rest. at serial d (made.performs serial) rest;
-    fits = λ text serial given commutes all. made.fits text serial given commutes (subst (AreLocals layout mark) (append-nil (declared_in (stmt_of s))) all);
+    performs = λ R serial rest. at R serial d (made.performs R serial) rest;
+    fits = λ text ds R serial given shares all. made.fits text ds R serial given shares (subst (AreLocals layout mark) (append-nil (declared_in (stmt_of s))) all);
   }
     where
-      at : (serial : List Loop) (e : Option Place) → performed serial inner.value ≡ run_behind e serial (stmt_of s) → (rest : Tree.Items)
-          → items_behind e serial (Tree.stmt (stmt_of s) rest) ≡ (λ t. then_from t (performed serial inner.value t) (apart_items serial rest))
-      at serial None is rest = λ i t. then_from t (sym is i t) (apart_items serial rest)
-      at serial (Some line) is rest = λ i t. then_from t (sym is i t) (apart_items serial rest)
+      at : (R : LineRoles) (serial : List Loop) (e : Option Place) → performed R serial inner.value ≡ run_behind R e serial (stmt_of s) → (rest : Tree.Items)
+          → items_behind R e serial (Tree.stmt (stmt_of s) rest) ≡ (λ t. then_from t (performed R serial inner.value t) (apart_items R serial rest))
+      at R serial None is rest = λ i t. then_from t (sym is i t) (apart_items R serial rest)
+      at R serial (Some line) is rest = λ i t. then_from t (sym is i t) (apart_items R serial rest)
 
   line_more : (d : Option Place) (is : List Item) (i : Item) → line_after d (is ++ i ∷ []) ≡ line_of i
   line_more d [] i = refl
@@ -261,26 +282,27 @@ module _ (layout : List Laid) (mark : ℕ) (loops : List ParallelLoop) where
   pub all_so_far : (box : List Side) (items : List Item) (n : ℕ) (os : List OutlineItem) (d : Option Place) → length items ≤ n → SoFar box items n os d → AreMade layout mark loops box None items os
   all_so_far box items n os d le so_far = subst (λ l. AreMade layout mark loops box None l os) (take_all n items le) so_far.made
 
-  pub items_perform : (box : List Side) (d : Option Place) (is : List Item) (os : List OutlineItem) → AreMade layout mark loops box d is os → (serial : List Loop) → items_performed serial os ≡ items_behind d serial (items_of is)
-  items_perform box None [] [] h serial = refl
-  items_perform box (Some line) [] [] h serial = refl
-  items_perform box d [] (o ∷ os) h serial = absurd h
-  items_perform box d (i ∷ is) [] h serial = absurd h
-  items_perform box d (i ∷ is) (o ∷ os) h serial =
-      (λ j s. then_from s (item_performed serial o s) (items_perform box (line_of i) is os h.1 serial j)) ∙ sym (h.0.performs serial (items_of is))
+  pub items_perform : (box : List Side) (d : Option Place) (is : List Item) (os : List OutlineItem) → AreMade layout mark loops box d is os → (R : LineRoles) (serial : List Loop) → items_performed R serial os ≡ items_behind R d serial (items_of is)
+  items_perform box None [] [] h R serial = refl
+  items_perform box (Some line) [] [] h R serial = refl
+  items_perform box d [] (o ∷ os) h R serial = absurd h
+  items_perform box d (i ∷ is) [] h R serial = absurd h
+  items_perform box d (i ∷ is) (o ∷ os) h R serial =
+      (λ j s. then_from s (item_performed R serial o s) (items_perform box (line_of i) is os h.1 R serial j)) ∙ sym (h.0.performs R serial (items_of is))
 
-  -- what commutes of some items, also the first where it stands behind a line
-  abbrev CommuteFrom : List ℕ → List Loop → Option Place → Tree.Items → Type 0
-  CommuteFrom text serial None items = ItemsHave text CommutesAsNest serial items
-  CommuteFrom text serial (Some line) items = LineHas text CommutesAsNest serial line.line items × ItemsHave text CommutesAsNest serial items
+  -- what may be shared of some items, also of the first where it stands behind a line
+  abbrev ShareFrom : List ℕ → List Tree.Declaration → LineRoles → List Loop → Option Place → Tree.Items → Type 0
+  ShareFrom text ds R serial None items = ItemsHaveBy text (SharesBy ds R) serial items
+  ShareFrom text ds R serial (Some line) items = LineHas text (SharesBy ds R line.line) serial line.line items × ItemsHaveBy text (SharesBy ds R) serial items
 
-  split : (text : List ℕ) (serial : List Loop) (d : Option Place) (i : Item) (rest : Tree.Items) → CommuteFrom text serial d (with_item i rest) → ItemCommutes text serial d i × CommuteFrom text serial (line_of i) rest
-  split text serial None (Directive place) rest h = (tt, h)
-  split text serial None (Local l) rest h = (tt, h)
-  split text serial None (Statement' p s) rest h = (h.0, h.1)
-  split text serial (Some line) (Directive place) rest h = absurd h.0.3
-  split text serial (Some line) (Local l) rest h = absurd h.0.3
-  split text serial (Some line) (Statement' p s) rest h = ((h.0.0, h.0.1, h.0.2, h.0.3), h.1.1)
+  split : (text : List ℕ) (ds : List Tree.Declaration) (R : LineRoles) (serial : List Loop) (d : Option Place) (i : Item) (rest : Tree.Items)
+      → ShareFrom text ds R serial d (with_item i rest) → ItemShares text ds R serial d i × ShareFrom text ds R serial (line_of i) rest
+  split text ds R serial None (Directive place) rest h = (tt, h)
+  split text ds R serial None (Local l) rest h = (tt, h)
+  split text ds R serial None (Statement' p s) rest h = (h.0, h.1)
+  split text ds R serial (Some line) (Directive place) rest h = absurd h.0.3
+  split text ds R serial (Some line) (Local l) rest h = absurd h.0.3
+  split text ds R serial (Some line) (Statement' p s) rest h = ((h.0.0, h.0.1, h.0.2, h.0.3), h.1.1)
 
   cut : (item : Item) (rest : Tree.Items) → AreLocals layout mark (declared_among (with_item item rest)) → AreLocals layout mark (declared_among (with_item item Tree.no_items)) × AreLocals layout mark (declared_among rest)
   cut (Directive place) rest all = (tt, all)
@@ -289,23 +311,25 @@ module _ (layout : List Laid) (mark : ℕ) (loops : List ParallelLoop) where
       let xs = declared_in (stmt_of s) in
       (subst (AreLocals layout mark) (sym (append-nil xs)) (locals_left layout mark xs (declared_among rest) all), locals_right layout mark xs (declared_among rest) all)
 
-  items_fitted : (box : List Side) (d : Option Place) (is : List Item) (os : List OutlineItem) → AreMade layout mark loops box d is os → (text : List ℕ) (serial : List Loop) → IsGiven mark text loops serial box → CommuteFrom text serial d (items_of is)
-      → AreLocals layout mark (declared_among (items_of is)) → AllFit layout mark serial os
-  items_fitted box d [] [] h text serial given commute all = tt
-  items_fitted box d [] (o ∷ os) h text serial given commute all = absurd h
-  items_fitted box d (i ∷ is) [] h text serial given commute all = absurd h
-  items_fitted box d (i ∷ is) (o ∷ os) h text serial given commute all =
-      let c = split text serial d i (items_of is) commute in
+  items_fitted : (box : List Side) (d : Option Place) (is : List Item) (os : List OutlineItem) → AreMade layout mark loops box d is os → (text : List ℕ) (ds : List Tree.Declaration) (R : LineRoles) (serial : List Loop)
+      → IsGiven (length layout) mark text R loops serial box → ShareFrom text ds R serial d (items_of is)
+      → AreLocals layout mark (declared_among (items_of is)) → AllFit layout mark R serial os
+  items_fitted box d [] [] h text ds R serial given share all = tt
+  items_fitted box d [] (o ∷ os) h text ds R serial given share all = absurd h
+  items_fitted box d (i ∷ is) [] h text ds R serial given share all = absurd h
+  items_fitted box d (i ∷ is) (o ∷ os) h text ds R serial given share all =
+      let c = split text ds R serial d i (items_of is) share in
       let l = cut i (items_of is) all in
-      (h.0.fits text serial given c.0 l.0, items_fitted box (line_of i) is os h.1 text serial given c.1 l.1)
+      (h.0.fits text ds R serial given c.0 l.0, items_fitted box (line_of i) is os h.1 text ds R serial given c.1 l.1)
 
   pub block_made : (box : List Side) (items : List Item) (outlines : Vec OutlineItem Global) → AreMade layout mark loops box None items outlines.items → IsMade layout mark loops box None (Tree.Block (items_of items)) (Block outlines)
   block_made box items outlines h = record {
-    performs = λ serial. block_performed serial outlines ∙ items_perform box None items outlines.items h serial;
-    fits = λ text serial given commutes all. block_fits layout mark serial outlines (items_fitted box None items outlines.items h text serial given commutes all);
+    performs = λ R serial. block_performed R serial outlines ∙ items_perform box None items outlines.items h R serial;
+    fits = λ text ds R serial given shares all. block_fits layout mark R serial outlines (items_fitted box None items outlines.items h text ds R serial given shares all);
   }
 
   -- ---- a body
 
-  pub body_fits : (items : List Item) (os : List OutlineItem) → AreMade layout mark loops [] None items os → (text : List ℕ) → AreOfText text loops → ItemsHave text CommutesAsNest [] (items_of items) → AreLocals layout mark (declared_among (items_of items)) → AllFit layout mark [] os
-  body_fits items os h text table commute all = items_fitted [] None items os h text [] (record { round = λ x is. absurd cc; table = table }) commute all
+  pub body_fits : (items : List Item) (os : List OutlineItem) → AreMade layout mark loops [] None items os → (text : List ℕ) (ds : List Tree.Declaration) (R : LineRoles) → ArePrivateLocals (length layout) R → AreOfText text R loops
+      → ItemsHaveBy text (SharesBy ds R) [] (items_of items) → AreLocals layout mark (declared_among (items_of items)) → AllFit layout mark R [] os
+  body_fits items os h text ds R privates table share all = items_fitted [] None items os h text ds R [] (record { round = λ x is. absurd cc; table = table; privates = privates }) share all

@@ -5,7 +5,8 @@ use Rattle.semantics.specs.Tree.{Stmt, Assign, Update, If, IfElse, For, Block, P
 use Rattle.semantics.specs.Meaning.Value.{holds, by_test}
 use Rattle.semantics.specs.Meaning.Runs.{nothing, then_from, declared, incremented, turns, greatest_trip_count, run, run_items}
 use Rattle.semantics.specs.Loops.Nest.{Loop}
-use Rattle.law_scopes.specs.Apart.{apart, apart_items}
+use Rattle.flow.specs.Roles.{LineRoles}
+use Rattle.law_apart.specs.Apart.{apart, apart_items}
 use Rattle.pragma.specs.Plain.{has_line, has_line_among}
 
 left : (a b : Bool) → (a || b) ≡ false → a ≡ false
@@ -17,19 +18,19 @@ right true b e = absurd cc
 right false b e = e
 
 mutual
-  pub whole : (a : Stmt) (serial : List Loop) → has_line a ≡ false → apart serial a ≡ run a
-  whole (Assign x is e) serial h = refl
-  whole (Update x is op e) serial h = refl
-  whole (If c a) serial h = λ i s. by_test (holds s c) (whole a serial h i s) (Some nothing)
-  whole (IfElse c a b) serial h = λ i s. by_test (holds s c) (whole a serial (left (has_line a) (has_line b) h) i s) (whole b serial (right (has_line a) (has_line b) h) i s)
-  whole (For x name start test step body) serial h =
+  pub whole : (a : Stmt) (R : LineRoles) (serial : List Loop) → has_line a ≡ false → apart R serial a ≡ run a
+  whole (Assign x is e) R serial h = refl
+  whole (Update x is op e) R serial h = refl
+  whole (If c a) R serial h = λ i s. by_test (holds s c) (whole a R serial h i s) (Some nothing)
+  whole (IfElse c a b) R serial h = λ i s. by_test (holds s c) (whole a R serial (left (has_line a) (has_line b) h) i s) (whole b R serial (right (has_line a) (has_line b) h) i s)
+  whole (For x name start test step body) R serial h =
       λ i s. then_from s (declared s x (Some start))
-      (turns greatest_trip_count (λ t. holds t test) (whole body (serial ++ record { variable = x; start = start; test = test; step = step } ∷ []) h i) (λ t. incremented t step))
-  whole (Block items) serial h = whole_items items serial h
-  whole (Print parts) serial h = refl
+      (turns greatest_trip_count (λ t. holds t test) (whole body R (serial ++ record { variable = x; start = start; test = test; step = step } ∷ []) h i) (λ t. incremented t step))
+  whole (Block items) R serial h = whole_items items R serial h
+  whole (Print parts) R serial h = refl
 
-  pub whole_items : (items : Items) (serial : List Loop) → has_line_among items ≡ false → apart_items serial items ≡ run_items items
-  whole_items no_items serial h = refl
-  whole_items (mark line rest) serial h = absurd cc
-  whole_items (local x name start rest) serial h = λ i s. then_from s (declared s x start) (whole_items rest serial h i)
-  whole_items (stmt a rest) serial h = λ i s. then_from s (whole a serial (left (has_line a) (has_line_among rest) h) i s) (whole_items rest serial (right (has_line a) (has_line_among rest) h) i)
+  pub whole_items : (items : Items) (R : LineRoles) (serial : List Loop) → has_line_among items ≡ false → apart_items R serial items ≡ run_items items
+  whole_items no_items R serial h = refl
+  whole_items (mark line rest) R serial h = absurd cc
+  whole_items (local x name start rest) R serial h = λ i s. then_from s (declared s x start) (whole_items rest R serial h i)
+  whole_items (stmt a rest) R serial h = λ i s. then_from s (whole a R serial (left (has_line a) (has_line_among rest) h) i s) (whole_items rest R serial (right (has_line a) (has_line_among rest) h) i)

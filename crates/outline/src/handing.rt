@@ -8,10 +8,11 @@ ghost use Rattle.outline.specs.Handed.{StandsAt, NoneStandsAt, ListsLocals, IsBo
 
 use crate::compiling::{Target, compile_statement};
 use crate::shape::TeamLoop;
+use crate::spots::lower_roles;
 use affine::VarBox;
 use flow::ParallelLoop;
-use ktree::{Place, Refusal, Schedule, Stmt, VarId};
-use lower::{LoweredLoop, LoweredRoles};
+use ktree::{Place, Refusal, Stmt, VarId};
+use lower::LoweredLoop;
 use lower_block::Compiled;
 use nest::{Nest, as_loop};
 use nest_loop::Canonical;
@@ -105,34 +106,32 @@ fn compile_body(
     }
 }
 
-// What a nest inside the loops of a box is lowered to.
+// What the nest of a parallel loop is lowered to, inside the loops of a box.
 fn lower(
     alloc: Global,
     depth: u64,
     stmt: &Stmt,
-    schedule: Option<Schedule>,
+    parallel: &ParallelLoop,
     target: Target<'_>,
     bounds: &VarBox,
-    directive: Place,
 ) -> Result<LoweredLoop, Refusal>
     ensures lowered { IfOk result
         (IsLowered target.entry.layout.now target.entry.registers bounds.now depth
-        (stmt_of stmt.now)) }
-    ensures schedule { IfOk result (λ l. l.schedule ≡ schedule) }
+        (stmt_of stmt.now) parallel.now.roles) }
+    ensures schedule { IfOk result (λ l. l.schedule ≡ parallel.now.directive.schedule) }
     ensures refusal { IfErr result (λ refusal. refusal ≡ OutOfMemory) }
 {
-    let loops = canonical_loops(alloc, depth, stmt, bounds, directive)?;
+    let schedule = parallel.directive.schedule;
+    let loops = canonical_loops(alloc, depth, stmt, bounds, parallel.line)?;
     let body = compile_body(alloc, depth, stmt, target)?;
     let around = variables_round(alloc, bounds, target)?;
+    let roles = lower_roles(alloc, &parallel.roles, stmt, target)?;
     Ok(LoweredLoop {
         around,
         loops,
         body,
         schedule,
-        roles: LoweredRoles {
-            reductions: Vec::new(alloc),
-            lasts: Vec::new(alloc),
-        },
+        roles,
     })
 }
 
@@ -141,7 +140,7 @@ fn lower(
 // # Errors
 //
 // `OutOfMemory` alone. It stands also for a statement that is no nest of as many loops as its line associates, or with no line of its
-// own among these: a kernel that is accepted has no such one.
+// own among these, and for a variable with a role that is no scalar: a kernel that is accepted has no such one.
 pub(crate) fn loop_for_team<'k>(
     alloc: Global,
     loops: &[ParallelLoop],
@@ -159,10 +158,10 @@ pub(crate) fn loop_for_team<'k>(
         return Err(Refusal::OutOfMemory);
     };
     let depth = parallel.directive.associated_loops();
-    let schedule = parallel.directive.schedule;
-    let lowered = lower(alloc, depth, stmt, schedule, target, bounds, directive)?;
+    let lowered = lower(alloc, depth, stmt, parallel, target, bounds)?;
     Ok(TeamLoop {
         statement: stmt,
+        line: directive.line,
         depth,
         lowered,
     })

@@ -6,6 +6,8 @@ mod handing;
 mod lines;
 mod making;
 mod shape;
+mod spots;
+mod targets;
 
 pub use compiling::Target;
 pub use making::outline;

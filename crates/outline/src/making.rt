@@ -239,13 +239,14 @@ fn outline_items<'k>(
     Ok(outlines)
 }
 
-/// The outline of a kernel's body: each loop behind a directive line is lowered for a team, whatever its form and its schedule; all else
-/// is compiled for one thread, over registers below that number for the locals.
+/// The outline of a kernel's body: each loop behind a directive line is lowered for a team, whatever its form and its schedule, with those
+/// reduction and lastprivate variables of its line that it assigns from outside (OpenMP 5.2, 5.4.5 and 5.5.8); all else is compiled for one
+/// thread, over registers below that number for the locals.
 ///
 /// # Errors
 ///
-/// `OutOfMemory` alone. It stands also for a directive line that is none of these loops', or with no nest behind it, and for a loop that is
-/// not canonical: a kernel that is accepted has no such one.
+/// `OutOfMemory` alone. It stands also for a directive line that is none of these loops', or with no nest behind it, for a loop that is
+/// not canonical, and for such a variable that is no scalar: a kernel that is accepted has no such one.
 pub fn outline<'k>(
     alloc: Global,
     items: &'k [Item],

@@ -415,24 +415,12 @@ fn clauses_of_regions_count_for_their_loops(rt: HostRuntime) {
 fn clauses_that_are_not_known_so_far_are_refused(rt: HostRuntime) {
     const ROWS: &[(&str, u8)] = &[
         (
-            "uint64_t x;\n#pragma omp parallel for lastprivate(x)\nfor (uint64_t i = 0; i < 3; i++) { x = i; d[i] = x; }",
-            15,
-        ),
-        (
-            "uint64_t x;\n#pragma omp parallel\n{\n#pragma omp for lastprivate(x)\nfor (uint64_t i = 0; i < 3; i++) { x = i; d[i] = x; }\n}",
-            15,
-        ),
-        (
             "uint64_t x = 1;\n#pragma omp parallel for lastprivate(conditional: x)\nfor (uint64_t i = 0; i < 3; i++) { x = i; d[i] = x; }",
             15,
         ),
         (
-            "\n#pragma omp parallel for reduction(+: s)\nfor (uint64_t i = 0; i < 3; i++) { s += i; }",
-            16,
-        ),
-        (
             "\n#pragma omp parallel for reduction(inscan, +: s)\nfor (uint64_t i = 0; i < 3; i++) { s += i;\n#pragma omp scan inclusive(s)\nd[i] = s; }",
-            16,
+            17,
         ),
         ("\n#pragma omp scan inclusive(s)\ns = 1;", 17),
         (

@@ -87,6 +87,21 @@ fn schedules_are_listed(rt: HostRuntime) {
 }
 
 #[test]
+fn reductions_are_listed(rt: HostRuntime) {
+    const ROWS: &[Row] = &[
+        Row {
+            body: "uint64_t s = 0; uint64_t m = 0;\n#pragma omp parallel for reduction(+: s) reduction(max: m)\nfor (uint64_t i = 0; i < 8; i++) { s += A[i]; if (A[i] > m) m = A[i]; }",
+            listing: "1.0 __kmpc_fork_call\n1.1 __kmpc_for_static_init_8u static\n1.1 __kmpc_for_static_fini\n1.1 __kmpc_reduce +:s max:m\n1.1 __kmpc_end_reduce\n1.1 __kmpc_barrier\n",
+        },
+        Row {
+            body: "uint64_t s = 0; uint64_t m = 1; uint64_t x;\n#pragma omp parallel\n{\n#pragma omp for nowait schedule(dynamic, 2) reduction(&&: m, s) lastprivate(x)\nfor (uint64_t i = 0; i < 8; i++) { x = i; m = m && A[i]; s = s && x; }\n#pragma omp for\nfor (uint64_t i = 0; i < 8; i++) { A[i] = i; }\n}",
+            listing: "1.0 __kmpc_fork_call\n1.1 __kmpc_dispatch_init_8u dynamic,2\n1.1 __kmpc_dispatch_next_8u\n1.1 __kmpc_reduce &&:m &&:s\n1.1 __kmpc_end_reduce\n1.1 __kmpc_barrier\n1.2 __kmpc_for_static_init_8u static\n1.2 __kmpc_for_static_fini\n1.2 __kmpc_barrier\n",
+        },
+    ];
+    no_other(&rt, first_other(rt.alloc(), ROWS));
+}
+
+#[test]
 fn regions_of_several_loops_are_listed(rt: HostRuntime) {
     const ROWS: &[Row] = &[
         Row {

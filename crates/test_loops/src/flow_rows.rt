@@ -1,12 +1,16 @@
 //! Whether locals are assigned before they are read, and the data of parallel loops.
 
-use crate::texts::{I, J, OUT_OF_MEMORY, S, add_last, at, kernel, name, no_other, parsed, text};
+use crate::texts::{I, J, OUT_OF_MEMORY, S, X, add_last, at, kernel, name, no_other, parsed, text};
 use flow::*;
-use ktree::{AssociatedLoops, Expr, Kernel, Place, Refusal, Schedule, Source, Stmt, Target, VarId};
+use flow_reduction::Reduction;
+use ktree::{
+    AssociatedLoops, Clause, Expr, Kernel, Place, ReductionOperator, Refusal, Schedule, Source,
+    Stmt, Target, VarId,
+};
 use pragma::{Directives, ParallelFor};
 use pragma_attach::attach;
-use pragma_named::LineClauses;
-use std::alloc::Global;
+use pragma_named::{Clauses, LineClauses, Named};
+use std::alloc::{AllocError, Global};
 use std::collections::HashMap;
 
 /// What a refusal tells of a kernel's locals.
@@ -224,11 +228,20 @@ struct Seen {
     private: [VarId; 4],
 }
 
+/// What is told of a parallel loop with one reduction and one lastprivate variable.
+#[derive(Clone, Copy, PartialEq, Eq)]
+struct Leaving {
+    line: Place,
+    reduction: Reduction,
+    last: VarId,
+}
+
 /// What is told of the parallel loops of a text: what is wrong with their data, or else the only one, or the lines of two.
 #[derive(Clone, Copy, PartialEq, Eq)]
 struct Loops {
     fault: Option<DataFault>,
     only: Option<Seen>,
+    leaving: Option<Leaving>,
     lines: Option<[u32; 2]>,
 }
 
@@ -257,6 +270,24 @@ fn only(loops: &[ParallelLoop]) -> Option<Seen> {
     })
 }
 
+/// The only one of some parallel loops, where it has one reduction and one lastprivate variable.
+fn only_leaving(loops: &[ParallelLoop]) -> Option<Leaving> {
+    let [found] = loops else {
+        return None;
+    };
+    let [reduction] = found.roles.reductions.as_slice() else {
+        return None;
+    };
+    let [last] = found.roles.lasts.as_slice() else {
+        return None;
+    };
+    Some(Leaving {
+        line: found.line,
+        reduction: *reduction,
+        last: *last,
+    })
+}
+
 /// The lines of two parallel loops.
 fn two_lines(loops: &[ParallelLoop]) -> Option<[u32; 2]> {
     match loops {
@@ -271,11 +302,13 @@ fn data_of(alloc: Global, kernel: &Kernel, directives: &Directives, lines: &Line
         Ok(loops) => Loops {
             fault: None,
             only: only(loops.as_slice()),
+            leaving: only_leaving(loops.as_slice()),
             lines: two_lines(loops.as_slice()),
         },
         Err(fault) => Loops {
             fault: Some(fault),
             only: None,
+            leaving: None,
             lines: None,
         },
     }
@@ -399,6 +432,59 @@ fn data_of_parallel_loops(rt: HostRuntime) {
                 column: 34,
             })),
         ),
+        // Lastprivate scalars are assigned before they are read, and on every path.
+        (
+            "#pragma omp parallel for lastprivate(s)\nfor (uint64_t i = 0; i < 8; i++) s = i;",
+            None,
+        ),
+        (
+            "#pragma omp parallel for lastprivate(x)\nfor (uint64_t i = 0; i < 8; i++) { A[i] = x; x = i; }",
+            Some(DataFault::Unassigned(Place {
+                line: 3,
+                column: 43,
+            })),
+        ),
+        (
+            "#pragma omp parallel for lastprivate(s, x)\nfor (uint64_t i = 0; i < 8; i++) { s = i; if (i < 3) x = i; }",
+            Some(DataFault::LastUnassigned(Place {
+                line: 2,
+                column: 41,
+            })),
+        ),
+        // Of two faults the first in the text is told.
+        (
+            "#pragma omp parallel for lastprivate(x)\nfor (uint64_t i = 0; i < 8; i++) { s = i; if (i < 3) x = i; }",
+            Some(DataFault::LastUnassigned(Place {
+                line: 2,
+                column: 38,
+            })),
+        ),
+        (
+            "#pragma omp parallel for reduction(+: s)\nfor (uint64_t i = 0; i < 8; i++) { x = i; A[i] = s; }",
+            Some(DataFault::Written(Place {
+                line: 3,
+                column: 36,
+            })),
+        ),
+        // Reduction variables are updated alone.
+        (
+            "#pragma omp parallel for reduction(+: s)\nfor (uint64_t i = 0; i < 8; i++) s += i;",
+            None,
+        ),
+        (
+            "#pragma omp parallel for reduction(+: s)\nfor (uint64_t i = 0; i < 8; i++) s *= i;",
+            Some(DataFault::Reduced(Place {
+                line: 3,
+                column: 34,
+            })),
+        ),
+        (
+            "#pragma omp parallel for reduction(max: s)\nfor (uint64_t i = 0; i < 8; i++) { if (i > s) s = i; A[i] = s; }",
+            Some(DataFault::Reduced(Place {
+                line: 3,
+                column: 61,
+            })),
+        ),
         // Locals and elements may be written.
         (
             "#pragma omp parallel for\nfor (uint64_t i = 0; i < 8; i++) { uint64_t y; y = i; }",
@@ -476,6 +562,85 @@ fn loops_and_locals_are_private(rt: HostRuntime) {
     assert!(rt; only_loop(rt.alloc(), COLLAPSED) == Ok(Some(expected)));
 }
 
+/// The only parallel loop of the text with these lines, where it has one reduction and one lastprivate variable.
+fn only_with_roles(alloc: Global, lines: &str) -> Result<Option<Leaving>, u8> {
+    match data(alloc, lines) {
+        Ok(data) => Ok(data.leaving),
+        Err(number) => Err(number),
+    }
+}
+
+/// A loop on the line 4 with a scalar of each role.
+const ROLES: &str = "uint64_t y;
+
+#pragma omp parallel for reduction(+: s) lastprivate(x) private(y)
+for (uint64_t i = 0; i < 8; i++) { y = i; x = y; s += x; }";
+
+#[test]
+fn loops_are_listed_with_their_roles(rt: HostRuntime) {
+    let expected = Leaving {
+        line: at(4, 1),
+        reduction: Reduction {
+            variable: S,
+            operator: ReductionOperator::Sum,
+        },
+        last: X,
+    };
+    assert!(rt; only_with_roles(rt.alloc(), ROLES) == Ok(Some(expected)));
+}
+
+/// `s`, named on line 2.
+fn named_s(column: u32) -> Named {
+    Named {
+        variable: S,
+        place: at(2, column),
+    }
+}
+
+/// The clauses `reduction(+: s) lastprivate(s)` of the line 2, where `s` stands at the columns 39 and 54: no text has them.
+fn two_roles(alloc: Global) -> Result<LineClauses, AllocError> {
+    let reduced = vec![in alloc; named_s(39)]?;
+    let lasts = vec![in alloc; named_s(54)]?;
+    let mut clauses = Vec::new(alloc);
+    clauses.push(Clause::Reduction(ReductionOperator::Sum, reduced))?;
+    clauses.push(Clause::Lastprivate(lasts))?;
+    let mut lines = HashMap::new(alloc);
+    lines.insert(2, Clauses { clauses })?;
+    Ok(lines)
+}
+
+/// What is wrong with the data of a kernel's parallel loops, with these clauses.
+fn fault_of_two_roles(alloc: Global, kernel: &Kernel) -> Result<Option<DataFault>, u8> {
+    let Ok(directives) = Directives::read(alloc, PLAIN_LOOP.as_bytes()) else {
+        return Err(OUT_OF_MEMORY);
+    };
+    match two_roles(alloc) {
+        Ok(lines) => Ok(data_of(alloc, kernel, &directives, &lines).fault),
+        Err(_error) => Err(OUT_OF_MEMORY),
+    }
+}
+
+/// A parallel loop on the line 2.
+const PLAIN_LOOP: &str =
+    "uint64_t A[8]; uint64_t B[2][3]; uint64_t s; void kernel(void) { uint64_t x;
+#pragma omp parallel for
+for (uint64_t i = 0; i < 8; i++) A[i] = 1;
+}
+";
+
+/// The same of the kernel of that text.
+fn fault_of_two(alloc: Global) -> Result<Option<DataFault>, u8> {
+    match parsed(alloc, PLAIN_LOOP) {
+        Ok(kernel) => fault_of_two_roles(alloc, &kernel),
+        Err(number) => Err(number),
+    }
+}
+
+#[test]
+fn a_reduction_variable_has_no_second_role(rt: HostRuntime) {
+    assert!(rt; fault_of_two(rt.alloc()) == Ok(Some(DataFault::Reduced(at(2, 39)))));
+}
+
 /// The lines of the two parallel loops of the text with these lines.
 fn lines_of_two(alloc: Global, lines: &str) -> Result<Option<[u32; 2]>, u8> {
     match data(alloc, lines) {
@@ -509,6 +674,8 @@ fn faults_have_their_refusals(rt: HostRuntime) {
     assert!(rt; number(DataFault::Written(at(1, 9))) == 14);
     assert!(rt; number(DataFault::Copied(at(1, 9))) == 15);
     assert!(rt; number(DataFault::Unassigned(at(1, 9))) == 15);
+    assert!(rt; number(DataFault::LastUnassigned(at(1, 9))) == 15);
+    assert!(rt; number(DataFault::Reduced(at(1, 9))) == 16);
     assert!(rt; number(DataFault::Printed(at(1, 1))) == 18);
     assert!(rt; number(DataFault::OutOfMemory) == 23);
 }

@@ -117,28 +117,28 @@ fn first_directive_that_is_not_known_so_far_is_told(rt: HostRuntime) {
         Row {
             text: "
 uint64_t x;
-#pragma omp parallel for lastprivate(x)
+#pragma omp parallel for lastprivate(conditional: x)
 for (uint64_t i = 0; i < 8; i++) {
 x = i;
 }
-#pragma omp parallel for reduction(+: s)
+#pragma omp parallel for reduction(inscan, +: s)
 for (uint64_t i = 0; i < 8; i++) {
 s += i;
 }",
             number: 15,
             line: 3,
-            column: 38,
+            column: 51,
         },
         Row {
             text: "
 uint64_t x;
-#pragma omp parallel for reduction(+: s) lastprivate(x)
+#pragma omp parallel for reduction(inscan, +: s) lastprivate(conditional: x)
 for (uint64_t i = 0; i < 8; i++) {
 s += i; x = i;
 }",
-            number: 16,
+            number: 17,
             line: 3,
-            column: 39,
+            column: 47,
         },
         Row {
             text: "
@@ -193,14 +193,14 @@ s += i;
 for (uint64_t i = 0; i < 8; i++) {
 A[i] = i;
 }
-#pragma omp for reduction(max: s)
+#pragma omp for reduction(inscan, max: s)
 for (uint64_t i = 0; i < 8; i++) {
 if (A[i] > s) s = A[i];
 }
 }",
-            number: 16,
+            number: 17,
             line: 8,
-            column: 32,
+            column: 40,
         },
         Row {
             text: "

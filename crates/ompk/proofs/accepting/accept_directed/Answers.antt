@@ -6,8 +6,8 @@ use Rattle.ktree.specs.View.{kernel_of}
 use Rattle.pragma_attach.specs.Attached.{directives_of}
 use Rattle.pragma_named.specs.Known.{kept, lines_known}
 use Rattle.pragma_region.specs.Regions.{alone}
-use Rattle.flow.specs.Judged.{private_locals}
-use Rattle.deptest.specs.Accepted.{clauses_counted, privates_counted}
+use Rattle.flow.specs.Roles.{roles_known}
+use Rattle.deptest.specs.Accepted.{clauses_counted, roles_counted}
 use Rattle.ompk.specs.Refused.{RefusesAlone, RefusesKernel}
 use Rattle.ompk.proofs.Judging.{line_kernel, alone_refused}
 use Rattle.ompk.proofs.accepting.accept_directed.Goals as goal
@@ -20,7 +20,7 @@ accept_alone-requires-clause-stands c =
     let said = c.in_ok-lines.ensures in
     let known = kept c.in_ok-lines.lines in
     line_kernel text tree (kernel_of c.in_ok-kernel.kernel) ds known c.requires.reads (subst (λ (t : List ℕ). IsAttached t tree ds) c.requires.lines said.attached) (subst (λ (t : List ℕ). clauses_counted t tree ds ≡ lines_known known) c.requires.lines said.clauses)
-    (subst (λ (t : List ℕ). privates_counted t tree ds ≡ private_locals known (length tree.variables)) c.requires.lines said.privates)
+    (subst (λ (t : List ℕ). roles_counted t tree ds ≡ roles_known known (length tree.variables)) c.requires.lines said.roles)
     (c.in_ok-kernel.ensures ∙ ap (λ (t : List ℕ). alone t tree) c.requires.lines)
 
 pub returns-clause-refusal : goal.returns-clause-refusal
@@ -31,7 +31,7 @@ returns-clause-refusal c =
     let ds = directives_of c.args.directives.now tree in
     let known = kept c.in_ok-lines.lines in
     let said = c.in_ok-lines.ensures in
-    IfErr-weaker c.accept_alone.result (RefusesAlone text k (private_locals known (length k.variables)) (lines_known known)) (RefusesKernel text tree)
+    IfErr-weaker c.accept_alone.result (RefusesAlone text k (roles_known known (length k.variables)) (lines_known known)) (RefusesKernel text tree)
     (λ r h. alone_refused text tree k ds known r (subst (λ (t : List ℕ). IsAttached t tree ds) c.requires.lines said.attached) (subst (λ (t : List ℕ). clauses_counted t tree ds ≡ lines_known known) c.requires.lines said.clauses)
-    (subst (λ (t : List ℕ). privates_counted t tree ds ≡ private_locals known (length tree.variables)) c.requires.lines said.privates)
+    (subst (λ (t : List ℕ). roles_counted t tree ds ≡ roles_known known (length tree.variables)) c.requires.lines said.roles)
     (c.in_ok-kernel.ensures ∙ ap (λ (t : List ℕ). alone t tree) c.requires.lines) h) c.accept_alone.ensures.refusal

@@ -3,8 +3,9 @@ use Rattle.std.specs.Prelude.{None, Some}
 use Rattle.semantics.specs.Tree
 use Rattle.ktree.specs.View.{stmt_of, items_of}
 use Rattle.ktree.proofs.Trees.{block_items}
-use Rattle.outline.specs.Made.{IsMade}
-use Rattle.outline.proofs.Shaped.{SoFar, team_made, block_made, none_so_far, next_so_far, all_so_far}
+use Rattle.outline.specs.Made.{IsMade, IsMadeItem}
+use Rattle.outline.specs.declared.shape.OutlineItem.{Statement}
+use Rattle.outline.proofs.Shaped.{SoFar, team_made, block_made, statement_made, none_so_far, next_so_far, all_so_far}
 use Rattle.outline.proofs.making.+making.Goals as goal
 
 pub outline_behind-returns-in_ok-new-in-Some-clause-made : goal.outline_behind-returns-in_ok-new-in-Some-clause-made
@@ -38,7 +39,7 @@ pub outline_items-loop-item-preserved : goal.outline_items-loop-item-preserved
 outline_items-loop-item-preserved t c =
     let layout = c.args.target.layout.now in
     let mark = c.args.target.registers in
-    let made = subst (λ b. Rattle.outline.specs.Made.IsMadeItem layout mark c.args.loops.now b c.loop-item.directive c.item-item.result c.in_ok-outline.outline) c.loop-item.invariant.1 c.in_ok-outline.ensures.made in
+    let made = subst (λ b. IsMadeItem layout mark c.args.loops.now b c.loop-item.directive c.item-item.result c.in_ok-outline.outline) c.loop-item.invariant.1 c.in_ok-outline.ensures.made in
     let next = next_so_far layout mark c.args.loops.now c.args.bounds.now c.args.items.now c.loop-item.item-index c.loop-item.outlines.items c.loop-item.directive c.directive_place-directive.result c.item-item.result c.in_ok-outline.outline c.loop-item-test.true c.item-item.is c.loop-item.invariant.0 made c.directive_place-directive.ensures in
     (subst (λ os. SoFar layout mark c.args.loops.now c.args.bounds.now c.args.items.now (c.loop-item.item-index + 1) os c.directive_place-directive.result) (sym c.in_ok-push.ensures.items) next, c.in_ok-outline.ensures.back ∙ c.loop-item.invariant.1)
 
@@ -48,3 +49,11 @@ outline_items-returns-clause-made t c =
 
 pub outline_items-returns-clause-back : goal.outline_items-returns-clause-back
 outline_items-returns-clause-back t c = c.loop-item.invariant.1
+
+pub outline_item-returns-clause-made : goal.outline_item-returns-clause-made
+outline_item-returns-clause-made t c =
+    let layout = c.args.target.layout.now in
+    let mark = c.args.target.registers in
+    let made = rw c.deref.ensures at c.in_ok-inner.ensures.made in
+    subst (λ i. IsMadeItem layout mark c.args.loops.now c.args.bounds.now c.args.directive i (Statement c.in_ok-inner.inner)) (sym c.in-Statement.is)
+    (statement_made layout mark c.args.loops.now c.args.bounds.now c.args.directive _ c.in-Statement.stmt.value c.in_ok-inner.inner made)

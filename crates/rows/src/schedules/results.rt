@@ -1,0 +1,165 @@
+//! Loops with reductions, last values and private scalars, local and at file scope.
+
+use crate::schedules::Row;
+
+/// What stands before each: an array of eight numbers, and scalars.
+pub(super) const DECLARATIONS: &str = "uint64_t A[8];\nuint64_t s;\nuint64_t t;\nuint64_t x;";
+
+pub(super) const ROWS: &[Row] = &[
+    Row {
+        before: "for (uint64_t k = 0; k < 8; k++) { A[k] = (k * 7 + 3) % 11; }\ns = 5;",
+        clause: "reduction(+: s)",
+        loops: "for (uint64_t i = 0; i < 8; i++) { s += A[i]; }",
+        output: "A = 3 10 6 2 9 5 1 8\ns = 49\nt = 0\nx = 0\n",
+    },
+    Row {
+        before: "for (uint64_t k = 0; k < 8; k++) { A[k] = (k * 7 + 3) % 11; }\ns = 2;",
+        clause: "reduction(*: s)",
+        loops: "for (uint64_t i = 0; i < 8; i++) { s = s * (A[i] + 1); }",
+        output: "A = 3 10 6 2 9 5 1 8\ns = 1995840\nt = 0\nx = 0\n",
+    },
+    Row {
+        before: "for (uint64_t k = 0; k < 8; k++) { A[k] = (k * 7 + 3) % 11; }\ns = 18446744073709551615ull;",
+        clause: "reduction(&: s)",
+        loops: "for (uint64_t i = 0; i < 8; i++) { s &= A[i] | 24; }",
+        output: "A = 3 10 6 2 9 5 1 8\ns = 24\nt = 0\nx = 0\n",
+    },
+    Row {
+        before: "for (uint64_t k = 0; k < 8; k++) { A[k] = (k * 7 + 3) % 11; }\ns = 16;",
+        clause: "reduction(|: s)",
+        loops: "for (uint64_t i = 0; i < 8; i++) { s = s | A[i] << 5; }",
+        output: "A = 3 10 6 2 9 5 1 8\ns = 496\nt = 0\nx = 0\n",
+    },
+    Row {
+        before: "for (uint64_t k = 0; k < 8; k++) { A[k] = (k * 7 + 3) % 11; }\ns = 9;",
+        clause: "reduction(^: s)",
+        loops: "for (uint64_t i = 0; i < 8; i++) { if (i != 4) s ^= A[i] << 3; }",
+        output: "A = 3 10 6 2 9 5 1 8\ns = 1\nt = 0\nx = 0\n",
+    },
+    Row {
+        before: "for (uint64_t k = 0; k < 8; k++) { A[k] = (k * 7 + 3) % 11; }\ns = 5;",
+        clause: "reduction(&&: s)",
+        loops: "for (uint64_t i = 0; i < 8; i++) { s = s && A[i] < 20; }",
+        output: "A = 3 10 6 2 9 5 1 8\ns = 1\nt = 0\nx = 0\n",
+    },
+    Row {
+        before: "for (uint64_t k = 0; k < 8; k++) { A[k] = (k * 7 + 3) % 11; }\ns = 5;",
+        clause: "reduction(&&: s)",
+        loops: "for (uint64_t i = 0; i < 8; i++) { if (A[i] > 9) s = s && A[i] - 10; }",
+        output: "A = 3 10 6 2 9 5 1 8\ns = 0\nt = 0\nx = 0\n",
+    },
+    Row {
+        before: "for (uint64_t k = 0; k < 8; k++) { A[k] = (k * 7 + 3) % 11; }\ns = 5;",
+        clause: "reduction(&&: s)",
+        loops: "for (uint64_t i = 0; i < 8; i++) { if (A[i] > 20) s = s && A[i]; }",
+        output: "A = 3 10 6 2 9 5 1 8\ns = 5\nt = 0\nx = 0\n",
+    },
+    Row {
+        before: "for (uint64_t k = 0; k < 8; k++) { A[k] = (k * 7 + 3) % 11; }\ns = 0;",
+        clause: "reduction(||: s)",
+        loops: "for (uint64_t i = 0; i < 8; i++) { s = s || A[i] == 10; }",
+        output: "A = 3 10 6 2 9 5 1 8\ns = 1\nt = 0\nx = 0\n",
+    },
+    Row {
+        before: "for (uint64_t k = 0; k < 8; k++) { A[k] = (k * 7 + 3) % 11; }\ns = 5;",
+        clause: "reduction(||: s)",
+        loops: "for (uint64_t i = 0; i < 8; i++) { s = s || A[i] == 20; }",
+        output: "A = 3 10 6 2 9 5 1 8\ns = 1\nt = 0\nx = 0\n",
+    },
+    Row {
+        before: "for (uint64_t k = 0; k < 8; k++) { A[k] = (k * 7 + 3) % 11; }\ns = 5;",
+        clause: "reduction(||: s)",
+        loops: "for (uint64_t i = 0; i < 0; i++) { s = s || A[i]; }",
+        output: "A = 3 10 6 2 9 5 1 8\ns = 5\nt = 0\nx = 0\n",
+    },
+    Row {
+        before: "for (uint64_t k = 0; k < 8; k++) { A[k] = (k * 7 + 3) % 11; }\ns = 5;",
+        clause: "reduction(max: s)",
+        loops: "for (uint64_t i = 0; i < 8; i++) { if (A[i] > s) s = A[i]; }",
+        output: "A = 3 10 6 2 9 5 1 8\ns = 10\nt = 0\nx = 0\n",
+    },
+    Row {
+        before: "for (uint64_t k = 0; k < 8; k++) { A[k] = (k * 7 + 3) % 11; }\ns = 9;",
+        clause: "reduction(min: s)",
+        loops: "for (uint64_t i = 0; i < 8; i++) { if (A[i] * 2 < s) { s = A[i] * 2; } }",
+        output: "A = 3 10 6 2 9 5 1 8\ns = 2\nt = 0\nx = 0\n",
+    },
+    Row {
+        before: "for (uint64_t k = 0; k < 8; k++) { A[k] = (k * 7 + 3) % 11; }\ns = 1;",
+        clause: "reduction(+: s)",
+        loops: "for (uint64_t i = 0; i < 8; i++) { s = s + (i + 1); }",
+        output: "A = 3 10 6 2 9 5 1 8\ns = 37\nt = 0\nx = 0\n",
+    },
+    Row {
+        before: "for (uint64_t k = 0; k < 8; k++) { A[k] = (k * 7 + 3) % 11; }\ns = 18446744073709551615ull;",
+        clause: "reduction(+: s)",
+        loops: "for (uint64_t i = 0; i < 8; i++) { s += i * 4611686018427387904ull; }",
+        output: "A = 3 10 6 2 9 5 1 8\ns = 18446744073709551615\nt = 0\nx = 0\n",
+    },
+    Row {
+        before: "for (uint64_t k = 0; k < 8; k++) { A[k] = (k * 7 + 3) % 11; }\nx = 7; s = 5;",
+        clause: "lastprivate(x) reduction(&&: s)",
+        loops: "for (uint64_t i = 0; i < 0; i++) { x = i; s = s && x; }",
+        output: "A = 3 10 6 2 9 5 1 8\ns = 5\nt = 0\nx = 7\n",
+    },
+    Row {
+        before: "for (uint64_t k = 0; k < 8; k++) { A[k] = (k * 7 + 3) % 11; }\n",
+        clause: "lastprivate(x)",
+        loops: "for (uint64_t i = 0; i < 5; i++) { x = 3*i; }",
+        output: "A = 3 10 6 2 9 5 1 8\ns = 0\nt = 0\nx = 12\n",
+    },
+    Row {
+        before: "for (uint64_t k = 0; k < 8; k++) { A[k] = (k * 7 + 3) % 11; }\n",
+        clause: "lastprivate(x, t)",
+        loops: "for (uint64_t i = 7; i > 1; i--) { if (A[i] > 4) { x = i; t = A[i]; } else { t = i; x = t + 40; } }",
+        output: "A = 3 10 6 2 9 5 1 8\ns = 0\nt = 6\nx = 2\n",
+    },
+    Row {
+        before: "for (uint64_t k = 0; k < 8; k++) { A[k] = (k * 7 + 3) % 11; }\ns = 3; t = 4;",
+        clause: "reduction(+: s) reduction(max: t) lastprivate(x)",
+        loops: "for (uint64_t i = 0; i < 8; i++) { x = A[i] * A[i]; s += x; if (x > t) t = x; A[i] = x + 1; }",
+        output: "A = 10 101 37 5 82 26 2 65\ns = 323\nt = 100\nx = 64\n",
+    },
+    Row {
+        before: "for (uint64_t k = 0; k < 8; k++) { A[k] = (k * 7 + 3) % 11; }\ns = 3; t = 100;",
+        clause: "reduction(min: s, t)",
+        loops: "for (uint64_t i = 0; i < 8; i++) { if (A[i] < s) s = A[i]; if (A[i] + 60 < t) t = A[i] + 60; }",
+        output: "A = 3 10 6 2 9 5 1 8\ns = 1\nt = 61\nx = 0\n",
+    },
+    Row {
+        before: "for (uint64_t k = 0; k < 8; k++) { A[k] = (k * 7 + 3) % 11; }\nuint64_t y = 3;",
+        clause: "reduction(+: y)",
+        loops: "for (uint64_t i = 0; i < 8; i++) { y += A[i] * i; }\ns = y;",
+        output: "A = 3 10 6 2 9 5 1 8\ns = 154\nt = 0\nx = 0\n",
+    },
+    Row {
+        before: "for (uint64_t k = 0; k < 8; k++) { A[k] = (k * 7 + 3) % 11; }\nuint64_t y = 0; uint64_t z = 6;",
+        clause: "lastprivate(y) firstprivate(z)",
+        loops: "for (uint64_t i = 0; i < 8; i++) { y = A[i] + z; A[i] = y; }\ns = y + z;",
+        output: "A = 9 16 12 8 15 11 7 14\ns = 20\nt = 0\nx = 0\n",
+    },
+    Row {
+        before: "for (uint64_t k = 0; k < 8; k++) { A[k] = (k * 7 + 3) % 11; }\nuint64_t y; s = 1;\nfor (uint64_t r = 0; r < 4; r++) {",
+        clause: "private(y) reduction(+: s) lastprivate(x)",
+        loops: "for (uint64_t i = 0; i < 8; i++) { y = A[i] + r; s += y; x = y * 2; A[i] = y % 13; }\nt = t + x;\n}",
+        output: "A = 9 3 12 8 2 11 7 1\ns = 244\nt = 84\nx = 28\n",
+    },
+    Row {
+        before: "for (uint64_t k = 0; k < 8; k++) { A[k] = (k * 7 + 3) % 11; }\ns = 1;",
+        clause: "collapse(2) reduction(+: s) reduction(^: t)",
+        loops: "for (uint64_t i = 0; i < 4; i++) for (uint64_t j = 1; j < 6; j++) { s += i * j; t ^= i + j; }",
+        output: "A = 3 10 6 2 9 5 1 8\ns = 91\nt = 12\nx = 0\n",
+    },
+    Row {
+        before: "for (uint64_t k = 0; k < 8; k++) { A[k] = (k * 7 + 3) % 11; }\ns = 1; x = 9;",
+        clause: "reduction(+: s) lastprivate(x)",
+        loops: "for (uint64_t i = 0; i < 6; i++) { x = 0; for (uint64_t j = 0; j < i; j++) { x += A[j]; s += A[j] * j; } }",
+        output: "A = 3 10 6 2 9 5 1 8\ns = 125\nt = 0\nx = 30\n",
+    },
+    Row {
+        before: "for (uint64_t k = 0; k < 8; k++) { A[k] = (k * 7 + 3) % 11; }\ns = 2;\nif (A[1] > 2) {",
+        clause: "reduction(*: s) lastprivate(t)",
+        loops: "for (uint64_t i = 2; i < 8; i += 3) { s *= 3; t = i; }\n}",
+        output: "A = 3 10 6 2 9 5 1 8\ns = 18\nt = 5\nx = 0\n",
+    },
+];
