@@ -10,3 +10,9 @@ pub mod Listed
 pub mod Readied
 pub mod Steps
 pub mod Turns
+pub mod AtHand
+pub mod AtTurn
+pub mod Behind
+pub mod Leaving
+pub mod Numbered
+pub mod Carried

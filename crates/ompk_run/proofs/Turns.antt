@@ -8,6 +8,7 @@ use Rattle.semantics.specs.Loops.Nest.{Loop}
 use Rattle.ktree.specs.declared.expression.Cond.{Cond}
 use Rattle.ktree.specs.declared.statement.Head.{Head}
 use Rattle.ktree.specs.View.{source_of, cond_of, increment_of}
+use Rattle.flow.specs.Roles.{LineRoles}
 use Rattle.nest.specs.Heads.{head_of}
 use Rattle.store.specs.Flat.{values_of}
 use Rattle.seqrun.proofs.RunLemmas.{turns_on, turns_over, turns_last}
@@ -26,23 +27,23 @@ use Rattle.ompk_run.proofs.Going.{next_on}
 use Rattle.ompk_run.proofs.Steps.{Fit, Step, AreWalked, AreBegun, AreComing, AreSameAt, same_walked, same_begun, comes, comes_over, comes_stops, comes_on, comes_begun, branch_is, turn_found}
 
 abbrev pub OfOutline : Outline → Fit
-OfOutline o layout mark serial = Fits layout mark serial o
+OfOutline o layout mark R serial = Fits layout mark R serial o
 
 abbrev pub OfItems : List OutlineItem → Fit
-OfItems os layout mark serial = AllFit layout mark serial os
+OfItems os layout mark R serial = AllFit layout mark R serial os
 
 abbrev pub OfItem : OutlineItem → Fit
-OfItem o layout mark serial = ItemFits layout mark serial o
+OfItem o layout mark R serial = ItemFits layout mark R serial o
 
 -- what they do
 abbrev pub outline_step : Outline → Step
-outline_step o serial = performed serial o
+outline_step o R serial = performed R serial o
 
 abbrev pub items_step : List OutlineItem → Step
-items_step os serial = items_performed serial os
+items_step os R serial = items_performed R serial os
 
 abbrev pub item_step : OutlineItem → Step
-item_step o serial = item_performed serial o
+item_step o R serial = item_performed R serial o
 
 -- what any code that performs a step walks
 abbrev pub CodeWalks : Compiled → Stage → Stage → Type 0
@@ -56,11 +57,11 @@ module _ (items : Vec OutlineItem Global) (os : List OutlineItem) (is : os ≡ i
   abbrev block : Outline
   block = Block items
 
-  inside : (layout : List Laid) (mark : ℕ) (serial : List Loop) → Fits layout mark serial block → AllFit layout mark serial os
-  inside layout mark serial h = subst (AllFit layout mark serial) (sym is) (items_fit layout mark serial items h)
+  inside : (layout : List Laid) (mark : ℕ) (R : LineRoles) (serial : List Loop) → Fits layout mark R serial block → AllFit layout mark R serial os
+  inside layout mark R serial h = subst (AllFit layout mark R serial) (sym is) (items_fit layout mark R serial items h)
 
   same_items : AreSameAt (OfOutline block) (outline_step block) (items_step os) a
-  same_items layout mark serial h s stand some = ap (λ (f : State → Option Effect). f s) (block_performed serial items) ∙ ap (λ xs. items_performed serial xs s) (sym is)
+  same_items layout mark R serial h s stand some = ap (λ (f : State → Option Effect). f s) (block_performed R serial items) ∙ ap (λ xs. items_performed R serial xs s) (sym is)
 
   pub block_walked : (b : Stage) → AreWalked (OfItems os) (items_step os) a b → AreWalked (OfOutline block) (outline_step block) a b
   block_walked b = same_walked (OfOutline block) (outline_step block) (OfItems os) (items_step os) a b inside same_items
@@ -70,16 +71,16 @@ module _ (items : Vec OutlineItem Global) (os : List OutlineItem) (is : os ≡ i
 
 -- the items of one, in their order
 module _ (os : List OutlineItem) (i : ℕ) (o : OutlineItem) (lt : i < length os) (is : o ≡ get_or os i o) (a b : Stage) (coming : AreComing (OfItems os) (items_step os) (items_step (drop i os)) a b) where
-  item_of : (os : List OutlineItem) (i : ℕ) → i < length os → o ≡ get_or os i o → (layout : List Laid) (mark : ℕ) (serial : List Loop) → AllFit layout mark serial os → ItemFits layout mark serial o
-  item_of [] i lt is layout mark serial h = absurd (omega arith)
-  item_of (x ∷ os) zero lt is layout mark serial h = subst (ItemFits layout mark serial) (sym is) h.0
-  item_of (x ∷ os) (suc i) lt is layout mark serial h = item_of os i (omega arith) is layout mark serial h.1
+  item_of : (os : List OutlineItem) (i : ℕ) → i < length os → o ≡ get_or os i o → (layout : List Laid) (mark : ℕ) (R : LineRoles) (serial : List Loop) → AllFit layout mark R serial os → ItemFits layout mark R serial o
+  item_of [] i lt is layout mark R serial h = absurd (omega arith)
+  item_of (x ∷ os) zero lt is layout mark R serial h = subst (ItemFits layout mark R serial) (sym is) h.0
+  item_of (x ∷ os) (suc i) lt is layout mark R serial h = item_of os i (omega arith) is layout mark R serial h.1
 
   abbrev others : Step
   others = items_step (drop (i + 1) os)
 
-  same_next : AreSameAt (OfItems os) (items_step (drop i os)) (λ serial s. then_from s (item_step o serial s) (others serial)) b
-  same_next layout mark serial h s stand some = next_on os i o lt is serial s
+  same_next : AreSameAt (OfItems os) (items_step (drop i os)) (λ R serial s. then_from s (item_step o R serial s) (others R serial)) b
+  same_next layout mark R serial h s stand some = next_on os i o lt is R serial s
 
   pub item_walked : (d : Stage) → AreWalked (OfItem o) (item_step o) b d → AreComing (OfItems os) (items_step os) others a d
   item_walked d = comes_on (OfItems os) (items_step os) (items_step (drop i os)) a b coming (OfItem o) (item_step o) others (item_of os i lt is) same_next d
@@ -89,13 +90,13 @@ module _ (os : List OutlineItem) (i : ℕ) (o : OutlineItem) (lt : i < length os
 
 pub items_end : (os : List OutlineItem) (i : ℕ) (a b : Stage) → length os ≤ i → AreComing (OfItems os) (items_step os) (items_step (drop i os)) a b → AreWalked (OfItems os) (items_step os) a b
 items_end os i a b le coming =
-    comes_over (OfItems os) (items_step os) (items_step (drop i os)) a b coming (λ layout mark serial h s stand some. ap (λ xs. items_performed serial xs s) (drop_all i os le))
+    comes_over (OfItems os) (items_step os) (items_step (drop i os)) a b coming (λ layout mark R serial h s stand some. ap (λ xs. items_performed R serial xs s) (drop_all i os le))
 
 -- the turns of a loop that are left after so many
 abbrev pub turns_left : Outline → ℕ → Step
 turns_left (For' lowered head p body) n =
-    λ serial. turns (greatest_trip_count - n) (λ t. holds t (cond_of head.now.test)) (performed (serial ++ head_of head.now ∷ []) body) (λ t. incremented t (increment_of head.now.step))
-turns_left o n = λ serial s. None
+    λ R serial. turns (greatest_trip_count - n) (λ t. holds t (cond_of head.now.test)) (performed R (serial ++ head_of head.now ∷ []) body) (λ t. incremented t (increment_of head.now.step))
+turns_left o n = λ R serial s. None
 
 -- a loop
 module _ (lowered : LoweredHead) (head : Bor Head) (body : Box Outline Global) where
@@ -113,74 +114,74 @@ module _ (lowered : LoweredHead) (head : Bor Head) (body : Box Outline Global) w
   within serial = serial ++ head_of head.now ∷ []
 
   abbrev OfBody : Fit
-  OfBody layout mark serial = Fits layout mark (within serial) body.value
+  OfBody layout mark R serial = Fits layout mark R (within serial) body.value
 
   abbrev turn : Step
-  turn serial = performed (within serial) body.value
+  turn R serial = performed R (within serial) body.value
 
   abbrev step : State → Option Effect
   step t = incremented t (increment_of head.now.step)
 
   abbrev left_turns : ℕ → Step
-  left_turns n serial = turns (greatest_trip_count - n) test (turn serial) step
+  left_turns n R serial = turns (greatest_trip_count - n) test (turn R serial) step
 
   abbrev pub behind_turn : ℕ → Step
-  behind_turn n serial u = then_from u (step u) (left_turns (n + 1) serial)
+  behind_turn n R serial u = then_from u (step u) (left_turns (n + 1) R serial)
 
   abbrev entered : Step
-  entered serial s = declared s head.now.variable.0 (Some (source_of head.now.start))
+  entered R serial s = declared s head.now.variable.0 (Some (source_of head.now.start))
 
   abbrev all_turns : Step
-  all_turns serial = turns greatest_trip_count test (turn serial) step
+  all_turns R serial = turns greatest_trip_count test (turn R serial) step
 
   pub loop_entered : (a b : Stage) → CodeWalks lowered.entry a b → AreComing (OfOutline loop) all (left_turns 0) a b
   unfolding greatest_trip_count
   loop_entered a b walked =
-      comes_on (OfOutline loop) all all a a (comes (OfOutline loop) all a) (λ layout mark serial. EntryPerforms layout mark head.now lowered.entry) entered all_turns (λ layout mark serial h. h.0.entry) (λ layout mark serial h s stand some. refl) b
-      (λ layout mark serial h. walked layout mark _ h)
+      comes_on (OfOutline loop) all all a a (comes (OfOutline loop) all a) (λ layout mark R serial. EntryPerforms layout mark head.now lowered.entry) entered all_turns (λ layout mark R serial h. h.0.entry) (λ layout mark R serial h s stand some. refl) b
+      (λ layout mark R serial h. walked layout mark _ h)
 
   pub entry_begun : (a : Stage) (text : List ℕ) → CodeBegins lowered.entry a text → AreBegun (OfOutline loop) all a text
   unfolding greatest_trip_count
   entry_begun a text begun =
-      comes_begun (OfOutline loop) all all a a (comes (OfOutline loop) all a) (λ layout mark serial. EntryPerforms layout mark head.now lowered.entry) entered all_turns (λ layout mark serial h. h.0.entry) (λ layout mark serial h s stand some. refl) text
-      (λ layout mark serial h. begun layout mark _ h)
+      comes_begun (OfOutline loop) all all a a (comes (OfOutline loop) all a) (λ layout mark R serial. EntryPerforms layout mark head.now lowered.entry) entered all_turns (λ layout mark R serial h. h.0.entry) (λ layout mark R serial h s stand some. refl) text
+      (λ layout mark R serial h. begun layout mark _ h)
 
   module _ (n : ℕ) (a b : Stage) where
     pub turns_stop : AreComing (OfOutline loop) all (left_turns n) a b → AreBegun (OfOutline loop) all a b.text
     turns_stop coming = comes_stops (OfOutline loop) all (left_turns n) a b coming
 
     pub turns_end : 18446744073709551615 ≤ n → AreComing (OfOutline loop) all (left_turns n) a b → AreWalked (OfOutline loop) all a b
-    turns_end le coming = comes_over (OfOutline loop) all (left_turns n) a b coming (λ layout mark serial h s stand some. turns_last test (turn serial) step n s le some)
+    turns_end le coming = comes_over (OfOutline loop) all (left_turns n) a b coming (λ layout mark R serial h s stand some. turns_last test (turn R serial) step n s le some)
 
     module _ (t : Bool) (is : t ≡ truth lowered.test (machine b.registers (values_of b.store))) (coming : AreComing (OfOutline loop) all (left_turns n) a b) where
       pub turns_done : t ≡ false → AreWalked (OfOutline loop) all a b
       turns_done e =
           comes_over (OfOutline loop) all (left_turns n) a b coming
-          (λ layout mark serial h s stand some. turns_over test (turn serial) step (greatest_trip_count - n) s (turn_found (cond_of head.now.test) lowered.test layout mark h.0.test s b stand false (sym is ∙ e) (turn serial) step n some))
+          (λ layout mark R serial h s stand some. turns_over test (turn R serial) step (greatest_trip_count - n) s (turn_found (cond_of head.now.test) lowered.test layout mark h.0.test s b stand false (sym is ∙ e) (turn R serial) step n some))
 
-      one_more : n < 18446744073709551615 → t ≡ true → AreSameAt (OfOutline loop) (left_turns n) (λ serial s. then_from s (turn serial s) (behind_turn n serial)) b
-      one_more lt e layout mark serial h s stand some = turns_on test (turn serial) step n s lt (turn_found (cond_of head.now.test) lowered.test layout mark h.0.test s b stand true (sym is ∙ e) (turn serial) step n some)
+      one_more : n < 18446744073709551615 → t ≡ true → AreSameAt (OfOutline loop) (left_turns n) (λ R serial s. then_from s (turn R serial s) (behind_turn n R serial)) b
+      one_more lt e layout mark R serial h s stand some = turns_on test (turn R serial) step n s lt (turn_found (cond_of head.now.test) lowered.test layout mark h.0.test s b stand true (sym is ∙ e) (turn R serial) step n some)
 
       -- a walk of the body in any serial loops
       pub body_walked : n < 18446744073709551615 → t ≡ true → (d : Stage) → AreWalked (OfOutline body.value) (outline_step body.value) b d → AreComing (OfOutline loop) all (behind_turn n) a d
-      body_walked lt e d walked = comes_on (OfOutline loop) all (left_turns n) a b coming OfBody turn (behind_turn n) (λ layout mark serial h. h.1) (one_more lt e) d (λ layout mark serial h. walked layout mark (within serial) h)
+      body_walked lt e d walked = comes_on (OfOutline loop) all (left_turns n) a b coming OfBody turn (behind_turn n) (λ layout mark R serial h. h.1) (one_more lt e) d (λ layout mark R serial h. walked layout mark R (within serial) h)
 
       pub body_begun : n < 18446744073709551615 → t ≡ true → (text : List ℕ) → AreBegun (OfOutline body.value) (outline_step body.value) b text → AreBegun (OfOutline loop) all a text
-      body_begun lt e text begun = comes_begun (OfOutline loop) all (left_turns n) a b coming OfBody turn (behind_turn n) (λ layout mark serial h. h.1) (one_more lt e) text (λ layout mark serial h. begun layout mark (within serial) h)
+      body_begun lt e text begun = comes_begun (OfOutline loop) all (left_turns n) a b coming OfBody turn (behind_turn n) (λ layout mark R serial h. h.1) (one_more lt e) text (λ layout mark R serial h. begun layout mark R (within serial) h)
 
     module _ (coming : AreComing (OfOutline loop) all (behind_turn n) a b) where
       abbrev stepped : Step
-      stepped serial = step
+      stepped R serial = step
 
       pub step_walked : (d : Stage) → CodeWalks lowered.step b d → AreComing (OfOutline loop) all (left_turns (n + 1)) a d
       step_walked d walked =
-          comes_on (OfOutline loop) all (behind_turn n) a b coming (λ layout mark serial. StepPerforms layout mark head.now lowered.step) stepped (left_turns (n + 1)) (λ layout mark serial h. h.0.step) (λ layout mark serial h s stand some. refl) d
-          (λ layout mark serial h. walked layout mark _ h)
+          comes_on (OfOutline loop) all (behind_turn n) a b coming (λ layout mark R serial. StepPerforms layout mark head.now lowered.step) stepped (left_turns (n + 1)) (λ layout mark R serial h. h.0.step) (λ layout mark R serial h s stand some. refl) d
+          (λ layout mark R serial h. walked layout mark _ h)
 
       pub step_begun : (text : List ℕ) → CodeBegins lowered.step b text → AreBegun (OfOutline loop) all a text
       step_begun text begun =
-          comes_begun (OfOutline loop) all (behind_turn n) a b coming (λ layout mark serial. StepPerforms layout mark head.now lowered.step) stepped (left_turns (n + 1)) (λ layout mark serial h. h.0.step) (λ layout mark serial h s stand some. refl) text
-          (λ layout mark serial h. begun layout mark _ h)
+          comes_begun (OfOutline loop) all (behind_turn n) a b coming (λ layout mark R serial. StepPerforms layout mark head.now lowered.step) stepped (left_turns (n + 1)) (λ layout mark R serial h. h.0.step) (λ layout mark R serial h s stand some. refl) text
+          (λ layout mark R serial h. begun layout mark _ h)
 
 -- a branch
 module _ (z : Test) (c : Bor Cond) (first : Box Outline Global) (a : Stage) (t : Bool) (is : t ≡ truth z (machine a.registers (values_of a.store))) where
@@ -189,14 +190,14 @@ module _ (z : Test) (c : Bor Cond) (first : Box Outline Global) (a : Stage) (t :
     either = If z c first other
 
     same_first : t ≡ true → AreSameAt (OfOutline either) (outline_step either) (outline_step first.value) a
-    same_first e layout mark serial h s stand some = go other h some
+    same_first e layout mark R serial h s stand some = go other h some
       where
-        go : (other : Option (Box Outline Global)) → Fits layout mark serial (If z c first other) → IsSome (performed serial (If z c first other) s) → performed serial (If z c first other) s ≡ performed serial first.value s
-        go None h some = branch_is (cond_of c.now) z layout mark h.0 s a stand true (sym is ∙ e) (performed serial first.value s) (Some nothing) some
-        go (Some b) h some = branch_is (cond_of c.now) z layout mark h.0 s a stand true (sym is ∙ e) (performed serial first.value s) (performed serial b.value s) some
+        go : (other : Option (Box Outline Global)) → Fits layout mark R serial (If z c first other) → IsSome (performed R serial (If z c first other) s) → performed R serial (If z c first other) s ≡ performed R serial first.value s
+        go None h some = branch_is (cond_of c.now) z layout mark h.0 s a stand true (sym is ∙ e) (performed R serial first.value s) (Some nothing) some
+        go (Some b) h some = branch_is (cond_of c.now) z layout mark h.0 s a stand true (sym is ∙ e) (performed R serial first.value s) (performed R serial b.value s) some
 
-    first_of : (layout : List Laid) (mark : ℕ) (serial : List Loop) → Fits layout mark serial either → Fits layout mark serial first.value
-    first_of layout mark serial h = h.1
+    first_of : (layout : List Laid) (mark : ℕ) (R : LineRoles) (serial : List Loop) → Fits layout mark R serial either → Fits layout mark R serial first.value
+    first_of layout mark R serial h = h.1
 
     pub first_walked : t ≡ true → (b : Stage) → AreWalked (OfOutline first.value) (outline_step first.value) a b → AreWalked (OfOutline either) (outline_step either) a b
     first_walked e b = same_walked (OfOutline either) (outline_step either) (OfOutline first.value) (outline_step first.value) a b first_of (same_first e)
@@ -209,10 +210,10 @@ module _ (z : Test) (c : Bor Cond) (first : Box Outline Global) (a : Stage) (t :
     both = If z c first (Some second)
 
     same_second : t ≡ false → AreSameAt (OfOutline both) (outline_step both) (outline_step second.value) a
-    same_second e layout mark serial h s stand some = branch_is (cond_of c.now) z layout mark h.0 s a stand false (sym is ∙ e) (performed serial first.value s) (performed serial second.value s) some
+    same_second e layout mark R serial h s stand some = branch_is (cond_of c.now) z layout mark h.0 s a stand false (sym is ∙ e) (performed R serial first.value s) (performed R serial second.value s) some
 
-    second_of : (layout : List Laid) (mark : ℕ) (serial : List Loop) → Fits layout mark serial both → Fits layout mark serial second.value
-    second_of layout mark serial h = h.2
+    second_of : (layout : List Laid) (mark : ℕ) (R : LineRoles) (serial : List Loop) → Fits layout mark R serial both → Fits layout mark R serial second.value
+    second_of layout mark R serial h = h.2
 
     pub second_walked : t ≡ false → (b : Stage) → AreWalked (OfOutline second.value) (outline_step second.value) a b → AreWalked (OfOutline both) (outline_step both) a b
     second_walked e b = same_walked (OfOutline both) (outline_step both) (OfOutline second.value) (outline_step second.value) a b second_of (same_second e)
@@ -227,4 +228,4 @@ module _ (z : Test) (c : Bor Cond) (first : Box Outline Global) (a : Stage) (t :
   pub nothing_walked : t ≡ false → AreWalked (OfOutline alone) (outline_step alone) a a
   nothing_walked e =
       comes_over (OfOutline alone) (outline_step alone) (outline_step alone) a a (comes (OfOutline alone) (outline_step alone) a)
-      (λ layout mark serial h s stand some. branch_is (cond_of c.now) z layout mark h.0 s a stand false (sym is ∙ e) (performed serial first.value s) (Some nothing) some)
+      (λ layout mark R serial h s stand some. branch_is (cond_of c.now) z layout mark h.0 s a stand false (sym is ∙ e) (performed R serial first.value s) (Some nothing) some)

@@ -1,26 +1,24 @@
 -- What a run leaves and writes.
-use Rattle.std.specs.Prelude.{ℕ, ◌≡◌, List, [], ◌++◌, length, Option, Some, None, IsSome}
-use Rattle.std.proofs.Common.{refl, sym, ap, ◌∙◌, subst, append-nil, append_assoc, arith}
-use Rattle.std.proofs.lemmas.List.{length-map}
-use Rattle.std.proofs.lemmas.Option.{same_Some, slice_get_past}
-use Rattle.semantics.specs.Tree.{Declaration}
+use Rattle.std.specs.Prelude.{ℕ, ◌≡◌, List, [], ◌++◌, Option, Some, None, IsSome}
+use Rattle.std.proofs.Common.{refl, sym, ap, ◌∙◌, subst, append-nil, append_assoc}
+use Rattle.std.proofs.lemmas.Option.{same_Some}
 use Rattle.semantics.specs.Meaning.State.{State, overwritten}
 use Rattle.semantics.specs.Meaning.Runs.{Effect, run_items}
 use Rattle.semantics.specs.Meaning.Output.{dump, output}
 use Rattle.semantics.specs.Theorems.{WritesABeginning, WritesAll}
 use Rattle.ktree.specs.View.{kernel_of, items_of}
-use Rattle.law_scopes.specs.Apart.{apart_items}
-use Rattle.law_scopes.specs.Laws.{NoObjectsFrom, LeavesTheSame}
-use Rattle.law_scopes.proofs.Accepted.{accepted_apart}
-use Rattle.store.specs.Kept.{Kept, cell_of, state_of}
+use Rattle.law_apart.specs.Apart.{apart_items}
+use Rattle.law_apart.specs.Laws.{StartsWith, LeavesTheSame}
+use Rattle.law_apart.proofs.Accepted.{accepted_apart}
+use Rattle.store.specs.Kept.{Kept, state_of}
 use Rattle.seqrun_value.specs.Standing.{standing}
 use Rattle.seqrun.specs.Ran.{Ran, text_of}
 use Rattle.seqrun_io.specs.Told.{AddsBeginning}
 use Rattle.seqrun_io.specs.Reading.{IsStart}
 use Rattle.seqrun_io.proofs.Beginnings.{of_front, of_rest}
-use Rattle.deptest.specs.Accepted.{Program, tree_of, privates_counted, IsAccepted}
-use Rattle.deptest.proofs.Locals.{private_locals}
+use Rattle.deptest.specs.Accepted.{Program, tree_of, roles_passed, IsAccepted}
 use Rattle.ompk_run.proofs.Output.{body_run, first_state, named, body_runs, output_is, output_there, same_dump}
+use Rattle.ompk_run.proofs.Starting.{start_is_state}
 use Rattle.ompk_run.proofs.Unique.{one_given}
 
 -- a run that ends before it begins
@@ -69,21 +67,17 @@ module _ (a : Program) (input : List ℕ) (ks : List Kept) (is : IsAccepted a) (
       go None q h w = absurd (cc h)
       go (Some e) q h w = begun e q before after (of_front before after e.text (dump (tree_of a).variables (overwritten outset e.writes)) w)
 
-  -- a run of it in which each parallel loop leaves the locals as they were
+  -- a run of it in which a team runs each parallel loop
   abbrev pub apart : Option Effect
-  apart = apart_items [] (items_of a.kernel.body.items) outset
+  apart = apart_items (roles_passed is.passed) [] (items_of a.kernel.body.items) outset
 
-  none_behind : NoObjectsFrom (length (kernel_of a.kernel).variables) outset
-  none_behind x is le =
-      let count : length ks ≡ length (kernel_of a.kernel).variables =
-      sym (length-map ks (λ (k : Kept). k.lengths)) ∙ ap (λ (l : List (List ℕ)). length l) first.lengths ∙ length-map (kernel_of a.kernel).variables (λ (d : Declaration). d.lengths) in
-      ap (λ k. cell_of k is) (slice_get_past ks x (omega arith))
+  starts : StartsWith (kernel_of a.kernel).variables outset
+  starts = subst (StartsWith (tree_of a).variables) (sym at_start) (record { there = (start_is_state (tree_of a).variables first.given first.read.each).there; outside = λ x. refl })
 
   -- it leaves what the run leaves
   same_apart : (e : Effect) → run_items (items_of a.kernel.body.items) outset ≡ Some e → LeavesTheSame outset e apart
   same_apart e q =
-      accepted_apart a.text (kernel_of a.kernel) (privates_counted a.text is.passed.reads.whole is.passed.directives) outset e is.passed.reads is.passed.in_range is.passed.definite
-      (private_locals a.text (kernel_of a.kernel) is.passed.reads is.passed.directives) is.passed.private is.independent.commute none_behind q
+      accepted_apart a.text (kernel_of a.kernel) (roles_passed is.passed) outset e is.passed.reads is.passed.in_range is.passed.definite is.passed.roles (is.independent.share is.passed) starts q
 
   pub runs_apart : IsSome apart
   runs_apart = go (run_items (items_of a.kernel.body.items) outset) refl runs

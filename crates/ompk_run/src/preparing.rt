@@ -1,13 +1,10 @@
 //! A kernel's body made ready to run.
 
-ghost use Rattle.std.specs.Prelude.{◌≡◌, [], IfOk, IfErr};
-ghost use Rattle.ktree.specs.View.{items_of};
+ghost use Rattle.std.specs.Prelude.{◌≡◌, IfOk, IfErr};
 ghost use Rattle.ktree.specs.declared.refusal.Refusal.TheVariants.{OutOfMemory};
 ghost use Rattle.seqrun_io.specs.Lines.{HasLengths};
 ghost use Rattle.deptest.specs.Accepted.{tree_of};
-ghost use Rattle.law_scopes.specs.Apart.{apart_items};
-ghost use Rattle.outline.specs.View.{items_performed};
-ghost use Rattle.ompk_run.specs.Ready.{AreReady};
+ghost use Rattle.ompk_run.specs.Ready.{IsPrepared};
 
 use deptest::Checked;
 use ktree::Refusal;
@@ -31,9 +28,8 @@ pub(crate) fn prepare<'k>(
     store: &Store,
 ) -> Result<Prepared<'k>, Refusal>
     requires { HasLengths (tree_of checked.now).variables store.now }
-    ensures is { IfOk result (λ p. items_performed [] p.outline.items
-        ≡ apart_items [] (items_of checked.now.kernel.body.items)) }
-    ensures ready { IfOk result (λ p. AreReady p.outline.items p.registers.items store.now) }
+    ensures prepared { IfOk result (λ p. IsPrepared checked.now p.outline.items
+        p.registers.items store.now) }
     ensures refusal { IfErr result (λ refusal. refusal ≡ OutOfMemory) }
 {
     let body = checked.body();

@@ -4,6 +4,7 @@ ghost use Rattle.std.specs.Prelude.{◌≡◌, ℕ, ◌+◌, ◌<◌, ◌^◌, L
 ghost use Rattle.semantics.specs.Loops.Chunk.{IsSized};
 ghost use Rattle.semantics.specs.Loops.Nest.{Loop};
 ghost use Rattle.ktree.specs.declared.refusal.Refusal.TheVariants.{OutOfMemory};
+ghost use Rattle.flow.specs.Roles.{LineRoles};
 ghost use Rattle.schedule.specs.Sched.{kind_of, kind_said};
 ghost use Rattle.outline.specs.Fit.{Fits, ItemFits, AllFit};
 ghost use Rattle.outline.specs.View.{performed, item_performed, items_performed};
@@ -74,9 +75,9 @@ fn run_team_loop<'l, R: Threads + Wait + Sync, G: Gate>(
     registers: &mut Vec<u64>,
     store: &mut Store,
 ) -> Result<(), Refusal>
-    ensures ran { OnOk result ((layout : List Laid) (mark : ℕ) (serial : List Loop) (text : List ℕ)
-        → Fits layout mark serial (Team construct.now)
-        → Walks layout mark (performed serial (Team construct.now))
+    ensures ran { OnOk result ((layout : List Laid) (mark : ℕ) (R : LineRoles) (serial : List Loop) (text : List ℕ)
+        → Fits layout mark R serial (Team construct.now)
+        → Walks layout mark (performed R serial (Team construct.now))
         (stage registers.old.items store.old text) (stage registers.new.items store.new text)) }
     ensures refusal { IfErr result (λ refusal. refusal ≡ OutOfMemory) }
     ensures shape { lengths_of store.new ≡ lengths_of store.old }
@@ -108,12 +109,12 @@ fn team_statement<'l, R: Threads + Wait + Sync, G: Gate, S: Sink>(
     sink: &mut S,
 ) -> Result<(), Refusal>
     requires room { S.failed sink.old + 1 < 2 ^ 64 }
-    ensures ran { OnOk result ((layout : List Laid) (mark : ℕ) (serial : List Loop)
-        → Fits layout mark serial outline.now → Walks layout mark (performed serial outline.now)
+    ensures ran { OnOk result ((layout : List Laid) (mark : ℕ) (R : LineRoles) (serial : List Loop)
+        → Fits layout mark R serial outline.now → Walks layout mark (performed R serial outline.now)
         (stage registers.old.items store.old (S.told sink.old))
         (stage registers.new.items store.new (S.told sink.new))) }
-    ensures beginning { (layout : List Laid) (mark : ℕ) (serial : List Loop)
-        → Fits layout mark serial outline.now → Begins layout mark (performed serial outline.now)
+    ensures beginning { (layout : List Laid) (mark : ℕ) (R : LineRoles) (serial : List Loop)
+        → Fits layout mark R serial outline.now → Begins layout mark (performed R serial outline.now)
         (stage registers.old.items store.old (S.told sink.old)) (S.told sink.new) }
     ensures sound { OnOk result (S.failed sink.new ≡ S.failed sink.old) }
     ensures refusal { IfErr result (Refuses (S.failed sink.old) (S.failed sink.new)) }
@@ -156,14 +157,14 @@ pub(crate) fn team_block<'l, R: Threads + Wait + Sync, G: Gate, S: Sink>(
     sink: &mut S,
 ) -> Result<(), Refusal>
     requires room { S.failed sink.old + 1 < 2 ^ 64 }
-    ensures ran { OnOk result ((layout : List Laid) (mark : ℕ) (serial : List Loop)
-        → AllFit layout mark serial items.now
-        → Walks layout mark (items_performed serial items.now)
+    ensures ran { OnOk result ((layout : List Laid) (mark : ℕ) (R : LineRoles) (serial : List Loop)
+        → AllFit layout mark R serial items.now
+        → Walks layout mark (items_performed R serial items.now)
         (stage registers.old.items store.old (S.told sink.old))
         (stage registers.new.items store.new (S.told sink.new))) }
-    ensures beginning { (layout : List Laid) (mark : ℕ) (serial : List Loop)
-        → AllFit layout mark serial items.now
-        → Begins layout mark (items_performed serial items.now)
+    ensures beginning { (layout : List Laid) (mark : ℕ) (R : LineRoles) (serial : List Loop)
+        → AllFit layout mark R serial items.now
+        → Begins layout mark (items_performed R serial items.now)
         (stage registers.old.items store.old (S.told sink.old)) (S.told sink.new) }
     ensures sound { OnOk result (S.failed sink.new ≡ S.failed sink.old) }
     ensures refusal { IfErr result (Refuses (S.failed sink.old) (S.failed sink.new)) }
@@ -185,14 +186,14 @@ fn team_item<'l, R: Threads + Wait + Sync, G: Gate, S: Sink>(
     sink: &mut S,
 ) -> Result<(), Refusal>
     requires room { S.failed sink.old + 1 < 2 ^ 64 }
-    ensures ran { OnOk result ((layout : List Laid) (mark : ℕ) (serial : List Loop)
-        → ItemFits layout mark serial item.now
-        → Walks layout mark (item_performed serial item.now)
+    ensures ran { OnOk result ((layout : List Laid) (mark : ℕ) (R : LineRoles) (serial : List Loop)
+        → ItemFits layout mark R serial item.now
+        → Walks layout mark (item_performed R serial item.now)
         (stage registers.old.items store.old (S.told sink.old))
         (stage registers.new.items store.new (S.told sink.new))) }
-    ensures beginning { (layout : List Laid) (mark : ℕ) (serial : List Loop)
-        → ItemFits layout mark serial item.now
-        → Begins layout mark (item_performed serial item.now)
+    ensures beginning { (layout : List Laid) (mark : ℕ) (R : LineRoles) (serial : List Loop)
+        → ItemFits layout mark R serial item.now
+        → Begins layout mark (item_performed R serial item.now)
         (stage registers.old.items store.old (S.told sink.old)) (S.told sink.new) }
     ensures sound { OnOk result (S.failed sink.new ≡ S.failed sink.old) }
     ensures refusal { IfErr result (Refuses (S.failed sink.old) (S.failed sink.new)) }

@@ -142,20 +142,20 @@ team_statement-returns-in_default-clause-ran g t c =
 
 pub team_statement-returns-in-Serial-clause-ran : goal.team_statement-returns-in-Serial-clause-ran
 team_statement-returns-in-Serial-clause-ran g t c =
-    rw c.in-Serial.is (on_ok_weaker c.perform.result (λ walked layout mark serial fits. walked layout mark _ fits) c.perform.ensures.ran)
+    rw c.in-Serial.is (on_ok_weaker c.perform.result (λ walked layout mark R serial fits. walked layout mark _ fits) c.perform.ensures.ran)
 
 pub team_statement-returns-in-Serial-clause-beginning : goal.team_statement-returns-in-Serial-clause-beginning
 team_statement-returns-in-Serial-clause-beginning g t c =
-    rw c.in-Serial.is (λ layout mark serial fits. c.perform.ensures.beginning layout mark _ fits)
+    rw c.in-Serial.is (λ layout mark R serial fits. c.perform.ensures.beginning layout mark _ fits)
 
 pub team_statement-returns-in-Team-clause-ran : goal.team_statement-returns-in-Team-clause-ran
 team_statement-returns-in-Team-clause-ran g t c =
-    rw c.in-Team.is (on_ok_weaker c.run_team_loop.result (λ walked layout mark serial fits. walked layout mark serial (g.S.Sink.told c.args.sink.now) fits) c.run_team_loop.ensures.ran)
+    rw c.in-Team.is (on_ok_weaker c.run_team_loop.result (λ walked layout mark R serial fits. walked layout mark R serial (g.S.Sink.told c.args.sink.now) fits) c.run_team_loop.ensures.ran)
 
 pub team_item-returns-in-Plain-clause-ran : goal.team_item-returns-in-Plain-clause-ran
 team_item-returns-in-Plain-clause-ran g t c =
-    rw c.in-Plain.is (on_ok_weaker c.perform.result (λ walked layout mark serial fits. walked layout mark _ fits) c.perform.ensures.ran)
+    rw c.in-Plain.is (on_ok_weaker c.perform.result (λ walked layout mark R serial fits. walked layout mark _ fits) c.perform.ensures.ran)
 
 pub team_item-returns-in-Plain-clause-beginning : goal.team_item-returns-in-Plain-clause-beginning
 team_item-returns-in-Plain-clause-beginning g t c =
-    rw c.in-Plain.is (λ layout mark serial fits. c.perform.ensures.beginning layout mark _ fits)
+    rw c.in-Plain.is (λ layout mark R serial fits. c.perform.ensures.beginning layout mark _ fits)

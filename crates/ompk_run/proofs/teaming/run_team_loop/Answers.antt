@@ -1,6 +1,7 @@
 use Rattle.std.proofs.Common.{ℕ, List, length, ◌≡◌, ◌++◌, ◌∙◌, sym, ap, subst, take, drop, rules, arith}
 use Rattle.ktree.specs.View.{stmt_of}
-use Rattle.law_scopes.specs.Apart.{handed}
+use Rattle.law_apart.specs.Apart.{handed}
+use Rattle.outline.specs.View.{roles_in}
 use Rattle.schedule.specs.Sched.{kind_said}
 use Rattle.team.specs.Together.{LeavesTogether}
 use Rattle.lower_code.specs.Machine.{Fits, machine}
@@ -11,7 +12,7 @@ use Rattle.ompk_run.proofs.Handing.{loop_arrives}
 use Rattle.ompk_run.proofs.teaming.run_team_loop.Goals as goal
 
 pub returns-clause-ran : goal.returns-clause-ran
-returns-clause-ran g c layout mark serial text fits s stand some =
+returns-clause-ran g c layout mark R serial text fits s stand some =
     let l = c.args.construct.now in
     let ks = c.args.store.now in
     let ks' = c.share_loop.new.store in
@@ -23,5 +24,5 @@ returns-clause-ran g c layout mark serial text fits s stand some =
     let back : take c.args.registers.now.len (new ++ drop (length new) old) ≡ new = put_back c.args.registers.now.len new old (omega arith) (omega arith) in
     let leaves = subst (λ r. LeavesTogether l.lowered r new ks ks' kind c.args.team.now.workers) c.as_mut_slice.ensures.value c.in_ok-share_loop.ensures.leaves in
     let words : Fits (machine new (values_of ks')) = rw (c.as_slice.ensures.value ∙ back) at c.confirm_words.ensures.words in
-    subst (λ rs. Arrives layout mark (handed serial (stmt_of l.statement.now) s) s rs ks' text text) (sym back)
-    (loop_arrives layout mark s old ks stand serial l fits kind c.args.team.now.workers c.confirm_cut.ensures.sized c.confirm_cut.ensures.some new ks' leaves c.share_loop.ensures.shape words c.confirm_words.ensures.room text some)
+    subst (λ rs. Arrives layout mark (handed (roles_in R l) serial (stmt_of l.statement.now) s) s rs ks' text text) (sym back)
+    (loop_arrives layout mark s old ks stand R serial l fits kind c.args.team.now.workers c.confirm_cut.ensures.sized c.confirm_cut.ensures.some new ks' leaves c.share_loop.ensures.shape words c.confirm_words.ensures.room text some)
