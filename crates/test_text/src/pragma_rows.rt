@@ -88,6 +88,13 @@ fn clauses_stand_in_any_order(rt: HostRuntime) {
             "#pragma omp for schedule(dynamic, 3) nowait private(x)",
             Ok((3, 0)),
         ),
+        (
+            "#pragma omp parallel for lastprivate(x) reduction(+: s, t) collapse(2) reduction(min: u)",
+            Ok((0, 2)),
+        ),
+        ("#pragma omp for reduction(inscan, +: s)", Err(11)),
+        ("#pragma omp for lastprivate(conditional: s)", Err(11)),
+        ("#pragma omp parallel for ordered", Err(11)),
     ];
     no_other(&rt, other_outcome(rt.alloc(), ROWS));
 }
