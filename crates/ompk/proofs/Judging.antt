@@ -54,6 +54,7 @@ has_passed text k known stands judged =
 -- and has these loops
 pub has_loops : (text : List ℕ) (k : Kernel) (known : Known) (loops : List ParallelLoop) → IsLineKernel text k known → IsJudged text k (roles_known known (length k.variables)) (lines_known known)
     → AreParallelLoops text (roles_known known (length k.variables)) k loops → HasLoops text k loops
+unfolding has_passed
 has_loops text k known loops stands judged listed =
     record { passed = has_passed text k known stands judged; listed = subst (λ (R : LineRoles). AreParallelLoops text R k loops) (sym stands.roles) listed }
 

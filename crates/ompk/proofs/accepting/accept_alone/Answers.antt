@@ -1,5 +1,5 @@
-use Rattle.std.specs.Prelude.{ℕ, List}
-use Rattle.std.proofs.Common.{inr, subst, length}
+use Rattle.std.specs.Prelude.{ℕ, List, IfErr}
+use Rattle.std.proofs.Common.{inl, inr, subst, length, rules}
 use Rattle.std.proofs.lemmas.Result.{IfErr-weaker}
 use Rattle.ktree.specs.View.{kernel_of}
 use Rattle.pragma_named.specs.Known.{kept, lines_known}
@@ -7,7 +7,7 @@ use Rattle.flow.specs.Roles.{roles_known}
 use Rattle.flow.specs.Parallel.{AreParallelLoops}
 use Rattle.deptest.specs.Accepted.{HasPassed}
 use Rattle.deptest.specs.Refused.{RefusesLoops}
-use Rattle.ompk.specs.Refused.{IsJudged, RefusesAlone}
+use Rattle.ompk.specs.Refused.{IsJudged, RefusesPasses, RefusesAlone}
 use Rattle.ompk.proofs.Judging.{has_passed, has_loops}
 use Rattle.ompk.proofs.accepting.accept_alone.Goals as goal
 
@@ -16,7 +16,7 @@ accept-requires-clause-passed c =
     let k = kernel_of c.args.kernel in
     let known = kept c.args.lines.now in
     let R = roles_known known (length k.variables) in
-    let loops = c.in_ok-table.loops.items in
+    let loops = c.in_ok-table.field-0.loops.items in
     has_loops c.args.text.now k known loops c.requires.stands (subst (λ (text : List ℕ). IsJudged text k R (lines_known known)) c.requires.lines c.in_ok-table.ensures.judged)
     (subst (λ (text : List ℕ). AreParallelLoops text R k loops) c.requires.lines c.in_ok-table.ensures.listed)
 
@@ -26,3 +26,12 @@ returns-clause-refusal c =
     let known = kept c.args.lines.now in
     let passed : HasPassed c.args.text.now k = has_passed c.args.text.now k known c.requires.stands (subst (λ (text : List ℕ). IsJudged text k (roles_known known (length k.variables)) (lines_known known)) c.requires.lines c.in_ok-table.ensures.judged) in
     IfErr-weaker c.accept.result (RefusesLoops c.args.text.now k) (RefusesAlone c.args.text.now k (roles_known known (length k.variables)) (lines_known known)) (λ r h. inr (passed, h)) c.accept.ensures.err
+
+pub returns-in_err-table-clause-refusal : goal.returns-in_err-table-clause-refusal
+returns-in_err-table-clause-refusal c =
+    let k = kernel_of c.args.kernel in
+    let known = kept c.args.lines.now in
+    let R = roles_known known (length k.variables) in
+    let refused : IfErr c.from_residual.result (RefusesPasses c.args.directives.now k R (lines_known known)) = search rules in
+    IfErr-weaker c.from_residual.result (RefusesPasses c.args.directives.now k R (lines_known known)) (RefusesAlone c.args.text.now k R (lines_known known))
+    (λ r h. inl (subst (λ (text : List ℕ). RefusesPasses text k R (lines_known known) r) c.requires.lines h)) refused
