@@ -1,18 +1,12 @@
 -- The private locals of directive lines, and all variables but some.
-use Rattle.std.specs.Prelude.{ℕ, Bool, true, false, not, nat_eq, ◌==◌, ◌&&◌, ◌||◌, if◌then◌else◌, ◌≡◌, ◌<◌, ◌≤◌, List, [], ◌∷◌, filter, flat_map, Some, option_map}
-use Rattle.std.specs.HashMap.{HashMap}
-use Rattle.std.specs.Map.{lookup}
+use Rattle.std.specs.Prelude.{ℕ, Bool, true, false, not, ◌==◌, ◌&&◌, ◌||◌, if◌then◌else◌, ◌≡◌, ◌<◌, ◌≤◌, List, [], ◌∷◌, filter}
 use Rattle.std.proofs.Common.{refl, sym, ap, ◌∙◌, arith}
 use Rattle.std.proofs.Math.Path.{fun_ext}
 use Rattle.std.proofs.lemmas.Bool.{eqb-true, eqb-false, lt-ltb, le-ltb}
 use Rattle.semantics.specs.Tree.{Variable}
-use Rattle.semantics.specs.Directives.Clauses.{private_of}
 use Rattle.semantics.specs.Meaning.Agrees.{is_among}
-use Rattle.semantics.specs.Meaning.Definite.{DefinitelyAssigned, no_privates, known_with, without}
-use Rattle.pragma_named.specs.declared.table.Clauses.{Clauses}
-use Rattle.pragma_named.specs.Views.{resolved_clauses}
-use Rattle.pragma_named.specs.Known.{known_clauses, kept}
-use Rattle.flow_definite.specs.Judged.{is_local, private_locals, known_of}
+use Rattle.semantics.specs.Meaning.Definite.{DefinitelyAssigned, known_with, without}
+use Rattle.flow_definite.specs.Judged.{is_local, known_of}
 use Rattle.flow_definite.proofs.KnownLemmas.{past}
 use Rattle.flow.specs.Private.{all_but}
 
@@ -73,7 +67,3 @@ without_at k (x ∷ xs) y = without_at (known_with k x false) xs y ∙ go (y == 
 -- of all variables these are forgotten
 pub all_but_these : (ps : List Variable) → without (known_of ([], true)) ps ≡ all_but ps
 all_but_these ps = fun_ext (λ y. without_at (known_of ([], true)) ps y ∙ ap (λ b. b && not (is_among ps y)) (past true [] y (omega arith)))
-
--- an empty table has no private lists
-pub none_private : {S : Type 0} (table : HashMap ℕ Clauses S) → table.entries ≡ [] → (files : ℕ) → private_locals (kept table) files ≡ no_privates
-none_private table empty files = fun_ext (λ n. ap (λ es. filter (is_local files) (flat_map private_of (known_clauses (option_map (λ (c : Clauses). Some (resolved_clauses c.clauses)) (lookup (nat_eq n) es))))) empty)

@@ -79,8 +79,8 @@ pub fn forget_all(names: &[Named], known: &mut DefinitelyAssigned) -> Result<(),
     ensures { OnOk result (known_of known.new
         ≡ without (known_of known.old) (map variable_named names.now)) }
 {
-    for name in names {
-        known.forget(name.variable)?;
+    for named in names {
+        known.forget(named.variable)?;
     }
     Ok(())
 }

@@ -5,5 +5,5 @@ use Rattle.flow_definite.specs.Judged.{known_of}
 use Rattle.flow_definite.proofs.privates.forget_all.Given as goal
 
 -- all are forgotten with those that are left
-abbrev pub invariant-loop-name : goal.invariant-loop-name
-invariant-loop-name l = without (known_of l.fn.known) (map variable_named l.names) ≡ without (known_of l.known) (map variable_named (drop l.name-index l.names))
+abbrev pub invariant-loop-named : goal.invariant-loop-named
+invariant-loop-named l = without (known_of l.fn.known) (map variable_named l.names) ≡ without (known_of l.known) (map variable_named (drop l.named-index l.names))
