@@ -8,7 +8,7 @@ use Rattle.semantics.specs.Meaning.Definite.{DefinitelyAssigned, Privates, no_pr
 use Rattle.semantics.specs.Directives.Annotated.{Directives}
 use Rattle.semantics.specs.Directives.Clauses.{private_of}
 use Rattle.law_private.proofs.More.{more_known}
-use Rattle.flow.specs.Judged.{is_local}
+use Rattle.flow_definite.specs.Judged.{is_local}
 use Rattle.deptest.specs.Accepted.{HasPassed, clauses_counted, roles_counted, roles_passed}
 
 -- of those that a test leaves each passes it

@@ -1,4 +1,3 @@
-pub mod Judged
 pub mod Private
 pub mod Lists
 pub mod Parallel

@@ -11,7 +11,7 @@ use Rattle.law_roles.specs.Updates.{is_plain, reduces}
 use Rattle.law_roles.specs.Sharing.{assigned_first, role_variables, are_different, AssignsAll}
 use Rattle.pragma.specs.Parallel.{AskedOfLoop, LineHas}
 use Rattle.pragma_named.specs.Known.{Known, lines_known}
-use Rattle.flow.specs.Judged.{is_local}
+use Rattle.flow_definite.specs.Judged.{is_local}
 use Rattle.flow.specs.Private.{is_private_body, all_but}
 
 -- the roles that the clauses of each directive line give, by its number

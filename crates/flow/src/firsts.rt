@@ -7,16 +7,14 @@ ghost use Rattle.law_roles.specs.Sharing.{assigned_first, AssignsAll};
 ghost use Rattle.ktree.specs.View.{stmt_of};
 ghost use Rattle.pragma_named.specs.Views.{variable_named};
 ghost use Rattle.pragma_named.specs.Known.{kept};
-ghost use Rattle.flow.specs.Judged.{Refuses, known_of};
+ghost use Rattle.flow_definite.specs.Judged.{Refuses, known_of};
 ghost use Rattle.flow.specs.Private.{all_but};
 ghost use Rattle.flow.specs.Roles.{roles_known, ReadsAssigned, AssignsLasts};
 ghost use Rattle.flow.specs.Told.{Finds, TellsOfRead, TellsOfLast};
 
 use crate::fault::DataFault;
-use crate::judging::statement as judge;
-use crate::known::DefinitelyAssigned;
 use crate::name_lists::{ListKind, listed_names};
-use crate::privates::{forget_all, forget_line};
+use flow_definite::{DefinitelyAssigned, forget_all, forget_line, judge};
 use ktree::{Place, Refusal, Stmt};
 use pragma_named::{LineClauses, Named};
 use std::alloc::{AllocError, Global};

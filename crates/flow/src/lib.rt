@@ -1,4 +1,4 @@
-//! Whether the locals of a kernel are assigned before they are read, and the data environments of its parallel loops.
+//! The parallel loops of a kernel with their data environments, and whether they keep the roles of their scalars (OpenMP 5.2, 5.1.1 and 5.4).
 #![tactic(auto)]
 
 mod bodies;
@@ -6,13 +6,9 @@ mod classifying;
 mod environment;
 mod fault;
 mod firsts;
-mod judging;
 mod keeping;
-mod known;
 mod listing;
 mod name_lists;
-mod privates;
-mod reading;
 mod reductions;
 mod role_lists;
 mod sharing;
@@ -20,4 +16,3 @@ mod sharing;
 pub use classifying::classify;
 pub use environment::{LoopRoles, ParallelLoop};
 pub use fault::DataFault;
-pub use judging::definite;

@@ -6,7 +6,7 @@ ghost use Rattle.semantics.specs.Meaning.Agrees.{is_among};
 ghost use Rattle.law_roles.specs.Sharing.{assigned_first, role_variables};
 ghost use Rattle.pragma_named.specs.Views.{variable_named, resolved_clause};
 ghost use Rattle.pragma_named.specs.Known.{kept, lines_known};
-ghost use Rattle.flow.specs.Judged.{private_locals};
+ghost use Rattle.flow_definite.specs.Judged.{private_locals};
 ghost use Rattle.flow.specs.Lists.{listed};
 ghost use Rattle.flow.specs.Roles.{roles_known};
 

@@ -21,8 +21,9 @@ ghost use Rattle.ompk.specs.Refused.{IsJudged, RefusesLines, RefusesPlaces, Refu
 
 use cparse::parse;
 use deptest::{Checked, Parallel, accept};
-use flow::{DataFault, ParallelLoop, classify, definite};
+use flow::{DataFault, ParallelLoop, classify};
 use flow_clauses::first_misuse;
+use flow_definite::definite;
 use ktree::{Kernel, Refusal};
 use nest::{LoopTable, nests};
 use pragma::{Directives, first_fault};

@@ -2,6 +2,7 @@
 
 use crate::texts::{I, J, OUT_OF_MEMORY, S, X, add_last, at, kernel, name, no_other, parsed, text};
 use flow::*;
+use flow_definite::definite;
 use flow_reduction::Reduction;
 use ktree::{
     AssociatedLoops, Clause, Expr, Kernel, Place, ReductionOperator, Refusal, Schedule, Source,

@@ -2,7 +2,7 @@ use Rattle.std.specs.List.{list_all}
 use Rattle.std.proofs.Common.{sym, ap, ◌∙◌, inr}
 use Rattle.ktree.specs.View.{stmt_of}
 use Rattle.pragma_named.specs.Known.{kept}
-use Rattle.flow.specs.Judged.{known_of}
+use Rattle.flow_definite.specs.Judged.{known_of}
 use Rattle.flow.specs.Roles.{roles_known}
 use Rattle.flow.proofs.NestLemmas.{lasts_assigned, last_unknown}
 use Rattle.flow.proofs.firsts.body_fault.Goals as goal

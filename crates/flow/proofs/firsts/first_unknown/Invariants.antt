@@ -1,7 +1,7 @@
 use Rattle.std.proofs.Common.{◌≡◌, map, drop}
 use Rattle.std.specs.List.{list_all}
 use Rattle.pragma_named.specs.Views.{variable_named}
-use Rattle.flow.specs.Judged.{known_of}
+use Rattle.flow_definite.specs.Judged.{known_of}
 use Rattle.flow.proofs.firsts.first_unknown.Given as goal
 
 -- the names that are left decide

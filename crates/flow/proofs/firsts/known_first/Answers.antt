@@ -4,9 +4,10 @@ use Rattle.semantics.specs.Meaning.Definite.{without}
 use Rattle.law_roles.specs.Sharing.{assigned_first}
 use Rattle.pragma_named.specs.Views.{variable_named}
 use Rattle.pragma_named.specs.Known.{kept}
-use Rattle.flow.specs.Judged.{known_of}
+use Rattle.flow_definite.specs.Judged.{known_of}
 use Rattle.flow.specs.Roles.{roles_known}
-use Rattle.flow.proofs.PrivatesLemmas.{without_append, all_but_these}
+use Rattle.flow_definite.proofs.PrivatesLemmas.{without_append}
+use Rattle.flow.proofs.LocalLemmas.{all_but_these}
 use Rattle.flow.proofs.firsts.known_first.Goals as goal
 
 pub returns : goal.returns

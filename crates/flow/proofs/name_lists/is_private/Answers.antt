@@ -2,7 +2,7 @@ use Rattle.std.specs.Prelude.{flat_map}
 use Rattle.std.proofs.Common.{◌∙◌, arith}
 use Rattle.semantics.specs.Directives.Clauses.{private_of}
 use Rattle.pragma_named.specs.Known.{kept, lines_known}
-use Rattle.flow.proofs.PrivatesLemmas.{local_listed, file_not_listed}
+use Rattle.flow.proofs.LocalLemmas.{local_listed, file_not_listed}
 use Rattle.flow.proofs.name_lists.is_private.Goals as goal
 
 pub returns : goal.returns

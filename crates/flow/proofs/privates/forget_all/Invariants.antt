@@ -1,9 +1,0 @@
-use Rattle.std.proofs.Common.{◌≡◌, map, drop}
-use Rattle.semantics.specs.Meaning.Definite.{without}
-use Rattle.pragma_named.specs.Views.{variable_named}
-use Rattle.flow.specs.Judged.{known_of}
-use Rattle.flow.proofs.privates.forget_all.Given as goal
-
--- all are forgotten with those that are left
-abbrev pub invariant-loop-name : goal.invariant-loop-name
-invariant-loop-name l = without (known_of l.fn.known) (map variable_named l.names) ≡ without (known_of l.known) (map variable_named (drop l.name-index l.names))

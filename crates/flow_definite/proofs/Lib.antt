@@ -1,0 +1,4 @@
+pub mod KnownLemmas
+pub mod ReadLemmas
+pub mod JudgeLemmas
+pub mod PrivatesLemmas

@@ -1,0 +1,11 @@
+//! Whether the locals of a kernel are assigned before they are read (C11 6.7.9, 10).
+#![tactic(auto)]
+
+mod judging;
+mod known;
+mod privates;
+mod reading;
+
+pub use judging::{definite, judge};
+pub use known::DefinitelyAssigned;
+pub use privates::{forget_all, forget_line};
