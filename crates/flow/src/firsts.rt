@@ -15,7 +15,7 @@ ghost use Rattle.flow.specs.Told.{Finds, TellsOfRead, TellsOfLast};
 use crate::fault::DataFault;
 use crate::name_lists::{ListKind, listed_names};
 use flow_definite::{DefinitelyAssigned, forget_all, forget_line, judge};
-use ktree::{Place, Refusal, Stmt};
+use ktree::{Item, Place, Refusal, Stmt, VarId};
 use pragma_named::{LineClauses, Named};
 use std::alloc::{AllocError, Global};
 use std::collections::HashMap;
@@ -99,8 +99,44 @@ fn first_unknown(names: &[Named], known: &DefinitelyAssigned) -> Option<Place>
     None
 }
 
+/// Whether each path through a statement assigns a scalar; a loop may have no turn.
+#[cycle(surely)]
+fn assigns_surely(statement: &Stmt, variable: VarId) -> bool {
+    match statement {
+        Stmt::Assign(target, _) => target.variable == variable && target.subscripts.is_empty(),
+        Stmt::If(_, then, Some(other)) => {
+            assigns_surely(then, variable) && assigns_surely(other, variable)
+        }
+        Stmt::Block(items) => one_assigns_surely(items, variable),
+        _ => false,
+    }
+}
+
+/// Whether one of a block's items does.
+#[cycle(surely)]
+fn one_assigns_surely(items: &[Item], variable: VarId) -> bool {
+    for item in items {
+        if let Item::Statement(statement) = item {
+            if assigns_surely(statement, variable) {
+                return true;
+            }
+        }
+    }
+    false
+}
+
+/// Where the first of some variables is named that a body does not assign on every path, whatever it reads.
+fn first_left_out(names: &[Named], body: &Stmt) -> Option<Place> {
+    for name in names {
+        if !assigns_surely(body, name.variable) {
+            return Some(name.place);
+        }
+    }
+    None
+}
+
 /// What tells of the first of the lastprivate variables of a line, which these are, that the body of its loop does not assign on
-/// every path. Where the body reads one before it assigns it, it is told there.
+/// every path. Where the body only reads one before it assigns it, it is told there.
 fn body_fault(
     alloc: Global,
     names: &[Named],
@@ -122,7 +158,9 @@ fn body_fault(
             None => None,
             Some(place) => Some(DataFault::LastUnassigned(place)),
         },
-        Err(Refusal::MayBeUnassigned(place)) => Some(DataFault::LastUnassigned(place)),
+        Err(Refusal::MayBeUnassigned(place)) => Some(DataFault::LastUnassigned(first_left_out(
+            names, body,
+        ).unwrap_or(place))),
         Err(_) => Some(DataFault::OutOfMemory),
     }
 }

@@ -320,6 +320,29 @@ x = i;
         },
         Row {
             text: "
+uint64_t x = 4;
+#pragma omp parallel for lastprivate(x)
+for (uint64_t i = 0; i < 8; i++) {
+B[i] = x;
+}",
+            number: 15,
+            line: 3,
+            column: 38,
+        },
+        Row {
+            text: "
+uint64_t x = 4;
+#pragma omp parallel for lastprivate(x)
+for (uint64_t i = 0; i < 8; i++) {
+B[i] = x;
+if (i < 3) x = 1; else { x = 2; }
+}",
+            number: 15,
+            line: 5,
+            column: 8,
+        },
+        Row {
+            text: "
 #pragma omp parallel for lastprivate(s)
 for (uint64_t i = 0; i < 8; i++) {
 B[i] = s;
