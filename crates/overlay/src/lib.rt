@@ -4,7 +4,10 @@
 mod beginning;
 mod ending;
 mod running;
+mod saved;
+mod silent;
 mod spots;
+mod steps;
 mod walking;
 mod worker;
 
