@@ -3,6 +3,7 @@
 
 mod beginning;
 mod ending;
+mod in_place;
 mod running;
 mod saved;
 mod silent;
@@ -11,4 +12,6 @@ mod steps;
 mod walking;
 mod worker;
 
+pub use ending::Told;
+pub use in_place::run_in_place;
 pub use worker::{Bench, Piece, Work, Worker};
