@@ -32,3 +32,12 @@ returns-clause-ran c =
       back = c.put_roles_back.ensures.back
           ∙ ap (λ (ks : List Kept). back_at_each (values_of ks) (reduced_at l.roles.reductions.items) (back_at_each (values_of ks) l.roles.lasts.items behind.cells)) stores;
     }
+
+pub returns-in_err-run_iterations-clause-store : goal.returns-in_err-run_iterations-clause-store
+returns-in_err-run_iterations-clause-store c = c.run_iterations.ensures.store ∙ lent_is c.begin.new.cells.store c.args.cells.now.store c.begin.ensures.kept
+
+pub returns-in_err-told-clause-store : goal.returns-in_err-told-clause-store
+returns-in_err-told-clause-store c = c.run_iterations.ensures.store ∙ lent_is c.begin.new.cells.store c.args.cells.now.store c.begin.ensures.kept
+
+pub returns-clause-store : goal.returns-clause-store
+returns-clause-store c = c.put_roles_back.ensures.store ∙ c.run_iterations.ensures.store ∙ lent_is c.begin.new.cells.store c.args.cells.now.store c.begin.ensures.kept
