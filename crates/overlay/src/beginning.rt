@@ -24,11 +24,7 @@ pub fn begins_with(operator: ReductionOperator, held: u64) -> u64
 }
 
 /// Each reduction variable takes what a chunk begins with.
-pub fn begin<M: Cells>(
-    reductions: &[LoweredReduction],
-    registers: &mut [u64],
-    cells: &mut M,
-)
+pub fn begin<M: Cells>(reductions: &[LoweredReduction], registers: &mut [u64], cells: &mut M)
     ensures begun { machine registers.new (M.cells cells.new)
         ≡ begun_by reductions.now (machine registers.old (M.cells cells.old)) }
     ensures kept { M.shape cells.new ≡ M.shape cells.old }

@@ -148,7 +148,11 @@ fn run_saved(
     confirm_filled(store);
     let has_last = has_last(space, work);
     tell_saved(&lowered.roles, has_last, saved, registers, store, told);
-    put_each_back(lowered.roles.lasts.as_slice(), saved.lasts.as_slice(), store);
+    put_each_back(
+        lowered.roles.lasts.as_slice(),
+        saved.lasts.as_slice(),
+        store,
+    );
     let reductions = lowered.roles.reductions.as_slice();
     put_reductions_back(reductions, saved.reductions.as_slice(), store);
 }

@@ -15,14 +15,13 @@ use Rattle.overlay_pages.specs.Over.{writes_of, written_over}
 use Rattle.overlay_pages.proofs.Overlays.{length_over}
 use Rattle.lower.specs.declared.lowered.LoweredLoop.{LoweredLoop}
 use Rattle.overlay.specs.declared.ending.Told.{Told}
-use Rattle.overlay.specs.declared.worker.Work.{Work}
 use Rattle.overlay.specs.Chunks.{IsLeftInPlace}
 use Rattle.team.specs.declared.worker.ChunkPiece.{ChunkPiece}
 use Rattle.team.specs.Whole.{alone, IsPutWhole}
 use Rattle.team.specs.Applied.{NoneWrites, OneWrites, AreApplied}
 use Rattle.team.specs.Ends.{IsSplit, IsCut, AreAll, AreOfLoop}
 use Rattle.team.specs.Logged.{Leaving, Account, account_of}
-use Rattle.team.specs.Spots.{reduced, put_values, IsPut}
+use Rattle.team.specs.Spots.{reduced, put_values}
 use Rattle.team.specs.Together.{IsLeft}
 use Rattle.team.proofs.Accounts.{account_one}
 use Rattle.team.proofs.Merging.{get_none, get_some, together}
@@ -47,7 +46,7 @@ put_whole l registers registers' ks mid ks' chunks space chunk told split one th
     let account : Account = account_of run in
     let first : Leaving = record { number = 0; changes = left.piece.changes; partials = map partial_of left.piece.partials.items } in
     let told_is : put_values l.roles.lasts.items told.lasts.items (reduced 0 l.roles.reductions.items (alone left.piece.changes (map partial_of told.partials.items)) (machine registers (values_of mid)))
-        ≡ put_values l.roles.lasts.items account.lasts (reduced 0 l.roles.reductions.items account.chunks (machine registers (values_of mid))) =
+    ≡ put_values l.roles.lasts.items account.lasts (reduced 0 l.roles.reductions.items account.chunks (machine registers (values_of mid))) =
     λ i. put_values l.roles.lasts.items (sym left.lasts_are i).items (reduced 0 l.roles.reductions.items (alone left.piece.changes (map partial_of (sym left.partials_are i).items)) (machine registers (values_of mid))) in
     record {
       account = account;

@@ -54,7 +54,12 @@ fn put_told(roles: &LoweredRoles, told: &Told, registers: &mut [u64], store: &mu
 {
     let partials = told.partials.as_slice();
     put_partials(roles.reductions.as_slice(), 0, partials, registers, store);
-    put_lasts(roles.lasts.as_slice(), told.lasts.as_slice(), registers, store);
+    put_lasts(
+        roles.lasts.as_slice(),
+        told.lasts.as_slice(),
+        registers,
+        store,
+    );
 }
 
 /// Runs the only chunk of a loop, after the gate is told that the first worker has taken it, and puts what it leaves. All memory is

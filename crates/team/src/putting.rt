@@ -92,12 +92,7 @@ fn put_reductions(
 }
 
 /// Scalars take these values, those that have one.
-pub(crate) fn put_lasts(
-    spots: &[Spot],
-    values: &[u64],
-    registers: &mut [u64],
-    store: &mut Store,
-)
+pub(crate) fn put_lasts(spots: &[Spot], values: &[u64], registers: &mut [u64], store: &mut Store)
     ensures put { machine registers.new (values_of store.new)
         ≡ put_values spots.now values.now (machine registers.old (values_of store.old)) }
     ensures shape { map (λ k. k.lengths) store.new ≡ map (λ k. k.lengths) store.old }

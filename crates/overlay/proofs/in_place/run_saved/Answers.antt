@@ -1,6 +1,4 @@
-use Rattle.std.proofs.Common.{ℕ, ◌≡◌, ◌+◌, Bool, List, length, map, sym, ap, ◌∙◌, subst}
-use Rattle.std.specs.Prelude.{◌==◌}
-use Rattle.nest_space.specs.Space.{vectors}
+use Rattle.std.proofs.Common.{ℕ, ◌≡◌, Bool, List, length, map, sym, ap, ◌∙◌, subst}
 use Rattle.store.specs.Flat.{values_of}
 use Rattle.lower_code.specs.Machine.{Machine, machine}
 use Rattle.lower.specs.declared.roles.Spot.{Spot}

@@ -1,4 +1,3 @@
-use Rattle.std.proofs.Common.{arith}
 use Rattle.store.specs.Flat.{values_of}
 use Rattle.overlay.proofs.Going.{ran_over}
 use Rattle.overlay.proofs.steps.run_step.Goals as goal

@@ -1,4 +1,3 @@
-use Rattle.std.proofs.Common.{arith}
 use Rattle.team.proofs.Whole.{put_whole}
 use Rattle.team.proofs.Cutting.{chunk_within}
 use Rattle.nest_space.specs.Space.{vectors}

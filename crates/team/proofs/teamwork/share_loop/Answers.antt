@@ -1,7 +1,7 @@
 use Rattle.std.proofs.Common.{subst}
 use Rattle.std.proofs.lemmas.Result.{on_ok_weaker}
 use Rattle.semantics.specs.Loops.Chunk.{Kind}
-use Rattle.team.specs.Together.{LeavesTogether, IsLeft}
+use Rattle.team.specs.Together.{LeavesTogether}
 use Rattle.team.proofs.teamwork.share_loop.Goals as goal
 
 pub returns-then-len-eq1-clause-leaves : goal.returns-then-len-eq1-clause-leaves
