@@ -1,3 +1,4 @@
+pub mod Whole
 pub mod Cutting
 pub mod Ending
 pub mod Dealing

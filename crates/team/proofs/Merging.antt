@@ -41,7 +41,6 @@ use Rattle.overlay_pages.proofs.Overlays.{length_over}
 use Rattle.overlay.specs.declared.worker.Piece.{Piece}
 use Rattle.overlay.specs.Chunks.{LeavesPiece}
 use Rattle.lower.specs.declared.lowered.LoweredLoop.{LoweredLoop}
-use Rattle.semantics.specs.Loops.Piece.{no_roles}
 use Rattle.lower.specs.Lowered.{IsReached}
 use Rattle.team.specs.Applied.{NoneWrites, OneWrites, AreApplied}
 use Rattle.team.specs.Ends.{IsCut, IsLeaving, AreAll, AreOfLoop}

@@ -12,6 +12,8 @@ mod seqrun_rows;
 #[cfg(test)]
 mod seqrun_value_rows;
 #[cfg(test)]
+mod single_chunks;
+#[cfg(test)]
 mod stores;
 #[cfg(test)]
 mod team_chunks;

@@ -146,7 +146,7 @@ fn zeros(alloc: Global, length: u64) -> Result<Store, AllocError> {
 }
 
 /// The variables, each element of `A` 1 and all else 0.
-fn variables(alloc: Global, length: u64) -> Result<Store, AllocError> {
+pub(crate) fn variables(alloc: Global, length: u64) -> Result<Store, AllocError> {
     let mut store = zeros(alloc, length)?;
     for place in 0..length {
         store.put(place, 1);

@@ -296,6 +296,8 @@ fn workers_enter_their_own_chunks(rt: HostRuntime) {
     assert!(rt; entered(&rt, heap, NUMBERS, threes, 2) == Some((15, 4, 0)));
     assert!(rt; entered(&rt, heap, NUMBERS, None, 64) == Some((1023, 10, 0)));
     assert!(rt; entered(&rt, heap, NUMBERS, Some(Schedule::Static), 3) == Some((7, 3, 0)));
+    // One chunk is run in place, and its worker enters it as others do.
+    assert!(rt; entered(&rt, heap, NUMBERS, None, 1) == Some((1, 1, 0)));
 }
 
 /// Which chunks are entered, and how many these are.
@@ -316,6 +318,7 @@ fn each_drawn_chunk_is_entered_once(rt: HostRuntime) {
     assert!(rt; drawn(&rt, heap, Schedule::Dynamic(size(&rt, 1)), 64) == Some((1023, 10)));
     assert!(rt; drawn(&rt, heap, Schedule::Guided(size(&rt, 1)), 3) == Some((31, 5)));
     assert!(rt; drawn(&rt, heap, Schedule::Guided(size(&rt, 3)), 3) == Some((7, 3)));
+    assert!(rt; drawn(&rt, heap, Schedule::Dynamic(size(&rt, 16)), 3) == Some((1, 1)));
 }
 
 #[test]

@@ -1,0 +1,120 @@
+//! Loops of one chunk with reduction and lastprivate variables, and what a team leaves of them; the values are counted by hand, by OpenMP 5.2,
+//! 5.4.5 and 5.5.
+
+use crate::lowering::{Site, lowered, variables};
+use ktree::{ReductionOperator, VarId, Workers};
+use lower::{LoweredLoop, LoweredReduction, Spot};
+use schedule::Sched;
+use std::alloc::Global;
+use std::sync::Wait;
+use std::thread::Threads;
+use store::Store;
+use team::{OpenGate, run_loop};
+
+/// The scalar `s` behind the elements of `A` and `B`, and the first two locals of a kernel.
+const SCALAR: Spot = Spot::Cell(14);
+
+const FIRST: Spot = Spot::Register(VarId(3));
+
+const SECOND: Spot = Spot::Register(VarId(4));
+
+/// A loop's lines, what is summed up, what is lastprivate, and what it leaves in `A`, `B` and `s` and in eight registers.
+type Row<'t> = (&'t str, &'t [Spot], Spot, [u64; 15], [u64; 8]);
+
+/// The loop of a row.
+fn loop_of(alloc: Global, row: &Row) -> Option<LoweredLoop> {
+    let (lines, sums, last, _cells, _registers) = row;
+    let site = Site {
+        length: 8,
+        lines: *lines,
+        depth: 1,
+        turn: None,
+    };
+    let mut lowered = lowered(alloc, site, None)?;
+    for spot in *sums {
+        let sum = LoweredReduction {
+            operator: ReductionOperator::Sum,
+            spot: *spot,
+        };
+        lowered.roles.reductions.push(sum).ok()?;
+    }
+    lowered.roles.lasts.push(*last).ok()?;
+    Some(lowered)
+}
+
+/// Whether a loop leaves what the row says of this store, on which `s` is 100, and of these registers, each 5; or all as before, where
+/// it is refused.
+fn is_right<R: Threads + Wait + Sync>(
+    rt: &R,
+    alloc: Global,
+    lowered: &LoweredLoop,
+    row: &Row,
+    registers: &mut [u64],
+    store: &mut Store,
+    workers: Workers,
+) -> bool {
+    let (_lines, _sums, _last, cells, held) = row;
+    let sched = Sched::PlainStatic;
+    match run_loop(
+        rt, alloc, lowered, registers, store, workers, sched, &OpenGate,
+    ) {
+        Ok(()) => store.cells() == cells.as_slice() && &*registers == held.as_slice(),
+        Err(_refusal) => {
+            store.cells() == [1, 1, 1, 1, 1, 1, 1, 1, 0, 0, 0, 0, 0, 0, 100].as_slice()
+                && &*registers == [5, 5, 5, 5, 5, 5, 5, 5].as_slice()
+        }
+    }
+}
+
+/// The same by one worker over a store.
+fn is_right_over<R: Threads + Wait + Sync>(
+    rt: &R,
+    alloc: Global,
+    lowered: &LoweredLoop,
+    row: &Row,
+    store: &mut Store,
+) -> Option<bool> {
+    let one = Workers::new(1)?;
+    match Vec::from_elem(alloc, 5u64, 8) {
+        Ok(mut registers) => {
+            let own = registers.as_mut_slice();
+            Some(is_right(rt, alloc, lowered, row, own, store, one))
+        }
+        Err(_error) => None,
+    }
+}
+
+/// The same of a row; nothing is told where there is no memory for its loop.
+fn is_left<R: Threads + Wait + Sync>(rt: &R, alloc: Global, row: &Row) -> Option<bool> {
+    let lowered = loop_of(alloc, row)?;
+    let mut store = variables(alloc, 8).ok()?;
+    store.put(14, 100);
+    is_right_over(rt, alloc, &lowered, row, &mut store)
+}
+
+const SUMS: &str =
+    "uint64_t t = 0; uint64_t u = 0; for (uint64_t i = 0; i < 8; i++) { t += i; s += 2 * i; u = i; A[i] = A[i] + 3 * i; }";
+
+const LAST: &str =
+    "uint64_t t = 0; for (uint64_t i = 0; i < 8; i++) { t += i; s = 10 * i; A[i] = s + A[i]; }";
+
+#[test]
+fn a_single_chunk_is_put_whole(rt: HostRuntime) {
+    let heap = rt.alloc();
+    let sums: Row<'static> = (
+        SUMS,
+        &[FIRST, SCALAR],
+        SECOND,
+        [1, 4, 7, 10, 13, 16, 19, 22, 0, 0, 0, 0, 0, 0, 156],
+        [5, 5, 5, 33, 7, 5, 5, 5],
+    );
+    let last: Row<'static> = (
+        LAST,
+        &[FIRST],
+        SCALAR,
+        [1, 11, 21, 31, 41, 51, 61, 71, 0, 0, 0, 0, 0, 0, 70],
+        [5, 5, 5, 33, 5, 5, 5, 5],
+    );
+    assert!(rt; is_left(&rt, heap, &sums) != Some(false));
+    assert!(rt; is_left(&rt, heap, &last) != Some(false));
+}
