@@ -111,10 +111,6 @@ module _ (roles : Roles) (body : Stmt) where
       let same : its.known ≡ k = same_Some its.known k (sym its.is ∙ is) in
       true≢false (sym (known_all k roles.lasts (λ x among. ap (λ j. j x) (sym same) ∙ its.each x among)) ∙ none)
 
-  -- the body reads what it may not
-  pub last_refused : definite no_privates body (all_but (assigned_first roles)) ≡ None → AssignsAll (assigned_first roles) roles.lasts body → ⊥
-  last_refused none its = absurd (cc (sym its.is ∙ none))
-
 -- ---- reduction variables
 
 module _ (roles : Roles) (xs : List Variable) (listed : xs ≡ map (λ r. r.0) roles.reductions) (b : Bool) (is : b ≡ (are_different xs && list_all (all_but (assigned_first roles)) xs)) where

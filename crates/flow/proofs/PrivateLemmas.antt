@@ -148,13 +148,6 @@ first_is P n (Tree.stmt t rest) s e =
     let same : s ≡ t = cc e in
     (subst (P [] n) (sym same), subst (P [] n) same)
 
--- no statement stands first
-pub no_first : (P : AskedOfLoop) (n : ℕ) (rest : Tree.Items) → None ≡ first_stmt_of rest → FirstHas P [] n rest → ⊥
-no_first P n Tree.no_items e h = h
-no_first P n (Tree.mark line rest) e h = h
-no_first P n (Tree.local x name start rest) e h = h
-no_first P n (Tree.stmt t rest) e h = absurd (cc e)
-
 -- what is found of the one, is found of the other
 pub finds_same : {A B : Type 0} (o : Option DataFault) → (A → B) → (B → A) → Finds o A → Finds o B
 finds_same None one other h = one h

@@ -1,10 +1,10 @@
 -- What is known after the parts of a statement, put together.
 use Rattle.std.proofs.Common.{◌≡◌, ℕ, ◌+◌, ◌<◌, Bool, true, false, cond, List, [], length, get_or, drop, map, Option, Some, None, IsSome, refl, sym, ap, ◌∙◌, subst, inl, inr}
-use Rattle.std.specs.Prelude.{◌&&◌, nat_lt, option_and_then, replicate}
+use Rattle.std.specs.Prelude.{◌&&◌, nat_lt, replicate}
 use Rattle.std.proofs.lemmas.List.{length-map}
 use Rattle.semantics.specs.Tree
 use Rattle.semantics.specs.Tree.{Items}
-use Rattle.semantics.specs.Meaning.Definite.{DefinitelyAssigned, Privates, known_with, without, may_test, may_take, may_step, privates_in, after_both, if_stepped, declared_known, definite, definite_items, known_at_start, IsDefinite}
+use Rattle.semantics.specs.Meaning.Definite.{DefinitelyAssigned, Privates, known_with, without, may_test, may_take, may_step, privates_in, after_both, if_stepped, definite, definite_items, known_at_start, IsDefinite}
 use Rattle.ktree.specs.declared.refusal.Refusal.{Refusal}
 use Rattle.ktree.specs.declared.statement.Declaration.{Declaration}
 use Rattle.ktree.specs.declared.statement.Kernel.{Kernel}
@@ -30,26 +30,6 @@ module _ (P : Privates) where
     pub item_refused : (r : Refusal) → RefusesAnyhow (λ rest. definite_items P (pending P before) (with_item e rest) k) r → Refuses whole r
     item_refused r (inl o) = inl o
     item_refused r (inr (n, f)) = inr (n, on ∙ f (items_of (drop (i + 1) is)))
-
-  -- a statement, behind which the private locals of the line before it are forgotten
-  pub statement_judged : (pend : List Tree.Variable) (a : Tree.Stmt) (k after now : DefinitelyAssigned) → definite P a k ≡ Some after → now ≡ without after pend → (rest : Items)
-      → definite_items P pend (Tree.stmt a rest) k ≡ definite_items P [] rest now
-  statement_judged pend a k after now f is rest = ap (option_and_then (λ m. definite_items P [] rest (without m pend))) f ∙ ap (definite_items P [] rest) (sym is)
-
-  -- one that is refused
-  pub statement_refused : (pend : List Tree.Variable) (a : Tree.Stmt) (k : DefinitelyAssigned) (r : Refusal) → Refuses (definite P a k) r → RefusesAnyhow (λ rest. definite_items P pend (Tree.stmt a rest) k) r
-  statement_refused pend a k r (inl o) = inl o
-  statement_refused pend a k r (inr (n, f)) = inr (n, λ rest. ap (option_and_then (λ m. definite_items P [] rest (without m pend))) f)
-
-  -- a local that is declared
-  pub local_judged : (pend : List Tree.Variable) (x : Tree.Variable) (name : Tree.Name) (start : Option Tree.Source) (k now : DefinitelyAssigned) → declared_known k x start ≡ Some now → (rest : Items)
-      → definite_items P pend (Tree.local x name start rest) k ≡ definite_items P [] rest now
-  local_judged pend x name start k now f rest = ap (option_and_then (definite_items P [] rest)) f
-
-  pub local_refused : (pend : List Tree.Variable) (x : Tree.Variable) (name : Tree.Name) (start : Option Tree.Source) (k : DefinitelyAssigned) (r : Refusal) → Refuses (declared_known k x start) r
-      → RefusesAnyhow (λ rest. definite_items P pend (Tree.local x name start rest) k) r
-  local_refused pend x name start k r (inl o) = inl o
-  local_refused pend x name start k r (inr (n, f)) = inr (n, λ rest. ap (option_and_then (definite_items P [] rest)) f)
 
   module _ (x : Tree.Variable) (name : Tree.Name) (start : Tree.Source) (test : Tree.Cond) (step : Tree.Increment) (body : Tree.Stmt) (k : DefinitelyAssigned) where
     abbrev loop : Option DefinitelyAssigned

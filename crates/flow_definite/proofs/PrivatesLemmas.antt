@@ -1,5 +1,5 @@
 -- What is forgotten of the private locals of directive lines, one after another.
-use Rattle.std.specs.Prelude.{ℕ, Bool, true, false, if◌then◌else◌, ◌≡◌, ◌+◌, ◌<◌, suc, List, [], ◌∷◌, ◌++◌, map, filter, flat_map, length, get_or, drop}
+use Rattle.std.specs.Prelude.{ℕ, Bool, false, ◌≡◌, ◌+◌, ◌<◌, suc, List, [], ◌∷◌, ◌++◌, map, filter, flat_map, length, get_or, drop}
 use Rattle.std.proofs.Common.{refl, sym, ap, ◌∙◌, drop-cons, add-one}
 use Rattle.std.proofs.lemmas.List.{append-nil}
 use Rattle.std.proofs.lemmas.List.Elements.{filter-append}
@@ -10,7 +10,7 @@ use Rattle.ktree.specs.declared.directive.Clause.{Clause}
 use Rattle.ktree.specs.declared.statement.Item.{Item, Directive, Local, Statement'}
 use Rattle.ktree.specs.View.{stmt_of, items_of, with_item}
 use Rattle.pragma_named.specs.declared.named.Named.{Named}
-use Rattle.pragma_named.specs.Views.{variable_named, resolved_clause}
+use Rattle.pragma_named.specs.Views.{resolved_clause}
 
 pub without_append : (k : DefinitelyAssigned) (xs ys : List Variable) → without k (xs ++ ys) ≡ without (without k xs) ys
 without_append k [] ys = refl
@@ -21,18 +21,6 @@ pub from_here : {A : Type 0} (xs : List A) (i : ℕ) (x : A) → i < length xs �
 from_here xs i x lt at = rw add-one (drop-cons xs i x lt ∙ ap (λ y. y ∷ drop (suc i) xs) (sym at))
 
 module _ (f : Variable → Bool) (k : DefinitelyAssigned) where
-  -- a name, and those behind it
-  pub name_left : (names : List Named) (i : ℕ) (n : Named) → i < length names → n ≡ get_or names i n → (b : Bool) → f (variable_named n) ≡ b
-      → without k (filter f (map variable_named (drop i names))) ≡ without (if b then known_with k (variable_named n) false else k) (filter f (map variable_named (drop (i + 1) names)))
-  name_left names i n lt at b is = ap (λ ns. without k (filter f (map variable_named ns))) (from_here names i n lt at) ∙ go b is
-    where
-      rest : List Variable
-      rest = filter f (map variable_named (drop (i + 1) names))
-
-      go : (b : Bool) → f (variable_named n) ≡ b → without k (if f (variable_named n) then variable_named n ∷ rest else rest) ≡ without (if b then known_with k (variable_named n) false else k) rest
-      go true e = ap (λ (b : Bool). without k (if b then variable_named n ∷ rest else rest)) e
-      go false e = ap (λ (b : Bool). without k (if b then variable_named n ∷ rest else rest)) e
-
   -- a clause, and those behind it
   pub clause_left : (clauses : List (Clause Named)) (i : ℕ) (c : Clause Named) → i < length clauses → c ≡ get_or clauses i c
       → without k (filter f (flat_map private_of (map resolved_clause (drop i clauses))))

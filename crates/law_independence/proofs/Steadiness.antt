@@ -15,11 +15,11 @@ use Rattle.affine.specs.Affine.{Affine}
 use Rattle.affine_expr.specs.Forms.{form_of}
 use Rattle.nest_loop.specs.Loops.{inside}
 use Rattle.nest_loop.proofs.Heads.{head_of}
-use Rattle.nest.specs.Nests.{ExprHas, CondHas, SourceHas, StartHas, Has, Have, StaysBelow, AllStay, lengths_of, StaysInside}
+use Rattle.nest.specs.Nests.{ExprHas, CondHas, SourceHas, Has, Have, StaysBelow, AllStay, lengths_of, StaysInside}
 use Rattle.flow.specs.Private.{keeps, keeps_all}
 use Rattle.flow.proofs.PrivateLemmas.{among_both}
 use Rattle.law_commute.specs.Targets.{scalar, targets, targets_among}
-use Rattle.law_commute.specs.Steady.{IsFixedExpr, IsFixedCond, IsFixedSource, AreFixed, IsSteadyExpr, IsSteadyCond, IsSteadySource, IsSteadyStart, IsSteadyTarget, IsSteady, AreSteady}
+use Rattle.law_commute.specs.Steady.{IsFixedExpr, IsFixedCond, IsFixedSource, AreFixed, IsSteadyExpr, IsSteadyCond, IsSteadySource, IsSteadyTarget, IsSteady, AreSteady}
 use Rattle.law_independence.proofs.Numbering.{declared_from}
 use Rattle.law_independence.proofs.Fixed.{form_fixed, own_fixed, step_fixed}
 use Rattle.law_independence.proofs.Naming.{NamesCounters, counters_inside}
@@ -78,10 +78,6 @@ module _ (ds : List Declaration) (box : List Side) (fixed : Variable → Bool) (
   source_steady : (e : Source) → SourceHas (StaysInside ds) box e → IsSteadySource fixed e
   source_steady (Number a) h = expr_steady a h
   source_steady (Truth c) h = cond_steady c h
-
-  start_steady : (o : Option Source) → StartHas (StaysInside ds) box o → IsSteadyStart fixed o
-  start_steady None h = tt
-  start_steady (Some e) h = source_steady e h
 
 -- ---- statements
 
