@@ -42,9 +42,21 @@ fn loop_of(alloc: Global, row: &Row) -> Option<LoweredLoop> {
     Some(lowered)
 }
 
-/// Whether a loop leaves what the row says of this store, on which `s` is 100, and of these registers, each 5; or all as before, where
-/// it is refused.
-fn is_right<R: Threads + Wait + Sync>(
+/// How a loop ends: with what its row says, refused with all as before, or otherwise.
+#[derive(Clone, Copy, PartialEq, Eq)]
+enum End {
+    Whole,
+    Refused,
+    Other,
+}
+
+/// The end where this holds, and another one where it does not.
+fn end_where(holds: bool, end: End) -> End {
+    if holds { end } else { End::Other }
+}
+
+/// How a loop ends over this store, on which `s` is 100, and these registers, each 5.
+fn end_over<R: Threads + Wait + Sync>(
     rt: &R,
     alloc: Global,
     lowered: &LoweredLoop,
@@ -52,44 +64,48 @@ fn is_right<R: Threads + Wait + Sync>(
     registers: &mut [u64],
     store: &mut Store,
     workers: Workers,
-) -> bool {
+) -> End {
     let (_lines, _sums, _last, cells, held) = row;
     let sched = Sched::PlainStatic;
     match run_loop(
         rt, alloc, lowered, registers, store, workers, sched, &OpenGate,
     ) {
-        Ok(()) => store.cells() == cells.as_slice() && &*registers == held.as_slice(),
+        Ok(()) => {
+            let left = store.cells() == cells.as_slice() && &*registers == held.as_slice();
+            end_where(left, End::Whole)
+        }
         Err(_refusal) => {
-            store.cells() == [1, 1, 1, 1, 1, 1, 1, 1, 0, 0, 0, 0, 0, 0, 100].as_slice()
-                && &*registers == [5, 5, 5, 5, 5, 5, 5, 5].as_slice()
+            let kept = store.cells() == [1, 1, 1, 1, 1, 1, 1, 1, 0, 0, 0, 0, 0, 0, 100].as_slice()
+                && &*registers == [5, 5, 5, 5, 5, 5, 5, 5].as_slice();
+            end_where(kept, End::Refused)
         }
     }
 }
 
-/// The same by one worker over a store.
-fn is_right_over<R: Threads + Wait + Sync>(
+/// How it ends by one worker over a store; refused too where there is no memory for registers.
+fn end_by_one<R: Threads + Wait + Sync>(
     rt: &R,
     alloc: Global,
     lowered: &LoweredLoop,
     row: &Row,
     store: &mut Store,
-) -> Option<bool> {
+) -> Option<End> {
     let one = Workers::new(1)?;
     match Vec::from_elem(alloc, 5u64, 8) {
         Ok(mut registers) => {
             let own = registers.as_mut_slice();
-            Some(is_right(rt, alloc, lowered, row, own, store, one))
+            Some(end_over(rt, alloc, lowered, row, own, store, one))
         }
         Err(_error) => None,
     }
 }
 
-/// The same of a row; nothing is told where there is no memory for its loop.
-fn is_left<R: Threads + Wait + Sync>(rt: &R, alloc: Global, row: &Row) -> Option<bool> {
+/// How the loop of a row ends, if there is memory for it.
+fn end_of<R: Threads + Wait + Sync>(rt: &R, alloc: Global, row: &Row) -> Option<End> {
     let lowered = loop_of(alloc, row)?;
     let mut store = variables(alloc, 8).ok()?;
     store.put(14, 100);
-    is_right_over(rt, alloc, &lowered, row, &mut store)
+    end_by_one(rt, alloc, &lowered, row, &mut store)
 }
 
 const SUMS: &str =
@@ -98,23 +114,33 @@ const SUMS: &str =
 const LAST: &str =
     "uint64_t t = 0; for (uint64_t i = 0; i < 8; i++) { t += i; s = 10 * i; A[i] = s + A[i]; }";
 
+const SUMMED: Row<'static> = (
+    SUMS,
+    &[FIRST, SCALAR],
+    SECOND,
+    [1, 4, 7, 10, 13, 16, 19, 22, 0, 0, 0, 0, 0, 0, 156],
+    [5, 5, 5, 33, 7, 5, 5, 5],
+);
+
+const LASTING: Row<'static> = (
+    LAST,
+    &[FIRST],
+    SCALAR,
+    [1, 11, 21, 31, 41, 51, 61, 71, 0, 0, 0, 0, 0, 0, 70],
+    [5, 5, 5, 33, 5, 5, 5, 5],
+);
+
 #[test]
 fn a_single_chunk_is_put_whole(rt: HostRuntime) {
     let heap = rt.alloc();
-    let sums: Row<'static> = (
-        SUMS,
-        &[FIRST, SCALAR],
-        SECOND,
-        [1, 4, 7, 10, 13, 16, 19, 22, 0, 0, 0, 0, 0, 0, 156],
-        [5, 5, 5, 33, 7, 5, 5, 5],
-    );
-    let last: Row<'static> = (
-        LAST,
-        &[FIRST],
-        SCALAR,
-        [1, 11, 21, 31, 41, 51, 61, 71, 0, 0, 0, 0, 0, 0, 70],
-        [5, 5, 5, 33, 5, 5, 5, 5],
-    );
-    assert!(rt; is_left(&rt, heap, &sums) != Some(false));
-    assert!(rt; is_left(&rt, heap, &last) != Some(false));
+    assert!(rt; end_of(&rt, heap, &SUMMED) == Some(End::Whole));
+    assert!(rt; end_of(&rt, heap, &LASTING) == Some(End::Whole));
+}
+
+/// Each allocation may fail.
+#[test]
+fn a_single_chunk_that_is_refused_leaves_all_as_before(rt: HostRuntime) {
+    let heap = rt.alloc();
+    assert!(rt; end_of(&rt, heap, &SUMMED) != Some(End::Other));
+    assert!(rt; end_of(&rt, heap, &LASTING) != Some(End::Other));
 }
