@@ -1,16 +1,12 @@
 -- A walk over parallel loops up to the first that is refused.
 use Rattle.std.specs.Prelude.{ℕ, ◌+◌, ◌-◌, ◌≡◌, ◌<◌, List, length, get_or, drop, take}
-use Rattle.std.proofs.Common.{Box, Global, inl, inr, sym, ap, ◌∙◌, subst}
+use Rattle.std.proofs.Common.{inl, inr, sym, subst}
 use Rattle.semantics.specs.Tree
-use Rattle.ktree.specs.View.{stmt_of, items_of, with_item}
-use Rattle.ktree.specs.declared.statement.Head.{Head}
-use Rattle.ktree.specs.declared.statement.Stmt as code
+use Rattle.ktree.specs.View.{items_of, with_item}
 use Rattle.ktree.specs.declared.statement.Item.{Item, Directive, Local, Statement'}
 use Rattle.ktree.specs.declared.refusal.Refusal.{Refusal}
 use Rattle.pairtest_counter.specs.Levels.{Nesting}
-use Rattle.nest.specs.Heads.{head_of}
 use Rattle.ktree.proofs.Trees.{next_item}
-use Rattle.nest.proofs.Walks.{loop_of}
 use Rattle.nest.proofs.NestedLaw.{all_behind}
 use Rattle.deptest_verdict.specs.Shown.{FirstLineShown, FirstLoopsShown}
 use Rattle.deptest_verdict.specs.Refused.{ItemsRefused}

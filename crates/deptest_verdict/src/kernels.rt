@@ -66,24 +66,15 @@ fn statement<'n>(
         Stmt::Assign(_, _) => Ok(loops),
         Stmt::Update(_, _, _) => Ok(loops),
         Stmt::If(_, then, other) => {
-            let left = match statement(alloc, chain, loops, then, given) {
-                Ok(left) => left,
-                Err(refusal) => return Err(refusal),
-            };
+            let left = statement(alloc, chain, loops, then, given)?;
             match other {
                 None => Ok(left),
                 Some(other) => statement(alloc, chain, left, other, given),
             }
         }
         Stmt::For(head, body) => {
-            let inner = match enter(alloc, chain, head, loops) {
-                Ok(inner) => inner,
-                Err(refusal) => return Err(refusal),
-            };
-            let left = match statement(alloc, chain, inner, body, given) {
-                Ok(left) => left,
-                Err(refusal) => return Err(refusal),
-            };
+            let inner = enter(alloc, chain, head, loops)?;
+            let left = statement(alloc, chain, inner, body, given)?;
             chain.leave();
             Ok(left)
         }
@@ -113,14 +104,8 @@ fn block<'n>(
 {
     let mut left = loops;
     for (i, item) in items.iter().enumerate() {
-        match item_line_shown(alloc, chain, left, item, &items[i + 1..], given) {
-            Ok(()) => {}
-            Err(refusal) => return Err(refusal),
-        }
-        left = match one_item(alloc, chain, left, item, given) {
-            Ok(behind) => behind,
-            Err(refusal) => return Err(refusal),
-        };
+        item_line_shown(alloc, chain, left, item, &items[i + 1..], given)?;
+        left = one_item(alloc, chain, left, item, given)?;
     }
     Ok(left)
 }

@@ -85,18 +85,9 @@ fn body_shown(
     ensures ok { OnOk result (IsShownBody chain.old outer serial.items (stmt_of body.now)) }
     ensures back { OnOk result (chain.new ≡ chain.old) }
 {
-    let counts = match inner_counts(alloc, chain, outer) {
-        Ok(counts) => counts,
-        Err(fault) => return Err(fault.refusal()),
-    };
-    let found = match accesses(alloc, chain, loops, body) {
-        Ok(found) => found,
-        Err(fault) => return Err(fault.refusal()),
-    };
-    let found = match with_writes(alloc, found) {
-        Ok(found) => found,
-        Err(_) => return Err(Refusal::OutOfMemory),
-    };
+    let counts = inner_counts(alloc, chain, outer)?;
+    let found = accesses(alloc, chain, loops, body)?;
+    let found = with_writes(alloc, found)?;
     let nest = Nest {
         serial,
         loops: counts,
@@ -137,11 +128,8 @@ fn nest_shown(
     let Some(level) = as_loop(statement) else {
         return Err(Refusal::NestNotPerfect(line));
     };
-    let inner = match enter(alloc, chain, level.head, loops) {
-        Ok(inner) => inner,
-        Err(refusal) => return Err(refusal),
-    };
-    match nest_shown(
+    let inner = enter(alloc, chain, level.head, loops)?;
+    nest_shown(
         alloc,
         chain,
         outer,
@@ -151,10 +139,7 @@ fn nest_shown(
         level.body,
         given,
         line,
-    ) {
-        Ok(()) => {}
-        Err(refusal) => return Err(refusal),
-    }
+    )?;
     chain.leave();
     Ok(())
 }
@@ -177,10 +162,7 @@ fn loop_shown(
     ensures back { OnOk result (chain.new ≡ chain.old) }
 {
     let outer = chain.levels().len();
-    let serial = match inner_counts(alloc, chain, 0) {
-        Ok(serial) => serial,
-        Err(fault) => return Err(fault.refusal()),
-    };
+    let serial = inner_counts(alloc, chain, 0)?;
     nest_shown(
         alloc, chain, outer, serial, depth, loops, statement, given, line,
     )
@@ -231,10 +213,7 @@ pub(crate) fn line_shown(
         (items_of rest.now)) }
     ensures back { OnOk result (chain.new ≡ chain.old) }
 {
-    let line = match given.directives.at(place) {
-        Ok(line) => line,
-        Err(refusal) => return Err(refusal),
-    };
+    let line = given.directives.at(place)?;
     let depth = line.associated_loops();
     first_shown(alloc, chain, depth, loops, rest, given, place)
 }

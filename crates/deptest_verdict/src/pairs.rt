@@ -91,10 +91,7 @@ fn first_behind(x: &Access, others: &[Access], nest: &Nest) -> Result<Option<Beh
     ensures err { IfErr result (λ _. IsLargeBehind nest.now x.now others.now) }
 {
     for (j, y) in others.iter().enumerate() {
-        let shown = match is_shown(x, y, nest) {
-            Ok(shown) => shown,
-            Err(large) => return Err(large),
-        };
+        let shown = is_shown(x, y, nest)?;
         if !shown {
             return Ok(Some(Behind {
                 number: j,
@@ -127,10 +124,7 @@ fn first_write_behind(
             continue;
         }
         let y = &accesses.all[*number];
-        let shown = match is_shown(x, y, nest) {
-            Ok(shown) => shown,
-            Err(large) => return Err(large),
-        };
+        let shown = is_shown(x, y, nest)?;
         if !shown {
             return Ok(Some(Behind {
                 number: *number - from,

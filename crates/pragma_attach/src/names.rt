@@ -139,10 +139,7 @@ fn statement_names<'k>(
         Stmt::Assign(_, _) => Ok(()),
         Stmt::Update(_, _, _) => Ok(()),
         Stmt::If(_, then, other) => {
-            match statement_names(alloc, directives, table, scope, then) {
-                Err(stop) => return Err(stop),
-                Ok(()) => {}
-            }
+            statement_names(alloc, directives, table, scope, then)?;
             match other {
                 None => Ok(()),
                 Some(other) => statement_names(alloc, directives, table, scope, other),
@@ -182,10 +179,7 @@ fn loop_names<'k>(
         head.name.as_str(),
         Entity::Variable(head.variable, 0),
     )?;
-    match statement_names(alloc, directives, table, scope, body) {
-        Err(stop) => return Err(stop),
-        Ok(()) => {}
-    }
+    statement_names(alloc, directives, table, scope, body)?;
     close(scope, outer);
     Ok(())
 }
@@ -208,10 +202,7 @@ fn block_names<'k>(
         (lines_among (names_of scope.old) (items_of items.now) ++ rest))) }
 {
     let names = count(scope);
-    match items_names(alloc, directives, table, scope, items) {
-        Err(stop) => return Err(stop),
-        Ok(()) => {}
-    }
+    items_names(alloc, directives, table, scope, items)?;
     close(scope, names);
     Ok(())
 }
@@ -234,10 +225,7 @@ fn items_names<'k>(
         (lines_among (names_of scope.old) (items_of items.now) ++ rest))) }
 {
     for item in items {
-        match item_names(alloc, directives, table, scope, item) {
-            Err(stop) => return Err(stop),
-            Ok(()) => {}
-        }
+        item_names(alloc, directives, table, scope, item)?;
     }
     Ok(())
 }

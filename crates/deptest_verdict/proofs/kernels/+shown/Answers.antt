@@ -1,5 +1,6 @@
 use Rattle.std.specs.Prelude.{◌≡◌, ◌+◌, ◌-◌, length, map, take, drop, OnOk, IfOk, IfErr}
-use Rattle.std.proofs.Common.{sym, ap, ◌∙◌, subst, rules}
+use Rattle.std.proofs.Common.{sym, ◌∙◌, subst, rules}
+use Rattle.std.proofs.lemmas.Result.{err_from_is_err_and}
 use Rattle.semantics.specs.Tree.{Stmt, no_items}
 use Rattle.ktree.specs.View.{stmt_of, items_of, with_item, declaration_of}
 use Rattle.ktree.specs.declared.statement.Item.{the_lemmas}
@@ -22,14 +23,14 @@ block-loop-i-preserved t c =
     let is = c.args.items.now in
     let line =
     subst (λ n. FirstLineShown text n (with_item c.index-items-i.result no_items) (items_of (take (length is - (c.loop-i.i + 1)) (drop (c.loop-i.i + 1) is)))) c.loop-i.invariant.0
-    c.in-Ok.ensures.ok in
-    let loops = subst (λ n. FirstLoopsShown text n (with_item c.index-items-i.result no_items)) (c.in-Ok.ensures.back ∙ c.loop-i.invariant.0) c.in-Ok-one_item.ensures.ok in (
-      c.in-Ok-one_item.ensures.back ∙ c.in-Ok.ensures.back ∙ c.loop-i.invariant.0,
+    c.in_ok-item_line_shown.ensures.ok in
+    let loops = subst (λ n. FirstLoopsShown text n (with_item c.index-items-i.result no_items)) (c.in_ok-item_line_shown.ensures.back ∙ c.loop-i.invariant.0) c.in_ok-left.ensures.ok in (
+      c.in_ok-left.ensures.back ∙ c.in_ok-item_line_shown.ensures.back ∙ c.loop-i.invariant.0,
       shown_more text c.args.chain.now is c.loop-i.i c.index-items-i.result c.loop-i-test.true c.index-items-i.is c.loop-i.invariant.1 line loops,
       refused_more text (map declaration_of c.args.given.variables.now) c.args.chain.now is c.loop-i.i c.index-items-i.result c.loop-i-test.true c.index-items-i.is c.loop-i.invariant.2 line loops,
-      left_more c.args.chain.now.box is c.loop-i.i c.index-items-i.result c.args.loops.now c.loop-i.left.now c.in-Ok-one_item.behind.now c.loop-i-test.true c.index-items-i.is c.loop-i.invariant.3
-          (subst (λ (n : Nesting). IsLeft (FactsAmong n.box (with_item c.index-items-i.result no_items) c.loop-i.left.now) c.in-Ok-one_item.behind.now) (c.in-Ok.ensures.back ∙ c.loop-i.invariant.0)
-          c.in-Ok-one_item.ensures.left),
+      left_more c.args.chain.now.box is c.loop-i.i c.index-items-i.result c.args.loops.now c.loop-i.left.now c.in_ok-left.left.now c.loop-i-test.true c.index-items-i.is c.loop-i.invariant.3
+          (subst (λ (n : Nesting). IsLeft (FactsAmong n.box (with_item c.index-items-i.result no_items) c.loop-i.left.now) c.in_ok-left.left.now) (c.in_ok-item_line_shown.ensures.back ∙ c.loop-i.invariant.0)
+          c.in_ok-left.ensures.left),
     )
 
 pub statement-returns-in-Block-clause-ok : goal.statement-returns-in-Block-clause-ok
@@ -37,24 +38,26 @@ statement-returns-in-Block-clause-ok t c =
     subst (λ (s : Stmt). OnOk c.block.result (LoopsShown c.args.given.directives.now c.args.chain.now s))
     (sym (block_is c.args.walked.now c.in-Block.items c.deref-in-Block.result.now c.in-Block.is c.deref-in-Block.ensures.value)) c.block.ensures.ok
 
-pub block-returns-in-Err-clause-err : goal.block-returns-in-Err-clause-err
-block-returns-in-Err-clause-err t c =
+pub block-returns-in_err-item_line_shown-clause-err : goal.block-returns-in_err-item_line_shown-clause-err
+block-returns-in_err-item_line_shown-clause-err t c =
     let text = c.args.given.directives.now in
     let ds = map declaration_of c.args.given.variables.now in
     let is = c.args.items.now in
-    refused_by_line text ds c.args.chain.now is c.loop-i.i c.index-items-i.result c.in-Err.refusal c.loop-i-test.true c.index-items-i.is c.loop-i.invariant.2
+    let p = err_from_is_err_and c.from_residual.result c.from_residual.ensures.1 in
+    rw (p.1, p.2) (refused_by_line text ds c.args.chain.now is c.loop-i.i c.index-items-i.result c.in_err-item_line_shown.field-0.0 c.loop-i-test.true c.index-items-i.is c.loop-i.invariant.2
     (subst
-    (λ n. OrMemory (FirstLineRefused text ds n (with_item c.index-items-i.result no_items) (items_of (take (length is - (c.loop-i.i + 1)) (drop (c.loop-i.i + 1) is)))) c.in-Err.refusal)
-    c.loop-i.invariant.0 c.in-Err.ensures.err)
+    (λ n. OrMemory (FirstLineRefused text ds n (with_item c.index-items-i.result no_items) (items_of (take (length is - (c.loop-i.i + 1)) (drop (c.loop-i.i + 1) is)))) c.in_err-item_line_shown.field-0.0)
+    c.loop-i.invariant.0 c.in_err-item_line_shown.ensures.err))
 
-pub block-returns-in-Err-one_item-clause-err : goal.block-returns-in-Err-one_item-clause-err
-block-returns-in-Err-one_item-clause-err t c =
+pub block-returns-in_err-left-clause-err : goal.block-returns-in_err-left-clause-err
+block-returns-in_err-left-clause-err t c =
     let text = c.args.given.directives.now in
     let ds = map declaration_of c.args.given.variables.now in
     let is = c.args.items.now in
-    refused_by_statement text ds c.args.chain.now is c.loop-i.i c.index-items-i.result c.in-Err-one_item.refusal c.loop-i-test.true c.index-items-i.is c.loop-i.invariant.2
-    (subst (λ n. OrMemory (FirstLoopsRefused text ds n (with_item c.index-items-i.result no_items)) c.in-Err-one_item.refusal) (c.in-Ok.ensures.back ∙ c.loop-i.invariant.0)
-    c.in-Err-one_item.ensures.err)
+    let p = err_from_is_err_and c.from_residual-in_err-left.result c.from_residual-in_err-left.ensures.1 in
+    rw (p.1, p.2) (refused_by_statement text ds c.args.chain.now is c.loop-i.i c.index-items-i.result c.in_err-left.field-0.0 c.loop-i-test.true c.index-items-i.is c.loop-i.invariant.2
+    (subst (λ n. OrMemory (FirstLoopsRefused text ds n (with_item c.index-items-i.result no_items)) c.in_err-left.field-0.0) (c.in_ok-item_line_shown.ensures.back ∙ c.loop-i.invariant.0)
+    c.in_err-left.ensures.err))
 
 pub statement-returns-in-Block-clause-err : goal.statement-returns-in-Block-clause-err
 statement-returns-in-Block-clause-err t c =
@@ -85,55 +88,56 @@ pub block-one_item-requires : goal.block-one_item-requires
 block-one_item-requires t c =
     let e = c.index-items-i.result in (
       search (rules, the_lemmas),
-      subst (λ (n : Nesting). StandFirstAmong n.box (with_item e no_items) c.loop-i.left.now) (sym (c.in-Ok.ensures.back ∙ c.loop-i.invariant.0))
+      subst (λ (n : Nesting). StandFirstAmong n.box (with_item e no_items) c.loop-i.left.now) (sym (c.in_ok-item_line_shown.ensures.back ∙ c.loop-i.invariant.0))
           (next_first c.args.chain.now.box c.args.items.now c.loop-i.i e c.args.loops.now c.loop-i.left.now c.loop-i-test.true c.index-items-i.is c.loop-i.invariant.3 c.requires),
     )
 
-pub statement-returns-in-Err-statement-clause-err : goal.statement-returns-in-Err-statement-clause-err
-statement-returns-in-Err-statement-clause-err t c =
+pub statement-returns-in_err-left-in-For-clause-err : goal.statement-returns-in_err-left-in-For-clause-err
+statement-returns-in_err-left-in-For-clause-err t c =
     let n = c.args.chain.now in
     let head = c.in-For.head in
     let b = c.deref-in-For.result.now in
-    let into = loop_entered n c.enter.new.chain c.args.walked.now head c.in-For.body b c.args.loops.now c.in-Ok-enter.inner.now c.in-For.is c.deref-in-For.ensures c.in-Ok-enter.ensures.ok c.requires in
+    let into = loop_entered n c.enter.new.chain c.args.walked.now head c.in-For.body b c.args.loops.now c.in_ok-inner-in-For.inner.now c.in-For.is c.deref-in-For.ensures c.in_ok-inner-in-For.ensures.ok c.requires in
     let text = c.args.given.directives.now in
     let ds = map declaration_of c.args.given.variables.now in
-    let r = c.in-Err-statement.refusal in
-    subst (λ (s : Stmt). OrMemory (LoopsRefused text ds n s) r) (for_is c.args.walked.now head c.in-For.body b c.in-For.is c.deref-in-For.ensures)
-    (loop_refused text ds n c.enter.new.chain head (stmt_of b) r into c.in-Err-statement.ensures.err)
+    let r = c.in_err-left-in-For.field-0.0 in
+    let p = err_from_is_err_and c.from_residual-in_err-left-in-For.result c.from_residual-in_err-left-in-For.ensures.1 in
+    rw (p.1, p.2) (subst (λ (s : Stmt). OrMemory (LoopsRefused text ds n s) r) (for_is c.args.walked.now head c.in-For.body b c.in-For.is c.deref-in-For.ensures)
+    (loop_refused text ds n c.enter.new.chain head (stmt_of b) r into c.in_err-left-in-For.ensures.err))
 
 pub statement-leave-requires : goal.statement-leave-requires
 statement-leave-requires t c =
     let n = c.args.chain.now in
     let head = c.in-For.head in
     let b = c.deref-in-For.result.now in
-    let into = loop_entered n c.enter.new.chain c.args.walked.now head c.in-For.body b c.args.loops.now c.in-Ok-enter.inner.now c.in-For.is c.deref-in-For.ensures c.in-Ok-enter.ensures.ok c.requires in
-    some_loop n c.enter.new.chain c.statement-in-For.new.chain _ _ _ _ _ into c.in-Ok-statement.ensures.back
+    let into = loop_entered n c.enter.new.chain c.args.walked.now head c.in-For.body b c.args.loops.now c.in_ok-inner-in-For.inner.now c.in-For.is c.deref-in-For.ensures c.in_ok-inner-in-For.ensures.ok c.requires in
+    some_loop n c.enter.new.chain c.statement-in-For.new.chain _ _ _ _ _ into c.in_ok-left-in-For.ensures.back
 
-pub statement-returns-in-Ok-statement-clause-ok : goal.statement-returns-in-Ok-statement-clause-ok
-statement-returns-in-Ok-statement-clause-ok t c =
+pub statement-returns-in_ok-left-in-For-clause-ok : goal.statement-returns-in_ok-left-in-For-clause-ok
+statement-returns-in_ok-left-in-For-clause-ok t c =
     let n = c.args.chain.now in
     let head = c.in-For.head in
     let b = c.deref-in-For.result.now in
-    let into = loop_entered n c.enter.new.chain c.args.walked.now head c.in-For.body b c.args.loops.now c.in-Ok-enter.inner.now c.in-For.is c.deref-in-For.ensures c.in-Ok-enter.ensures.ok c.requires in
+    let into = loop_entered n c.enter.new.chain c.args.walked.now head c.in-For.body b c.args.loops.now c.in_ok-inner-in-For.inner.now c.in-For.is c.deref-in-For.ensures c.in_ok-inner-in-For.ensures.ok c.requires in
     let text = c.args.given.directives.now in
     subst (λ (s : Stmt). LoopsShown text n s) (for_is c.args.walked.now head c.in-For.body b c.in-For.is c.deref-in-For.ensures)
-    (loop_shown text n c.enter.new.chain head (stmt_of b) into c.in-Ok-statement.ensures.ok)
+    (loop_shown text n c.enter.new.chain head (stmt_of b) into c.in_ok-left-in-For.ensures.ok)
 
-pub statement-returns-in-Ok-statement-clause-left : goal.statement-returns-in-Ok-statement-clause-left
-statement-returns-in-Ok-statement-clause-left t c =
+pub statement-returns-in_ok-left-in-For-clause-left : goal.statement-returns-in_ok-left-in-For-clause-left
+statement-returns-in_ok-left-in-For-clause-left t c =
     let n = c.args.chain.now in
     let head = c.in-For.head in
     let b = c.deref-in-For.result.now in
-    let passed = c.in-Ok-statement.left.now in
+    let passed = c.in_ok-left-in-For.left.now in
     subst (λ (s : Stmt). IsLeft (FactsOf n.box s c.args.loops.now) passed) (for_is c.args.walked.now head c.in-For.body b c.in-For.is c.deref-in-For.ensures)
-    (loop_passed n c.enter.new.chain head (stmt_of b) c.args.loops.now c.in-Ok-enter.inner.now passed c.in-Ok-enter.ensures.ok c.in-Ok-statement.ensures.left)
+    (loop_passed n c.enter.new.chain head (stmt_of b) c.args.loops.now c.in_ok-inner-in-For.inner.now passed c.in_ok-inner-in-For.ensures.ok c.in_ok-left-in-For.ensures.left)
 
-pub statement-returns-in-Ok-statement-clause-back : goal.statement-returns-in-Ok-statement-clause-back
-statement-returns-in-Ok-statement-clause-back t c =
+pub statement-returns-in_ok-left-in-For-clause-back : goal.statement-returns-in_ok-left-in-For-clause-back
+statement-returns-in_ok-left-in-For-clause-back t c =
     let n = c.args.chain.now in
     let head = c.in-For.head in
     let b = c.deref-in-For.result.now in
-    let into = loop_entered n c.enter.new.chain c.args.walked.now head c.in-For.body b c.args.loops.now c.in-Ok-enter.inner.now c.in-For.is c.deref-in-For.ensures c.in-Ok-enter.ensures.ok c.requires in
-    let same = c.in-Ok-statement.ensures.back in
+    let into = loop_entered n c.enter.new.chain c.args.walked.now head c.in-For.body b c.args.loops.now c.in_ok-inner-in-For.inner.now c.in-For.is c.deref-in-For.ensures c.in_ok-inner-in-For.ensures.ok c.requires in
+    let same = c.in_ok-left-in-For.ensures.back in
     left n c.enter.new.chain c.leave.new.self _ _ _ _ _ into (subst (λ (m : Nesting). c.leave.new.self.box ≡ drop 1 m.box) same c.leave.ensures.numbers)
     (subst (λ (m : Nesting). c.leave.new.self.levels ≡ drop 1 m.levels) same c.leave.ensures.levels)

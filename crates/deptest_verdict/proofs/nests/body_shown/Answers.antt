@@ -8,42 +8,42 @@ use Rattle.deptest_verdict.proofs.nests.body_shown.Goals as goal
 
 pub returns-in-None-clause-ok : goal.returns-in-None-clause-ok
 returns-in-None-clause-ok c =
-    let found = c.in-Ok-accesses.ensures.ok in
-    body_is c.args.chain.now c.args.outer c.args.serial.items (stmt_of c.args.body.now) found.0 c.in-Ok-accesses.found.items c.in-Ok-with_writes.found.all.items
-    (record { serial = c.args.serial; loops = c.in-Ok.counts }) c.in-Ok-first_pair.first found.1 found.2 (ap (λ (v : Vec Access Global). v.items) c.in-Ok-with_writes.ensures.ok.0) refl c.in-Ok.ensures.ok c.in-Ok-first_pair.ensures.ok c.in-None.is
+    let found = c.in_ok-found.ensures.ok in
+    body_is c.args.chain.now c.args.outer c.args.serial.items (stmt_of c.args.body.now) found.0 c.in_ok-found.found.items c.in_ok-found-2.found.all.items
+    (record { serial = c.args.serial; loops = c.in_ok-counts.counts }) c.in-Ok.first found.1 found.2 (ap (λ (v : Vec Access Global). v.items) c.in_ok-found-2.ensures.ok.0) refl c.in_ok-counts.ensures.ok c.in-Ok.ensures.ok c.in-None.is
 
 pub pair_refused-requires-clause-one : goal.pair_refused-requires-clause-one
 pair_refused-requires-clause-one c =
-    let found = c.in-Ok-accesses.ensures.ok in
+    let found = c.in_ok-found.ensures.ok in
     let now = c.args.chain.now in
     let body = stmt_of c.args.body.now in
-    let t = tested now c.args.outer c.args.serial.items body found.0 c.in-Ok-accesses.found.items c.in-Ok-with_writes.found.all.items (record { serial = c.args.serial; loops = c.in-Ok.counts }) found.1 found.2 (ap (λ (v : Vec Access Global). v.items) c.in-Ok-with_writes.ensures.ok.0) refl c.in-Ok.ensures.ok in
-    let named = the_named c.in-Ok-with_writes.found.all.items c.in-Ok-first_pair.first c.in-Some.pair c.in-Ok-first_pair.ensures.named c.in-Some.is in
-    has_site now _ c.args.outer c.args.serial.items body c.in-Ok-with_writes.found.all.items _ c.in-Some.pair.first named.one c.in-Ok-accesses.ensures.back t named.one_is
+    let t = tested now c.args.outer c.args.serial.items body found.0 c.in_ok-found.found.items c.in_ok-found-2.found.all.items (record { serial = c.args.serial; loops = c.in_ok-counts.counts }) found.1 found.2 (ap (λ (v : Vec Access Global). v.items) c.in_ok-found-2.ensures.ok.0) refl c.in_ok-counts.ensures.ok in
+    let named = the_named c.in_ok-found-2.found.all.items c.in-Ok.first c.in-Some.pair c.in-Ok.ensures.named c.in-Some.is in
+    has_site now _ c.args.outer c.args.serial.items body c.in_ok-found-2.found.all.items _ c.in-Some.pair.first named.one c.in_ok-found.ensures.back t named.one_is
 
 pub pair_refused-requires-clause-other : goal.pair_refused-requires-clause-other
 pair_refused-requires-clause-other c =
-    let found = c.in-Ok-accesses.ensures.ok in
+    let found = c.in_ok-found.ensures.ok in
     let now = c.args.chain.now in
     let body = stmt_of c.args.body.now in
-    let t = tested now c.args.outer c.args.serial.items body found.0 c.in-Ok-accesses.found.items c.in-Ok-with_writes.found.all.items (record { serial = c.args.serial; loops = c.in-Ok.counts }) found.1 found.2 (ap (λ (v : Vec Access Global). v.items) c.in-Ok-with_writes.ensures.ok.0) refl c.in-Ok.ensures.ok in
-    let named = the_named c.in-Ok-with_writes.found.all.items c.in-Ok-first_pair.first c.in-Some.pair c.in-Ok-first_pair.ensures.named c.in-Some.is in
-    has_site now _ c.args.outer c.args.serial.items body c.in-Ok-with_writes.found.all.items _ c.in-Some.pair.second named.other c.in-Ok-accesses.ensures.back t named.other_is
+    let t = tested now c.args.outer c.args.serial.items body found.0 c.in_ok-found.found.items c.in_ok-found-2.found.all.items (record { serial = c.args.serial; loops = c.in_ok-counts.counts }) found.1 found.2 (ap (λ (v : Vec Access Global). v.items) c.in_ok-found-2.ensures.ok.0) refl c.in_ok-counts.ensures.ok in
+    let named = the_named c.in_ok-found-2.found.all.items c.in-Ok.first c.in-Some.pair c.in-Ok.ensures.named c.in-Some.is in
+    has_site now _ c.args.outer c.args.serial.items body c.in_ok-found-2.found.all.items _ c.in-Some.pair.second named.other c.in_ok-found.ensures.back t named.other_is
 
-pub returns-in-Ok-first_pair-clause-err : goal.returns-in-Ok-first_pair-clause-err
-returns-in-Ok-first_pair-clause-err c =
-    let found = c.in-Ok-accesses.ensures.ok in
+pub returns-in-Ok-clause-err : goal.returns-in-Ok-clause-err
+returns-in-Ok-clause-err c =
+    let found = c.in_ok-found.ensures.ok in
     let now = c.args.chain.now in
     let body = stmt_of c.args.body.now in
-    let t = tested now c.args.outer c.args.serial.items body found.0 c.in-Ok-accesses.found.items c.in-Ok-with_writes.found.all.items (record { serial = c.args.serial; loops = c.in-Ok.counts }) found.1 found.2 (ap (λ (v : Vec Access Global). v.items) c.in-Ok-with_writes.ensures.ok.0) refl c.in-Ok.ensures.ok in
-    let named = the_named c.in-Ok-with_writes.found.all.items c.in-Ok-first_pair.first c.in-Some.pair c.in-Ok-first_pair.ensures.named c.in-Some.is in
-    let first = the_first _ c.in-Ok-with_writes.found.all.items c.in-Ok-first_pair.first c.in-Some.pair c.in-Ok-first_pair.ensures.ok c.in-Some.is in
-    pair_refused (map declaration_of c.args.variables.now) now _ c.args.outer c.args.serial.items body c.in-Ok-with_writes.found.all.items _ c.in-Some.pair c.pair_refused.result c.in-Ok-accesses.ensures.back t first named c.pair_refused.ensures
+    let t = tested now c.args.outer c.args.serial.items body found.0 c.in_ok-found.found.items c.in_ok-found-2.found.all.items (record { serial = c.args.serial; loops = c.in_ok-counts.counts }) found.1 found.2 (ap (λ (v : Vec Access Global). v.items) c.in_ok-found-2.ensures.ok.0) refl c.in_ok-counts.ensures.ok in
+    let named = the_named c.in_ok-found-2.found.all.items c.in-Ok.first c.in-Some.pair c.in-Ok.ensures.named c.in-Some.is in
+    let first = the_first _ c.in_ok-found-2.found.all.items c.in-Ok.first c.in-Some.pair c.in-Ok.ensures.ok c.in-Some.is in
+    pair_refused (map declaration_of c.args.variables.now) now _ c.args.outer c.args.serial.items body c.in_ok-found-2.found.all.items _ c.in-Some.pair c.pair_refused.result c.in_ok-found.ensures.back t first named c.pair_refused.ensures
 
 pub returns-clause-err : goal.returns-clause-err
 returns-clause-err c =
-    let found = c.in-Ok-accesses.ensures.ok in
+    let found = c.in_ok-found.ensures.ok in
     let now = c.args.chain.now in
     let body = stmt_of c.args.body.now in
-    let t = tested now c.args.outer c.args.serial.items body found.0 c.in-Ok-accesses.found.items c.in-Ok-with_writes.found.all.items (record { serial = c.args.serial; loops = c.in-Ok.counts }) found.1 found.2 (ap (λ (v : Vec Access Global). v.items) c.in-Ok-with_writes.ensures.ok.0) refl c.in-Ok.ensures.ok in
-    pair_too_large (map declaration_of c.args.variables.now) now c.args.outer c.args.serial.items body c.in-Ok-with_writes.found.all.items _ c.in-Err-first_pair.large.place _ t c.in-Err-first_pair.ensures.err refl
+    let t = tested now c.args.outer c.args.serial.items body found.0 c.in_ok-found.found.items c.in_ok-found-2.found.all.items (record { serial = c.args.serial; loops = c.in_ok-counts.counts }) found.1 found.2 (ap (λ (v : Vec Access Global). v.items) c.in_ok-found-2.ensures.ok.0) refl c.in_ok-counts.ensures.ok in
+    pair_too_large (map declaration_of c.args.variables.now) now c.args.outer c.args.serial.items body c.in_ok-found-2.found.all.items _ c.in-Err.large.place _ t c.in-Err.ensures.err refl

@@ -1,5 +1,6 @@
 use Rattle.std.specs.Prelude.{List, ℕ, ◌+◌, ◌∷◌, ◌++◌, drop, OnOk, IfErr}
 use Rattle.std.proofs.Common.{sym, ap, ◌∙◌, subst}
+use Rattle.std.proofs.lemmas.Result.{err_from_is_err_and}
 use Rattle.semantics.specs.Source.Scope.{Scope, AVariable}
 use Rattle.semantics.specs.Directives.Annotated.{lines_in, lines_among}
 use Rattle.ktree.specs.View.{stmt_of, items_of}
@@ -26,17 +27,19 @@ item_names-returns-in-Statement-clause-err t c =
     (h (lines_among scope items ++ rest)))
     c.statement_names.ensures.err
 
-pub loop_names-returns-in-Err-clause-err : goal.loop_names-returns-in-Err-clause-err
-loop_names-returns-in-Err-clause-err t c =
-    subst (λ scope. Blames c.in-Err.stop ((rest : List (ℕ × Scope)) → Misses c.args.directives.now (kept c.args.table.now) (lines_in scope (stmt_of c.args.body.now) ++ rest)))
+pub loop_names-returns-in_err-statement_names-clause-err : goal.loop_names-returns-in_err-statement_names-clause-err
+loop_names-returns-in_err-statement_names-clause-err t c =
+    let p = err_from_is_err_and c.from_residual-in_err-statement_names.result c.from_residual-in_err-statement_names.ensures.1 in
+    rw (p.1, p.2) (subst (λ scope. Blames c.in_err-statement_names.field-0.0 ((rest : List (ℕ × Scope)) → Misses c.args.directives.now (kept c.args.table.now) (lines_in scope (stmt_of c.args.body.now) ++ rest)))
     (c.in_ok-add.ensures.names ∙ ap (λ name. (name, AVariable c.args.head.now.variable.0 0) ∷ names_of c.args.scope.now) c.as_str.ensures.value)
-    c.in-Err.ensures.err
+    c.in_err-statement_names.ensures.err)
 
-pub statement_names-returns-in-Err-clause-err : goal.statement_names-returns-in-Err-clause-err
-statement_names-returns-in-Err-clause-err t c =
-    blames_weaker c.in-Err.stop
+pub statement_names-returns-in_err-statement_names-in-If-clause-err : goal.statement_names-returns-in_err-statement_names-in-If-clause-err
+statement_names-returns-in_err-statement_names-in-If-clause-err t c =
+    let p = err_from_is_err_and c.from_residual.result c.from_residual.ensures.1 in
+    rw (p.1, p.2) (blames_weaker c.in_err-statement_names-in-If.field-0.0
     (first_missed c.args.directives.now (kept c.args.table.now) c.args.statement.now c.in-If.field-0 c.in-If.then c.in-If.other c.deref.result.now c.in-If.is c.deref.ensures (names_of c.args.scope.now))
-    c.in-Err.ensures.err
+    c.in_err-statement_names-in-If.ensures.err)
 
 pub statement_names-returns-in-Some-clause-err : goal.statement_names-returns-in-Some-clause-err
 statement_names-returns-in-Some-clause-err t c =
@@ -46,12 +49,12 @@ statement_names-returns-in-Some-clause-err t c =
     let text = c.args.directives.now in
     let old = kept c.args.table.now in
     let mid = kept c.statement_names.new.table in
-    let told = subst (λ bs. IfErr c.statement_names-in-Some.result (λ stop. Blames stop ((rest : List (ℕ × Scope)) → Misses text mid (lines_in (names_of bs) (stmt_of c.deref-in-Some.result.now) ++ rest)))) c.in-Ok.ensures.names c.statement_names-in-Some.ensures.err in
+    let told = subst (λ bs. IfErr c.statement_names-in-Some.result (λ stop. Blames stop ((rest : List (ℕ × Scope)) → Misses text mid (lines_in (names_of bs) (stmt_of c.deref-in-Some.result.now) ++ rest)))) c.in_ok-statement_names-in-If.ensures.names c.statement_names-in-Some.ensures.err in
     err_weaker c.statement_names-in-Some.result
     (λ h rest.
     subst (Misses text old)
     (second_lines c.args.statement.now c.in-If.field-0 c.in-If.then c.in-If.other c.in-Some.other c.deref.result.now c.deref-in-Some.result.now c.in-If.is c.in-Some.is c.deref.ensures c.deref-in-Some.ensures scope rest)
-    (carried_miss text old mid (a ++ (b ++ rest)) (b ++ rest) (c.in-Ok.ensures.ok (b ++ rest)) (h rest)))
+    (carried_miss text old mid (a ++ (b ++ rest)) (b ++ rest) (c.in_ok-statement_names-in-If.ensures.ok (b ++ rest)) (h rest)))
     told
 
 pub statement_names-returns-in-For-clause-err : goal.statement_names-returns-in-For-clause-err
@@ -71,15 +74,16 @@ statement_names-returns-in-Block-clause-err t c =
     subst (λ s. IfErr c.block_names.result (λ stop. Blames stop ((rest : List (ℕ × Scope)) → Misses c.args.directives.now (kept c.args.table.now) (lines_in (names_of c.args.scope.now) s ++ rest))))
     (sym (block_is c.args.statement.now c.in-Block.items c.deref-in-Block.result.now c.in-Block.is c.deref-in-Block.ensures.value)) c.block_names.ensures.err
 
-pub items_names-returns-in-Err-clause-err : goal.items_names-returns-in-Err-clause-err
-items_names-returns-in-Err-clause-err t c =
+pub items_names-returns-in_err-item_names-clause-err : goal.items_names-returns-in_err-item_names-clause-err
+items_names-returns-in_err-item_names-clause-err t c =
     let text = c.args.directives.now in
     let mid = kept c.loop-item.table in
     let inner = names_of c.loop-item.scope in
     let items = c.args.items.now in
     let i = c.loop-item.item-index in
-    blames_weaker c.in-Err.stop
+    let p = err_from_is_err_and c.from_residual.result c.from_residual.ensures.1 in
+    rw (p.1, p.2) (blames_weaker c.in_err-item_names.field-0.0
     (λ h rest.
     carried_miss text (kept c.args.table.now) mid (lines_among (names_of c.args.scope.now) (items_of items) ++ rest) (lines_among inner (items_of (drop i items)) ++ rest) (c.loop-item.invariant.0 rest)
     (subst (λ its. Misses text mid (lines_among inner its ++ rest)) (sym (next_item items i c.item-item.result c.loop-item-test.true c.item-item.is)) (h (items_of (drop (i + 1) items)) rest)))
-    c.in-Err.ensures.err
+    c.in_err-item_names.ensures.err)
