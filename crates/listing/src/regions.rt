@@ -55,7 +55,13 @@ fn add_next_loop(
 {
     let schedule = schedule_for(region_loop.said);
     let loops = before.loops + 1;
-    add_loop(text, before.regions, loops, &schedule, &region_loop.reductions)?;
+    add_loop(
+        text,
+        before.regions,
+        loops,
+        &schedule,
+        &region_loop.reductions,
+    )?;
     Ok(Listed {
         regions: before.regions,
         loops,

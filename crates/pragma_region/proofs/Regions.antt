@@ -9,7 +9,6 @@ use Rattle.ktree.specs.View.{with_item, items_of}
 use Rattle.ktree.specs.declared.place.Place.{Place}
 use Rattle.ktree.specs.declared.statement.Item.{Item}
 use Rattle.ktree.proofs.Trees.{next_item}
-
 use Rattle.pragma.specs.Reading.{ReadsNone}
 use Rattle.pragma_attach.specs.Standing.{directive_on}
 use Rattle.pragma_region.specs.declared.listing.RegionPart.{RegionPart}

@@ -97,8 +97,11 @@ fn add_loop(
     said: ParallelFor,
     clauses: &[Clause<Written>],
 ) -> Result<(), AllocError>
-    ensures { OnOk result (AddsParts (Some (said_of said, flat_map reduction_of
-        (map written_clause clauses.now)) ∷ []) parts.old.items parts.new.items) }
+    ensures { OnOk result (AddsParts (Some (
+      said_of said,
+      flat_map reduction_of
+          (map written_clause clauses.now),
+    ) ∷ []) parts.old.items parts.new.items) }
 {
     let reductions = reductions_of(alloc, clauses)?;
     parts.push(RegionPart {
