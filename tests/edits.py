@@ -38,6 +38,7 @@ HEAD = re.compile(r"(\s*)(?:pub(?:\([^)]*\))? )?(?:const )?(?:unsafe )?fn (\w+)"
 CONST = re.compile(r"\s*(?:pub(?:\([^)]*\))? )?const (\w+):")
 IMPL = re.compile(r"impl(?:<.*?>)? (?:(?P<trait>.*) for )?(?:\w+::)*(?P<type>\w+)")
 TRIED = os.path.join(TOP, "tests", "edits.tried")
+SWITCHES = ("--read", "--all", "--proved")
 NAMES_ALONE = "only because a proof file names what the edit took away"
 NAMES = re.compile(r"has no field|is not in scope|has no `|was not admitted")
 
@@ -336,6 +337,8 @@ def read_all(rt):
 
 def main(words):
     started = time.time()
+    if any(it.startswith("--") and it not in SWITCHES for it in words):
+        sys.exit(__doc__)
     os.chdir(TOP)
     rt = kit.load()
     if words == ["--read"]:
