@@ -19,6 +19,7 @@ use Rattle.pragma_region.specs.Listed.{regions_of, parts_of, part_said}
 use Rattle.pragma_region.specs.declared.listing.RegionPart.{RegionPart}
 use Rattle.flow.specs.Roles.{LineRoles, line_roles, privates_by, ItemsHaveBy, ItemsKeepRoles}
 use Rattle.flow_clauses.specs.Fitting.{fit_clauses}
+use Rattle.flow_ordered.specs.Ordered.{prints_in_order}
 use Rattle.flow.specs.Parallel.{AreParallelLoops}
 use Rattle.flow.specs.declared.environment.ParallelLoop.{ParallelLoop}
 use Rattle.law_independence.specs.IndependenceLaws.{IsIndependentNest}
@@ -45,7 +46,7 @@ clauses_counted text k ds = counted_in text k (clauses_said k ds)
 abbrev pub roles_counted : List ℕ → Kernel → Directives → LineRoles
 roles_counted text k ds line = line_roles (length k.variables) (clauses_counted text k ds line)
 
--- what is known before the dependence test: the tree is one of the text, whose directives are attached to the whole of it; its loops are canonical and never wrap, no subscript leaves its array, each directive line left in it is that of a loop directly behind it that holds no other, with a right nest, that prints nothing, writes no scalar but its own and those with a role, and keeps their roles, and no local is read before it is assigned; the roles are those of the clauses that count for a loop, and these name what they may
+-- what is known before the dependence test: the tree is one of the text, whose directives are attached to the whole of it; its loops are canonical and never wrap, no subscript leaves its array, each directive line left in it is that of a loop directly behind it that holds no other, with a right nest, that writes no scalar but its own and those with a role, and keeps their roles, and no local is read before it is assigned; the roles are those of the clauses that count for a loop, and these name what they may; parallel loops print in ordered regions alone
 pub record HasPassed (text : List ℕ) (k : Kernel) : Type 0 where
   pub reads : IsTreeOf text k
   pub directives : Directives
@@ -56,6 +57,7 @@ pub record HasPassed (text : List ℕ) (k : Kernel) : Type 0 where
   pub definite : IsDefinite (privates_by (roles_counted text reads.whole directives)) k
   pub roles : ItemsKeepRoles text (roles_counted text reads.whole directives) [] k.body
   pub fit : fit_clauses (clauses_counted text reads.whole directives) k ≡ true
+  pub ordered : prints_in_order text reads.whole ≡ true
 
 -- the roles of a kernel that has passed
 abbrev pub roles_passed : {text : List ℕ} {k : Kernel} → HasPassed text k → LineRoles

@@ -49,7 +49,7 @@ fn item_body(item: &Item) -> Option<&Stmt>
 }
 
 /// What the innermost of so many nested loops runs (OpenMP 5.2, 4.4.3).
-pub(crate) fn nest_body(statement: &Stmt, depth: u64) -> Option<&Stmt>
+pub fn nest_body(statement: &Stmt, depth: u64) -> Option<&Stmt>
     ensures { option_map (λ body. stmt_of body.now) result
         ≡ nest_body_of depth (stmt_of statement.now) }
 {

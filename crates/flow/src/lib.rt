@@ -13,6 +13,7 @@ mod reductions;
 mod role_lists;
 mod sharing;
 
+pub use bodies::nest_body;
 pub use classifying::classify;
 pub use environment::{LoopRoles, ParallelLoop};
 pub use fault::DataFault;

@@ -10,7 +10,7 @@ use Rattle.semantics.specs.Source.Scope.{Scope, AVariable}
 use Rattle.semantics.specs.Meaning.Value.{map_option}
 use Rattle.semantics.specs.Loops.Nest.{Loop, as_loop, only_loop, holds_none, nest_of}
 use Rattle.semantics.specs.Source.Grammar.{ReadsText}
-use Rattle.semantics.specs.Directives.Directive.{Schedule, StaticPlain, Clause, DefaultShared, DefaultNone, Nowait, Shared, Private, Firstprivate, Lastprivate, Reduction, ScheduledBy, Collapse, Directive, ParallelFor, Parallel, Worksharing, ScanInclusive, ScanExclusive, OrderedRegion, DoacrossSource, DoacrossSink}
+use Rattle.semantics.specs.Directives.Directive.{Schedule, StaticPlain, Clause, DefaultShared, DefaultNone, Nowait, Ordered, Shared, Private, Firstprivate, Lastprivate, Reduction, ScheduledBy, Collapse, Directive, ParallelFor, Parallel, Worksharing, ScanInclusive, ScanExclusive, OrderedRegion, DoacrossSource, DoacrossSink}
 use Rattle.semantics.specs.Directives.Annotated.{Directives, directive_at, file_scope, lines_in, lines_among, lines_of, ReadsDirectives}
 use Rattle.semantics.specs.Directives.Clauses.{depth_of, schedule_of, doacross_of, reduction_of, is_scan}
 use Rattle.semantics.specs.Directives.Regions as meant
@@ -26,7 +26,7 @@ use Rattle.pragma.specs.Plain.{has_line, has_line_among, IsPlainFor, IsPlainLoop
 use Rattle.pragma_attach.specs.Standing.{directive_on}
 use Rattle.pragma_attach.specs.Attached.{directives_of}
 use Rattle.pragma_attach.proofs.LinesLaw.{Read, AllRead, both_read, Found, AllFound, found_first, found_second, all_found, are_read}
-use Rattle.pragma_region.specs.Regions.{is_region_line, alone}
+use Rattle.pragma_region.specs.Regions.{is_ordered, is_left_out, alone}
 use Rattle.pragma_region.specs.Listed.{one_loop, line_loop, shared_line, shared_behind, shared_among, shared_in, region_line, region_behind, regions_in, regions_among, regions_of, part_said}
 use Rattle.pragma_region.specs.declared.listing.RegionPart.{RegionPart}
 use Rattle.deptest.specs.Accepted.{AreRegions}
@@ -90,6 +90,11 @@ one_more (Lastprivate xs) cs j d k e p f = record {
   scan = p.scan;
 }
 one_more (Reduction op xs) cs j d k e p f = record {
+  schedule = p.schedule ∙ ap (λ o. unwrap_or o StaticPlain) (first_said f);
+  doacross = p.doacross;
+  scan = p.scan;
+}
+one_more Ordered cs j d k e p f = record {
   schedule = p.schedule ∙ ap (λ o. unwrap_or o StaticPlain) (first_said f);
   doacross = p.doacross;
   scan = p.scan;
@@ -209,19 +214,23 @@ same_directive p = cc p
 
 module _ (text : List ℕ) (ds : Directives) where
   abbrev out : ℕ → Bool
-  out n = is_region_line text n
+  out n = is_left_out text n
 
-  -- the line of a region has no offsets
+  -- whether the line of such a directive is left out
+  abbrev is_out : Option (Directive Name) → Bool
+  is_out o = is_team o || is_ordered o
+
+  -- one that is has no offsets
   region_quiet : (n : ℕ) (o : Option (Directive Name)) → directive_on text n ≡ o → directive_at ds n ≡ o → out n ≡ true → offsets_of (directive_at ds n) ≡ []
   region_quiet n (Some (Parallel cs)) e f t = ap offsets_of f
-  region_quiet n None e f t = absurd (cc (sym (ap is_team e) ∙ t))
-  region_quiet n (Some (ParallelFor cs)) e f t = absurd (cc (sym (ap is_team e) ∙ t))
-  region_quiet n (Some (Worksharing cs)) e f t = absurd (cc (sym (ap is_team e) ∙ t))
-  region_quiet n (Some (ScanInclusive x)) e f t = absurd (cc (sym (ap is_team e) ∙ t))
-  region_quiet n (Some (ScanExclusive x)) e f t = absurd (cc (sym (ap is_team e) ∙ t))
-  region_quiet n (Some OrderedRegion) e f t = absurd (cc (sym (ap is_team e) ∙ t))
-  region_quiet n (Some DoacrossSource) e f t = absurd (cc (sym (ap is_team e) ∙ t))
-  region_quiet n (Some (DoacrossSink es)) e f t = absurd (cc (sym (ap is_team e) ∙ t))
+  region_quiet n None e f t = absurd (cc (sym (ap is_out e) ∙ t))
+  region_quiet n (Some (ParallelFor cs)) e f t = absurd (cc (sym (ap is_out e) ∙ t))
+  region_quiet n (Some (Worksharing cs)) e f t = absurd (cc (sym (ap is_out e) ∙ t))
+  region_quiet n (Some (ScanInclusive x)) e f t = absurd (cc (sym (ap is_out e) ∙ t))
+  region_quiet n (Some (ScanExclusive x)) e f t = absurd (cc (sym (ap is_out e) ∙ t))
+  region_quiet n (Some OrderedRegion) e f t = ap offsets_of f
+  region_quiet n (Some DoacrossSource) e f t = absurd (cc (sym (ap is_out e) ∙ t))
+  region_quiet n (Some (DoacrossSink es)) e f t = absurd (cc (sym (ap is_out e) ∙ t))
 
   mutual
     -- where no line is left but those of regions
@@ -278,8 +287,8 @@ module _ (text : List ℕ) (ds : Directives) where
       alone (Some nest) = refl
 
   -- a line that is none of a region is left
-  left_in : (n : ℕ) (o : Option (Directive Name)) → directive_on text n ≡ o → is_team o ≡ false → out n ≡ false
-  left_in n o e t = ap is_team e ∙ t
+  left_in : (n : ℕ) (o : Option (Directive Name)) → directive_on text n ≡ o → is_out o ≡ false → out n ≡ false
+  left_in n o e t = ap is_out e ∙ t
 
   -- a loop of a `parallel` block
   one_shared : (before : Option ℕ) (o : Option (Directive Name)) (scope : Scope) (s : Stmt) (rest : Items) → Before before o → Behind before (stmt s rest) → AllFound text ds (lines_in scope s)
@@ -389,12 +398,12 @@ module _ (text : List ℕ) (ds : Directives) where
 
 module _ (text : List ℕ) where
   -- that of a region
-  region_is_read : (n : ℕ) (o : Option (Directive Name)) → directive_on text n ≡ o → is_region_line text n ≡ true → Read text n
-  region_is_read n None e t = absurd (cc (sym (ap is_team e) ∙ t))
+  region_is_read : (n : ℕ) (o : Option (Directive Name)) → directive_on text n ≡ o → is_left_out text n ≡ true → Read text n
+  region_is_read n None e t = absurd (cc (sym (ap (λ o. is_team o || is_ordered o) e) ∙ t))
   region_is_read n (Some d) e t = (d, e)
 
   mutual
-    read_in : (scope : Scope) (serial : List Loop) (s : Stmt) → LoopsHave text IsPlainLoop serial (without_in (is_region_line text) s) → AllRead text (lines_in scope s)
+    read_in : (scope : Scope) (serial : List Loop) (s : Stmt) → LoopsHave text IsPlainLoop serial (without_in (is_left_out text) s) → AllRead text (lines_in scope s)
     read_in scope serial (Assign x is v) h = tt
     read_in scope serial (Update x is op v) h = tt
     read_in scope serial (If c a) h = read_in scope serial a h
@@ -404,12 +413,12 @@ module _ (text : List ℕ) where
     read_in scope serial (Block items) h = read_among scope serial items h
     read_in scope serial (Print parts) h = tt
 
-    read_among : (scope : Scope) (serial : List Loop) (items : Items) → ItemsHave text IsPlainLoop serial (without_among (is_region_line text) items) → AllRead text (lines_among scope items)
+    read_among : (scope : Scope) (serial : List Loop) (items : Items) → ItemsHave text IsPlainLoop serial (without_among (is_left_out text) items) → AllRead text (lines_among scope items)
     read_among scope serial no_items h = tt
-    read_among scope serial (mark n rest) h = go (is_region_line text n) refl h (λ g. read_among scope serial rest g)
+    read_among scope serial (mark n rest) h = go (is_left_out text n) refl h (λ g. read_among scope serial rest g)
       where
-        go : (b : Bool) → is_region_line text n ≡ b → ItemsHave text IsPlainLoop serial (if b then without_among (is_region_line text) rest else mark n (without_among (is_region_line text) rest))
-            → (ItemsHave text IsPlainLoop serial (without_among (is_region_line text) rest) → AllRead text (lines_among scope rest)) → AllRead text (lines_among scope (mark n rest))
+        go : (b : Bool) → is_left_out text n ≡ b → ItemsHave text IsPlainLoop serial (if b then without_among (is_left_out text) rest else mark n (without_among (is_left_out text) rest))
+            → (ItemsHave text IsPlainLoop serial (without_among (is_left_out text) rest) → AllRead text (lines_among scope rest)) → AllRead text (lines_among scope (mark n rest))
         go true t g later = (region_is_read n (directive_on text n) refl t, later g)
         go false t ((k, c, r, first), g) later = ((r.directive, line_read (line_at text n) r.directive r.reads), later g)
     read_among scope serial (local x name start rest) h = read_among ((name, AVariable x 0) ∷ scope) serial rest h

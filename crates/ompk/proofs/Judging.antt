@@ -1,5 +1,5 @@
 -- What the passes before the dependence test find out together, and which of them refuses.
-use Rattle.std.specs.Prelude.{ℕ, ◌≡◌, List, [], length, Some}
+use Rattle.std.specs.Prelude.{ℕ, Bool, true, ◌≡◌, List, [], length, Some}
 use Rattle.std.proofs.Common.{sym, ap, ◌∙◌, subst, inr}
 use Rattle.std.proofs.Math.Path.{fun_ext}
 use Rattle.semantics.specs.Tree.{Kernel, strip}
@@ -12,12 +12,13 @@ use Rattle.semantics.proofs.EraseTextLaw.{text_erased}
 use Rattle.law_lines.proofs.Stripped.{stripped_trees_are_one}
 use Rattle.ktree.specs.declared.refusal.Refusal.{Refusal}
 use Rattle.pragma_named.specs.Known.{Known, Lines, known_clauses, lines_known}
-use Rattle.pragma_region.specs.Regions.{is_region_line, alone}
+use Rattle.pragma_region.specs.Regions.{is_left_out, alone}
 use Rattle.pragma_region.specs.Counted.{counted_in}
 use Rattle.flow.specs.Roles.{LineRoles, line_roles, roles_known, privates_by, ItemsKeepRoles}
 use Rattle.flow.specs.Parallel.{AreParallelLoops}
 use Rattle.flow.specs.declared.environment.ParallelLoop.{ParallelLoop}
 use Rattle.flow_clauses.specs.Fitting.{fit_clauses}
+use Rattle.flow_ordered.specs.Ordered.{prints_in_order}
 use Rattle.deptest.specs.Accepted.{Program, tree_of, clauses_said, clauses_counted, roles_counted, HasPassed, HasLoops}
 use Rattle.ompk.specs.Judged.{IsLineKernel, IsOfKernel}
 use Rattle.ompk.specs.Refused.{IsJudged, RefusesAlone, RefusesKernel}
@@ -37,8 +38,8 @@ roles_are text k ds known is =
     ap roles is
 
 -- a kernel that is judged has passed
-pub has_passed : (text : List ℕ) (k : Kernel) (known : Known) → IsLineKernel text k known → IsJudged text k (roles_known known (length k.variables)) (lines_known known) → HasPassed text k
-has_passed text k known stands judged =
+pub has_passed : (text : List ℕ) (k : Kernel) (known : Known) (in_order : Bool) → IsLineKernel text k known in_order → IsJudged text k (roles_known known (length k.variables)) (lines_known known) in_order → HasPassed text k
+has_passed text k known in_order stands judged =
     record {
       reads = stands.reads;
       directives = stands.directives;
@@ -49,37 +50,40 @@ has_passed text k known stands judged =
       definite = subst (λ (R : LineRoles). IsDefinite (privates_by R) k) (sym stands.roles) judged.environment.0;
       roles = subst (λ (R : LineRoles). ItemsKeepRoles text R [] k.body) (sym stands.roles) judged.environment.1;
       fit = ap (λ (lines : Lines). fit_clauses lines k) stands.clauses ∙ judged.environment.2;
+      ordered = stands.ordered ∙ judged.environment.3;
     }
 
 -- and has these loops
-pub has_loops : (text : List ℕ) (k : Kernel) (known : Known) (loops : List ParallelLoop) → IsLineKernel text k known → IsJudged text k (roles_known known (length k.variables)) (lines_known known)
+pub has_loops : (text : List ℕ) (k : Kernel) (known : Known) (in_order : Bool) (loops : List ParallelLoop) → IsLineKernel text k known in_order → IsJudged text k (roles_known known (length k.variables)) (lines_known known) in_order
     → AreParallelLoops text (roles_known known (length k.variables)) k loops → HasLoops text k loops
 unfolding has_passed
-has_loops text k known loops stands judged listed =
-    record { passed = has_passed text k known stands judged; listed = subst (λ (R : LineRoles). AreParallelLoops text R k loops) (sym stands.roles) listed }
+has_loops text k known in_order loops stands judged listed =
+    record { passed = has_passed text k known in_order stands judged; listed = subst (λ (R : LineRoles). AreParallelLoops text R k loops) (sym stands.roles) listed }
 
--- a kernel whose directives are attached, with its parallel regions dissolved
-pub line_kernel : (text : List ℕ) (tree k : Kernel) (ds : Directives) (known : Known) → ReadsText text tree → IsAttached text tree ds → clauses_counted text tree ds ≡ lines_known known
-    → roles_counted text tree ds ≡ roles_known known (length tree.variables) → k ≡ alone text tree → IsLineKernel text k known
-line_kernel text tree k ds known reads attached clauses roles is =
+-- a kernel whose directives are attached, with its regions dissolved
+pub line_kernel : (text : List ℕ) (tree k : Kernel) (ds : Directives) (known : Known) (in_order : Bool) → ReadsText text tree → IsAttached text tree ds → clauses_counted text tree ds ≡ lines_known known
+    → roles_counted text tree ds ≡ roles_known known (length tree.variables) → k ≡ alone text tree → in_order ≡ prints_in_order text tree → IsLineKernel text k known in_order
+line_kernel text tree k ds known in_order reads attached clauses roles is ordered =
     record {
-      reads = record { whole = tree; reads = reads; left_out = is_region_line text; is = is };
+      reads = record { whole = tree; reads = reads; left_out = is_left_out text; is = is };
       directives = ds;
       attached = attached;
       clauses = clauses;
       roles = roles ∙ ap (λ (j : Kernel). roles_known known (length j.variables)) (sym is);
+      ordered = sym ordered;
     }
 
 -- it is refused
-pub alone_refused : (text : List ℕ) (tree k : Kernel) (ds : Directives) (known : Known) (r : Refusal) → IsAttached text tree ds → clauses_counted text tree ds ≡ lines_known known
-    → roles_counted text tree ds ≡ roles_known known (length tree.variables) → k ≡ alone text tree
-    → RefusesAlone text k (roles_known known (length k.variables)) (lines_known known) r → RefusesKernel text tree r
-alone_refused text tree k ds known r attached clauses roles is refused =
-    let there = subst (λ (j : Kernel). RefusesAlone text j (roles_known known (length j.variables)) (lines_known known) r) is refused in
-    let by_lines = subst (λ (lines : Lines). RefusesAlone text (alone text tree) (roles_known known (length tree.variables)) lines r) (sym clauses) there in
-    inr (ds, attached, subst (λ (R : LineRoles). RefusesAlone text (alone text tree) R (clauses_counted text tree ds) r) (sym roles) by_lines)
+pub alone_refused : (text : List ℕ) (tree k : Kernel) (ds : Directives) (known : Known) (in_order : Bool) (r : Refusal) → IsAttached text tree ds → clauses_counted text tree ds ≡ lines_known known
+    → roles_counted text tree ds ≡ roles_known known (length tree.variables) → k ≡ alone text tree → in_order ≡ prints_in_order text tree
+    → RefusesAlone text k (roles_known known (length k.variables)) (lines_known known) in_order r → RefusesKernel text tree r
+alone_refused text tree k ds known in_order r attached clauses roles is ordered refused =
+    let there = subst (λ (j : Kernel). RefusesAlone text j (roles_known known (length j.variables)) (lines_known known) in_order r) is refused in
+    let by_lines = subst (λ (lines : Lines). RefusesAlone text (alone text tree) (roles_known known (length tree.variables)) lines in_order r) (sym clauses) there in
+    let by_roles = subst (λ (R : LineRoles). RefusesAlone text (alone text tree) R (clauses_counted text tree ds) in_order r) (sym roles) by_lines in
+    inr (ds, attached, subst (λ (b : Bool). RefusesAlone text (alone text tree) (roles_counted text tree ds) (clauses_counted text tree ds) b r) ordered by_roles)
 
 -- what is kept stands for the text
 pub stands_for : (text : List ℕ) (tree : Kernel) (p : Program) → ReadsText text tree → IsOfKernel text tree p → StandsFor text (tree_of p)
 stands_for text tree p reads is =
-    subst (StandsFor text) (sym (ap strip is.kernel_is ∙ stripped_trees_are_one (is_region_line text) tree)) (text_erased reads)
+    subst (StandsFor text) (sym (ap strip is.kernel_is ∙ stripped_trees_are_one (is_left_out text) tree)) (text_erased reads)

@@ -1,5 +1,5 @@
 -- Why a text is not accepted.
-use Rattle.std.specs.Prelude.{ℕ, ◌≡◌, ◌⊎◌, true, false, List, [], Some, None}
+use Rattle.std.specs.Prelude.{ℕ, Bool, ◌≡◌, ◌⊎◌, true, false, List, [], Some, None}
 use Rattle.semantics.specs.Tree.{Kernel}
 use Rattle.semantics.specs.Source.Grammar.{ReadsText}
 use Rattle.semantics.specs.Meaning.Definite.{IsDefinite}
@@ -27,6 +27,7 @@ use Rattle.flow.specs.declared.fault.DataFault.{DataFault}
 use Rattle.pragma_named.specs.Known.{Lines}
 use Rattle.flow_clauses.specs.Fitting.{fit_clauses, number_told}
 use Rattle.flow_clauses.specs.declared.judging.Misuse.{Misuse}
+use Rattle.flow_ordered.specs.Ordered.{prints_in_order}
 use Rattle.deptest.specs.Accepted.{clauses_counted, roles_counted, HasPassed}
 use Rattle.deptest.specs.Refused.{RefusesLoops}
 
@@ -46,7 +47,7 @@ RefusesDirectives text tree r = IsOfDirectives r × ((ds : Directives) → IsAtt
 abbrev pub RefusesLines : List ℕ → Kernel → Refusal → Type 0
 RefusesLines text tree r = (r ≡ OutOfMemory) ⊎ RefusesDirectives text tree r
 
--- the first directive or clause that is not known so far has this number (K11, K15 to K18)
+-- the first directive or clause that is not known so far has this number (K15, K17, K18)
 abbrev pub RefusesUnknown : List ℕ → Kernel → Refusal → Type 0
 RefusesUnknown text tree r = unknown_among text tree.body ≡ Some (number_of r)
 
@@ -58,7 +59,7 @@ RefusesPlaced text tree r = (unknown_among text tree.body ≡ None) × ((f : lin
 abbrev pub RefusesPlaces : List ℕ → Kernel → Refusal → Type 0
 RefusesPlaces text tree r = (IsDirected text tree → ⊥) × (RefusesUnknown text tree r ⊎ RefusesPlaced text tree r)
 
--- memory was refused, or a local may be read before it is assigned; or a parallel loop writes a shared scalar, or prints, or does not keep the roles of its scalars, or a line has no nest, whichever is told
+-- memory was refused, or a local may be read before it is assigned; or a parallel loop writes a shared scalar, or does not keep the roles of its scalars, or a line has no nest, whichever is told
 abbrev pub RefusesScalars : List ℕ → Kernel → LineRoles → Refusal → Type 0
 RefusesScalars text tree R r =
     (r ≡ OutOfMemory) ⊎ (((number_of r ≡ 10) × (IsDefinite (privates_by R) tree → ⊥)) ⊎ ((f : DataFault) × (r ≡ data_refusal_of f) × TellsOfItems f text R tree.body))
@@ -67,46 +68,50 @@ RefusesScalars text tree R r =
 abbrev pub RefusesClauses : Lines → Kernel → Refusal → Type 0
 RefusesClauses lines tree r = (r ≡ OutOfMemory) ⊎ ((m : Misuse) × (number_of r ≡ number_told m) × (fit_clauses lines tree ≡ false))
 
--- one of both
-abbrev pub RefusesData : List ℕ → Kernel → LineRoles → Lines → Refusal → Type 0
-RefusesData text tree R lines r = RefusesScalars text tree R r ⊎ RefusesClauses lines tree r
+-- an ordered region stands where it may not, or a parallel loop prints outside of one (K18)
+abbrev pub RefusesOrder : Bool → Refusal → Type 0
+RefusesOrder in_order r = (in_order ≡ false) × (number_of r ≡ 18)
+
+-- one of these; in_order: whether parallel loops print in order
+abbrev pub RefusesData : List ℕ → Kernel → LineRoles → Lines → Bool → Refusal → Type 0
+RefusesData text tree R lines in_order r = RefusesScalars text tree R r ⊎ (RefusesClauses lines tree r ⊎ RefusesOrder in_order r)
 
 -- the passes before that of the data find nothing wrong, nor does that of the data
 abbrev pub IsNestedRightly : List ℕ → Kernel → Type 0
 IsNestedRightly text tree = IsDirected text tree × AreRightNests text tree
 
-abbrev pub HasRightData : List ℕ → Kernel → LineRoles → Lines → Type 0
-HasRightData text tree R lines = IsDefinite (privates_by R) tree × ItemsKeepRoles text R [] tree.body × (fit_clauses lines tree ≡ true)
+abbrev pub HasRightData : List ℕ → Kernel → LineRoles → Lines → Bool → Type 0
+HasRightData text tree R lines in_order = IsDefinite (privates_by R) tree × ItemsKeepRoles text R [] tree.body × (fit_clauses lines tree ≡ true) × (in_order ≡ true)
 
 -- the data are wrong, or they are right and a subscript leaves its array
-abbrev pub RefusesDataOrRanges : List ℕ → Kernel → LineRoles → Lines → Refusal → Type 0
-RefusesDataOrRanges text tree R lines r = RefusesData text tree R lines r ⊎ (HasRightData text tree R lines × RefusesRanges tree r)
+abbrev pub RefusesDataOrRanges : List ℕ → Kernel → LineRoles → Lines → Bool → Refusal → Type 0
+RefusesDataOrRanges text tree R lines in_order r = RefusesData text tree R lines in_order r ⊎ (HasRightData text tree R lines in_order × RefusesRanges tree r)
 
 -- memory was refused, or the first pass that finds something wrong tells it: places of lines, then nests, then data, then ranges
-abbrev pub RefusesPasses : List ℕ → Kernel → LineRoles → Lines → Refusal → Type 0
-RefusesPasses text tree R lines r =
+abbrev pub RefusesPasses : List ℕ → Kernel → LineRoles → Lines → Bool → Refusal → Type 0
+RefusesPasses text tree R lines in_order r =
     (r ≡ OutOfMemory)
     ⊎ (RefusesPlaces text tree r
     ⊎ ((IsDirected text tree × RefusesNests text tree r)
-    ⊎ (IsNestedRightly text tree × RefusesDataOrRanges text tree R lines r)))
+    ⊎ (IsNestedRightly text tree × RefusesDataOrRanges text tree R lines in_order r)))
 
 -- none of them finds anything, by the clauses that are known of each line
-pub record IsJudged (text : List ℕ) (tree : Kernel) (R : LineRoles) (lines : Lines) : Type 0 where
+pub record IsJudged (text : List ℕ) (tree : Kernel) (R : LineRoles) (lines : Lines) (in_order : Bool) : Type 0 where
   pub right : IsNestedRightly text tree
-  pub environment : HasRightData text tree R lines
+  pub environment : HasRightData text tree R lines in_order
   pub in_range : IsInRange tree
 
 -- all of that is well, and the dependence test refuses the tree, or memory was refused
 abbrev pub RefusesPairs : List ℕ → Kernel → Refusal → Type 0
 RefusesPairs text tree r = HasPassed text tree × RefusesLoops text tree r
 
--- a tree whose parallel regions are dissolved is refused by one of these passes or by that test
-abbrev pub RefusesAlone : List ℕ → Kernel → LineRoles → Lines → Refusal → Type 0
-RefusesAlone text tree R lines r = RefusesPasses text tree R lines r ⊎ RefusesPairs text tree r
+-- a tree whose regions are dissolved is refused by one of these passes or by that test
+abbrev pub RefusesAlone : List ℕ → Kernel → LineRoles → Lines → Bool → Refusal → Type 0
+RefusesAlone text tree R lines in_order r = RefusesPasses text tree R lines in_order r ⊎ RefusesPairs text tree r
 
--- the directives are attached, and the tree with its parallel regions dissolved is refused, by the clauses that count for its lines
+-- the directives are attached, and the tree with its regions dissolved is refused, by the clauses that count for its lines
 abbrev pub RefusesAttached : List ℕ → Kernel → Refusal → Type 0
-RefusesAttached text tree r = (ds : Directives) × IsAttached text tree ds × RefusesAlone text (alone text tree) (roles_counted text tree ds) (clauses_counted text tree ds) r
+RefusesAttached text tree r = (ds : Directives) × IsAttached text tree ds × RefusesAlone text (alone text tree) (roles_counted text tree ds) (clauses_counted text tree ds) (prints_in_order text tree) r
 
 -- the tree is none that is run
 abbrev pub RefusesKernel : List ℕ → Kernel → Refusal → Type 0

@@ -1,6 +1,6 @@
 //! Which texts are accepted.
 
-ghost use Rattle.std.specs.Prelude.{◌≡◌, ◌⊎◌, [], true, length, OnOk, IfOk, IfErr};
+ghost use Rattle.std.specs.Prelude.{◌≡◌, ◌⊎◌, [], true, is_none, length, OnOk, IfOk, IfErr};
 ghost use Rattle.flow_clauses.specs.Fitting.{fit_clauses};
 ghost use Rattle.flow.specs.Roles.{roles_known, privates_by, ItemsKeepRoles};
 ghost use Rattle.pragma_named.specs.Known.{kept, lines_known};
@@ -17,13 +17,14 @@ ghost use Rattle.nest.specs.Perfect.{AreRightNests};
 ghost use Rattle.nest.specs.Judged.{IsTableOf};
 ghost use Rattle.deptest.specs.Accepted.{tree_of, clauses_counted, roles_counted, AreRegions, IsAccepted};
 ghost use Rattle.ompk.specs.Judged.{IsLineKernel, IsOfKernel};
-ghost use Rattle.ompk.specs.Refused.{IsJudged, RefusesLines, RefusesPlaces, RefusesNests, RefusesRanges, RefusesScalars, RefusesClauses, RefusesPasses, RefusesAlone, RefusesKernel, RefusesText};
+ghost use Rattle.ompk.specs.Refused.{IsJudged, RefusesLines, RefusesPlaces, RefusesNests, RefusesRanges, RefusesScalars, RefusesClauses, HasRightData, RefusesData, RefusesPasses, RefusesAlone, RefusesKernel, RefusesText};
 
 use cparse::parse;
 use deptest::{Checked, Parallel, accept};
 use flow::{DataFault, ParallelLoop, classify};
 use flow_clauses::first_misuse;
 use flow_definite::definite;
+use flow_ordered::{Disorder, first_disorder};
 use ktree::{Kernel, Refusal};
 use nest::{LoopTable, nests};
 use pragma::{Directives, first_fault};
@@ -100,8 +101,8 @@ fn stands_before(fault: DataFault, refusal: &Refusal) -> bool {
     }
 }
 
-// What refuses a kernel in which a parallel loop writes a shared scalar, prints, or does not keep the roles of its scalars, or a local may
-// be read before it is assigned.
+// What refuses a kernel in which a parallel loop writes a shared scalar or does not keep the roles of its scalars, or a local may be read
+// before it is assigned.
 fn judge_scalars(
     alloc: Global,
     kernel: &Kernel,
@@ -160,8 +161,19 @@ fn comes_before(one: &Refusal, other: &Refusal) -> bool {
     }
 }
 
+// The one of two refusals that is told.
+fn first_of(one: Refusal, other: Refusal) -> Refusal
+    ensures { (result ≡ one) ⊎ (result ≡ other) }
+{
+    if comes_before(&one, &other) {
+        one
+    } else {
+        other
+    }
+}
+
 // Refuses a kernel by its data, or by a clause that names what it may not, whichever comes first in the text.
-fn judge_data(
+fn judge_values(
     alloc: Global,
     kernel: &Kernel,
     directives: &Directives,
@@ -188,13 +200,33 @@ fn judge_data(
         (Ok(()), Ok(loops)) => Ok(loops),
         (Ok(()), Err(refusal)) => Err(refusal),
         (Err(refusal), Ok(_loops)) => Err(refusal),
-        (Err(misuse), Err(refusal)) => {
-            if comes_before(&misuse, &refusal) {
-                Err(misuse)
-            } else {
-                Err(refusal)
-            }
-        }
+        (Err(misuse), Err(refusal)) => Err(first_of(misuse, refusal)),
+    }
+}
+
+// Refuses it so, or by what is printed out of order, whichever comes first in the text.
+fn judge_data(
+    alloc: Global,
+    kernel: &Kernel,
+    directives: &Directives,
+    lines: &LineClauses,
+    disorder: Option<Disorder>,
+) -> Result<Vec<ParallelLoop>, Refusal>
+    ensures listed { IfOk result (λ loops. AreParallelLoops directives.now
+        (roles_known (kept lines.now) (length (kernel_of kernel.now).variables))
+        (kernel_of kernel.now) loops.items) }
+    ensures right { IfOk result (λ _. HasRightData directives.now (kernel_of kernel.now)
+        (roles_known (kept lines.now) (length (kernel_of kernel.now).variables))
+        (lines_known (kept lines.now)) (is_none disorder)) }
+    ensures refusal { IfErr result (RefusesData directives.now (kernel_of kernel.now)
+        (roles_known (kept lines.now) (length (kernel_of kernel.now).variables))
+        (lines_known (kept lines.now)) (is_none disorder)) }
+{
+    match (judge_values(alloc, kernel, directives, lines), disorder) {
+        (Ok(loops), None) => Ok(loops),
+        (Ok(_loops), Some(disorder)) => Err(disorder.refusal()),
+        (Err(refusal), None) => Err(refusal),
+        (Err(refusal), Some(disorder)) => Err(first_of(disorder.refusal(), refusal)),
     }
 }
 
@@ -211,26 +243,27 @@ fn judge(
     kernel: &Kernel,
     directives: &Directives,
     lines: &LineClauses,
+    disorder: Option<Disorder>,
 ) -> Result<KnownLoops, Refusal>
     ensures judged { IfOk result (λ _. IsJudged directives.now (kernel_of kernel.now)
         (roles_known (kept lines.now) (length (kernel_of kernel.now).variables))
-        (lines_known (kept lines.now))) }
+        (lines_known (kept lines.now)) (is_none disorder)) }
     ensures table { IfOk result (λ known. IsTableOf (kernel_of kernel.now) known.table) }
     ensures listed { IfOk result (λ known. AreParallelLoops directives.now
         (roles_known (kept lines.now) (length (kernel_of kernel.now).variables))
         (kernel_of kernel.now) known.loops.items) }
     ensures refusal { IfErr result (RefusesPasses directives.now (kernel_of kernel.now)
         (roles_known (kept lines.now) (length (kernel_of kernel.now).variables))
-        (lines_known (kept lines.now))) }
+        (lines_known (kept lines.now)) (is_none disorder)) }
 {
     judge_places(kernel, directives)?;
     let table = judge_nests(alloc, kernel, directives)?;
-    let loops = judge_data(alloc, kernel, directives, lines)?;
+    let loops = judge_data(alloc, kernel, directives, lines, disorder)?;
     judge_ranges(kernel, &table)?;
     Ok(KnownLoops { table, loops })
 }
 
-// Accepts a kernel whose parallel regions are dissolved, or refuses it.
+// Accepts a kernel whose regions are dissolved, or refuses it.
 fn accept_alone(
     alloc: Global,
     kernel: Kernel,
@@ -238,16 +271,17 @@ fn accept_alone(
     directives: &Directives,
     lines: &LineClauses,
     regions: Vec<RegionPart>,
+    disorder: Option<Disorder>,
 ) -> Result<Checked, Refusal>
-    requires stands { IsLineKernel text.now (kernel_of kernel) (kept lines.now) }
+    requires stands { IsLineKernel text.now (kernel_of kernel) (kept lines.now) (is_none disorder) }
     requires lines { directives.now ≡ text.now }
     requires regions { AreRegions text.now (kernel_of kernel) regions.items }
     ensures is { IfOk result (λ checked. checked ≡ record { text = text.now; kernel = kernel }) }
     ensures refusal { IfErr result (RefusesAlone text.now (kernel_of kernel)
         (roles_known (kept lines.now) (length (kernel_of kernel).variables))
-        (lines_known (kept lines.now))) }
+        (lines_known (kept lines.now)) (is_none disorder)) }
 {
-    let KnownLoops { table, loops } = judge(alloc, &kernel, directives, lines)?;
+    let KnownLoops { table, loops } = judge(alloc, &kernel, directives, lines, disorder)?;
     let parallel = Parallel { loops, regions };
     accept(alloc, directives, &table, text, kernel, parallel)
 }
@@ -266,8 +300,9 @@ fn accept_directed(
 {
     let lines = judge_lines(alloc, &kernel, directives)?;
     let regions = regions_of(alloc, directives, &kernel)?;
+    let disorder = first_disorder(&kernel, directives);
     let kernel = dissolve_regions(alloc, directives, kernel)?;
-    accept_alone(alloc, kernel, text, directives, &lines, regions)
+    accept_alone(alloc, kernel, text, directives, &lines, regions, disorder)
 }
 
 // Accepts the kernel of a text, or refuses it.

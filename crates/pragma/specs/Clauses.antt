@@ -1,7 +1,7 @@
--- What a `parallel for`, or a `for` inside a `parallel`, says, of the clauses that are known so far. (OpenMP 5.2, 4.4.3, 11.5.1 and 11.5.3)
+-- What a `parallel for`, or a `for` inside a `parallel`, says, of the clauses that are known so far. (OpenMP 5.2, 4.4.3, 4.4.4, 11.5.1 and 11.5.3)
 use Rattle.std.specs.Prelude.{ℕ, ◌≡◌, List, [], ◌∷◌, Option, Some, None}
 use Rattle.semantics.specs.Tree.{Name}
-use Rattle.semantics.specs.Directives.Directive.{Schedule, Clause, DefaultShared, DefaultNone, Nowait, Shared, Private, Firstprivate, Lastprivate, Reduction, ScheduledBy, Collapse, Directive, ParallelFor, Worksharing}
+use Rattle.semantics.specs.Directives.Directive.{Schedule, Clause, DefaultShared, DefaultNone, Nowait, Ordered, Shared, Private, Firstprivate, Lastprivate, Reduction, ScheduledBy, Collapse, Directive, ParallelFor, Worksharing}
 use Rattle.semantics.specs.Directives.DirectiveGrammar.{ReadsLine}
 use Rattle.cparse_grammar.specs.Reading.{◌>>=◌}
 
@@ -9,7 +9,7 @@ use Rattle.cparse_grammar.specs.Reading.{◌>>=◌}
 abbrev pub Said : Type 0
 Said = Option Schedule × Option ℕ
 
--- one more clause, where it is known and none of its kind is there; a clause about variables says nothing of these two, nor does `nowait`, behind which the barrier is kept
+-- one more clause, where it is known and none of its kind is there; a clause about variables says nothing of these two, nor does `ordered`, nor `nowait`, behind which the barrier is kept
 abbrev pub with_clause : Clause Name → Said → Option Said
 with_clause (ScheduledBy k) (None, c) = Some (Some k, c)
 with_clause (Collapse c) (k, None) = Some (k, Some c)
@@ -21,6 +21,7 @@ with_clause (Firstprivate xs) said = Some said
 with_clause (Lastprivate xs) said = Some said
 with_clause (Reduction op xs) said = Some said
 with_clause Nowait said = Some said
+with_clause Ordered said = Some said
 with_clause _ said = None
 
 -- all of a directive's clauses

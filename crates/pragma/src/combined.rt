@@ -49,13 +49,14 @@ fn with_clause(clause: &Clause<Written>, said: ParallelFor) -> Option<ParallelFo
         | Clause::Firstprivate(_)
         | Clause::Lastprivate(_)
         | Clause::Reduction(_, _)
-        | Clause::Nowait => Some(said),
+        | Clause::Nowait
+        | Clause::Ordered => Some(said),
         _ => None,
     }
 }
 
-/// What clauses say, where each is known and stands once.
-fn said_by(clauses: &[Clause<Written>]) -> Option<ParallelFor>
+/// What the clauses of a loop's directive say, where each is known and stands once (OpenMP 5.2, 11.5 and 17).
+pub fn said_by(clauses: &[Clause<Written>]) -> Option<ParallelFor>
     ensures { option_map said_of result ≡ said_by (map written_clause clauses.now) }
 {
     match clauses {

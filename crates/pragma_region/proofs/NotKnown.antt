@@ -41,7 +41,7 @@ known_clause (Private xs) said then e = record { ordering = refl; value = refl }
 known_clause (Firstprivate xs) said then e = record { ordering = refl; value = refl }
 known_clause (ScheduledBy k) said then e = record { ordering = refl; value = refl }
 known_clause (Collapse c) said then e = record { ordering = refl; value = refl }
-known_clause Ordered (k, c) then e = absurd (cc e)
+known_clause Ordered said then e = record { ordering = refl; value = refl }
 known_clause (OrderedLoops n) (k, c) then e = absurd (cc e)
 known_clause (Lastprivate xs) said then e = record { ordering = refl; value = refl }
 known_clause (LastConditional xs) (k, c) then e = absurd (cc e)

@@ -1,7 +1,7 @@
 -- Directives and clauses that the grammar has and that are not known so far, each by the number that refuses it. (OpenMP 5.2, 4.4.4, 5.4.5, 5.6 and 15.10)
 use Rattle.std.specs.Prelude.{ℕ, List, [], ◌∷◌, Option, Some, None}
 use Rattle.semantics.specs.Tree.{Name, Stmt, Assign, Update, If, IfElse, For, Block, Print, Items, no_items, mark, local, stmt}
-use Rattle.semantics.specs.Directives.Directive.{Clause, Ordered, OrderedLoops, LastConditional, Inscan, Directive, ParallelFor, Parallel, Worksharing, ScanInclusive, ScanExclusive, OrderedRegion, DoacrossSource, DoacrossSink}
+use Rattle.semantics.specs.Directives.Directive.{Clause, OrderedLoops, LastConditional, Inscan, Directive, ParallelFor, Parallel, Worksharing, ScanInclusive, ScanExclusive, OrderedRegion, DoacrossSource, DoacrossSink}
 use Rattle.pragma_attach.specs.Standing.{directive_on}
 use Rattle.pragma_region.specs.declared.unknown.Unknown.{Unknown}
 use Rattle.pragma_region.specs.declared.unknown.Unknown.TheVariants as unknown
@@ -11,9 +11,8 @@ abbrev pub first_told : Option ℕ → Option ℕ → Option ℕ
 first_told None later = later
 first_told (Some n) later = Some n
 
--- a clause that orders iterations: K18 (OpenMP 5.2, 4.4.4)
+-- the clause of a doacross nest: K18 (OpenMP 5.2, 4.4.4)
 abbrev pub ordering_number : Clause Name → Option ℕ
-ordering_number Ordered = Some 18
 ordering_number (OrderedLoops n) = Some 18
 ordering_number _ = None
 
@@ -28,18 +27,18 @@ abbrev pub first_number : (Clause Name → Option ℕ) → List (Clause Name) �
 first_number number [] = None
 first_number number (c ∷ cs) = first_told (number c) (first_number number cs)
 
--- of a loop's line: what orders iterations is told where the line begins, and so before what is told at a name
+-- of a loop's line: a doacross nest is told where the line begins, and so before what is told at a name
 abbrev pub loop_number : List (Clause Name) → Option ℕ
 loop_number cs = first_told (first_number ordering_number cs) (first_number value_number cs)
 
--- of a directive: K17 for `scan` (OpenMP 5.2, 5.6), K18 for `ordered` (15.10)
+-- of a directive: K17 for `scan` (OpenMP 5.2, 5.6), K18 for `ordered doacross` (15.10)
 abbrev pub directive_number : Directive Name → Option ℕ
 directive_number (ParallelFor cs) = loop_number cs
 directive_number (Worksharing cs) = loop_number cs
 directive_number (Parallel cs) = None
 directive_number (ScanInclusive x) = Some 17
 directive_number (ScanExclusive x) = Some 17
-directive_number OrderedRegion = Some 18
+directive_number OrderedRegion = None
 directive_number DoacrossSource = Some 18
 directive_number (DoacrossSink es) = Some 18
 
@@ -70,4 +69,4 @@ abbrev mutual
 abbrev pub number_told : Unknown → ℕ
 number_told (unknown.Conditional place) = 15
 number_told (unknown.Scan place) = 17
-number_told (unknown.Ordered place) = 18
+number_told (unknown.Doacross place) = 18

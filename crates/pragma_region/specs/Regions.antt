@@ -1,6 +1,7 @@
--- The directive lines of parallel regions. (OpenMP 5.2, 10.1)
-use Rattle.std.specs.Prelude.{ℕ, Bool, List}
-use Rattle.semantics.specs.Tree.{Kernel}
+-- The directive lines of parallel regions and of ordered ones. (OpenMP 5.2, 10.1 and 15.10)
+use Rattle.std.specs.Prelude.{ℕ, Bool, true, false, ◌||◌, List, Option, Some}
+use Rattle.semantics.specs.Tree.{Name, Kernel}
+use Rattle.semantics.specs.Directives.Directive.{Directive, OrderedRegion}
 use Rattle.semantics.specs.Directives.Placed.{is_team}
 use Rattle.law_lines.specs.Without.{without_lines}
 use Rattle.pragma_attach.specs.Standing.{directive_on}
@@ -9,6 +10,19 @@ use Rattle.pragma_attach.specs.Standing.{directive_on}
 abbrev pub is_region_line : List ℕ → ℕ → Bool
 is_region_line text n = is_team (directive_on text n)
 
--- a kernel with its parallel regions dissolved: each loop stands behind its own line alone
+-- the `ordered` directive of a region (OpenMP 5.2, 15.10.1)
+abbrev pub is_ordered : Option (Directive Name) → Bool
+is_ordered (Some OrderedRegion) = true
+is_ordered _ = false
+
+-- it stands on the line of this number
+abbrev pub is_ordered_line : List ℕ → ℕ → Bool
+is_ordered_line text n = is_ordered (directive_on text n)
+
+-- a line that no pass behind the directives asks for
+abbrev pub is_left_out : List ℕ → ℕ → Bool
+is_left_out text n = is_region_line text n || is_ordered_line text n
+
+-- a kernel with its regions dissolved: each loop stands behind its own line alone
 abbrev pub alone : List ℕ → Kernel → Kernel
-alone text tree = without_lines (is_region_line text) tree
+alone text tree = without_lines (is_left_out text) tree

@@ -1,11 +1,11 @@
-//! Kernels without the directive lines of their parallel regions.
+//! Kernels without the directive lines of their parallel regions and of their ordered ones.
 
 ghost use Rattle.std.specs.Prelude.{◌≡◌, Some, IfOk};
 ghost use Rattle.semantics.specs.Directives.Placed.{is_team};
 ghost use Rattle.ktree.specs.DirectiveView.{name_of, directive_of};
 ghost use Rattle.ktree.specs.View.{stmt_of, items_of, kernel_of};
 ghost use Rattle.law_lines.specs.Without.{without_in, without_among};
-ghost use Rattle.pragma_region.specs.Regions.{is_region_line, alone};
+ghost use Rattle.pragma_region.specs.Regions.{is_region_line, is_ordered, is_ordered_line, is_left_out, alone};
 
 use ktree::{Directive, Item, Kernel, Place, Stmt, Written};
 use pragma::Directives;
@@ -32,6 +32,34 @@ pub(crate) fn is_region(directives: &Directives, place: Place) -> bool
     is_parallel(directive)
 }
 
+/// Whether a directive is the `ordered` of a region (OpenMP 5.2, 15.10.1).
+fn is_ordered_directive(directive: &Directive<Written>) -> bool
+    ensures { result ≡ is_ordered (Some (directive_of name_of directive.now)) }
+{
+    match directive {
+        Directive::Ordered => true,
+        _ => false,
+    }
+}
+
+/// Whether the line at a place is the `ordered` directive of a region (OpenMP 5.2, 15.10.1).
+#[tactic(auto, using(crate::proofs::Lines::ordered_none))]
+pub fn is_ordered(directives: &Directives, place: Place) -> bool
+    ensures { result ≡ is_ordered_line directives.now place.line }
+{
+    let Ok(directive) = directives.directive(place) else {
+        return false;
+    };
+    is_ordered_directive(directive)
+}
+
+/// Whether the line at a place is one of those that are left out.
+fn is_left_out(directives: &Directives, place: Place) -> bool
+    ensures { result ≡ is_left_out directives.now place.line }
+{
+    is_region(directives, place) || is_ordered(directives, place)
+}
+
 /// A statement without these lines.
 #[cycle(statement)]
 #[tactic(auto, using(ktree::proofs::Trees::block_items))]
@@ -41,7 +69,7 @@ fn statement_without(
     statement: Stmt,
 ) -> Result<Stmt, AllocError>
     ensures { IfOk result (λ s. stmt_of s
-        ≡ without_in (is_region_line directives.now) (stmt_of statement)) }
+        ≡ without_in (is_left_out directives.now) (stmt_of statement)) }
 {
     match statement {
         Stmt::Assign(target, source) => Ok(Stmt::Assign(target, source)),
@@ -73,7 +101,7 @@ fn boxed_without(
     statement: Box<Stmt>,
 ) -> Result<Box<Stmt>, AllocError>
     ensures { IfOk result (λ s. stmt_of s.value
-        ≡ without_in (is_region_line directives.now) (stmt_of statement.value)) }
+        ≡ without_in (is_left_out directives.now) (stmt_of statement.value)) }
 {
     let statement = statement_without(alloc, directives, Box::into_inner(statement))?;
     Ok(Box::new(alloc, statement)?)
@@ -87,13 +115,13 @@ fn items_without(
     items: Vec<Item>,
 ) -> Result<Vec<Item>, AllocError>
     ensures { IfOk result (λ kept. items_of kept.items
-        ≡ without_among (is_region_line directives.now) (items_of items.items)) }
+        ≡ without_among (is_left_out directives.now) (items_of items.items)) }
 {
     let mut kept = Vec::new(alloc);
     for item in items {
         match item {
             Item::Directive(place) => {
-                if !is_region(directives, place) {
+                if !is_left_out(directives, place) {
                     kept.push(Item::Directive(place))?;
                 }
             }
@@ -106,8 +134,8 @@ fn items_without(
     Ok(kept)
 }
 
-/// The kernel with each parallel region dissolved: without the lines of its `parallel` directives, so that each of its loops stands
-/// behind its own line alone (OpenMP 5.2, 10.1 and 11.5).
+/// The kernel with each region dissolved: without the lines of its `parallel` directives and of those of its ordered regions, so that
+/// each of its loops stands behind its own line alone (OpenMP 5.2, 10.1, 11.5 and 15.10).
 ///
 /// # Errors
 ///

@@ -20,8 +20,8 @@ pub enum Unknown {
     Conditional(Place),
     /// A `scan` directive: the place of its `#`; or the reduction of a scan: the place of its name (OpenMP 5.2, 5.6).
     Scan(Place),
-    /// An `ordered` clause or directive, of a doacross nest too: the place of the line's `#` (OpenMP 5.2, 4.4.4 and 15.10).
-    Ordered(Place),
+    /// An `ordered(n)` clause, or a `doacross` directive: the place of the line's `#` (OpenMP 5.2, 4.4.4 and 15.10.2).
+    Doacross(Place),
 }
 
 impl Unknown {
@@ -32,18 +32,17 @@ impl Unknown {
         match self {
             Unknown::Conditional(place) => Refusal::PrivateVariable(place),
             Unknown::Scan(place) => Refusal::Scan(place),
-            Unknown::Ordered(place) => Refusal::Ordered(place),
+            Unknown::Doacross(place) => Refusal::Ordered(place),
         }
     }
 }
 
-/// What is told of a clause that orders iterations, at its line.
+/// What is told of the clause of a doacross nest, at its line.
 fn ordering(clause: &Clause<Written>, line: Place) -> Option<Unknown>
     ensures { option_map number_told result ≡ ordering_number (written_clause clause.now) }
 {
     match clause {
-        Clause::Ordered => Some(Unknown::Ordered(line)),
-        Clause::OrderedLoops(_) => Some(Unknown::Ordered(line)),
+        Clause::OrderedLoops(_) => Some(Unknown::Doacross(line)),
         _ => None,
     }
 }
@@ -117,9 +116,9 @@ fn directive_unknown(directive: &Directive<Written>, line: Place) -> Option<Unkn
         Directive::Parallel(_) => None,
         Directive::ScanInclusive(_) => Some(Unknown::Scan(line)),
         Directive::ScanExclusive(_) => Some(Unknown::Scan(line)),
-        Directive::Ordered => Some(Unknown::Ordered(line)),
-        Directive::DoacrossSource => Some(Unknown::Ordered(line)),
-        Directive::DoacrossSink(_) => Some(Unknown::Ordered(line)),
+        Directive::Ordered => None,
+        Directive::DoacrossSource => Some(Unknown::Doacross(line)),
+        Directive::DoacrossSink(_) => Some(Unknown::Doacross(line)),
     }
 }
 
@@ -188,7 +187,7 @@ fn item_unknown(directives: &Directives, item: &Item) -> Option<Unknown>
     }
 }
 
-/// What is told of the first directive line of a kernel that is not known so far, in the order of the text: `ordered` where the line
+/// What is told of the first directive line of a kernel that is not known so far, in the order of the text: a doacross nest where the line
 /// begins, `lastprivate(conditional: )` and the reduction of a scan where they name a variable (OpenMP 5.2, 4.4.4, 5.4.5, 5.6 and 15.10). Where one is
 /// told, not every line of the kernel is that of a loop of known clauses.
 pub fn first_unknown(kernel: &Kernel, directives: &Directives) -> Option<Unknown>

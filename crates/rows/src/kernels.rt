@@ -428,7 +428,7 @@ fn clauses_that_are_not_known_so_far_are_refused(rt: HostRuntime) {
             17,
         ),
         (
-            "\n#pragma omp parallel for ordered\nfor (uint64_t i = 0; i < 3; i++) {\n#pragma omp ordered\nprintf(\"1\"); }",
+            "\n#pragma omp parallel for ordered\nfor (uint64_t i = 0; i < 3; i++) {\n#pragma omp ordered\nd[i] = i; }",
             18,
         ),
         (

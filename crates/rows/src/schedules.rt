@@ -1,6 +1,7 @@
 //! Parallel loops of many forms under each schedule: teams of 1, 3 and 64 workers write what C writes.
 
 mod forms;
+mod ordered;
 mod results;
 
 use crate::kernels::is_written_by;
@@ -135,5 +136,11 @@ fn loops_of_each_form_run_under_each_schedule(rt: HostRuntime) {
 #[test]
 fn loops_leave_their_results_under_each_schedule(rt: HostRuntime) {
     let found = first_other_by_any(&rt, rt.alloc(), results::DECLARATIONS, results::ROWS);
+    no_other(&rt, found);
+}
+
+#[test]
+fn loops_print_in_order_under_each_schedule(rt: HostRuntime) {
+    let found = first_other_by_any(&rt, rt.alloc(), ordered::DECLARATIONS, ordered::ROWS);
     no_other(&rt, found);
 }

@@ -17,6 +17,29 @@ x += y;",
         },
         Row {
             text: "
+#pragma omp parallel for ordered
+for (uint64_t i = 0; i < 8; i++) {
+#pragma omp ordered
+printf(\"a\");
+s = i;
+}",
+            number: 14,
+            line: 6,
+            column: 1,
+        },
+        Row {
+            text: "
+#pragma omp parallel for
+for (uint64_t i = 0; i < 8; i++) {
+#pragma omp ordered
+s = i;
+}",
+            number: 18,
+            line: 4,
+            column: 1,
+        },
+        Row {
+            text: "
 #pragma omp parallel for
 for (uint64_t i = 0; i < 8; i++) {
 printf(\"a\");

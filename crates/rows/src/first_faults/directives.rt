@@ -143,13 +143,13 @@ s += i; x = i;
         Row {
             text: "
 uint64_t x;
-#pragma omp parallel for lastprivate(x) ordered
+#pragma omp parallel for lastprivate(conditional: x) ordered
 for (uint64_t i = 0; i < 8; i++) {
 x = i;
 }",
-            number: 18,
+            number: 15,
             line: 3,
-            column: 1,
+            column: 51,
         },
         Row {
             text: "
