@@ -1,5 +1,5 @@
 -- Ordered regions where they may stand, and no other printf in a parallel loop. (OpenMP 5.2, 4.4.4 and 15.10)
-use Rattle.std.specs.Prelude.{ℕ, Bool, true, false, not, ◌&&◌, if◌then◌else◌, List, [], ◌∷◌, Option, Some, None, is_some}
+use Rattle.std.specs.Prelude.{ℕ, Bool, true, false, not, ◌&&◌, ◌||◌, if◌then◌else◌, List, [], ◌∷◌, Option, Some, None, is_some}
 use Rattle.semantics.specs.Tree.{Name, Stmt, Assign, Update, If, IfElse, For, Block, Print, Items, no_items, mark, local, stmt, Kernel}
 use Rattle.semantics.specs.Directives.Directive.{Clause, Ordered, Directive, ParallelFor, Worksharing}
 use Rattle.cparse_grammar.specs.Reading.{◌>>=◌}
@@ -51,11 +51,15 @@ abbrev mutual
 
 -- ---- parallel loops
 
--- the clause without a number
-abbrev pub orders : List (Clause Name) → Bool
-orders [] = false
-orders (Ordered ∷ cs) = true
-orders (c ∷ cs) = orders cs
+-- the clause without a number (OpenMP 5.2, 4.4.4)
+abbrev pub orders : Clause Name → Bool
+orders Ordered = true
+orders _ = false
+
+-- it is one of these
+abbrev pub any_orders : List (Clause Name) → Bool
+any_orders [] = false
+any_orders (c ∷ cs) = orders c || any_orders cs
 
 -- the clauses of a directive, where it is a loop's
 abbrev pub loop_clauses : Option (Directive Name) → Option (List (Clause Name))
@@ -65,7 +69,7 @@ loop_clauses _ = None
 
 -- the loop with these clauses: one region at most stands in its body, where they have that clause, and no other printf
 abbrev pub loop_orders : List ℕ → List (Clause Name) → Stmt → Bool
-loop_orders text cs s = is_some (said_by cs >>= λ said. nest_body_of (associated said.1) s >>= λ body. met_in text (orders cs) false body)
+loop_orders text cs s = is_some (said_by cs >>= λ said. nest_body_of (associated said.1) s >>= λ body. met_in text (any_orders cs) false body)
 
 -- a statement behind such clauses, or behind none: what stands inside it
 abbrev pub orders_by : List ℕ → Option (List (Clause Name)) → Stmt → Bool → Bool

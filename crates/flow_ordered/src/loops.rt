@@ -7,7 +7,7 @@ ghost use Rattle.ktree.specs.DirectiveView.{name_of, directive_of};
 ghost use Rattle.pragma_clause.specs.Views.{written_clause};
 ghost use Rattle.pragma_attach.specs.Standing.{directive_on};
 ghost use Rattle.pragma_region.specs.Listed.{line_of};
-ghost use Rattle.flow_ordered.specs.Ordered.{met_in, orders, loop_clauses, loop_orders, orders_behind, is_ordered_rightly, are_ordered_rightly, prints_in_order};
+ghost use Rattle.flow_ordered.specs.Ordered.{met_in, orders, any_orders, loop_clauses, loop_orders, orders_behind, is_ordered_rightly, are_ordered_rightly, prints_in_order};
 
 use crate::disorder::Disorder;
 use crate::regions::meet;
@@ -16,15 +16,26 @@ use ktree::{Clause, Directive, Item, Kernel, Place, Stmt, Written};
 use pragma::{Directives, said_by};
 use pragma_region::is_ordered;
 
-/// Whether a loop's clauses order its iterations (OpenMP 5.2, 4.4.4).
-fn orders(clauses: &[Clause<Written>]) -> bool
-    ensures { result ≡ orders (map written_clause clauses.now) }
+/// Whether a clause is `ordered` without a number (OpenMP 5.2, 4.4.4).
+fn orders(clause: &Clause<Written>) -> bool
+    ensures { result ≡ orders (written_clause clause.now) }
 {
-    match clauses {
-        [] => false,
-        [Clause::Ordered, ..] => true,
-        [_, rest @ ..] => orders(rest),
+    match clause {
+        Clause::Ordered => true,
+        _ => false,
     }
+}
+
+/// Whether one of a loop's clauses is so.
+fn any_orders(clauses: &[Clause<Written>]) -> bool
+    ensures { result ≡ any_orders (map written_clause clauses.now) }
+{
+    for clause in clauses {
+        if orders(clause) {
+            return true;
+        }
+    }
+    false
 }
 
 /// The clauses of a directive, where it is a loop's (OpenMP 5.2, 11.5 and 17).
@@ -80,7 +91,7 @@ fn loop_disorder(
     let Some(body) = nest_body(statement, said.associated_loops()) else {
         return Some(nest_disorder(directives, line, statement));
     };
-    body_disorder(directives, orders(clauses), body)
+    body_disorder(directives, any_orders(clauses), body)
 }
 
 /// What is wrong with the regions in a statement in which no `ordered` line may stand but in a parallel loop.
