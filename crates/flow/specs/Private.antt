@@ -1,5 +1,5 @@
--- The data of parallel loops: what is not declared in a loop is shared, and no shared scalar is written. (OpenMP 5.2, 5.1.1, 5.4 and 15.10)
-use Rattle.std.specs.Prelude.{ℕ, Bool, true, false, not, ◌&&◌, List, ◌++◌, Option, Some, None, option_map}
+-- The data of parallel loops: what is not declared in a loop is shared, and no shared scalar is written. (OpenMP 5.2, 5.1.1 and 5.4)
+use Rattle.std.specs.Prelude.{ℕ, Bool, true, not, ◌&&◌, List, ◌++◌, Option, Some, None, option_map}
 use Rattle.semantics.specs.Tree.{Variable, Exprs, no_exprs, more_exprs, Stmt, Assign, Update, If, IfElse, For, Block, Print, Items, no_items, mark, local, stmt}
 use Rattle.semantics.specs.Meaning.Agrees.{is_among, declared_in}
 use Rattle.semantics.specs.Loops.Nest.{as_loop, nest_of}
@@ -10,7 +10,7 @@ is_own own x no_exprs = own x
 is_own own x (more_exprs i is) = true
 
 abbrev mutual
-  -- a statement prints nothing, and of scalars it assigns its own alone; a loop's step is no assignment
+  -- of scalars a statement assigns its own alone; a loop's step is no assignment
   pub keeps : (Variable → Bool) → Stmt → Bool
   keeps own (Assign x is e) = is_own own x is
   keeps own (Update x is op e) = is_own own x is
@@ -18,7 +18,7 @@ abbrev mutual
   keeps own (IfElse c a b) = keeps own a && keeps own b
   keeps own (For x name start test step body) = keeps own body
   keeps own (Block items) = keeps_all own items
-  keeps own (Print parts) = false
+  keeps own (Print parts) = true
 
   -- a block's items do so
   pub keeps_all : (Variable → Bool) → Items → Bool
@@ -27,7 +27,7 @@ abbrev mutual
   keeps_all own (local x name start rest) = keeps_all own rest
   keeps_all own (stmt s rest) = keeps own s && keeps_all own rest
 
--- a loop's body prints nothing, and of scalars it assigns those alone that it declares, and its private ones
+-- of scalars a loop's body assigns those alone that it declares, and its private ones
 abbrev pub is_private_body : List Variable → Stmt → Bool
 is_private_body ps body = keeps (is_among (declared_in body ++ ps)) body
 

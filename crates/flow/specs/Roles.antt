@@ -37,7 +37,7 @@ roles_known known files line = line_roles files (lines_known known line)
 abbrev pub privates_by : LineRoles → Privates
 privates_by R line = (R line).privates
 
--- a nest of so many loops whose body prints nothing and assigns of scalars those alone that it declares and those with a role: private and lastprivate ones before it reads them, lastprivate ones on every path, and reduction variables in updates alone; none of these has two roles
+-- a nest of so many loops whose body assigns of scalars those alone that it declares and those with a role: private and lastprivate ones before it reads them, lastprivate ones on every path, and reduction variables in updates alone; none of these has two roles
 pub record KeepsItsRoles (roles : Roles) (n : ℕ) (s : Stmt) : Type 0 where
   pub loops : List Loop
   pub body : Stmt

@@ -1,4 +1,4 @@
--- What a fault of a parallel loop's data tells. (OpenMP 5.2, 5.1.1, 5.4.3 to 5.4.5, 5.5.8 and 15.10)
+-- What a fault of a parallel loop's data tells. (OpenMP 5.2, 5.1.1, 5.4.3 to 5.4.5 and 5.5.8)
 use Rattle.std.specs.Prelude.{ℕ, Bool, false, ◌≡◌, ◌⊎◌, List, [], ◌++◌, map, Option, Some, MatchOption}
 use Rattle.std.specs.List.{list_all}
 use Rattle.semantics.specs.Tree.{Variable, Exprs, Stmt, Assign, Update, If, IfElse, For, Block, Print, Items, no_items, mark, local, stmt}
@@ -11,7 +11,7 @@ use Rattle.ktree.specs.declared.refusal.Refusal.{Refusal}
 use Rattle.ktree.specs.declared.refusal.Refusal.TheVariants as refusals
 use Rattle.pragma.specs.Parallel.{AskedOfLoop, LineHas}
 use Rattle.flow.specs.declared.fault.DataFault.{DataFault}
-use Rattle.flow.specs.declared.fault.DataFault.TheVariants.{Written, Copied, Unassigned, LastUnassigned, Reduced, Printed, Directive, OutOfMemory}
+use Rattle.flow.specs.declared.fault.DataFault.TheVariants.{Written, Copied, Unassigned, LastUnassigned, Reduced, Directive, OutOfMemory}
 use Rattle.flow.specs.Private.{is_own}
 use Rattle.flow.specs.Roles.{LineRoles, ReadsAssigned}
 
@@ -25,13 +25,8 @@ TellsOfWrite (Written place) own x is = is_own own x is ≡ false
 TellsOfWrite (Copied place) own x is = is_own own x is ≡ false
 TellsOfWrite _ own x is = ⊥
 
--- a fault tells of `printf`: it prints, in an order that the iterations do not keep (OpenMP 5.2, 15.10)
-abbrev pub TellsOfPrint : DataFault → Type 0
-TellsOfPrint (Printed place) = Unit {0}
-TellsOfPrint _ = ⊥
-
 abbrev mutual
-  -- a fault tells of an assignment or a `printf` in a statement
+  -- a fault tells of an assignment in a statement
   pub TellsOf : DataFault → (Variable → Bool) → Stmt → Type 0
   TellsOf f own (Assign x is e) = TellsOfWrite f own x is
   TellsOf f own (Update x is op e) = TellsOfWrite f own x is
@@ -39,7 +34,7 @@ abbrev mutual
   TellsOf f own (IfElse c a b) = TellsOf f own a ⊎ TellsOf f own b
   TellsOf f own (For x name start test step body) = TellsOf f own body
   TellsOf f own (Block items) = TellsOfAny f own items
-  TellsOf f own (Print parts) = TellsOfPrint f
+  TellsOf f own (Print parts) = ⊥
 
   -- or among a block's items
   pub TellsOfAny : DataFault → (Variable → Bool) → Items → Type 0
@@ -132,6 +127,5 @@ data_refusal_of (Copied place) = refusals.PrivateVariable place
 data_refusal_of (Unassigned place) = refusals.PrivateVariable place
 data_refusal_of (LastUnassigned place) = refusals.PrivateVariable place
 data_refusal_of (Reduced place) = refusals.Reduction place
-data_refusal_of (Printed place) = refusals.Ordered place
 data_refusal_of (Directive place) = refusals.Directive place
 data_refusal_of OutOfMemory = refusals.OutOfMemory

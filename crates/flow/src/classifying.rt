@@ -155,10 +155,10 @@ fn item_fault(
     }
 }
 
-/// The parallel loops of a kernel, in the order of the text. The iterations of each keep to data of their own: its body prints
-/// nothing, writes no shared scalar, assigns each private and lastprivate scalar of its line before it reads it, and each lastprivate
-/// one on every path; a reduction variable has no second role, and the loop names it in updates by its operator alone (OpenMP 5.2,
-/// 5.1.1, 5.4.3, 5.4.5, 5.5.8, 11.5 and 15.10). `lines` has the clauses of the directive lines.
+/// The parallel loops of a kernel, in the order of the text. The iterations of each keep to data of their own: its body writes no
+/// shared scalar, assigns each private and lastprivate scalar of its line before it reads it, and each lastprivate one on every path; a
+/// reduction variable has no second role, and the loop names it in updates by its operator alone (OpenMP 5.2, 5.1.1, 5.4.3, 5.4.5,
+/// 5.5.8 and 11.5). `lines` has the clauses of the directive lines.
 ///
 /// # Errors
 ///

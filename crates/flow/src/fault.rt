@@ -20,8 +20,6 @@ pub enum DataFault {
     /// A reduction variable is named outside an update by its own operator: the place of its name; or it has a second role: the
     /// place of its name in the clause.
     Reduced(Place),
-    /// A parallel loop prints: the place of the word `printf`.
-    Printed(Place),
     /// A directive line that is no `parallel for`, or has no nest of its depth behind it: the place of its `#`.
     Directive(Place),
     /// A growth was refused.
@@ -39,7 +37,6 @@ impl DataFault {
             DataFault::Unassigned(place) => Refusal::PrivateVariable(place),
             DataFault::LastUnassigned(place) => Refusal::PrivateVariable(place),
             DataFault::Reduced(place) => Refusal::Reduction(place),
-            DataFault::Printed(place) => Refusal::Ordered(place),
             DataFault::Directive(place) => Refusal::Directive(place),
             DataFault::OutOfMemory => Refusal::OutOfMemory,
         }
@@ -55,7 +52,6 @@ impl DataFault {
             DataFault::Unassigned(place) => Some(place),
             DataFault::LastUnassigned(place) => Some(place),
             DataFault::Reduced(place) => Some(place),
-            DataFault::Printed(place) => Some(place),
             DataFault::Directive(place) => Some(place),
             DataFault::OutOfMemory => None,
         }

@@ -133,7 +133,7 @@ fn statement_fault(
         }
         Stmt::For(_, inner) => statement_fault(inner, body, line, lines, files),
         Stmt::Block(items) => block_fault(items, body, line, lines, files),
-        Stmt::Print(_, place) => Some(DataFault::Printed(*place)),
+        Stmt::Print(_, _) => None,
     }
 }
 
@@ -185,7 +185,7 @@ fn item_fault(
     }
 }
 
-/// The first fault of a parallel loop's body behind a directive line: printf, or a scalar that is assigned, declared outside and without a role.
+/// The first fault of a parallel loop's body behind a directive line: a scalar that is assigned, declared outside and without a role.
 pub(crate) fn body_fault(
     body: &Stmt,
     line: u32,

@@ -6,7 +6,7 @@ use Rattle.std.specs.List.{AllByRecursion as Each}
 use Rattle.semantics.specs.Tree.{Variable, Name, Plus, Minus, Object, Exprs, no_exprs, more_exprs, Cond, Source, Increment, Up, Down, Set, Change, Stmt, Assign, Update, If, IfElse, For, Block, Print, Items, no_items, mark, local, stmt}
 use Rattle.semantics.specs.Meaning.State.{State, Slot, Outside, Empty, Holds, Write, Declared, Assigned, with_local, with_cell, assign_at, written, overwritten, look, look_in, is_object, is_object_in, is_there}
 use Rattle.semantics.specs.Meaning.Value.{value, values, holds, source_value, both_then, map_option, operate}
-use Rattle.semantics.specs.Meaning.Runs.{Effect, nothing, one_write, then_from, declares, declared, assigned, incremented, turns, greatest_trip_count, run, run_items}
+use Rattle.semantics.specs.Meaning.Runs.{Effect, nothing, one_write, then_from, declares, declared, assigned, incremented, print_text, turns, greatest_trip_count, run, run_items}
 use Rattle.semantics.specs.Meaning.Agrees.{also, visible_behind, names_expr, names_exprs, names_cond, names_source, names_start, names_step, names_only, names_items}
 use Rattle.semantics.specs.Loops.Nest.{Loop, Vector, at_value, iterations, at_vector}
 use Rattle.semantics.specs.Loops.Access.{Access, Mode, Writes, named, expr_accesses, cond_accesses, source_accesses, start_accesses, accesses, items_accesses, Touches}
@@ -15,9 +15,9 @@ use Rattle.law_commute.specs.Steady.{IsFixedCond, IsFixedSource, IsFixedStep, Ar
 use Rattle.law_commute.specs.Commuting.{InnerLoopsTurn, IsOwnWrite}
 use Rattle.law_commute.proofs.Same.{SameVariable, look_same, is_object_same, also_other, also_more, Point, point_less, point_declared, point_counted, point_stepped, point_behind, point_element, point_assigned}
 use Rattle.law_commute.proofs.Lists.{each_left, each_right, contains_among}
-use Rattle.law_commute.proofs.Values.{first_of, second_of, fixed_holds, fixed_source, fixed_value, fixed_values, not_no_indexes, object_same, steady_value, steady_holds, steady_source}
+use Rattle.law_commute.proofs.Values.{first_of, second_of, fixed_holds, fixed_source, fixed_value, fixed_values, not_no_indexes, object_same, steady_value, steady_holds, steady_source, steady_parts}
 use Rattle.law_commute.proofs.Paths.{Visits, now, later, Path, path_among, path_more, at_vector_more}
-use Rattle.law_commute.proofs.Matched.{Matched, matched_none, matched_nothing, matched_write, matched_like, matched_test, matched_weaker, matched_then}
+use Rattle.law_commute.proofs.Matched.{Matched, matched_none, matched_some, matched_nothing, matched_write, matched_like, matched_test, matched_weaker, matched_then}
 
 some_there : {A : Type 0} (o : Option A) → IsSome o → (a : A) × (o ≡ Some a)
 some_there None h = absurd cc
@@ -202,6 +202,14 @@ module _ (loops : List Loop) (whole : Stmt) (outer : State) (u : Vector) (turn :
       declared_same x None free k h q = matched_write Own (Point T F (also K x) m) r r' (Declared x None) (unseen F m fixed x free) (point_declared T F K m r r' x Empty refl free p)
       declared_same x (Some a) free k h q = declares_same x free (source_value r a) (source_value r' a) (steady_source T F K m r r' p inner Q touched a k h q)
 
+      -- a text is printed
+      printed_same : (o o' : Option (List ℕ)) → o ≡ o' → Matched Own Here r r' (map_option (λ b. record { writes = []; text = b }) o) (map_option (λ b. record { writes = []; text = b }) o')
+      printed_same o o' e = matched_like Own Here r r' refl (ap (map_option (λ b. record { writes = []; text = b })) (sym e)) (at o)
+        where
+          at : (v : Option (List ℕ)) → Matched Own Here r r' (map_option (λ b. record { writes = []; text = b }) v) (map_option (λ b. record { writes = []; text = b }) v)
+          at None = matched_none Own Here r r'
+          at (Some b) = matched_some Own Here r r' (record { writes = []; text = b }) tt p
+
     -- a loop
     module _ (x : Variable) (start : Source) (test : Cond) (step : Increment) (body : Stmt) (free : F x ≡ false) (test_fixed : IsFixedCond (also F x) test) (step_fixed : IsFixedStep (also F x) x step)
         (first : ℕ) (start_is : source_value m start ≡ Some first) where
@@ -332,7 +340,8 @@ module _ (loops : List Loop) (whole : Stmt) (outer : State) (u : Vector) (turn :
         (λ v s t spot' p'. stmt_law body (inner ++ record { variable = x; start = start; test = test; step = step } ∷ []) (also F x) (also K x) (at_value m x v) s t spot' (fixed_inside F m x v fixed) p'
         (second_of (names_source K start && names_cond (also K x) test && names_step (also K x) step) (names_only (also K x) body) k) h.4 q)
     stmt_law (Block items) inner F K m r r' spot fixed p k h q = items_law items inner F K m r r' spot fixed p k h q
-    stmt_law (Print parts) inner F K m r r' spot fixed p k h q = absurd h
+    stmt_law (Print parts) inner F K m r r' spot fixed p k h q =
+        printed_same inner F K m spot fixed r r' p (print_text r parts) (print_text r' parts) (steady_parts T F K m r r' p inner Q (touched inner F K m spot fixed r r' p) parts k h q)
 
     -- and so do a block's items
     pub items_law : (items : Items) (inner : List Loop) (F K : Variable → Bool) (m r r' : State) → Spot inner m → Fixed F m → Point T F K m r r' → names_items K items ≡ true → AreSteady F items → Each Q (items_accesses inner items) → Matched Own (Point T F K m) r r' (run_items items r) (run_items items r')

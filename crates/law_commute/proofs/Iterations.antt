@@ -78,7 +78,7 @@ iterations_see loops body outer s u keeps turn like = (one_iteration loops body 
 pub iterations_write : IterationsWriteWhatTheyTouch
 iterations_write loops body outer s u e keeps turn like is =
     let left = (one_iteration loops body outer u keeps turn s like).left e is in
-    (All-from_recursion (IsOwnWrite loops body outer u) e.writes left.own, left.quiet)
+    All-from_recursion (IsOwnWrite loops body outer u) e.writes left.own
 
 pub contains_at : (us : List Vector) (c : ℕ) (u : Vector) → slice_get us c ≡ Some u → Contains us u
 contains_at us c u e = (c, slice_get_within us c u e, get_or_from_slice_get us c u u e)

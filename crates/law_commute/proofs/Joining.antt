@@ -2,7 +2,7 @@
 use Rattle.std.specs.Prelude.{ℕ, zero, suc, Bool, true, false, ◌≡◌, ◌≢◌, ◌+◌, ◌<◌, ◌≤◌, ◌==◌, ◌&&◌, List, [], ◌∷◌, ◌++◌, length, map, flat_map, filter, Option, Some, None, slice_get, option_and_then, Contains}
 use Rattle.std.proofs.Common.{refl, sym, ap, ◌∙◌, subst, cond, arith}
 use Rattle.std.proofs.lemmas.Bool.{eqb-true}
-use Rattle.std.proofs.lemmas.List.{append_assoc, length-append}
+use Rattle.std.proofs.lemmas.List.{append_assoc, append-nil, length-append}
 use Rattle.std.proofs.lemmas.Option.{same_Some}
 use Rattle.std.specs.Cmp.Lexicographic.{same_text}
 use Rattle.std.specs.List.{AllPairs, AllByRecursion as Each}
@@ -186,31 +186,44 @@ module _ (loops : List Loop) (body : Stmt) (outer : State) (us : List Vector) (k
   abbrev Plain : Write → Type 0
   Plain = IsPlain outer body locals_alone
 
-  -- of some iterations: they print nothing, and their writes are plain
-  record IsQuiet (e : Effect) : Type 0 where
-    plain : Each Plain e.writes
-    text : e.text ≡ []
-
   plain_own : (u : Vector) (ws : List Write) → Each (IsOwnWrite loops body outer u) ws → Each Plain ws
   plain_own u [] h = tt
   plain_own u (Declared x v ∷ ws) h = (tt, plain_own u ws h.1)
   plain_own u (Assigned x [] v ∷ ws) h = (h.0, plain_own u ws h.1)
   plain_own u (Assigned x (i ∷ is) v ∷ ws) h = (h.0.1, plain_own u ws h.1)
 
-  all_quiet : (cs : List ℕ) (e : Effect) → Once cs → all cs ≡ Some e → IsQuiet e
-  all_quiet [] e once is = subst IsQuiet (same_Some nothing e is) (record { plain = tt; text = refl })
-  all_quiet (c ∷ cs) e once is =
+  -- the writes of some iterations are plain
+  all_plain : (cs : List ℕ) (e : Effect) → Once cs → all cs ≡ Some e → Each Plain e.writes
+  all_plain [] e once is = subst (λ (f : Effect). Each Plain f.writes) (same_Some nothing e is) tt
+  all_plain (c ∷ cs) e once is =
       let parts = both_there joined (effect c) (all cs) e is in
       let found = inside us c (first_in loops body outer us keeps different turning independent c cs once) in
       let alone_is = sym (ap (λ o. option_and_then (λ u. run_iteration loops body u outer) o) found.1) ∙ parts.first in
       let there : Contains us found.0 = contains_at us c found.0 found.1 in
       let left = (one_iteration loops body outer found.0 keeps (turning found.0 there) outer (itself loops body outer us keeps different turning independent found.0)).left parts.left alone_is in
-      let rest = all_quiet cs parts.right (rest_fresh loops body outer us keeps different turning independent c cs once) parts.second in
-      subst IsQuiet parts.is
-      (record {
-        plain = each_join Plain parts.left.writes parts.right.writes (plain_own found.0 parts.left.writes left.own) rest.plain;
-        text = ap (λ t. t ++ parts.right.text) left.quiet ∙ rest.text;
-      })
+      let rest = all_plain cs parts.right (rest_fresh loops body outer us keeps different turning independent c cs once) parts.second in
+      subst (λ (f : Effect). Each Plain f.writes) parts.is
+      (each_join Plain parts.left.writes parts.right.writes (plain_own found.0 parts.left.writes left.own) rest)
+
+  -- and their texts stand one behind another
+  abbrev text_by : Option Effect → List ℕ
+  text_by None = []
+  text_by (Some e) = e.text
+
+  abbrev texts : List ℕ → List ℕ
+  texts [] = []
+  texts (c ∷ cs) = text_by (effect c) ++ texts cs
+
+  texts_all : (cs : List ℕ) (e : Effect) → all cs ≡ Some e → e.text ≡ texts cs
+  texts_all [] e is = sym (ap (λ (f : Effect). f.text) (same_Some nothing e is))
+  texts_all (c ∷ cs) e is =
+      let parts = both_there joined (effect c) (all cs) e is in
+      sym (ap (λ (f : Effect). f.text) parts.is) ∙ ap (λ t. parts.left.text ++ t) (texts_all cs parts.right parts.second)
+      ∙ ap (λ o. text_by o ++ texts cs) (sym parts.first)
+
+  texts-append : (cs ds : List ℕ) → texts (cs ++ ds) ≡ texts cs ++ texts ds
+  texts-append [] ds = refl
+  texts-append (c ∷ cs) ds = ap (λ t. text_by (effect c) ++ t) (texts-append cs ds) ∙ sym (append_assoc (text_by (effect c)) (texts cs) (texts ds))
 
   -- their writes change an element as the iterations do one after another
   acted_all : (y : Variable) (js : List ℕ) (cs : List ℕ) (e : Effect) (c : Option ℕ) → all cs ≡ Some e → acted y js e.writes c ≡ after y js cs c
@@ -233,7 +246,7 @@ module _ (loops : List Loop) (body : Stmt) (outer : State) (us : List Vector) (k
   record IsRun (spot : List ℕ) (p : Piece) : Type 0 where
     effect_is : Effect
     ran : all spot ≡ Some effect_is
-    quiet : IsQuiet effect_is
+    plain : Each Plain effect_is.writes
     is : p ≡ handed effect_is
 
   abbrev AreRun : List (List ℕ) → List Piece → Type 0
@@ -256,7 +269,7 @@ module _ (loops : List Loop) (body : Stmt) (outer : State) (us : List Vector) (k
   in_turn y js (s ∷ ss) (p ∷ ps) run c there zero xs qs rest =
       let one = run.0 in
       let own : acted y js p.writes c ≡ after y js s c =
-      ap (λ (q : Piece). acted y js q.writes c) one.is ∙ kept outer body locals_alone y js one.effect_is.writes c one.quiet.plain there
+      ap (λ (q : Piece). acted y js q.writes c) one.is ∙ kept outer body locals_alone y js one.effect_is.writes c one.plain there
       ∙ acted_all y js s one.effect_is c one.ran in
       acted-append y js p.writes (writes_of qs) c
       ∙ rest (acted y js p.writes c) (acted_stays y js p.writes c ∙ there)
@@ -292,19 +305,21 @@ module _ (loops : List Loop) (body : Stmt) (outer : State) (us : List Vector) (k
   scalar_found y (s ∷ ss) [] qs run d c rest = absurd run
   scalar_found y (s ∷ ss) (p ∷ ps) qs run zero c rest =
       acted-append y [] p.writes (writes_of qs) c ∙ rest (acted y [] p.writes c)
-      ∙ ap (λ (q : Piece). acted y [] q.writes c) run.0.is ∙ kept_scalar outer body locals_alone y run.0.effect_is.writes c run.0.quiet.plain
+      ∙ ap (λ (q : Piece). acted y [] q.writes c) run.0.is ∙ kept_scalar outer body locals_alone y run.0.effect_is.writes c run.0.plain
   scalar_found y (s ∷ ss) (p ∷ ps) qs run (suc d) c rest = scalar_found y ss ps qs run.1 d c rest
 
   scalars_picked : (y : Variable) (ss : List (List ℕ)) (ps : List Piece) → AreRun ss ps → (order : List ℕ) (c : Option ℕ) → acted y [] (writes_of (picked ps order)) c ≡ c
   scalars_picked y ss ps run [] c = refl
   scalars_picked y ss ps run (d ∷ order) c = scalar_found y ss ps (picked ps order) run d c (scalars_picked y ss ps run order)
 
-  -- and no text
-  no_text : (ss : List (List ℕ)) (ps : List Piece) → AreRun ss ps → joined_text ps ≡ []
-  no_text [] [] run = refl
-  no_text [] (p ∷ ps) run = absurd run
-  no_text (s ∷ ss) [] run = absurd run
-  no_text (s ∷ ss) (p ∷ ps) run = ap (λ t. t ++ joined_text ps) (ap (λ (q : Piece). q.text) run.0.is ∙ run.0.quiet.text) ∙ no_text ss ps run.1
+  -- and their texts are those of the iterations
+  texts_run : (ss : List (List ℕ)) (ps : List Piece) → AreRun ss ps → joined_text ps ≡ texts (flat ss)
+  texts_run [] [] run = refl
+  texts_run [] (p ∷ ps) run = absurd run
+  texts_run (s ∷ ss) [] run = absurd run
+  texts_run (s ∷ ss) (p ∷ ps) run =
+      ap (λ t. t ++ joined_text ps) (ap (λ (q : Piece). q.text) run.0.is ∙ texts_all s run.0.effect_is run.0.ran)
+      ∙ ap (λ t. texts s ++ t) (texts_run ss ps run.1) ∙ sym (texts-append s (flat ss))
 
   -- each chunk has its piece
   record Ran (front : ℕ) (chunks : List (List Vector)) : Type 0 where
@@ -332,7 +347,7 @@ module _ (loops : List Loop) (body : Stmt) (outer : State) (us : List Vector) (k
       record {
         pieces = handed ran.0 ∷ rest.pieces;
         each = λ i. map_option (piece_of no_roles outer) (runs i) ∷ rest.each i;
-        run = (record { effect_is = ran.0; ran = ran.1; quiet = all_quiet spot ran.0 mine ran.1; is = refl }, rest.run);
+        run = (record { effect_is = ran.0; ran = ran.1; plain = all_plain spot ran.0 mine ran.1; is = refl }, rest.run);
       }
 
   -- what all iterations leave in sequence is what their pieces leave
@@ -353,7 +368,7 @@ module _ (loops : List Loop) (body : Stmt) (outer : State) (us : List Vector) (k
       ∙ sym (change.cells y (j ∷ js) ∙ in_turns y (j ∷ js) ss ps run order (outer.cells y (j ∷ js)) refl)
 
   pub join : (chunks : List (List Vector)) (e : Effect) → flat chunks ≡ us → run_iterations loops body us outer ≡ Some e
-      → JoinTo (plain_loop loops body) outer (overwritten outer e.writes) chunks
+      → JoinTo (plain_loop loops body) outer e chunks
   join chunks e whole is =
       let every = below n in
       let every_once = below_once n in
@@ -362,6 +377,9 @@ module _ (loops : List Loop) (body : Stmt) (outer : State) (us : List Vector) (k
       sym (in_order loops body outer us keeps different turning independent every outer fresh (ready_at_start loops body outer us keeps different turning independent every))
       ∙ ap (λ vs. run_iterations loops body vs outer) (picked_all us) ∙ is in
       let first = told loops body outer us keeps different turning independent every outer e fresh (λ y h. refl) (λ y h. refl) sequence in
+      let in_place : all (counted 0 n) ≡ Some e =
+      sym (in_order loops body outer us keeps different turning independent (counted 0 n) outer (fresh_of loops body outer us keeps different turning independent (counted 0 n) (counted_once n)) (ready_at_start loops body outer us keeps different turning independent (counted 0 n)))
+      ∙ ap (λ vs. run_iterations loops body vs outer) (ap (λ (l : List Vector). picked l (counted 0 n)) (sym (append-nil us)) ∙ picked_middle [] us []) ∙ is in
       let ss : List (List ℕ) = spots 0 chunks in
       let once_each : (x : ℕ) → times x (flat ss) ≡ once_below x n = λ x. ap (times x) (flat_spots 0 chunks ∙ ap (λ (l : List Vector). counted 0 (length l)) whole) ∙ counted_once n x in
       let ran : Ran 0 chunks = run_all (λ c lt. first.each c (omega (arith, every_once c, once_of_below c n lt))) [] chunks whole (λ x. omega (arith, once_each x)) in
@@ -378,7 +396,7 @@ module _ (loops : List Loop) (body : Stmt) (outer : State) (us : List Vector) (k
               kinds = λ x k. ap is_outside (first.locals x k ∙ sym (change.locals x));
               values = λ x k. first.locals x (first_of (visible_behind body x) _ k) ∙ sym (change.locals x);
             };
-        quiet = no_text ss ran.pieces ran.run;
+        text = texts_run ss ran.pieces ran.run ∙ ap texts (flat_spots 0 chunks ∙ ap (λ (l : List Vector). counted 0 (length l)) whole) ∙ sym (texts_all (counted 0 n) e in_place);
       }
 
 pub independent_join : IndependentChunksJoin

@@ -16,7 +16,6 @@ module _ (Own : Write → Type 0) where
   -- an effect from both states: its writes, and what holds of the states behind it
   pub record Left (Q : State → State → Type 0) (r r' : State) (e : Effect) : Type 0 where
     pub own : Each Own e.writes
-    pub quiet : e.text ≡ []
     pub after : Q (overwritten r e.writes) (overwritten r' e.writes)
 
   -- the same effect from both, or none
@@ -28,14 +27,14 @@ module _ (Own : Write → Type 0) where
     pub matched_none : Matched Q r r' None None
     matched_none = record { same = refl; left = λ e h. absurd (none-some e h) }
 
-    pub matched_some : (e : Effect) → Each Own e.writes → e.text ≡ [] → Q (overwritten r e.writes) (overwritten r' e.writes) → Matched Q r r' (Some e) (Some e)
-    matched_some e own quiet q = record { same = refl; left = λ f h. subst (Left Q r r') (same_Some e f h) (record { own = own; quiet = quiet; after = q }) }
+    pub matched_some : (e : Effect) → Each Own e.writes → Q (overwritten r e.writes) (overwritten r' e.writes) → Matched Q r r' (Some e) (Some e)
+    matched_some e own q = record { same = refl; left = λ f h. subst (Left Q r r') (same_Some e f h) (record { own = own; after = q }) }
 
     pub matched_nothing : Q r r' → Matched Q r r' (Some nothing) (Some nothing)
-    matched_nothing q = matched_some nothing tt refl q
+    matched_nothing q = matched_some nothing tt q
 
     pub matched_write : (w : Write) → Own w → Q (written r w) (written r' w) → Matched Q r r' (Some (one_write w)) (Some (one_write w))
-    matched_write w own q = matched_some (one_write w) (own, tt) refl q
+    matched_write w own q = matched_some (one_write w) (own, tt) q
 
     pub matched_like : {o p o' p' : Option Effect} → p ≡ o → p' ≡ o' → Matched Q r r' o o' → Matched Q r r' p p'
     matched_like e e' h = record { same = e ∙ h.same ∙ sym e'; left = λ f k. h.left f (sym e ∙ k) }
@@ -52,18 +51,17 @@ module _ (Own : Write → Type 0) where
         at u h = matched_like (ap (λ b. by_test b o p) h) (ap (λ b. by_test b o' p') (sym e ∙ h)) (middle u h)
 
     pub matched_weaker : (R : State → State → Type 0) → ((s s' : State) → Q s s' → R s s') → (o o' : Option Effect) → Matched Q r r' o o' → Matched R r r' o o'
-    matched_weaker R h o o' k = record { same = k.same; left = λ e i. record { own = (k.left e i).own; quiet = (k.left e i).quiet; after = h (overwritten r e.writes) (overwritten r' e.writes) (k.left e i).after } }
+    matched_weaker R h o o' k = record { same = k.same; left = λ e i. record { own = (k.left e i).own; after = h (overwritten r e.writes) (overwritten r' e.writes) (k.left e i).after } }
 
   -- one and then the other
-  joined_left : (R : State → State → Type 0) (r r' : State) (e : Effect) (o : Option Effect) → Each Own e.writes → e.text ≡ [] → ((f : Effect) → o ≡ Some f → Left R (overwritten r e.writes) (overwritten r' e.writes) f)
+  joined_left : (R : State → State → Type 0) (r r' : State) (e : Effect) (o : Option Effect) → Each Own e.writes → ((f : Effect) → o ≡ Some f → Left R (overwritten r e.writes) (overwritten r' e.writes) f)
       → (g : Effect) → map_option (joined e) o ≡ Some g → Left R r r' g
-  joined_left R r r' e None own quiet h g k = absurd (none-some g k)
-  joined_left R r r' e (Some f) own quiet h g k =
+  joined_left R r r' e None own h g k = absurd (none-some g k)
+  joined_left R r r' e (Some f) own h g k =
       let two = h f refl in
       subst (Left R r r') (same_Some (joined e f) g k)
       (record {
         own = each_join Own e.writes f.writes own two.own;
-        quiet = ap (λ t. t ++ f.text) quiet ∙ two.quiet;
         after =
             subst (λ t. R (overwritten r (e.writes ++ f.writes)) t) (sym (overwritten-append r' e.writes f.writes))
             (subst (λ t. R t (overwritten (overwritten r' e.writes) f.writes)) (sym (overwritten-append r e.writes f.writes)) two.after);
@@ -80,5 +78,5 @@ module _ (Own : Write → Type 0) where
           let more = two (overwritten r e.writes) (overwritten r' e.writes) was.after in
           record {
             same = ap (map_option (joined e)) more.same;
-            left = joined_left R r r' e (next (overwritten r e.writes)) was.own was.quiet more.left;
+            left = joined_left R r r' e (next (overwritten r e.writes)) was.own more.left;
           }

@@ -1,14 +1,16 @@
 -- Expressions have the same values in both states.
 use Rattle.std.specs.Prelude.{ℕ, Bool, true, false, not, ◌==◌, ◌≡◌, ◌&&◌, List, [], ◌∷◌, ◌++◌, Option, Some, None, option_and_then}
 use Rattle.std.proofs.Common.{refl, sym, ap, ◌∙◌, cond}
+use Rattle.std.specs.Fmt.{decimal}
 use Rattle.std.specs.List.{AllByRecursion as Each}
-use Rattle.semantics.specs.Tree.{Variable, Expr, Literal, Constant, Object, Unary, Binary, Conditional, Exprs, no_exprs, more_exprs, Cond, NotZero, Compare, Not, LogicalAnd, LogicalOr, Source, Number, Truth}
+use Rattle.semantics.specs.Tree.{Variable, Expr, Literal, Constant, Object, Unary, Binary, Conditional, Exprs, no_exprs, more_exprs, Cond, NotZero, Compare, Not, LogicalAnd, LogicalOr, Source, Number, Truth, PrintPart, Characters, Decimal}
 use Rattle.semantics.specs.Meaning.State.{State, Slot, Outside, Empty, Holds, look, look_in}
 use Rattle.semantics.specs.Meaning.Value.{value, values, holds, source_value, by_test, both, both_then, map_option, change, operate, compare}
-use Rattle.semantics.specs.Meaning.Agrees.{names_expr, names_exprs, names_cond, names_source}
+use Rattle.semantics.specs.Meaning.Runs.{print_text}
+use Rattle.semantics.specs.Meaning.Agrees.{names_expr, names_exprs, names_cond, names_source, names_parts}
 use Rattle.semantics.specs.Loops.Nest.{Loop}
-use Rattle.semantics.specs.Loops.Access.{Access, Mode, Reads, named, expr_accesses, cond_accesses, source_accesses}
-use Rattle.law_commute.specs.Steady.{IsFixedExpr, IsFixedCond, IsFixedSource, AreFixed, IsSteadyExpr, IsSteadyCond, IsSteadySource}
+use Rattle.semantics.specs.Loops.Access.{Access, Mode, Reads, named, expr_accesses, cond_accesses, source_accesses, part_accesses}
+use Rattle.law_commute.specs.Steady.{IsFixedExpr, IsFixedCond, IsFixedSource, AreFixed, IsSteadyExpr, IsSteadyCond, IsSteadySource, AreSteadyParts}
 use Rattle.law_commute.proofs.Same.{SameVariable, look_same, Point}
 use Rattle.law_commute.proofs.Lists.{each_left, each_right}
 
@@ -118,3 +120,11 @@ module _ (T : Variable → ℕ → List ℕ → Type 0) (F K : Variable → Bool
   pub steady_source : (e : Source) → names_source K e ≡ true → IsSteadySource F e → Each Q (source_accesses inner e) → source_value r e ≡ source_value r' e
   steady_source (Number a) k h q = steady_value a k h q
   steady_source (Truth c) k h q = ap (map_option (λ b. cond b 1 0)) (steady_holds c k h q)
+
+  pub steady_parts : (ps : List PrintPart) → names_parts K ps ≡ true → AreSteadyParts F ps → Each Q (part_accesses inner ps) → print_text r ps ≡ print_text r' ps
+  steady_parts [] k h q = refl
+  steady_parts (Characters bs ∷ ps) k h q = ap (both (λ a b. a ++ b) (Some bs)) (steady_parts ps k h q)
+  steady_parts (Decimal a ∷ ps) k h q =
+      let one = steady_value a (first_of (names_expr K a) (names_parts K ps) k) h.0 (each_left Q (expr_accesses inner a) (part_accesses inner ps) q) in
+      let others = steady_parts ps (second_of (names_expr K a) (names_parts K ps) k) h.1 (each_right Q (expr_accesses inner a) (part_accesses inner ps) q) in
+      λ i. both (λ a b. a ++ b) (map_option decimal (one i)) (others i)

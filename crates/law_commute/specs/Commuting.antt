@@ -42,12 +42,12 @@ IterationsSeeWhatTheyTouch =
     (loops : List Loop) (body : Stmt) (outer s : State) (u : Vector) → KeepsToItself body → InnerLoopsTurn loops body outer u
     → LooksAlike loops body outer u s → run_iteration loops body u s ≡ run_iteration loops body u outer
 
--- and its writes are its own, and it prints nothing
+-- and its writes are its own
 abbrev pub IterationsWriteWhatTheyTouch : Type 0
 IterationsWriteWhatTheyTouch =
     (loops : List Loop) (body : Stmt) (outer s : State) (u : Vector) (e : Effect) → KeepsToItself body
     → InnerLoopsTurn loops body outer u → LooksAlike loops body outer u s → run_iteration loops body u s ≡ Some e
-    → All (IsOwnWrite loops body outer u) e.writes × (e.text ≡ [])
+    → All (IsOwnWrite loops body outer u) e.writes
 
 -- iterations of a loop without reductions that are all different, and of which no two conflict, leave the same elements in any order
 abbrev pub IndependentIterationsCommute : Type 0

@@ -20,12 +20,12 @@ plain_loop loops body = record { loops = loops; body = body; roles = no_roles }
 abbrev pub DeclaresLocals : Stmt → State → Type 0
 DeclaresLocals body s = (x : Variable) → visible_behind body x ≡ false → s.cells x [] ≡ None
 
--- each chunk has a piece from this state, and in whatever order these are joined, they leave this other state and no text
-pub record JoinTo (loop : SharedLoop) (before after : State) (chunks : List (List Vector)) : Type 0 where
+-- each chunk has a piece from this state, and in whatever order these are joined, they leave what this effect leaves; their texts, one after another in the order of the chunks, are its text (OpenMP 5.2, 15.10.2)
+pub record JoinTo (loop : SharedLoop) (before : State) (e : Effect) (chunks : List (List Vector)) : Type 0 where
   pub pieces : List Piece
   pub each : map (piece loop before) chunks ≡ map Some pieces
-  pub leave : (order : List ℕ) → EachOnceBelow (length chunks) order → AgreesBehind loop.body loop.roles after (joined_state loop.roles before pieces order)
-  pub quiet : joined_text pieces ≡ []
+  pub leave : (order : List ℕ) → EachOnceBelow (length chunks) order → AgreesBehind loop.body loop.roles (overwritten before e.writes) (joined_state loop.roles before pieces order)
+  pub text : joined_text pieces ≡ e.text
 
 -- chunks that are all iterations, which are all different and of which no two conflict, join to what these leave in sequence
 abbrev pub IndependentChunksJoin : Type 0
@@ -34,4 +34,4 @@ IndependentChunksJoin =
     → AllPairs (λ u v. u ≢ v) us → ((u : Vector) → Contains us u → InnerLoopsTurn loops body outer u)
     → ((u v : Vector) → Contains us u → Contains us v → Conflict loops body outer u v → ⊥)
     → DeclaresLocals body outer → flat_map (λ vs. vs) chunks ≡ us → run_iterations loops body us outer ≡ Some e
-    → JoinTo (plain_loop loops body) outer (overwritten outer e.writes) chunks
+    → JoinTo (plain_loop loops body) outer e chunks

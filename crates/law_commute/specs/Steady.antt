@@ -1,6 +1,6 @@
 -- Bodies whose subscripts and inner loops do not depend on what the body computes.
-use Rattle.std.specs.Prelude.{Bool, true, false, ◌≡◌, Option, Some, None}
-use Rattle.semantics.specs.Tree.{Variable, Expr, Literal, Constant, Object, Unary, Binary, Conditional, Exprs, no_exprs, more_exprs, Cond, NotZero, Compare, Not, LogicalAnd, LogicalOr, Source, Number, Truth, Increment, Up, Down, Set, Change, Stmt, Assign, Update, If, IfElse, For, Block, Print, Items, no_items, mark, local, stmt}
+use Rattle.std.specs.Prelude.{Bool, true, false, ◌≡◌, List, [], ◌∷◌, Option, Some, None}
+use Rattle.semantics.specs.Tree.{Variable, Expr, Literal, Constant, Object, Unary, Binary, Conditional, Exprs, no_exprs, more_exprs, Cond, NotZero, Compare, Not, LogicalAnd, LogicalOr, Source, Number, Truth, Increment, Up, Down, Set, Change, PrintPart, Characters, Decimal, Stmt, Assign, Update, If, IfElse, For, Block, Print, Items, no_items, mark, local, stmt}
 use Rattle.semantics.specs.Meaning.Agrees.{also}
 
 -- fixed variables are those that the body does not assign: an expression of these, and of no element
@@ -69,13 +69,19 @@ abbrev pub IsSteadyStart : (Variable → Bool) → Option Source → Type 0
 IsSteadyStart fixed None = Unit {0}
 IsSteadyStart fixed (Some a) = IsSteadySource fixed a
 
+-- of what printf prints
+abbrev pub AreSteadyParts : (Variable → Bool) → List PrintPart → Type 0
+AreSteadyParts fixed [] = Unit {0}
+AreSteadyParts fixed (Characters bs ∷ ps) = AreSteadyParts fixed ps
+AreSteadyParts fixed (Decimal a ∷ ps) = IsSteadyExpr fixed a × AreSteadyParts fixed ps
+
 -- what is assigned: an element of a fixed array, or a scalar that is not fixed
 abbrev pub IsSteadyTarget : (Variable → Bool) → Variable → Exprs → Type 0
 IsSteadyTarget fixed x no_exprs = fixed x ≡ false
 IsSteadyTarget fixed x (more_exprs i is) = (fixed x ≡ true) × AreFixed fixed (more_exprs i is)
 
 abbrev mutual
-  -- a statement that prints nothing, assigns no fixed variable, and has fixed subscripts and loops; a loop's own variable is fixed in its body
+  -- a statement that assigns no fixed variable, and has fixed subscripts and loops; a loop's own variable is fixed in its body
   pub IsSteady : (Variable → Bool) → Stmt → Type 0
   IsSteady fixed (Assign x is a) = IsSteadyTarget fixed x is × IsSteadySource fixed a
   IsSteady fixed (Update x is op a) = IsSteadyTarget fixed x is × IsSteadyExpr fixed a
@@ -85,7 +91,7 @@ abbrev mutual
       (fixed x ≡ false) × IsFixedSource fixed start × IsFixedCond (also fixed x) test × IsFixedStep (also fixed x) x step
       × IsSteady (also fixed x) body
   IsSteady fixed (Block items) = AreSteady fixed items
-  IsSteady fixed (Print parts) = ⊥
+  IsSteady fixed (Print parts) = AreSteadyParts fixed parts
 
   -- a block's items
   pub AreSteady : (Variable → Bool) → Items → Type 0

@@ -11,7 +11,7 @@ pub fn iterations_see_what_they_touch()
     ensures { IterationsSeeWhatTheyTouch }
 {}
 
-/// An iteration writes only what the body declares and the elements that it touches for a write, and prints nothing (C11 5.1.2.4, 4).
+/// An iteration writes only what the body declares and the elements that it touches for a write (C11 5.1.2.4, 4).
 pub fn iterations_write_what_they_touch()
     ensures { IterationsWriteWhatTheyTouch }
 {}
@@ -22,7 +22,8 @@ pub fn independent_iterations_commute()
 {}
 
 /// Chunks of iterations of which no two conflict, each run from the state before the loop, leave in whatever order they are joined
-/// what the iterations leave in sequence (OpenMP 5.2, 11.5 and 11.5.3).
+/// what the iterations leave in sequence; the texts of the chunks, one after another in their order, are what the iterations print in
+/// sequence (OpenMP 5.2, 11.5, 11.5.3 and 15.10.2).
 pub fn independent_chunks_join()
     ensures { IndependentChunksJoin }
 {}

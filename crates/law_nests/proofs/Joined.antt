@@ -1,6 +1,6 @@
 -- Chunks of a nest's iterations, each run from the state before the nest, joined in any order.
 use Rattle.std.specs.Prelude.{ℕ, zero, suc, Bool, true, false, ◌≡◌, ◌==◌, ◌&&◌, ◌||◌, not, List, [], ◌∷◌, Option, Some, None, option_and_then}
-use Rattle.std.proofs.Common.{refl, ap, ◌∙◌}
+use Rattle.std.proofs.Common.{refl, sym, ap, ◌∙◌}
 use Rattle.std.proofs.lemmas.List.{append-nil}
 use Rattle.std.proofs.lemmas.Option.{same_Some, none-some}
 use Rattle.semantics.specs.Tree.{Variable, Stmt, Assign, Update, If, IfElse, For, Block, Print, no_items, mark, local, stmt}
@@ -108,6 +108,5 @@ nests_join n s loops body outer us chunks e is keeps body_keeps locals_alone are
       pieces = joined.pieces;
       each = joined.each;
       leave = λ order once. agrees_join s body (overwritten outer e.writes) (overwritten outer went.effect.writes) _ more went.leave (joined.leave order once);
-      quiet = joined.quiet;
-      text = went.text ∙ went.quiet;
+      text = joined.text ∙ sym went.text;
     }

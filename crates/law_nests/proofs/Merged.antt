@@ -15,6 +15,7 @@ use Rattle.semantics.specs.Meaning.Agrees.{visible_behind}
 use Rattle.semantics.specs.Loops.Nest.{Loop, Vector, nest_of, at_value, loop_values, concat_options, iterations}
 use Rattle.semantics.specs.Loops.Access.{Conflict}
 use Rattle.semantics.specs.Loops.Piece.{Piece, no_roles, piece, piece_of, run_iterations}
+use Rattle.semantics.specs.Loops.Joined.{joined_text}
 use Rattle.semantics.proofs.TicketLaw.{times-append, once_below-more}
 use Rattle.law_commute.specs.Commuting.{KeepsToItself, InnerLoopsTurn}
 use Rattle.law_commute.specs.Joining.{plain_loop, DeclaresLocals}
@@ -226,6 +227,7 @@ module _ (n : ℕ) (s : Stmt) (loops : List Loop) (body : Stmt) (outer : State) 
     effect : Effect
     ran : walk loops body vs outer ≡ Some effect
     alike : Alike effect p
+    text : effect.text ≡ p.text
 
   single : (vs : List Vector) (p : Piece) (ps : List Piece) → map (piece (plain_loop loops body) outer) (vs ∷ []) ≡ map Some ps → piece (plain_loop loops body) outer vs ≡ Some p → ps ≡ p ∷ []
   single vs p [] e is = absurd cc
@@ -245,23 +247,25 @@ module _ (n : ℕ) (s : Stmt) (loops : List Loop) (body : Stmt) (outer : State) 
             effect = walks.effect;
             ran = walks.ran;
             alike = λ y js. walks.cells y js ∙ (joins.leave (0 ∷ []) (counted_once 1)).cells y js ∙ ap (λ (ps : List Piece). (overwritten outer (writes_of (picked ps (0 ∷ [])))).cells y js) alone ∙ ap (λ ws. (overwritten outer ws).cells y js) (append-nil p.writes);
+            text = walks.text ∙ ap (λ (q : Piece). q.text) (same_Some (piece_of no_roles outer f) p e);
           }
 
   record Apart (chunks : List (List Vector)) (ps : List Piece) : Type 0 where
     effects : List Effect
     each : map (λ vs. walk loops body vs outer) chunks ≡ map Some effects
     alike : AreAlike effects ps
+    text : flat_map (λ (f : Effect). f.text) effects ≡ joined_text ps
 
   apart : (chunks : List (List Vector)) (ps : List Piece) → AllPairs (λ u v. u ≢ v) (flat_map (λ vs. vs) chunks) → ((u : Vector) → Contains (flat_map (λ vs. vs) chunks) u → Contains us u)
       → map (piece (plain_loop loops body) outer) chunks ≡ map Some ps → Apart chunks ps
-  apart [] [] different within e = record { effects = []; each = refl; alike = tt }
+  apart [] [] different within e = record { effects = []; each = refl; alike = tt; text = refl }
   apart [] (p ∷ ps) different within e = absurd cc
   apart (vs ∷ chunks) [] different within e = absurd cc
   apart (vs ∷ chunks) (p ∷ ps) different within e =
       let others = flat_map (λ (vs : List Vector). vs) chunks in
       let one = walked vs p (first_pairs (λ u v. u ≢ v) vs others different) (λ u h. within u (Contains-append_left vs others u h)) (head e) in
       let rest = apart chunks ps (other_pairs (λ u v. u ≢ v) vs others different) (λ u h. within u (Contains-append_right vs others u h)) (tail e) in
-      record { effects = one.effect ∷ rest.effects; each = λ i. one.ran i ∷ rest.each i; alike = (one.alike, rest.alike) }
+      record { effects = one.effect ∷ rest.effects; each = λ i. one.ran i ∷ rest.each i; alike = (one.alike, rest.alike); text = λ i. one.text i ++ rest.text i }
     where
       head : (map (piece (plain_loop loops body) outer) (vs ∷ chunks) ≡ map Some (p ∷ ps)) → piece (plain_loop loops body) outer vs ≡ Some p
       head e = cc
@@ -353,7 +357,7 @@ chunks_merge n s loops body outer us chunks e nest keeps own locals_alone are di
       independent = independent;
     } in
     let found = apart n s loops body outer us known chunks join.pieces (subst (AllPairs (λ u v. u ≢ v)) (sym whole) different) (λ u h. subst (λ l. Contains l u) whole h) join.each in
-    record { effects = found.effects; each = found.each; merge = merged n s loops body outer us known chunks e join found.effects found.alike; locals = λ x h other. locals_kept s loops body outer chunks e join x h; quiet = join.text }
+    record { effects = found.effects; each = found.each; merge = merged n s loops body outer us known chunks e join found.effects found.alike; locals = λ x h other. locals_kept s loops body outer chunks e join x h; text = sym (found.text ∙ join.text) }
   where
     contained : All (λ (u : Vector). length u ≡ length loops) us → (u : Vector) → Contains us u → length u ≡ length loops
     contained h u k = ap (λ l. length l) (sym k.2) ∙ h k.0 u k.1

@@ -3,7 +3,7 @@ use Rattle.std.specs.Prelude.{ℕ, zero, suc, Bool, true, false, ◌≡◌, ◌=
 use Rattle.std.specs.List.{AllByRecursion as Each}
 use Rattle.std.proofs.Common.{refl, sym, ap, ◌∙◌, subst, cond}
 use Rattle.std.proofs.lemmas.Bool.{eq-eqb, eqb-true}
-use Rattle.std.proofs.lemmas.List.{append-nil}
+use Rattle.std.proofs.lemmas.List.{append_assoc, append-nil}
 use Rattle.std.proofs.lemmas.Option.{same_Some, none-some}
 use Rattle.std.specs.Cmp.Lexicographic.{same_text}
 use Rattle.semantics.specs.Tree.{Name, Variable, Source, Cond, Increment, Stmt, Assign, Update, If, IfElse, For, Block, Print, no_items, mark, local, stmt}
@@ -33,22 +33,22 @@ abbrev runs_by : {A : Type 0} → (A → State → Option Effect) → List A →
 runs_by f [] s = Some nothing
 runs_by f (x ∷ xs) s = then_from s (f x s) (runs_by f xs)
 
--- they have a run, print nothing, and leave such a state
-record Went {A : Type 0} (f : A → State → Option Effect) (xs : List A) (s : State) (P : State → Type 0) : Type 0 where
+-- they have a run, which prints this and leaves such a state
+record Went {A : Type 0} (f : A → State → Option Effect) (xs : List A) (s : State) (text : List ℕ) (P : State → Type 0) : Type 0 where
   effect : Effect
   ran : runs_by f xs s ≡ Some effect
-  text : effect.text ≡ []
+  text_is : effect.text ≡ text
   after : P (overwritten s effect.writes)
 
-went_nothing : {A : Type 0} (f : A → State → Option Effect) (s : State) (P : State → Type 0) → P s → Went f [] s P
-went_nothing f s P h = record { effect = nothing; ran = refl; text = refl; after = h }
+went_nothing : {A : Type 0} (f : A → State → Option Effect) (s : State) (P : State → Type 0) → P s → Went f [] s [] P
+went_nothing f s P h = record { effect = nothing; ran = refl; text_is = refl; after = h }
 
-went_then : {A : Type 0} (f : A → State → Option Effect) (x : A) (xs : List A) (s : State) (P : State → Type 0) (e : Effect) → f x s ≡ Some e → e.text ≡ []
-    → Went f xs (overwritten s e.writes) P → Went f (x ∷ xs) s P
-went_then f x xs s P e is quiet rest = record {
+went_then : {A : Type 0} (f : A → State → Option Effect) (x : A) (xs : List A) (s : State) (text : List ℕ) (P : State → Type 0) (e : Effect) → f x s ≡ Some e
+    → Went f xs (overwritten s e.writes) text P → Went f (x ∷ xs) s (e.text ++ text) P
+went_then f x xs s text P e is rest = record {
   effect = joined e rest.effect;
   ran = ap (λ o. then_from s o (runs_by f xs)) is ∙ ap (map_option (joined e)) rest.ran;
-  text = ap (λ t. t ++ rest.effect.text) quiet ∙ rest.text;
+  text_is = ap (λ t. e.text ++ t) rest.text_is;
   after = subst P (sym (overwritten-append s e.writes rest.effect.writes)) rest.after;
 }
 
@@ -68,21 +68,18 @@ parts_of s (Some a) next e h = at (next (overwritten s a.writes)) refl h
     at None k j = absurd (none-some e j)
     at (Some b) k j = record { one = a; two = b; one_is = refl; two_is = k; is = same_Some (joined a b) e j }
 
-went_append : {A : Type 0} (f : A → State → Option Effect) (xs ys : List A) (s : State) (P : State → Type 0) (e : Effect) → runs_by f xs s ≡ Some e → e.text ≡ []
-    → Went f ys (overwritten s e.writes) P → Went f (xs ++ ys) s P
-went_append f [] ys s P e is quiet rest = subst (λ (a : Effect). Went f ys (overwritten s a.writes) P) (sym (same_Some nothing e is)) rest
-went_append f (x ∷ xs) ys s P e is quiet rest =
+went_append : {A : Type 0} (f : A → State → Option Effect) (xs ys : List A) (s : State) (text : List ℕ) (P : State → Type 0) (e : Effect) → runs_by f xs s ≡ Some e
+    → Went f ys (overwritten s e.writes) text P → Went f (xs ++ ys) s (e.text ++ text) P
+went_append f [] ys s text P e is rest =
+    let same : nothing ≡ e = same_Some nothing e is in
+    subst (λ (a : Effect). Went f ys s (a.text ++ text) P) same (subst (λ (a : Effect). Went f ys (overwritten s a.writes) text P) (sym same) rest)
+went_append f (x ∷ xs) ys s text P e is rest =
     let p = parts_of s (f x s) (runs_by f xs) e is in
-    let texts : p.one.text ++ p.two.text ≡ [] = ap (λ (a : Effect). a.text) p.is ∙ quiet in
-    let quiets = both_empty p.one.text p.two.text texts in
     let behind : overwritten s e.writes ≡ overwritten (overwritten s p.one.writes) p.two.writes =
     sym (ap (λ (a : Effect). overwritten s a.writes) p.is) ∙ overwritten-append s p.one.writes p.two.writes in
-    went_then f x (xs ++ ys) s P p.one p.one_is quiets.0
-    (went_append f xs ys (overwritten s p.one.writes) P p.two p.two_is quiets.1 (subst (λ t. Went f ys t P) behind rest))
-  where
-    both_empty : (a b : List ℕ) → a ++ b ≡ [] → (a ≡ []) × (b ≡ [])
-    both_empty [] b h = (refl, h)
-    both_empty (x ∷ a) b h = absurd cc
+    subst (λ z. Went f (x ∷ (xs ++ ys)) s z P) (sym (append_assoc p.one.text p.two.text text) ∙ ap (λ (a : Effect). a.text ++ text) p.is)
+    (went_then f x (xs ++ ys) s (p.two.text ++ text) P p.one p.one_is
+    (went_append f xs ys (overwritten s p.one.writes) text P p.two p.two_is (subst (λ t. Went f ys t text P) behind rest)))
 
 runs-map : {A B : Type 0} (f : B → State → Option Effect) (g : A → B) (xs : List A) (s : State) → runs_by f (map g xs) s ≡ runs_by (λ x. f (g x)) xs s
 runs-map f g [] s = refl
@@ -242,7 +239,6 @@ module _ (whole : Stmt) (outer : State) (there : Like whole outer outer) (body :
 
   pub record BodyWent (s t : State) (e : Effect) : Type 0 where
     pub ran : run body (P t) ≡ Some e
-    pub text : e.text ≡ []
     pub after : Beside whole outer K P (overwritten s e.writes) (overwritten t e.writes)
 
   -- it does the same in both
@@ -263,7 +259,7 @@ module _ (whole : Stmt) (outer : State) (there : Like whole outer outer) (body :
   body_went s t beside turn e is =
       let m = body_same s t beside turn in
       let left = m.left e is in
-      record { ran = sym m.same ∙ is; text = left.quiet; after = evolves (P t) e.writes s t left.own (λ y h. refl) beside }
+      record { ran = sym m.same ∙ is; after = evolves (P t) e.writes s t left.own (λ y h. refl) beside }
 
   -- as the iteration goes, the nest goes
   pub nest_goes : (s t : State) → Beside whole outer K P s t → ((a : Access) → Contains (accesses [] body) a → IsSome (iterations a.inner (P outer))) → (e : Effect) → run body (P t) ≡ Some e
@@ -280,9 +276,8 @@ module _ (whole : Stmt) (outer : State) (there : Like whole outer outer) (body :
   abbrev at_iteration : List Loop → (State → State) → Vector → State → Option Effect
   at_iteration ls P u t = run body (at_vector ls u (P t))
 
-  record NestWent (K : Variable → Bool) (P : State → State) (ls : List Loop) (us : List Vector) (s t : State) (e : Effect) : Type 0 where
-    text : e.text ≡ []
-    went : Went (at_iteration ls P) us t (Beside whole outer K P (overwritten s e.writes))
+  abbrev NestWent : (Variable → Bool) → (State → State) → List Loop → List Vector → State → State → Effect → Type 0
+  NestWent K P ls us s t e = Went (at_iteration ls P) us t e.text (Beside whole outer K P (overwritten s e.writes))
 
   -- what is known of a statement on the way to the body
   record IsInner (K : Variable → Bool) (P : State → State) (s : Stmt) : Type 0 where
@@ -319,11 +314,9 @@ module _ (whole : Stmt) (outer : State) (there : Like whole outer outer) (body :
       let round = subst (λ k. IsRound whole outer k P) same inner.round in
       let went = body_went whole outer there body keeps P round r t (subst (λ k. Beside whole outer k P r t) same beside) turn e ran in
       let after = subst (λ k. Beside whole outer k P (overwritten r e.writes) (overwritten t e.writes)) (sym same) went.after in
-      record {
-        text = went.text;
-        went = went_then (at_iteration [] P) [] [] t (Beside whole outer K P (overwritten r e.writes)) e went.ran went.text
-            (went_nothing (at_iteration [] P) (overwritten t e.writes) (Beside whole outer K P (overwritten r e.writes)) after);
-      }
+      subst (λ z. Went (at_iteration [] P) ([] ∷ []) t z (Beside whole outer K P (overwritten r e.writes))) (append-nil e.text)
+      (went_then (at_iteration [] P) [] [] t [] (Beside whole outer K P (overwritten r e.writes)) e went.ran
+      (went_nothing (at_iteration [] P) (overwritten t e.writes) (Beside whole outer K P (overwritten r e.writes)) after))
 
   no_loops : NestsGo zero
   no_loops K P s ls us r t e inner is are turn beside ran =
@@ -393,7 +386,7 @@ module _ (whole : Stmt) (outer : State) (there : Like whole outer outer) (body :
         let all : [] ≡ us = same_Some [] us (ap (λ (ws : List ℕ). concat_options (map all_inside ws)) none ∙ are) in
         subst (λ (vs : List Vector). Ends vs r t e) all
         (subst (λ (f : Effect). Ends [] r t f) (same_Some nothing e ran)
-        (record { text = refl; went = went_nothing (at_iteration (l ∷ ls) P) t (Beside whole outer K P r) (leaves v r t beside) }))
+        (went_nothing (at_iteration (l ∷ ls) P) t (Beside whole outer K P r) (leaves v r t beside)))
 
     -- the values of the turns from one on
     record Onward (k v : ℕ) (vs : List ℕ) (us : List Vector) (w : ℕ) : Type 0 where
@@ -470,8 +463,8 @@ module _ (whole : Stmt) (outer : State) (there : Like whole outer outer) (body :
             let turn_first = each_map (λ u. v ∷ u) (Turns (l ∷ ls) P) o.first_us (each_left (Turns (l ∷ ls) P) (map (λ u. v ∷ u) o.first_us) o.later_us turn_all) in
             let turn_later = each_right (Turns (l ∷ ls) P) (map (λ u. v ∷ u) o.first_us) o.later_us turn_all in
             let inside = inner_nest (also K x) (Round v) b ls o.first_us r t first.one (inner_at v) is o.first turn_first beside first.one_is in
-            let t1 : State = overwritten t inside.went.effect.writes in
-            let there_now : Inside v r1 t1 = inside.went.after in
+            let t1 : State = overwritten t inside.effect.writes in
+            let there_now : Inside v r1 t1 = inside.after in
             let holds_v = held v r1 t1 there_now in
             let same = same_base whole outer (also K x) (Round v) (at_round whole outer K P x v round) r1 t1 there there_now in
             let step_goes : Some (one_write (Assigned x [] w)) ≡ Some second.one =
@@ -483,19 +476,16 @@ module _ (whole : Stmt) (outer : State) (there : Like whole outer outer) (body :
             let behind : overwritten r2 second.two.writes ≡ overwritten r e.writes =
             ap (λ q. overwritten q second.two.writes) (sym moved) ∙ sym (overwritten-append r1 second.one.writes second.two.writes)
             ∙ ap (λ (f : Effect). overwritten r1 f.writes) second.is ∙ sym (overwritten-append r first.one.writes first.two.writes) ∙ ap (λ (f : Effect). overwritten r f.writes) first.is in
-            let texts : e.text ≡ [] =
-            sym (ap (λ (f : Effect). f.text) first.is)
-            ∙ ap (λ c. c ++ first.two.text) inside.text
-            ∙ sym (ap (λ (f : Effect). f.text) second.is)
-            ∙ ap (λ c. c ++ second.two.text) (sym (ap (λ (f : Effect). f.text) step_was)) ∙ others.text in
+            let texts : inside.effect.text ++ second.two.text ≡ e.text =
+            ap (λ z. z ++ second.two.text) inside.text_is
+            ∙ ap (λ z. first.one.text ++ z) (ap (λ (f : Effect). f.text ++ second.two.text) step_was ∙ ap (λ (f : Effect). f.text) second.is)
+            ∙ ap (λ (f : Effect). f.text) first.is in
             let f = at_iteration (l ∷ ls) P in
             let post = λ (q : State). Beside whole outer K P (overwritten r e.writes) q in
-            let more : Went f o.later_us t1 post = subst (λ (q : State). Went f o.later_us t1 (Beside whole outer K P q)) behind others.went in
-            record {
-              text = texts;
-              went = subst (λ (ws : List Vector). Went f ws t post) o.all
-                  (went_append f (map (λ u. v ∷ u) o.first_us) o.later_us t post inside.went.effect (runs-map f (λ u. v ∷ u) o.first_us t ∙ inside.went.ran) inside.went.text more);
-            }
+            let more : Went f o.later_us t1 second.two.text post = subst (λ (q : State). Went f o.later_us t1 second.two.text (Beside whole outer K P q)) behind others in
+            subst (λ z. Went f us t z post) texts
+            (subst (λ (ws : List Vector). Went f ws t (inside.effect.text ++ second.two.text) post) o.all
+            (went_append f (map (λ u. v ∷ u) o.first_us) o.later_us t second.two.text post inside.effect (runs-map f (λ u. v ∷ u) o.first_us t ∙ inside.ran) more))
 
     -- all turns
     all_turns : (k v : ℕ) (vs : List ℕ) (us : List Vector) (r t : State) (e : Effect) → Inside v r t → values_from k l (base v) ≡ Some vs → concat_options (map all_inside vs) ≡ Some us
@@ -590,7 +580,7 @@ module _ (whole : Stmt) (outer : State) (there : Like whole outer outer) (body :
         let went = all_turns n inner_nest K P inner.round this b ls is inner.steady.0 inner.steady.2 inner.steady.3 names_inside inner.steady.4 seen_inside greatest_trip_count vs.first vs.values us r1 t p.two begun
         vs.are vs.all turn (ap (λ (f : Effect). turning (overwritten r f.writes)) one ∙ p.two_is) in
         let whole_is : joined (one_write (Declared x (Some vs.first))) p.two ≡ e = ap (λ (f : Effect). joined f p.two) one ∙ p.is in
-        subst (NestWent K P (this ∷ ls) us r t) whole_is (record { text = went.text; went = went.went })
+        subst (NestWent K P (this ∷ ls) us r t) whole_is went
       where
         at : (y v : ℕ) (c : Bool) → (y == x) ≡ c → also K x y ≡ true → Beside whole outer K P r t → cond (y == x) (Holds v) (r.locals y) ≡ cond (y == x) (Holds v) ((P t).locals y)
         at y v true k h beside = ap (λ c. cond c (Holds v) (r.locals y)) k ∙ sym (ap (λ c. cond c (Holds v) ((P t).locals y)) k)
@@ -643,11 +633,7 @@ module _ (whole : Stmt) (outer : State) (there : Like whole outer outer) (body :
         } in
         let went = goes a K P ls us r t p.one within h are turn beside p.one_is in
         let whole_is : joined p.one nothing ≡ e = ap (joined p.one) last ∙ p.is in
-        let writes : p.one.writes ≡ e.writes = sym (append-nil p.one.writes) ∙ ap (λ (f : Effect). f.writes) whole_is in
-        record {
-          text = sym (ap (λ (f : Effect). f.text) whole_is) ∙ append-nil p.one.text ∙ went.text;
-          went = subst (λ (ws : List Write). Went (at_iteration ls P) us t (Beside whole outer K P (overwritten r ws))) writes went.went;
-        }
+        subst (NestWent K P ls us r t) (λ i. record { writes = (sym (append-nil p.one.writes) ∙ ap (λ (f : Effect). f.writes) whole_is) i; text = (sym (append-nil p.one.text) ∙ ap (λ (f : Effect). f.text) whole_is) i }) went
 
   -- of every depth
   nests_go : (n : ℕ) → NestsGo n
@@ -670,12 +656,11 @@ nests_run n s loops body outer us e is keeps locals_alone are turn ran =
     } in
     let beside : Beside s outer V (λ t. t) outer outer = record { like = there; cells = λ y js. refl; locals = λ y h. refl } in
     let went = nests_go s outer there body n V (λ t. t) s loops us outer outer e inner is are (each_same (Turns s outer there body loops (λ t. t)) us (λ u h. turn u (contains_among us u h))) beside ran in
-    let after = went.went.after in
+    let after = went.after in
     record {
-      effect = went.went.effect;
-      run = runs_are loops body us outer ∙ went.went.ran;
-      text = went.text ∙ sym went.went.text;
-      quiet = went.went.text;
+      effect = went.effect;
+      run = runs_are loops body us outer ∙ went.ran;
+      text = sym went.text_is;
       leave = record {
         cells = after.cells;
         kinds = λ y h. ap is_outside (after.locals y h);

@@ -5,13 +5,13 @@ use Rattle.std.proofs.Common.{refl, sym, ap, ◌∙◌, subst, cond}
 use Rattle.std.proofs.lemmas.Bool.{eqb-true}
 use Rattle.std.proofs.lemmas.List.{append_assoc, append-nil}
 use Rattle.std.proofs.lemmas.List.Elements.{All-contains, All-from_recursion}
-use Rattle.semantics.specs.Tree.{Variable, Expr, Literal, Constant, Object, Unary, Binary, Conditional, Exprs, no_exprs, more_exprs, Cond, NotZero, Compare, Not, LogicalAnd, LogicalOr, Source, Number, Truth, Stmt, Assign, Update, If, IfElse, For, Block, Print, Items, no_items, mark, local, stmt}
+use Rattle.semantics.specs.Tree.{Variable, Expr, Literal, Constant, Object, Unary, Binary, Conditional, Exprs, no_exprs, more_exprs, Cond, NotZero, Compare, Not, LogicalAnd, LogicalOr, Source, Number, Truth, PrintPart, Characters, Decimal, Stmt, Assign, Update, If, IfElse, For, Block, Print, Items, no_items, mark, local, stmt}
 use Rattle.semantics.specs.Meaning.State.{State, Holds, Assigned, assign_at, with_local, overwritten, look, look_in}
 use Rattle.semantics.specs.Meaning.Value.{by_test, both, map_option}
 use Rattle.semantics.specs.Meaning.Runs.{Effect, incremented, greatest_trip_count}
 use Rattle.semantics.specs.Meaning.Agrees.{also, declared_in, declared_among, is_among, visible_behind}
 use Rattle.semantics.specs.Loops.Nest.{Loop, at_value, values_from, loop_values, iterations, concat_options}
-use Rattle.semantics.specs.Loops.Access.{Access, Mode, Writes, accesses, items_accesses, named, expr_accesses, cond_accesses, source_accesses, start_accesses}
+use Rattle.semantics.specs.Loops.Access.{Access, Mode, Writes, accesses, items_accesses, named, expr_accesses, cond_accesses, source_accesses, start_accesses, part_accesses}
 use Rattle.semantics.proofs.NestLaw.{local_same}
 use Rattle.law_commute.specs.Steady.{IsFixedSource, IsFixedCond, IsFixedStep, IsSteadyTarget, IsSteady, AreSteady}
 use Rattle.law_commute.specs.Targets.{scalar, targets, targets_among, targets_outside}
@@ -123,6 +123,11 @@ module _ (F : Variable → Bool) (inner : List Loop) where
   start_here None = tt
   start_here (Some a) = source_here a
 
+  parts_here : (ps : List PrintPart) → Each Here (part_accesses inner ps)
+  parts_here [] = tt
+  parts_here (Characters bs ∷ ps) = parts_here ps
+  parts_here (Decimal a ∷ ps) = each_join Here (expr_accesses inner a) (part_accesses inner ps) (expr_here a) (parts_here ps)
+
 mutual
   -- the loops round an access of a steady statement
   stmt_behind : (a : Stmt) (inner : List Loop) (F : Variable → Bool) → IsSteady F a → Each (Behind F inner) (accesses inner a)
@@ -140,7 +145,7 @@ mutual
       (λ a k. (l ∷ k.0, k.1 ∙ append_assoc inner (l ∷ []) k.0, (h.1, h.2, h.3, k.2)))
       (stmt_behind body (inner ++ l ∷ []) (also F x) h.4)
   stmt_behind (Block items) inner F h = items_behind items inner F h
-  stmt_behind (Print parts) inner F h = absurd h
+  stmt_behind (Print parts) inner F h = parts_here F inner parts
 
   items_behind : (items : Items) (inner : List Loop) (F : Variable → Bool) → AreSteady F items → Each (Behind F inner) (items_accesses inner items)
   items_behind no_items inner F h = tt
@@ -189,7 +194,7 @@ mutual
   declared_free (For y name start test step body) F x h k =
       one_of_two F x y (is_among (declared_in body) x) h.0 k (λ j. less_fixed F x y (declared_free body (also F y) x h.4 j))
   declared_free (Block items) F x h k = items_free items F x h k
-  declared_free (Print parts) F x h k = absurd h
+  declared_free (Print parts) F x h k = absurd (let q : false ≡ true = k in cc)
 
   items_free : (items : Items) (F : Variable → Bool) (x : Variable) → AreSteady F items → is_among (declared_among items) x ≡ true → F x ≡ false
   items_free no_items F x h k = absurd (let q : false ≡ true = k in cc)
@@ -210,7 +215,7 @@ mutual
   target_free (IfElse c a b) F x h k = among_either (F x ≡ false) (targets a) (targets b) x k (target_free a F x h.1) (target_free b F x h.2)
   target_free (For y name start test step body) F x h k = less_fixed F x y (target_free body (also F y) x h.4 k)
   target_free (Block items) F x h k = item_targets_free items F x h k
-  target_free (Print parts) F x h k = absurd h
+  target_free (Print parts) F x h k = absurd (let q : false ≡ true = k in cc)
 
   item_targets_free : (items : Items) (F : Variable → Bool) (x : Variable) → AreSteady F items → is_among (targets_among items) x ≡ true → F x ≡ false
   item_targets_free no_items F x h k = absurd (let q : false ≡ true = k in cc)

@@ -145,7 +145,7 @@ module _ (s : Stmt) (outer : State) (there : Like s outer outer) (n : ℕ) (loop
   record Walked (us : List Vector) (r t : State) (e : Effect) : Type 0 where
     effect : Effect
     ran : walk loops body us r ≡ Some effect
-    text : effect.text ≡ []
+    text : effect.text ≡ e.text
     after : Apart (overwritten r effect.writes) (overwritten t e.writes)
 
   abbrev Good : Vector → Type 0
@@ -153,7 +153,7 @@ module _ (s : Stmt) (outer : State) (there : Like s outer outer) (n : ℕ) (loop
 
   walks : (us : List Vector) (r t : State) (e : Effect) → Apart r t → Each Good us → run_iterations loops body us t ≡ Some e → Walked us r t e
   walks [] r t e apart good ran =
-      record { effect = nothing; ran = refl; text = refl; after = subst (λ (f : Effect). Apart r (overwritten t f.writes)) (same_Some nothing e ran) apart }
+      record { effect = nothing; ran = refl; text = ap (λ (f : Effect). f.text) (same_Some nothing e ran); after = subst (λ (f : Effect). Apart r (overwritten t f.writes)) (same_Some nothing e ran) apart }
   walks (u ∷ us) r t e apart good ran =
       let p = parts_of t (run body (Set u t)) (run_iterations loops body us) e ran in
       let r1 : State = Set u r in
@@ -186,7 +186,7 @@ module _ (s : Stmt) (outer : State) (there : Like s outer outer) (n : ℕ) (loop
         ran =
             ap (λ q. map_option (joined (enters loops u)) (then_from q (run body q) (walk loops body us))) (entered_is loops u r)
             ∙ ap (map_option (joined (enters loops u))) turned;
-        text = ap (λ c. c ++ rest.effect.text) went.1.text ∙ rest.text;
+        text = ap (λ c. p.one.text ++ c) rest.text ∙ ap (λ (f : Effect). f.text) p.is;
         after = subst (λ q. Apart q (overwritten t e.writes)) (sym behind) (subst (λ q. Apart (overwritten r2 rest.effect.writes) q) other rest.after);
       }
 

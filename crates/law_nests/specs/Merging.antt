@@ -1,5 +1,5 @@
 -- Chunks put together by what each of them changed. (OpenMP 5.2, 11.5.3)
-use Rattle.std.specs.Prelude.{ℕ, true, false, ◌≡◌, ◌≢◌, ◌⊎◌, List, [], map, flat_map, Option, Some, Contains, slice_get}
+use Rattle.std.specs.Prelude.{ℕ, true, false, ◌≡◌, ◌≢◌, ◌⊎◌, List, map, flat_map, Option, Some, Contains, slice_get}
 use Rattle.std.specs.List.{AllPairs}
 use Rattle.semantics.specs.Tree.{Variable, Stmt}
 use Rattle.semantics.specs.Meaning.State.{State, overwritten}
@@ -37,14 +37,14 @@ abbrev pub Merges : State → List Effect → Cells → Type 0
 Merges outer es after =
     (x : Variable) (is : List ℕ) → (NoneChanges outer es x is × (after x is ≡ outer.cells x is)) ⊎ OneChanges outer es after x is
 
--- chunks of a nest's iterations, each from the state before the nest, have a run each, and what they change, put together, is what the nest leaves; it prints nothing and leaves what is visible round it as it was, but for the scalars that it assigns there
+-- chunks of a nest's iterations, each from the state before the nest, have a run each, and what they change, put together, is what the nest leaves; it leaves what is visible round it as it was, but for the scalars that it assigns there, and prints what the chunks print, one after another in their order (OpenMP 5.2, 15.10.2)
 pub record WalkApart (s : Stmt) (loops : List Loop) (body : Stmt) (chunks : List (List Vector)) (outer : State) (e : Effect) : Type 0 where
   pub effects : List Effect
   pub each : map (λ us. walk loops body us outer) chunks ≡ map Some effects
   pub merge : (after : Cells) → Merges outer effects after → (x : Variable) (is : List ℕ) → after x is ≡ left_by outer e x is
   pub locals : (x : Variable) → visible_behind s x ≡ true → is_among (targets_outside s) x ≡ false
       → (overwritten outer e.writes).locals x ≡ outer.locals x
-  pub quiet : e.text ≡ []
+  pub text : e.text ≡ flat_map (λ (f : Effect). f.text) effects
 
 -- so do chunks of iterations that are all different and of which no two conflict: which of them comes last is of no matter
 abbrev pub IndependentChunksMerge : Type 0

@@ -1,5 +1,5 @@
 -- A nest of loops and its iterations. (C11 6.8.5.3; OpenMP 5.2, 4.4.2)
-use Rattle.std.specs.Prelude.{ℕ, ◌≡◌, ◌≢◌, List, [], length, map, flat_map, Some, Contains}
+use Rattle.std.specs.Prelude.{ℕ, ◌≡◌, ◌≢◌, List, length, map, flat_map, Some, Contains}
 use Rattle.std.specs.List.{AllPairs}
 use Rattle.semantics.specs.Tree.{Stmt}
 use Rattle.semantics.specs.Meaning.State.{State, overwritten}
@@ -13,12 +13,11 @@ use Rattle.semantics.specs.Loops.Joined.{joined_state, joined_text}
 use Rattle.law_commute.specs.Commuting.{KeepsToItself, InnerLoopsTurn}
 use Rattle.law_commute.specs.Joining.{plain_loop, DeclaresLocals}
 
--- iterations in sequence have a run, which leaves what the nest leaves and prints nothing, as the nest
+-- iterations in sequence have a run, which prints what the nest prints and leaves what it leaves
 pub record RunAsTheNest (s : Stmt) (loops : List Loop) (body : Stmt) (us : List Vector) (outer : State) (e : Effect) : Type 0 where
   pub effect : Effect
   pub run : run_iterations loops body us outer ≡ Some effect
   pub text : e.text ≡ effect.text
-  pub quiet : effect.text ≡ []
   pub leave : AgreesBehind s no_roles (overwritten outer e.writes) (overwritten outer effect.writes)
 
 -- so do the iterations of a nest that keeps to itself, wherever it has a run
@@ -29,13 +28,12 @@ NestsRunTheirIterations =
     → ((u : Vector) → Contains us u → InnerLoopsTurn loops body outer u) → run s outer ≡ Some e
     → RunAsTheNest s loops body us outer e
 
--- chunks of a nest's iterations have a piece each from the state before the nest, which print nothing, and joined in any order they leave what the nest leaves, which prints nothing
+-- chunks of a nest's iterations have a piece each from the state before the nest, and joined in any order they leave what the nest leaves; their texts, one after another in the order of the chunks, are what it prints (OpenMP 5.2, 15.10.2)
 pub record JoinAsTheNest (s : Stmt) (loops : List Loop) (body : Stmt) (chunks : List (List Vector)) (outer : State) (e : Effect) : Type 0 where
   pub pieces : List Piece
   pub each : map (piece (plain_loop loops body) outer) chunks ≡ map Some pieces
   pub leave : (order : List ℕ) → EachOnceBelow (length chunks) order → AgreesBehind s no_roles (overwritten outer e.writes) (joined_state no_roles outer pieces order)
-  pub quiet : joined_text pieces ≡ []
-  pub text : e.text ≡ []
+  pub text : joined_text pieces ≡ e.text
 
 -- so do chunks of iterations that are all different and of which no two conflict
 abbrev pub IndependentNestsJoin : Type 0

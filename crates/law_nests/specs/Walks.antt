@@ -22,17 +22,17 @@ abbrev pub walk : List Loop → Stmt → List Vector → State → Option Effect
 walk loops body [] s = Some nothing
 walk loops body (u ∷ us) s = then_from s (Some (enters loops u)) (λ t. then_from t (run body t) (walk loops body us))
 
--- a walk has a run, which prints nothing and leaves these objects at file scope
-pub record WalksTo (loops : List Loop) (body : Stmt) (us : List Vector) (s after : State) : Type 0 where
+-- a walk has a run, which prints what this effect prints and leaves the objects at file scope as it does
+pub record WalksTo (loops : List Loop) (body : Stmt) (us : List Vector) (s : State) (e : Effect) : Type 0 where
   pub effect : Effect
   pub ran : walk loops body us s ≡ Some effect
-  pub text : effect.text ≡ []
-  pub cells : (x : Variable) (is : List ℕ) → (overwritten s effect.writes).cells x is ≡ after.cells x is
+  pub text : effect.text ≡ e.text
+  pub cells : (x : Variable) (is : List ℕ) → (overwritten s effect.writes).cells x is ≡ (overwritten s e.writes).cells x is
 
--- a walk over iterations of a nest that keeps to itself leaves what they leave
+-- a walk over iterations of a nest that keeps to itself prints and leaves what they do
 abbrev pub WalksLeaveTheSame : Type 0
 WalksLeaveTheSame =
     (n : ℕ) (s : Stmt) (loops : List Loop) (body : Stmt) (outer : State) (us : List Vector) (e : Effect) → nest_of n s ≡ Some (loops, body)
     → KeepsToItself s → KeepsToItself body → DeclaresLocals s outer
     → ((u : Vector) → Contains us u → (length u ≡ length loops) × InnerLoopsTurn loops body outer u)
-    → run_iterations loops body us outer ≡ Some e → WalksTo loops body us outer (overwritten outer e.writes)
+    → run_iterations loops body us outer ≡ Some e → WalksTo loops body us outer e

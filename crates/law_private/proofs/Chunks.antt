@@ -1,5 +1,5 @@
 -- Chunks of iterations with private scalars, by those of a nest whose body declares these itself.
-use Rattle.std.specs.Prelude.{ℕ, zero, suc, Bool, true, false, not, ◌≡◌, ◌==◌, ◌⊎◌, List, [], ◌∷◌, map, Option, Some, None, is_none, slice_get, Contains}
+use Rattle.std.specs.Prelude.{ℕ, zero, suc, Bool, true, false, not, ◌≡◌, ◌==◌, ◌⊎◌, List, [], ◌∷◌, ◌++◌, map, flat_map, Option, Some, None, is_none, slice_get, Contains}
 use Rattle.std.specs.List.{list_all}
 use Rattle.std.proofs.Common.{refl, sym, ap, ◌∙◌, subst, inl, inr}
 use Rattle.std.proofs.lemmas.Bool.{true≢false, eqb-true, and_cases, and_from, or_cases}
@@ -109,15 +109,16 @@ module _ (xs : List Variable) (loops : List Loop) (body own : Stmt) (outer : Sta
     effects : List Effect
     each : map (λ us. walk loops body us outer) chunks ≡ map Some effects
     same : AllSame outer effects fs
+    text : flat_map (λ (f : Effect). f.text) effects ≡ flat_map (λ (f : Effect). f.text) fs
 
   walks_of : (chunks : List (List Vector)) (fs : List Effect) → map (λ us. walk loops own us outer) chunks ≡ map Some fs → Walks chunks fs
-  walks_of [] [] e = record { effects = []; each = refl; same = tt }
+  walks_of [] [] e = record { effects = []; each = refl; same = tt; text = refl }
   walks_of [] (f ∷ fs) e = absurd cc
   walks_of (us ∷ chunks) [] e = absurd cc
   walks_of (us ∷ chunks) (f ∷ fs) e =
       let one = beside_second (Near xs) outer outer (walk loops body us outer) (walk loops own us outer) f (walks us) (head e) in
       let rest = walks_of chunks fs (tail e) in
-      record { effects = one.effect ∷ rest.effects; each = λ i. one.is i ∷ rest.each i; same = (λ x is. one.after.agrees.cells x is, rest.same) }
+      record { effects = one.effect ∷ rest.effects; each = λ i. one.is i ∷ rest.each i; same = (λ x is. one.after.agrees.cells x is, rest.same); text = λ i. sym one.text i ++ rest.text i }
     where
       head : (map (λ us. walk loops own us outer) (us ∷ chunks) ≡ map Some (f ∷ fs)) → walk loops own us outer ≡ Some f
       head e = cc
@@ -152,7 +153,7 @@ private_merge n s loops body outer us chunks e nest keeps own_keeps first local_
           one.after.agrees.values x (ap not other)
           ∙ merge.locals x (sym (ap (λ (V : Variable → Bool). V x) (fixed_is xs body n s has.nest loops has.is)) ∙ and_from (visible_behind s x) (not (is_among xs x)) seen (ap not other))
           (no_targets has.nest x whole_keeps);
-      quiet = one.text ∙ merge.quiet;
+      text = one.text ∙ merge.text ∙ sym found.text;
     }
   where
     no_cell : (o : Option ℕ) → is_none o ≡ true → o ≡ None

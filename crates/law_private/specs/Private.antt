@@ -23,7 +23,7 @@ PrivateIterationsCommute =
     → ((u v : Vector) → Contains us u → Contains us v → Conflict loop.loops loop.body outer u v → ⊥)
     → CommutesInAnyOrder loop outer us
 
--- chunks of such iterations of a nest, each from the state before it, have a run each, and what they change, put together, is what the nest leaves
+-- chunks of such iterations of a nest, each from the state before it, have a run each, and what they change, put together, is what the nest leaves; it prints what they print, in their order
 abbrev pub PrivateChunksMerge : Type 0
 PrivateChunksMerge =
     (n : ℕ) (s : Stmt) (loops : List Loop) (body : Stmt) (outer : State) (us : List Vector) (chunks : List (List Vector)) (e : Effect)

@@ -24,7 +24,8 @@ pub fn private_iterations_commute()
 {}
 
 /// Chunks of a nest's iterations of which no two conflict, and which assign no scalar from outside but locals, each before they read it, have a
-/// run each from the state before the nest, and what they change, put together, is what the nest leaves (OpenMP 5.2, 5.4.3 and 11.5).
+/// run each from the state before the nest, and what they change, put together, is what the nest leaves. The nest prints what the chunks print,
+/// one after another in their order (OpenMP 5.2, 5.4.3, 11.5 and 15.10.2).
 pub fn private_chunks_merge()
     ensures { PrivateChunksMerge }
 {}

@@ -165,7 +165,7 @@ module _ (ps ls : List Variable) (rs : List (Variable × ReduceOp)) (s : Stmt) (
     filled = inner.filled;
     no_last = λ x h none. seen_left x ∙ inner.no_last x h none ∙ sym (moved_look vars outer o m x []);
     locals = λ x seen other. left.locals x other ∙ inner.locals x seen other ∙ sym (m.locals x other);
-    quiet = inner.quiet;
+    text = inner.text;
   }
 
 -- ---- the two laws

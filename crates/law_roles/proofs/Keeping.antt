@@ -6,7 +6,7 @@ use Rattle.std.proofs.lemmas.Option.{same_Some, none-some}
 use Rattle.semantics.specs.Tree.{Variable, Exprs, no_exprs, more_exprs, Source, Cond, Increment, Up, Down, Set, Change, Stmt, Assign, Update, If, IfElse, For, Block, Print, Items, no_items, mark, local, stmt}
 use Rattle.semantics.specs.Meaning.State.{State, Slot, Outside, Empty, Holds, Declared, Assigned, renewed, same_indexes, with_local, assign_at, is_object, is_object_in, written, overwritten}
 use Rattle.semantics.specs.Meaning.Value.{map_option, by_test, values, holds, source_value}
-use Rattle.semantics.specs.Meaning.Runs.{Effect, nothing, one_write, joined, then_from, declares, declared, assigned, incremented, turns, greatest_trip_count, run, run_items}
+use Rattle.semantics.specs.Meaning.Runs.{Effect, nothing, one_write, joined, then_from, declares, declared, assigned, incremented, print_text, turns, greatest_trip_count, run, run_items}
 use Rattle.semantics.specs.Meaning.Agrees.{also}
 use Rattle.law_commute.specs.Steady.{IsFixedStep, IsSteadyTarget, IsSteady, AreSteady}
 use Rattle.law_commute.proofs.Matched.{overwritten-append}
@@ -32,6 +32,10 @@ module _ (F : Variable → Bool) where
 
   keeps_nothing : (s : State) → Keeps s (Some nothing)
   keeps_nothing s = keeps_some s nothing (λ y h. record { locals = refl; cells = λ o. refl })
+
+  keeps_text : (s : State) (o : Option (List ℕ)) → Keeps s (map_option (λ t. record { writes = []; text = t }) o)
+  keeps_text s None = keeps_none s
+  keeps_text s (Some t) = keeps_some s (record { writes = []; text = t }) (λ y h. record { locals = refl; cells = λ o. refl })
 
   keeps_test : (s : State) (b : Option Bool) (o p : Option Effect) → Keeps s o → Keeps s p → Keeps s (by_test b o p)
   keeps_test s None o p one two = keeps_none s
@@ -131,7 +135,7 @@ mutual
       keeps_steps F s (declared s x (Some start)) (turns greatest_trip_count (λ t. holds t test) (run body) (λ t. incremented t step)) (keeps_declared F s x (Some start) h.0)
       (keeps_turns F test x step (run body) h.0 h.3 (λ t e is y k. steady_keeps (also F x) body h.4 t e is y (also_more F x y k)) greatest_trip_count)
   steady_keeps F (Block items) h s = items_keep F items h s
-  steady_keeps F (Print parts) h s = absurd h
+  steady_keeps F (Print parts) h s = keeps_text F s (print_text s parts)
 
   items_keep : (F : Variable → Bool) (items : Items) → AreSteady F items → (s : State) → Keeps F s (run_items items s)
   items_keep F no_items h s = keeps_nothing F s

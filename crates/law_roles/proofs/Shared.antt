@@ -14,8 +14,8 @@ use Rattle.semantics.specs.Meaning.Agrees.{is_among, names_only, visible_behind}
 use Rattle.semantics.specs.Loops.Arrangement.{EachOnceBelow, picked}
 use Rattle.semantics.specs.Loops.Nest.{Loop, Vector, nest_of, iterations}
 use Rattle.semantics.specs.Loops.Access.{Conflict}
-use Rattle.semantics.specs.Loops.Operator.{ReduceOp, identity, combined_all}
-use Rattle.semantics.specs.Loops.Piece.{with_empty, chunk_start, if_updated, is_outside}
+use Rattle.semantics.specs.Loops.Operator.{ReduceOp, combined_all}
+use Rattle.semantics.specs.Loops.Piece.{is_outside}
 use Rattle.law_commute.specs.Steady.{IsSteady}
 use Rattle.law_commute.specs.Targets.{KeepsApart}
 use Rattle.law_commute.specs.Commuting.{KeepsToItself, InnerLoopsTurn}
@@ -278,9 +278,10 @@ module _ (ps ls : List Variable) (rs : List (Variable × ReduceOp)) (n : ℕ) (s
     effects : List Effect
     each : map (λ vs. walk loops body vs start) cs ≡ map Some effects
     facts : AllChunks cs effects ws
+    text : flat_map (λ (f : Effect). f.text) effects ≡ flat_map (λ (w : Effect). w.text) ws
 
   walks_of : (cs : List (List Vector)) (ws : List Effect) → map (λ vs. walk loops own vs o) cs ≡ map Some ws → Walks cs ws
-  walks_of [] [] k = record { effects = []; each = refl; facts = tt }
+  walks_of [] [] k = record { effects = []; each = refl; facts = tt; text = refl }
   walks_of [] (w ∷ ws) k = absurd cc
   walks_of (vs ∷ cs) [] k = absurd cc
   walks_of (vs ∷ cs) (w ∷ ws) k =
@@ -291,6 +292,7 @@ module _ (ps ls : List Variable) (rs : List (Variable × ReduceOp)) (n : ℕ) (s
         effects = two.0 ∷ rest.effects;
         each = λ i. two.1 i ∷ rest.each i;
         facts = (record { shadow = one.effect; shadow_is = one.is; follows = two.2; near = one.after }, rest.facts);
+        text = λ i. (two.2.text ∙ sym one.text) i ++ rest.text i;
       }
     where
       head : (map (λ vs. walk loops own vs o) (vs ∷ cs) ≡ map Some (w ∷ ws)) → walk loops own vs o ≡ Some w
@@ -491,7 +493,7 @@ module _ (ps ls : List Variable) (rs : List (Variable × ReduceOp)) (n : ℕ) (s
         (sym (ap (λ (V : Variable → Bool). V x) (fixed_is vars body' n s' has.nest loops has.is))
         ∙ and_from (visible_behind s' x) (not (is_among vars x)) (sym (ap (λ (V : Variable → Bool). V x) (behind_of s)) ∙ seen) (ap not other))
         (no_targets has.nest x keeps_whole);
-    quiet = told.2.text ∙ found.text ∙ merge.quiet;
+    text = told.2.text ∙ found.text ∙ merge.text ∙ sym all.text;
   }
     where
       at : (p : Option Effect) → last_filled chunks all.effects ≡ p → (flat_map (λ vs. vs) chunks ≡ [] → ⊥) → IsSome p

@@ -94,7 +94,7 @@ last_filled (us ∷ chunks) (e ∷ es) = or_filled us e (last_filled chunks es)
 
 -- ---- the laws
 
--- each chunk has a walk from its start, and these, put together, are what the nest leaves, where a chunk's partial of a reduction variable is told so; it prints nothing and leaves what is visible round it as it was, but for variables with a role
+-- each chunk has a walk from its start, and these, put together, are what the nest leaves, where a chunk's partial of a reduction variable is told so; it leaves what is visible round it as it was, but for variables with a role, and prints what the chunks print, one after another in their order (OpenMP 5.2, 15.10.2)
 pub record SharesFrom (start : State) (partial : Effect → Variable → Option ℕ) (roles : Roles) (s : Stmt) (loops : List Loop) (body : Stmt) (chunks : List (List Vector)) (outer : State) (e : Effect) : Type 0 where
   pub effects : List Effect
   pub each : map (λ us. walk loops body us start) chunks ≡ map Some effects
@@ -111,7 +111,7 @@ pub record SharesFrom (start : State) (partial : Effect → Variable → Option 
       → look (overwritten outer e.writes) x [] ≡ look outer x []
   pub locals : (x : Variable) → visible_behind s x ≡ true → is_among (role_variables roles) x ≡ false
       → (overwritten outer e.writes).locals x ≡ outer.locals x
-  pub quiet : e.text ≡ []
+  pub text : e.text ≡ flat_map (λ (f : Effect). f.text) effects
 
 -- a reduction variable's partial in a chunk that begins with copies: none where the chunk does not update it
 abbrev pub updated_from : State → Effect → Variable → Option ℕ

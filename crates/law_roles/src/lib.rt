@@ -29,7 +29,8 @@ pub fn nests_are_walks()
 {}
 
 /// Chunks of a nest's iterations of which no two conflict, each with its own copies of private, lastprivate and reduction variables, have a run
-/// each, and leave put together what the nest leaves: partials may be combined in any order (OpenMP 5.2, 5.4.3, 5.4.5, 5.5.5 and 11.5.3).
+/// each, and leave put together what the nest leaves: partials may be combined in any order. The nest prints what the chunks print, one after
+/// another in their order (OpenMP 5.2, 5.4.3, 5.4.5, 5.5.5, 11.5.3 and 15.10.2).
 pub fn role_chunks_join()
     ensures { RoleChunksJoin }
 {}

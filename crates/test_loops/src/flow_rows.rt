@@ -495,11 +495,6 @@ fn data_of_parallel_loops(rt: HostRuntime) {
             "#pragma omp parallel for\nfor (uint64_t i = 0; i < 8; i++) A[i] = 1;",
             None,
         ),
-        // Parallel loops print nothing.
-        (
-            PRINTS,
-            Some(DataFault::Printed(Place { line: 4, column: 1 })),
-        ),
         // Other loops may share.
         (
             "for (uint64_t i = 0; i < 8; i++) s = i;\nprintf(\"%\" PRIu64 \" %\" PRIu64 \"\\n\", s, x);",
@@ -530,10 +525,6 @@ fn data_of_parallel_loops(rt: HostRuntime) {
     ];
     no_other(&rt, first_other_data(rt.alloc(), ROWS));
 }
-
-/// A parallel loop that prints two numbers.
-const PRINTS: &str =
-    "#pragma omp parallel for\nfor (uint64_t i = 0; i < 8; i++)\nprintf(\"%\" PRIu64 \" %\" PRIu64 \"\\n\", s, x);";
 
 /// The only parallel loop of the text with these lines.
 fn only_loop(alloc: Global, lines: &str) -> Result<Option<Seen>, u8> {
@@ -677,6 +668,5 @@ fn faults_have_their_refusals(rt: HostRuntime) {
     assert!(rt; number(DataFault::Unassigned(at(1, 9))) == 15);
     assert!(rt; number(DataFault::LastUnassigned(at(1, 9))) == 15);
     assert!(rt; number(DataFault::Reduced(at(1, 9))) == 16);
-    assert!(rt; number(DataFault::Printed(at(1, 1))) == 18);
     assert!(rt; number(DataFault::OutOfMemory) == 23);
 }
