@@ -125,7 +125,7 @@ fn parallel_loops_print_in_regions_alone(rt: HostRuntime) {
     let rows = [
         (
             "#pragma omp parallel for\nfor (uint64_t i = 0; i < 3; i++) printf(\"1\");",
-            Some(Disorder::Printed(at(3, 39))),
+            Some(Disorder::Printed(at(3, 34))),
         ),
         (
             "#pragma omp parallel for ordered\nfor (uint64_t i = 0; i < 3; i++) { printf(\"1\");\n#pragma omp ordered\nprintf(\"2\"); }",
@@ -137,7 +137,7 @@ fn parallel_loops_print_in_regions_alone(rt: HostRuntime) {
         ),
         (
             "#pragma omp parallel for ordered\nfor (uint64_t i = 0; i < 3; i++) for (uint64_t j = 0; j < 3; j++) printf(\"1\");",
-            Some(Disorder::Printed(at(3, 72))),
+            Some(Disorder::Printed(at(3, 67))),
         ),
         // In the second of two loops, behind serial code that prints.
         (
