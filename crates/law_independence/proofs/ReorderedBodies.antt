@@ -16,7 +16,6 @@ use Rattle.nest_loop.specs.Loops.{inside}
 use Rattle.nest_loop.proofs.Visible.{each_weaker}
 use Rattle.pairtest_counter.specs.Levels.{Nesting}
 use Rattle.nest.specs.Nests.{Has, Have, StaysInside}
-use Rattle.flow.specs.Private.{keeps}
 use Rattle.deptest_verdict.specs.Shown.{IsShownNest}
 use Rattle.law_runs.proofs.Points.{IsBelow}
 use Rattle.law_runs.proofs.StatementsRun.{Keeps, AllKeep, keeps_inside}
@@ -52,13 +51,12 @@ pub record AreItsOwn (ds : List Declaration) (box : List Side) (body : Stmt) (xs
   pub arrays : (y : Variable) → IsArray ds y → is_among xs y ≡ false
   pub counters : Spares box xs
 
-pub body_keeps : (ds : List Declaration) (box : List Side) (body : Stmt) (own : Variable → Bool) (xs : List Variable) → IsStmtRead ds box body → Has (StaysInside ds) box body → keeps own body ≡ true
-    → AreItsOwn ds box body xs → KeepsApart xs body
-body_keeps ds box body own xs read has kept its =
+pub body_keeps : (ds : List Declaration) (box : List Side) (body : Stmt) (xs : List Variable) → IsStmtRead ds box body → Has (StaysInside ds) box body → AreItsOwn ds box body xs → KeepsApart xs body
+body_keeps ds box body xs read has its =
     record {
       names = stmt_named (StaysInside ds) read.reads (visible_behind body) box (each_weaker (IsBelow read.next) (IsNamed (visible_behind body)) seen read.scope read.place.visible) (λ y c. below y (read.place.counters y c)) has read.starts;
       steady =
-          stmt_steady ds own read.reads box fixed
+          stmt_steady ds read.reads box fixed
           (record {
             counters = λ y c. and_from (visible_behind body y) (not (is_among xs y)) (below y (read.place.counters y c)) (not_from_false (is_among xs y) (its.counters y c));
             arrays = λ y array.
@@ -67,7 +65,7 @@ body_keeps ds box body own xs read has kept its =
                 and_from (visible_behind body y) (not (is_among xs y)) (below y (omega arith)) (not_from_false (is_among xs y) (its.arrays y array));
             fresh = λ y h. ap (λ b. b && not (is_among xs y)) (not_from_true (is_among (declared_in body) y) h);
             scalars = λ y h. assigned y h (visible_behind body y) refl;
-          }) has kept;
+          }) has;
     }
   where
     fixed : Variable → Bool

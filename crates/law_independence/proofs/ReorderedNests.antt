@@ -6,7 +6,7 @@ use Rattle.std.proofs.lemmas.Bool.{true≢false, and_from}
 use Rattle.std.proofs.lemmas.Option.{same_Some}
 use Rattle.semantics.specs.Tree.{Variable, Stmt, Declaration}
 use Rattle.semantics.specs.Meaning.State.{State}
-use Rattle.semantics.specs.Meaning.Agrees.{is_among, declared_in, visible_behind}
+use Rattle.semantics.specs.Meaning.Agrees.{is_among, visible_behind}
 use Rattle.semantics.specs.Meaning.Definite.{no_privates, definite}
 use Rattle.semantics.specs.Loops.Nest.{Loop, Vector, nest_of, iterations, at_vector}
 use Rattle.semantics.specs.Loops.Access.{accesses}
@@ -126,11 +126,11 @@ module _ (ds : List Declaration) (short : HaveShort ds) (round : Nesting) (outer
 
   nest_keeps_apart : KeepsApart xs s
   nest_keeps_apart =
-      body_keeps ds round.box s (is_among (declared_in s ++ ps)) xs stmt stays whole
+      body_keeps ds round.box s xs stmt stays
       (record { all = λ y t v. assigned_used y (is_outside_target s y v t); arrays = no_array; counters = λ y c. none_spared y (no_target y s (stmt.kept y c)) })
 
   body_keeps_apart : (zs : List Variable) → AreItsOwn ds found.nest.inner.box body zs → KeepsApart zs body
-  body_keeps_apart zs its = body_keeps ds found.nest.inner.box body (is_among (declared_in body ++ ps)) zs found.inner found.nest.there.stays private its
+  body_keeps_apart zs its = body_keeps ds found.nest.inner.box body zs found.inner found.nest.there.stays its
 
   -- private and lastprivate variables are assigned before they are read
   first_used : (x : Variable) → is_among (assigned_first used) x ≡ true → is_among (assigned_first roles) x ≡ true

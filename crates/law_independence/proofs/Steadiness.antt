@@ -3,23 +3,21 @@ use Rattle.std.specs.Prelude.{ℕ, suc, Bool, true, false, ◌≡◌, ◌<◌, �
 use Rattle.std.proofs.Common.{refl, sym, ap, ◌∙◌, subst, arith}
 use Rattle.std.proofs.lemmas.Bool.{eqb-true, eq-eqb, or_left, or_right, or_from, true≢false}
 use Rattle.std.proofs.lemmas.Option.{slice_get_within}
-use Rattle.semantics.specs.Tree.{Variable, Expr, Literal, Constant, Object, Unary, Binary, Conditional, Exprs, no_exprs, more_exprs, Cond, NotZero, Compare, Not, LogicalAnd, LogicalOr, Source, Number, Truth, Stmt, Items, Declaration}
+use Rattle.semantics.specs.Tree.{Variable, Expr, Literal, Constant, Object, Unary, Binary, Conditional, Exprs, no_exprs, more_exprs, Cond, NotZero, Compare, Not, LogicalAnd, LogicalOr, Source, Number, Truth, PrintPart, Characters, Decimal, Stmt, Items, Declaration}
 use Rattle.semantics.specs.Source.Token.{Token}
 use Rattle.semantics.specs.Source.Scope.{Scope}
 use Rattle.semantics.specs.Source.Statements.{ReadsStmt, assign, update, if_only, if_else, for_loop, block, print, ReadsItems, no_more, line, empty_local, first_local, statement}
 use Rattle.semantics.specs.Meaning.Agrees.{also, is_among, declared_in, declared_among}
-use Rattle.semantics.proofs.EraseTokenLaw.{first_of, second_of}
 use Rattle.affine.specs.declared.interval.Interval.{Interval}
 use Rattle.affine.specs.declared.interval.Side.{Side}
 use Rattle.affine.specs.Affine.{Affine}
 use Rattle.affine_expr.specs.Forms.{form_of}
 use Rattle.nest_loop.specs.Loops.{inside}
 use Rattle.nest_loop.proofs.Heads.{head_of}
-use Rattle.nest.specs.Nests.{ExprHas, CondHas, SourceHas, Has, Have, StaysBelow, AllStay, lengths_of, StaysInside}
-use Rattle.flow.specs.Private.{keeps, keeps_all}
+use Rattle.nest.specs.Nests.{ExprHas, CondHas, SourceHas, PartsHave, Has, Have, StaysBelow, AllStay, lengths_of, StaysInside}
 use Rattle.flow.proofs.PrivateLemmas.{among_both}
 use Rattle.law_commute.specs.Targets.{scalar, targets, targets_among}
-use Rattle.law_commute.specs.Steady.{IsFixedExpr, IsFixedCond, IsFixedSource, AreFixed, IsSteadyExpr, IsSteadyCond, IsSteadySource, IsSteadyTarget, IsSteady, AreSteady}
+use Rattle.law_commute.specs.Steady.{IsFixedExpr, IsFixedCond, IsFixedSource, AreFixed, IsSteadyExpr, IsSteadyCond, IsSteadySource, AreSteadyParts, IsSteadyTarget, IsSteady, AreSteady}
 use Rattle.law_independence.proofs.Numbering.{declared_from}
 use Rattle.law_independence.proofs.Fixed.{form_fixed, own_fixed, step_fixed}
 use Rattle.law_independence.proofs.Naming.{NamesCounters, counters_inside}
@@ -79,6 +77,11 @@ module _ (ds : List Declaration) (box : List Side) (fixed : Variable → Bool) (
   source_steady (Number a) h = expr_steady a h
   source_steady (Truth c) h = cond_steady c h
 
+  parts_steady : (ps : List PrintPart) → PartsHave (StaysInside ds) box ps → AreSteadyParts fixed ps
+  parts_steady [] h = tt
+  parts_steady (Characters bs ∷ ps) h = parts_steady ps h
+  parts_steady (Decimal e ∷ ps) h = (expr_steady e h.0, parts_steady ps h.1)
+
 -- ---- statements
 
 -- what is fixed in a statement: the variables of the loops round it and arrays, and none that it declares or assigns
@@ -88,7 +91,7 @@ pub record IsFixing (ds : List Declaration) (box : List Side) (fixed : Variable 
   pub fresh : (y : Variable) → is_among declared y ≡ true → fixed y ≡ false
   pub scalars : (y : Variable) → is_among assigned y ≡ true → fixed y ≡ false
 
-module _ (ds : List Declaration) (own : Variable → Bool) where
+module _ (ds : List Declaration) where
   abbrev Fixing : List Side → (Variable → Bool) → Stmt → Type 0
   Fixing box fixed a = IsFixing ds box fixed (declared_in a) (targets a)
 
@@ -146,19 +149,19 @@ module _ (ds : List Declaration) (own : Variable → Bool) where
 
   mutual
     pub stmt_steady : {scope : Scope} {o next next' : ℕ} {ts : List Token} {a : Stmt} → ReadsStmt scope o next ts a next' → (box : List Side) (fixed : Variable → Bool) → Fixing box fixed a
-        → Has (StaysInside ds) box a → keeps own a ≡ true → IsSteady fixed a
-    stmt_steady (assign {x = x} {is = is} {e = e} t r) box fixed fixing h kept =
+        → Has (StaysInside ds) box a → IsSteady fixed a
+    stmt_steady (assign {x = x} {is = is} {e = e} t r) box fixed fixing h =
         (target_steady box fixed x is fixing h.0, source_steady ds box fixed fixing.counters e h.1)
-    stmt_steady (update {x = x} {is = is} {e = e} t sign r) box fixed fixing h kept =
+    stmt_steady (update {x = x} {is = is} {e = e} t sign r) box fixed fixing h =
         (target_steady box fixed x is fixing h.0, expr_steady ds box fixed fixing.counters e h.1)
-    stmt_steady (if_only {c = c} {a = a} less rc ra) box fixed fixing h kept =
-        (cond_steady ds box fixed fixing.counters c h.0, stmt_steady ra box fixed fixing h.1 kept)
-    stmt_steady (if_else {c = c} {a = a} {b = b} less rc closed ra rb) box fixed fixing h kept = (
+    stmt_steady (if_only {c = c} {a = a} less rc ra) box fixed fixing h =
+        (cond_steady ds box fixed fixing.counters c h.0, stmt_steady ra box fixed fixing h.1)
+    stmt_steady (if_else {c = c} {a = a} {b = b} less rc closed ra rb) box fixed fixing h = (
       cond_steady ds box fixed fixing.counters c h.0,
-      stmt_steady ra box fixed (left_fixing box fixed (declared_in a) (declared_in b) (targets a) (targets b) fixing) h.1 (first_of (keeps own a) (keeps own b) kept),
-      stmt_steady rb box fixed (right_fixing box fixed (declared_in a) (declared_in b) (targets a) (targets b) fixing) h.2 (second_of (keeps own a) (keeps own b) kept),
+      stmt_steady ra box fixed (left_fixing box fixed (declared_in a) (declared_in b) (targets a) (targets b) fixing) h.1,
+      stmt_steady rb box fixed (right_fixing box fixed (declared_in a) (declared_in b) (targets a) (targets b) fixing) h.2,
     )
-    stmt_steady (for_loop {next = next} {start = start} {test = test} {step = step} {body = body} less free rs rt ru r) box fixed fixing h kept =
+    stmt_steady (for_loop {next = next} {start = start} {test = test} {step = step} {body = body} less free rs rt ru r) box fixed fixing h =
         let head = head_of box next start test step h.0 h.2.form in
         let within = inner_fixing box fixed next (declared_in body) (targets body) h.1 fixing (declared_from r) (no_target next body h.2.kept) in
         let wider : NamesCounters (also fixed next) box = λ y c. or_right (y == next) (fixed y) (fixing.counters y c) in (
@@ -166,26 +169,26 @@ module _ (ds : List Declaration) (own : Variable → Bool) where
           subst (IsFixedSource fixed) (sym head.start_is) (form_fixed box fixed fixing.counters head.from h.0.start head.first),
           subst (IsFixedCond (also fixed next)) (sym head.test_is) (own_fixed fixed next, form_fixed box (also fixed next) wider head.to h.0.limit head.last),
           step_fixed fixed next step h.0.stride head.stride,
-          stmt_steady r (inside box next h.1) (also fixed next) within h.3 kept,
+          stmt_steady r (inside box next h.1) (also fixed next) within h.3,
         )
-    stmt_steady (block less items) box fixed fixing h kept = items_steady items box fixed fixing h kept
-    stmt_steady (print less f r fill) box fixed fixing h kept = absurd (true≢false (sym kept))
+    stmt_steady (block less items) box fixed fixing h = items_steady items box fixed fixing h
+    stmt_steady (print {parts = parts} less f r fill) box fixed fixing h = parts_steady ds box fixed fixing.counters parts h
 
     items_steady : {scope : Scope} {o next next' : ℕ} {ts : List Token} {items : Items} → ReadsItems scope o next ts items next' → (box : List Side) (fixed : Variable → Bool) → AllFixing box fixed items
-        → Have (StaysInside ds) box items → keeps_all own items ≡ true → AreSteady fixed items
-    items_steady no_more box fixed fixing h kept = tt
-    items_steady (line r) box fixed fixing h kept = items_steady r box fixed fixing h kept
-    items_steady (empty_local {next = next} {items = items} free r) box fixed fixing h kept = (
+        → Have (StaysInside ds) box items → AreSteady fixed items
+    items_steady no_more box fixed fixing h = tt
+    items_steady (line r) box fixed fixing h = items_steady r box fixed fixing h
+    items_steady (empty_local {next = next} {items = items} free r) box fixed fixing h = (
       first_fresh box fixed next (declared_among items) (targets_among items) fixing,
       tt,
-      items_steady r box fixed (later_fixing box fixed next (declared_among items) (targets_among items) fixing) h.1 kept,
+      items_steady r box fixed (later_fixing box fixed next (declared_among items) (targets_among items) fixing) h.1,
     )
-    items_steady (first_local {next = next} {e = e} {items = items} free re r) box fixed fixing h kept = (
+    items_steady (first_local {next = next} {e = e} {items = items} free re r) box fixed fixing h = (
       first_fresh box fixed next (declared_among items) (targets_among items) fixing,
       source_steady ds box fixed fixing.counters e h.0,
-      items_steady r box fixed (later_fixing box fixed next (declared_among items) (targets_among items) fixing) h.1 kept,
+      items_steady r box fixed (later_fixing box fixed next (declared_among items) (targets_among items) fixing) h.1,
     )
-    items_steady (statement {s = a} {items = items} ra r) box fixed fixing h kept = (
-      stmt_steady ra box fixed (left_fixing box fixed (declared_in a) (declared_among items) (targets a) (targets_among items) fixing) h.0 (first_of (keeps own a) (keeps_all own items) kept),
-      items_steady r box fixed (right_fixing box fixed (declared_in a) (declared_among items) (targets a) (targets_among items) fixing) h.1 (second_of (keeps own a) (keeps_all own items) kept),
+    items_steady (statement {s = a} {items = items} ra r) box fixed fixing h = (
+      stmt_steady ra box fixed (left_fixing box fixed (declared_in a) (declared_among items) (targets a) (targets_among items) fixing) h.0,
+      items_steady r box fixed (right_fixing box fixed (declared_in a) (declared_among items) (targets a) (targets_among items) fixing) h.1,
     )

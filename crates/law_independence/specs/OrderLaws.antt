@@ -130,7 +130,7 @@ pub record SharesAsNest (ds : List Declaration) (roles : Roles) (serial : List L
 abbrev pub SharesBy : List Declaration → LineRoles → AskedByLine
 SharesBy ds R line serial n s = SharesAsNest ds (used_roles s (R line)) serial n s
 
--- so each parallel loop of a kernel of the grammar, where no subscript leaves its dimension, no local is read before it is assigned, parallel loops print nothing and keep the roles of the scalars that they assign, and the test of pairs shows all of them to be independent
+-- so each parallel loop of a kernel of the grammar, where no subscript leaves its dimension, no local is read before it is assigned, parallel loops keep the roles of the scalars that they assign, and the test of pairs shows all of them to be independent
 abbrev pub AcceptedLoopsShare : Type 0
 AcceptedLoopsShare =
     (text : List ℕ) (k : Kernel) (R : LineRoles) → IsTreeOf text k → IsInRange k → IsDefinite (privates_by R) k → ItemsKeepRoles text R [] k.body

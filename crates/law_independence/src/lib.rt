@@ -24,9 +24,9 @@ pub fn shown_kernels_are_independent()
 {}
 
 /// Chunks of each parallel loop of a kernel, each from a state in which it may start, leave together what the loop leaves, where no subscript leaves
-/// its dimension, no local is read before it is assigned, parallel loops print nothing and keep the roles of the scalars that they assign, and
-/// the test of pairs shows all of them to be independent; without reductions their iterations may run in any order (OpenMP 5.2, 1.4.1, 5.4.3,
-/// 5.4.5, 5.5.8 and 11.5).
+/// its dimension, no local is read before it is assigned, parallel loops keep the roles of the scalars that they assign, and the test of pairs
+/// shows all of them to be independent; the loop prints what the chunks print, one after another in their order. Without reductions their
+/// iterations leave the same elements in any order (OpenMP 5.2, 1.4.1, 5.4.3, 5.4.5, 5.5.8, 11.5 and 15.10.2).
 pub fn accepted_loops_share()
     ensures { AcceptedLoopsShare }
 {}
