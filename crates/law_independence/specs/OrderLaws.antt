@@ -1,4 +1,4 @@
--- The iterations of parallel loops that are accepted may run in any order. (OpenMP 5.2, 1.4.1 and 11.5)
+-- The iterations of parallel loops that are accepted leave the same elements in any order, and chunks of them leave and print together what the loop does. (OpenMP 5.2, 1.4.1, 11.5 and 15.10.2)
 use Rattle.std.specs.Prelude.{ℕ, Bool, true, false, ◌≡◌, ◌≤◌, ◌<◌, List, [], ◌∷◌, length, map, filter, flat_map, Some, IsSome, slice_get}
 use Rattle.std.specs.List.{list_all, AllByRecursion}
 use Rattle.semantics.specs.Tree.{Variable, Stmt, Declaration, Kernel}
@@ -70,7 +70,7 @@ pub record AreAtHand (roles : Roles) (s : Stmt) (outer : State) : Type 0 where
   pub numbers : (x : Variable) (op : ReduceOp) → operator_of roles.reductions x ≡ Some op → HoldsNumber outer x
   pub taken : TakesOperands roles.reductions s outer
 
--- wherever a nest has a run at a turn, and these are at hand, chunks of its iterations, each from a state in which it may start, have a run each, and what they leave, put together, is what it leaves
+-- wherever a nest has a run at a turn, and these are at hand, chunks of its iterations, each from a state in which it may start, have a run each, and what they leave, put together, is what it leaves, and what they print, one after another in their order, is what it prints
 abbrev pub SharesAtTurns : Roles → List Loop → ℕ → Stmt → Type 0
 SharesAtTurns roles serial n s =
     (loops : List Loop) (body : Stmt) (outer start : State) (us : List Vector) (chunks : List (List Vector)) (e : Effect)
@@ -112,7 +112,7 @@ TakesAtTurns ds roles serial s =
     → ReadsStmt scope order next tokens s next' → IsTurn serial outer → IsMet ds scope next known serial outer
     → IsSome (definite no_privates s known) → TakesOperands roles.reductions s outer
 
--- a statement is a nest of so many loops, whose iterations may be run in any order and in chunks, with these roles of what it assigns, of which no variable has two
+-- a statement is a nest of so many loops, whose iterations leave the same elements in any order and may be run in chunks, with these roles of what it assigns, of which no variable has two
 pub record SharesAsNest (ds : List Declaration) (roles : Roles) (serial : List Loop) (n : ℕ) (s : Stmt) : Type 0 where
   pub nest : IsSome (nest_of n s)
   pub round : HaveTurns serial

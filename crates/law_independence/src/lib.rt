@@ -1,5 +1,6 @@
-//! What the dependence test's answers say of a kernel: loops that it shows to be independent have no conflicts, and their iterations
-//! may run in any order; a conflict that it tells of is one. Each law is the contract of a function that does nothing.
+//! What the dependence test's answers say of a kernel: loops that it shows to be independent have no conflicts, their iterations leave
+//! the same elements in any order, and chunks of these leave and print together what the loop does; a conflict that it tells of is one.
+//! Each law is the contract of a function that does nothing.
 #![tactic(auto)]
 
 ghost use Rattle.law_independence.specs.IndependenceLaws.{ShownBodiesAreIndependent, ShownLoopsAreIndependent, ShownKernelsAreIndependent};
