@@ -19,7 +19,6 @@ use Rattle.overlay_pages.specs.Over.{writes_of, written_over}
 use Rattle.overlay_pages.specs.declared.changes.Change.{Change}
 use Rattle.lower.specs.declared.lowered.LoweredLoop.{LoweredLoop}
 use Rattle.lower.specs.Lowered.{IsReached}
-use Rattle.overlay.specs.declared.ending.Told.{Told}
 use Rattle.overlay.specs.declared.worker.Piece.{Piece}
 use Rattle.overlay.specs.declared.worker.Work.{Work}
 
@@ -58,13 +57,3 @@ IsLastOf l registers ks work p =
     (layout : List Laid) (mark : ℕ) (roles : Roles) (loops : List Loop) (body : Stmt) (outer : State) (us : List Vector) (e : Effect)
     → IsReached layout mark roles loops body outer us l registers ks → walk loops body (take work.count (drop work.first us)) (begun roles outer) ≡ Some e
     → TellsLasts roles (overwritten (begun roles outer) e.writes) us work p.lasts.items
-
--- a chunk that was run on the store's own cells, from where a loop is reached with these registers and this store: the cells behind it are those that its changes make of them, and it leaves these changes and what is told
-pub record IsLeftInPlace (l : LoweredLoop) (registers : List ℕ) (ks : List Kept) (work : Work) (told : Told) (ks' : List Kept) : Type 0 where
-  pub piece : Piece
-  pub partials_are : piece.partials ≡ told.partials
-  pub lasts_are : piece.lasts ≡ told.lasts
-  pub leaves : IsChunkOf l registers ks work piece
-  pub last : IsLastOf l registers ks work piece
-  pub only : ChangeOnly ks piece.changes
-  pub cells : values_of ks' ≡ written_over (writes_of piece.changes) (values_of ks)

@@ -24,8 +24,8 @@ pub struct Told {
     pub lasts: Vec<u64>,
 }
 
-/// The partial of a reduction variable that held this before the loop and holds that behind the chunk.
-pub fn partial(reduction: &LoweredReduction, before: u64, behind: u64) -> Partial
+// The partial of a reduction variable that held this before the loop and holds that behind the chunk.
+fn partial(reduction: &LoweredReduction, before: u64, behind: u64) -> Partial
     ensures { partial_of result ≡ law.unless_same
         (Some (law.begins_with (operator_of reduction.now.operator) before)) (Some behind) }
 {

@@ -16,8 +16,8 @@ use nest_space::Space;
 use overlay_pages::Chunk;
 use std::alloc::{AllocError, Global};
 
-/// Whether a chunk has the last iteration.
-pub fn has_last(space: &Space, work: Work) -> bool
+// Whether a chunk has the last iteration.
+fn has_last(space: &Space, work: Work) -> bool
     requires { work.first + work.count ≤ length (vectors space.now) }
     ensures { result ≡ (work.first + work.count == length (vectors space.now)) }
 {

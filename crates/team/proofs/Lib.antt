@@ -1,4 +1,3 @@
-pub mod Whole
 pub mod Cutting
 pub mod Ending
 pub mod Dealing

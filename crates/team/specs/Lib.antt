@@ -1,5 +1,4 @@
 pub mod Together
-pub mod Whole
 pub mod Applied
 pub mod Ends
 pub mod Dealt

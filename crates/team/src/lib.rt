@@ -1,7 +1,6 @@
 //! A team of workers, each in a thread of its own, that runs the chunks of any lowered nest (OpenMP 5.2, 11.5).
 #![tactic(auto)]
 
-mod alone;
 mod applied;
 mod dealt;
 mod drawn;

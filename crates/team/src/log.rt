@@ -95,13 +95,8 @@ fn keep_later(lasts: &mut Vec<u64>, values: Vec<u64>)
     *lasts = values;
 }
 
-/// A value combined with the partial of an index, if there is one.
-pub(crate) fn combine_at(
-    operator: ReductionOperator,
-    index: u64,
-    value: u64,
-    partials: &[Partial],
-) -> u64
+// A value combined with the partial of an index, if there is one.
+fn combine_at(operator: ReductionOperator, index: u64, value: u64, partials: &[Partial]) -> u64
     ensures { result ≡ combined (operator_of operator) value
         (value_at index (map partial_of partials.now)) }
 {

@@ -1,17 +1,14 @@
 //! The team.
 
 ghost use Rattle.std.specs.Prelude.{◌≡◌, length, map, IfOk, IfErr, OnOk};
-ghost use Rattle.semantics.specs.Loops.Chunk.{cut};
-ghost use Rattle.nest_space.specs.Space.{vectors};
-ghost use Rattle.schedule.specs.Sched.{kind_of, kind_said};
+ghost use Rattle.schedule.specs.Sched.{kind_said};
 ghost use Rattle.store.specs.Flat.{AreFilled};
-ghost use Rattle.team.specs.Ends.{IsSplit, AreOfLoop};
+ghost use Rattle.team.specs.Ends.{AreOfLoop};
 ghost use Rattle.team.specs.Logged.{joined};
 ghost use Rattle.team.specs.Together.{LeavesTogether, IsLeft};
 
-use crate::alone::run_alone;
 use crate::gate::Gate;
-use crate::grounds::{Grounds, grounds_of};
+use crate::grounds::grounds_of;
 use crate::lent::{LoopCrew, lent_logs};
 use crate::log::ChunkLog;
 use crate::putting::put_together;
@@ -24,31 +21,31 @@ use std::sync::Wait;
 use std::thread::{Threads, join_mut};
 use store::Store;
 
-/// The logs of all chunks of a loop, cut by this schedule. Where it has no iteration, nothing is lent to the crew.
+/// The logs of all chunks of a loop, cut as its clause says, and for `runtime` as this schedule does. Where it has no iteration, nothing
+/// is lent to the crew.
 fn loop_logs<'l, R: Wait, G: Gate>(
     rt: &R,
     alloc: Global,
     crew: &LoopCrew<'l>,
     lowered: &'l LoweredLoop,
-    grounds: Grounds,
+    registers: &[u64],
     store: &mut Store,
     workers: Workers,
-    sched: &Sched,
+    runtime: Sched,
     gate: &G,
 ) -> Result<Vec<ChunkLog>, Refusal>
-    requires split { IsSplit lowered.now grounds.registers.items grounds.space grounds.chunks }
-    requires chunks { grounds.chunks
-        ≡ cut (kind_of sched.now) (length (vectors grounds.space)) workers }
-    ensures all { IfOk result (λ logs. AreOfLoop lowered.now grounds.registers.items store.old
-        (kind_of sched.now) workers (joined logs.items)) }
+    ensures all { IfOk result (λ logs. AreOfLoop lowered.now registers.now store.old
+        (kind_said lowered.now.schedule runtime) workers (joined logs.items)) }
     ensures store { store.new ≡ store.old }
     ensures refusal { IfErr result (λ refusal. refusal ≡ Refusal.OutOfMemory) }
 {
+    let sched = sched_of(lowered.schedule, runtime);
+    let grounds = grounds_of(alloc, lowered, registers, &sched, workers)?;
     if grounds.chunks.is_empty() {
         return Ok(Vec::new(alloc));
     }
     lent_logs(
-        rt, alloc, crew, lowered, grounds, store, workers, sched, gate,
+        rt, alloc, crew, lowered, grounds, store, workers, &sched, gate,
     )
 }
 
@@ -59,68 +56,7 @@ fn confirm_filled(store: &Store)
     let _cells = store.cells();
 }
 
-/// Runs a loop on a crew that stands by, from these grounds, and puts together what its chunks leave.
-fn share_chunks<'l, R: Wait, G: Gate>(
-    rt: &R,
-    alloc: Global,
-    crew: &LoopCrew<'l>,
-    lowered: &'l LoweredLoop,
-    grounds: Grounds,
-    registers: &mut [u64],
-    store: &mut Store,
-    workers: Workers,
-    sched: &Sched,
-    gate: &G,
-) -> Result<(), Refusal>
-    requires registers { grounds.registers.items ≡ registers.old }
-    requires split { IsSplit lowered.now grounds.registers.items grounds.space grounds.chunks }
-    requires chunks { grounds.chunks
-        ≡ cut (kind_of sched.now) (length (vectors grounds.space)) workers }
-    ensures leaves { OnOk result (IsLeft lowered.now registers.old registers.new store.old
-        store.new (kind_of sched.now) workers) }
-    ensures shape { map (λ k. k.lengths) store.new ≡ map (λ k. k.lengths) store.old }
-    ensures refusal { IfErr result (λ refusal. refusal ≡ Refusal.OutOfMemory) }
-    ensures kept { IfErr result (λ _. store.new ≡ store.old) }
-    ensures kept_registers { IfErr result (λ _. registers.new ≡ registers.old) }
-    ensures long { length registers.new ≡ length registers.old }
-{
-    let logs = loop_logs(
-        rt, alloc, crew, lowered, grounds, store, workers, sched, gate,
-    )?;
-    confirm_filled(store);
-    put_together(&lowered.roles, logs.as_slice(), registers, store);
-    Ok(())
-}
-
-/// Runs a loop whose iterations are one chunk.
-fn run_whole<G: Gate>(
-    alloc: Global,
-    lowered: &LoweredLoop,
-    grounds: &Grounds,
-    registers: &mut [u64],
-    store: &mut Store,
-    workers: Workers,
-    sched: &Sched,
-    gate: &G,
-) -> Result<(), Refusal>
-    requires split { IsSplit lowered.now registers.old grounds.now.space grounds.now.chunks }
-    requires chunks { grounds.now.chunks
-        ≡ cut (kind_of sched.now) (length (vectors grounds.now.space)) workers }
-    requires one { length grounds.now.chunks ≡ 1 }
-    ensures leaves { OnOk result (IsLeft lowered.now registers.old registers.new store.old
-        store.new (kind_of sched.now) workers) }
-    ensures shape { map (λ k. k.lengths) store.new ≡ map (λ k. k.lengths) store.old }
-    ensures refusal { IfErr result (λ refusal. refusal ≡ Refusal.OutOfMemory) }
-    ensures kept { IfErr result (λ _. store.new ≡ store.old) }
-    ensures kept_registers { IfErr result (λ _. registers.new ≡ registers.old) }
-    ensures long { length registers.new ≡ length registers.old }
-{
-    confirm_filled(store);
-    run_alone(alloc, lowered, grounds, registers, store, workers, gate)
-}
-
-/// Runs a loop on a crew that stands by, as [`run_loop`] does on a team of its own. One whose iterations are one chunk is run in
-/// place, and the crew is told nothing.
+/// Runs a loop on a crew that stands by, as [`run_loop`] does on a team of its own.
 ///
 /// # Errors
 ///
@@ -144,16 +80,12 @@ pub fn share_loop<'l, R: Wait, G: Gate>(
     ensures kept_registers { IfErr result (λ _. registers.new ≡ registers.old) }
     ensures long { length registers.new ≡ length registers.old }
 {
-    let sched = sched_of(lowered.schedule, runtime);
-    let grounds = grounds_of(alloc, lowered, registers, &sched, workers)?;
-    if grounds.chunks.len() == 1 {
-        return run_whole(
-            alloc, lowered, &grounds, registers, store, workers, &sched, gate,
-        );
-    }
-    share_chunks(
-        rt, alloc, crew, lowered, grounds, registers, store, workers, &sched, gate,
-    )
+    let logs = loop_logs(
+        rt, alloc, crew, lowered, registers, store, workers, runtime, gate,
+    )?;
+    confirm_filled(store);
+    put_together(&lowered.roles, logs.as_slice(), registers, store);
+    Ok(())
 }
 
 /// Runs a loop on a crew, and dismisses it.
