@@ -43,9 +43,17 @@ fn run_from(
     ensures store { cells.new.store ≡ cells.old.store }
 {
     begin(lowered.roles.reductions.as_slice(), registers, cells);
-    run_iterations(alloc, lowered, space, work, registers, cells)?;
+    let text = run_iterations(alloc, lowered, space, work, registers, cells)?;
     let has_last = has_last(space, work);
-    let told = tell(alloc, &lowered.roles, has_last, before, registers, cells)?;
+    let told = tell(
+        alloc,
+        &lowered.roles,
+        has_last,
+        before,
+        registers,
+        cells,
+        text,
+    )?;
     put_roles_back(&lowered.roles, cells);
     Ok(told)
 }

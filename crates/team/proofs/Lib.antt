@@ -1,4 +1,5 @@
 pub mod Cutting
+pub mod Texts
 pub mod Ending
 pub mod Dealing
 pub mod Applying

@@ -10,6 +10,7 @@ mod job;
 mod lent;
 mod log;
 mod place;
+mod printing;
 mod putting;
 mod teamwork;
 mod way;
