@@ -23,11 +23,11 @@ set_length [] i v = refl
 set_length (x ∷ xs) ℕ.zero v = refl
 set_length (x ∷ xs) (ℕ.suc i) v = ap ℕ.suc (set_length xs i v)
 
-pub back_length : (before : List ℕ) (at : Spot) (cells : List ℕ) → length (back_at before at cells) ≡ length cells
+back_length : (before : List ℕ) (at : Spot) (cells : List ℕ) → length (back_at before at cells) ≡ length cells
 back_length before (Register r) cells = refl
 back_length before (Cell place) cells = set_length cells place (slice_index before place)
 
-pub each_length : (before : List ℕ) (spots : List Spot) (cells : List ℕ) → length (back_at_each before spots cells) ≡ length cells
+each_length : (before : List ℕ) (spots : List Spot) (cells : List ℕ) → length (back_at_each before spots cells) ≡ length cells
 each_length before [] cells = refl
 each_length before (at ∷ spots) cells = each_length before spots (back_at before at cells) ∙ back_length before at cells
 

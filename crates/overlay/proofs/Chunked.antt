@@ -14,8 +14,8 @@ use Rattle.store.specs.Kept.{Kept}
 use Rattle.store.specs.Flat.{values_of}
 use Rattle.lower_code.specs.declared.term.Laid.{Laid}
 use Rattle.lower_code.specs.Layout.{shapes_of, cell_at}
-use Rattle.lower_code.specs.Machine.{machine}
-use Rattle.lower_code.specs.Meaning.{Represents}
+use Rattle.lower_code.specs.Machine.{machine, running}
+use Rattle.lower_code.specs.Meaning.{Represents, Leads}
 use Rattle.overlay_pages.specs.Over.{writes_of, written_over}
 use Rattle.lower.specs.declared.lowered.LoweredLoop.{LoweredLoop}
 use Rattle.lower.specs.Lowered.{IsReached, IsSpaceOf}
@@ -25,7 +25,7 @@ use Rattle.overlay.specs.declared.worker.Work.{Work}
 use Rattle.overlay.specs.Chunks.{IsChunkOf, IsLastOf, AreLasts}
 use Rattle.overlay.specs.Running.{IsRunOver}
 use Rattle.reduce.specs.Partial.{partial_of}
-use Rattle.overlay.specs.Spots.{held_at}
+use Rattle.overlay.specs.Spots.{held_at, begun_by}
 use Rattle.overlay.proofs.Going.{as_copied}
 use Rattle.overlay.proofs.Standing.{begun_stands}
 use Rattle.overlay.proofs.Back.{all_back}
@@ -33,18 +33,19 @@ use Rattle.overlay.proofs.Telling.{all_partials, lasts_are}
 
 module _ (l : LoweredLoop) (registers : List ℕ) (ks : List Kept) (ts : List Turns) (work : Work) (told : Told) (cells : List ℕ) (space : IsSpaceOf l registers ts)
     (ran : IsRunOver l ts work (machine registers (values_of ks)) told cells) where
-  -- the machine behind the iterations stands for the state that they leave
+  -- the machine behind the iterations stands for the state that they leave, and what they print is kept
   behind_stands : (layout : List Laid) (mark : ℕ) (roles : Roles) (loops : List Loop) (body : Stmt) (outer : State) (us : List Vector) (e : Effect) → IsReached layout mark roles loops body outer us l registers ks → walk loops body (take work.count (drop work.first us)) (begun roles outer) ≡ Some e
-      → Represents layout mark (overwritten (begun roles outer) e.writes) ran.runs.behind
+      → Leads layout mark (begun roles outer) (running (begun_by l.roles.reductions.items ran.start) []) e (running ran.runs.behind told.text.bytes)
   behind_stands layout mark roles loops body outer us e r is =
       let all : us ≡ vectors ts = space layout mark roles loops body outer us ks r in
       ran.runs.walks layout mark r.box roles loops body r.lowered (begun roles outer) e
       (begun_stands layout mark roles.reductions l.roles.reductions.items outer ran.start r.lowered.roles_at.reductions r.held (as_copied layout mark outer (machine registers (values_of ks)) ran.start ran.copied r.stand.machine))
       (subst (λ vs. walk loops body (take work.count (drop work.first vs)) (begun roles outer) ≡ Some e) all is)
 
-  pub chunk_of : (p : Piece) → written_over (writes_of p.changes) (values_of ks) ≡ cells → p.partials ≡ told.partials → IsChunkOf l registers ks work p
-  chunk_of p left partials layout mark roles loops body outer us e r is =
-      let stands = behind_stands layout mark roles loops body outer us e r is in
+  pub chunk_of : (p : Piece) → written_over (writes_of p.changes) (values_of ks) ≡ cells → p.partials ≡ told.partials → p.text ≡ told.text → IsChunkOf l registers ks work p
+  chunk_of p left partials text layout mark roles loops body outer us e r is =
+      let led = behind_stands layout mark roles loops body outer us e r is in
+      let stands = led.machine in
       let at = r.lowered.roles_at in
       let leaves = λ (x : Variable) (js : List ℕ). ap (λ ms. cell_at (shapes_of layout) ms x js) (left ∙ ran.runs.back) in
       let back = all_back layout mark (values_of ks) roles.lasts roles.reductions l.roles.lasts.items l.roles.reductions.items ran.runs.behind.cells at.lasts at.reductions ran.runs.room in
@@ -54,6 +55,7 @@ module _ (l : LoweredLoop) (registers : List ℕ) (ks : List Kept) (ts : List Tu
         partials = λ held.
             ap (λ ps. map partial_of ps.items) partials ∙ ran.runs.told_of.partials
             ∙ all_partials layout mark roles.reductions outer e (machine registers (values_of ks)) ran.runs.behind r.stand.machine stands r.different r.held held l.roles.reductions.items at.reductions;
+        text = ap (λ t. t.bytes) text ∙ led.text;
       }
 
   pub last_of : (p : Piece) → p.lasts ≡ told.lasts → IsLastOf l registers ks work p
@@ -68,7 +70,7 @@ module _ (l : LoweredLoop) (registers : List ℕ) (ks : List Kept) (ts : List Tu
       behind = overwritten (begun roles outer) e.writes
 
       stands : Represents layout mark behind ran.runs.behind
-      stands = behind_stands layout mark roles loops body outer us e r is
+      stands = (behind_stands layout mark roles loops body outer us e r is).machine
 
       values : List ℕ
       values = map (λ at. held_at at ran.runs.behind) l.roles.lasts.items

@@ -19,7 +19,6 @@ use Rattle.overlay_pages.specs.Over.{writes_of, written_over}
 use Rattle.overlay_pages.specs.declared.changes.Change.{Change}
 use Rattle.lower.specs.declared.lowered.LoweredLoop.{LoweredLoop}
 use Rattle.lower.specs.Lowered.{IsReached}
-use Rattle.overlay.specs.declared.ending.Told.{Told}
 use Rattle.overlay.specs.declared.worker.Piece.{Piece}
 use Rattle.overlay.specs.declared.worker.Work.{Work}
 
@@ -27,13 +26,14 @@ use Rattle.overlay.specs.declared.worker.Work.{Work}
 abbrev pub ChangeOnly : List Kept → List Change → Type 0
 ChangeOnly ks cs = (place n : ℕ) → writes_of cs place ≡ Some n → (place < length (values_of ks)) × (slice_index (values_of ks) place ≡ n → ⊥)
 
--- an effect from this state is told: written over the store, the changes leave all other objects at file scope as it does, and those that are told apart as before the loop; and a partial of each reduction variable is told, where each holds a number behind it
+-- an effect from this state is told: written over the store, the changes leave all other objects at file scope as it does, and those that are told apart as before the loop; a partial of each reduction variable is told, where each holds a number behind it; and its text is kept
 pub record LeavesPiece (layout : List Laid) (roles : Roles) (outer start : State) (ks : List Kept) (e : Effect) (p : Piece) : Type 0 where
   pub changes : (x : Variable) (is : List ℕ) → is_among (told_apart roles) x ≡ false
       → cell_at (shapes_of layout) (written_over (writes_of p.changes) (values_of ks)) x is ≡ (overwritten start e.writes).cells x is
   pub unchanged : (x : Variable) (is : List ℕ) → is_among (told_apart roles) x ≡ true
       → cell_at (shapes_of layout) (written_over (writes_of p.changes) (values_of ks)) x is ≡ outer.cells x is
   pub partials : AreHeld roles.reductions (overwritten start e.writes) → map partial_of p.partials.items ≡ map (λ r. changed_from start e r.0) roles.reductions
+  pub text : p.text.bytes ≡ e.text
 
 -- wherever the loop is reached with these registers and this store, and the iterations of a chunk have a run one after another from where it may begin there, its effect is told
 abbrev pub IsChunkOf : LoweredLoop → List ℕ → List Kept → Work → Piece → Type 0
@@ -58,13 +58,3 @@ IsLastOf l registers ks work p =
     (layout : List Laid) (mark : ℕ) (roles : Roles) (loops : List Loop) (body : Stmt) (outer : State) (us : List Vector) (e : Effect)
     → IsReached layout mark roles loops body outer us l registers ks → walk loops body (take work.count (drop work.first us)) (begun roles outer) ≡ Some e
     → TellsLasts roles (overwritten (begun roles outer) e.writes) us work p.lasts.items
-
--- a chunk that was run on the store's own cells, from where a loop is reached with these registers and this store: the cells behind it are those that its changes make of them, and it leaves these changes and what is told
-pub record IsLeftInPlace (l : LoweredLoop) (registers : List ℕ) (ks : List Kept) (work : Work) (told : Told) (ks' : List Kept) : Type 0 where
-  pub piece : Piece
-  pub partials_are : piece.partials ≡ told.partials
-  pub lasts_are : piece.lasts ≡ told.lasts
-  pub leaves : IsChunkOf l registers ks work piece
-  pub last : IsLastOf l registers ks work piece
-  pub only : ChangeOnly ks piece.changes
-  pub cells : values_of ks' ≡ written_over (writes_of piece.changes) (values_of ks)

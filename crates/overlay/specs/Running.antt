@@ -1,8 +1,8 @@
 -- How the iterations of a chunk are run. (OpenMP 5.2, 5.5.2 and 11.5)
-use Rattle.std.specs.Prelude.{ℕ, ◌≡◌, ◌+◌, ◌≤◌, ◌==◌, List, length, take, drop, slice_index}
+use Rattle.std.specs.Prelude.{ℕ, ◌≡◌, ◌+◌, ◌≤◌, ◌==◌, List, [], length, take, drop, slice_index}
 use Rattle.semantics.specs.Loops.Nest.{Vector}
 use Rattle.nest_space.specs.Space.{Turns, vectors}
-use Rattle.lower_code.specs.Machine.{Machine}
+use Rattle.lower_code.specs.Machine.{Machine, running}
 use Rattle.lower.specs.declared.lowered.LoweredLoop.{LoweredLoop}
 use Rattle.overlay.specs.declared.worker.Work.{Work}
 use Rattle.overlay.specs.declared.ending.Told.{Told}
@@ -20,10 +20,10 @@ pub record IsCopied (m m' : Machine) : Type 0 where
   pub more : length m.registers ≤ length m'.registers
   pub cells : m'.cells ≡ m.cells
 
--- from where reduction variables took what a chunk begins with, its iterations are run; what the variables with a role hold then is told, and their cells are put back
+-- from where reduction variables took what a chunk begins with, its iterations are run; what they print is kept, what the variables with a role hold then is told, and their cells are put back
 pub record IsRun (l : LoweredLoop) (ts : List Turns) (work : Work) (before start : Machine) (told : Told) (cells : List ℕ) : Type 0 where
   pub behind : Machine
-  pub walks : WalksOver l (part_of ts work) (begun_by l.roles.reductions.items start) behind
+  pub walks : WalksOver l (part_of ts work) (running (begun_by l.roles.reductions.items start) []) (running behind told.text.bytes)
   pub room : length behind.cells ≡ length before.cells
   pub told_of : IsTold l.roles (work.first + work.count == length (vectors ts)) before behind told
   pub back : cells ≡ back_at_each before.cells (reduced_at l.roles.reductions.items) (back_at_each before.cells l.roles.lasts.items behind.cells)

@@ -15,17 +15,19 @@ use crate::spots::{put_back, read, read_before};
 use lower::{LoweredReduction, LoweredRoles, Spot};
 use overlay_pages::Chunk;
 use reduce::Partial;
+use seqrun_io::Memory;
 use std::alloc::{AllocError, Global};
 
-/// The partials of a chunk's reduction variables and the values of its lastprivate ones.
+/// What a chunk prints, the partials of its reduction variables and the values of its lastprivate ones.
 #[derive(Drop)]
 pub struct Told {
+    pub text: Memory,
     pub partials: Vec<Partial>,
     pub lasts: Vec<u64>,
 }
 
-/// The partial of a reduction variable that held this before the loop and holds that behind the chunk.
-pub fn partial(reduction: &LoweredReduction, before: u64, behind: u64) -> Partial
+// The partial of a reduction variable that held this before the loop and holds that behind the chunk.
+fn partial(reduction: &LoweredReduction, before: u64, behind: u64) -> Partial
     ensures { partial_of result ≡ law.unless_same
         (Some (law.begins_with (operator_of reduction.now.operator) before)) (Some behind) }
 {
@@ -91,7 +93,7 @@ fn last_values(
     Ok(Vec::new(alloc))
 }
 
-/// What the variables with a role hold behind a chunk, by the registers that stood before the loop.
+/// What the variables with a role hold behind a chunk, by the registers that stood before the loop, beside what the chunk prints.
 ///
 /// # Errors
 ///
@@ -103,14 +105,20 @@ pub fn tell(
     before: &[u64],
     registers: &[u64],
     cells: &Chunk<'_>,
+    text: Memory,
 ) -> Result<Told, AllocError>
-    ensures { IfOk result (IsTold roles.now has_last
+    ensures told { IfOk result (IsTold roles.now has_last
         (machine before.now (values_of cells.now.store))
         (machine registers.now (cells_of cells.now))) }
+    ensures text { IfOk result (λ told. told.text ≡ text) }
 {
     let partials = partials(alloc, roles.reductions.as_slice(), before, registers, cells)?;
     let lasts = last_values(alloc, roles.lasts.as_slice(), has_last, registers, cells)?;
-    Ok(Told { partials, lasts })
+    Ok(Told {
+        text,
+        partials,
+        lasts,
+    })
 }
 
 // Scalars at file scope hold again what they held before the loop.

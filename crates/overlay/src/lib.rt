@@ -3,15 +3,9 @@
 
 mod beginning;
 mod ending;
-mod in_place;
 mod running;
-mod saved;
-mod silent;
 mod spots;
-mod steps;
 mod walking;
 mod worker;
 
-pub use ending::Told;
-pub use in_place::run_in_place;
 pub use worker::{Bench, Piece, Work, Worker};

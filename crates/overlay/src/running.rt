@@ -16,8 +16,8 @@ use nest_space::Space;
 use overlay_pages::Chunk;
 use std::alloc::{AllocError, Global};
 
-/// Whether a chunk has the last iteration.
-pub fn has_last(space: &Space, work: Work) -> bool
+// Whether a chunk has the last iteration.
+fn has_last(space: &Space, work: Work) -> bool
     requires { work.first + work.count ≤ length (vectors space.now) }
     ensures { result ≡ (work.first + work.count == length (vectors space.now)) }
 {
@@ -43,9 +43,17 @@ fn run_from(
     ensures store { cells.new.store ≡ cells.old.store }
 {
     begin(lowered.roles.reductions.as_slice(), registers, cells);
-    run_iterations(alloc, lowered, space, work, registers, cells)?;
+    let text = run_iterations(alloc, lowered, space, work, registers, cells)?;
     let has_last = has_last(space, work);
-    let told = tell(alloc, &lowered.roles, has_last, before, registers, cells)?;
+    let told = tell(
+        alloc,
+        &lowered.roles,
+        has_last,
+        before,
+        registers,
+        cells,
+        text,
+    )?;
     put_roles_back(&lowered.roles, cells);
     Ok(told)
 }

@@ -19,9 +19,9 @@ fn register(registers: &[u64], variable: VarId) -> u64
     registers.get(variable.0 as usize).copied().unwrap_or(0)
 }
 
-/// What a scalar holds.
-pub fn read<M: Cells>(spot: Spot, registers: &[u64], cells: &M) -> u64
-    ensures { result ≡ held_at spot (machine registers.now (M.cells cells.now)) }
+/// What a scalar holds in a chunk.
+pub fn read(spot: Spot, registers: &[u64], cells: &Chunk<'_>) -> u64
+    ensures { result ≡ held_at spot (machine registers.now (cells_of cells.now)) }
 {
     match spot {
         Spot::Register(variable) => register(registers, variable),
@@ -40,10 +40,10 @@ pub fn read_before(spot: Spot, before: &[u64], cells: &Chunk<'_>) -> u64
 }
 
 /// A scalar takes a number.
-pub fn write<M: Cells>(spot: Spot, value: u64, registers: &mut [u64], cells: &mut M)
-    ensures written { machine registers.new (M.cells cells.new)
-        ≡ with_at spot value (machine registers.old (M.cells cells.old)) }
-    ensures kept { M.shape cells.new ≡ M.shape cells.old }
+pub fn write(spot: Spot, value: u64, registers: &mut [u64], cells: &mut Chunk<'_>)
+    ensures written { machine registers.new (cells_of cells.new)
+        ≡ with_at spot value (machine registers.old (cells_of cells.old)) }
+    ensures store { cells.new.store ≡ cells.old.store }
 {
     match spot {
         Spot::Register(variable) => put(registers, variable, value),

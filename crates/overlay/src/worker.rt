@@ -16,6 +16,7 @@ use lower::LoweredLoop;
 use nest_space::Space;
 use overlay_pages::{Changes, Chunk, Own};
 use reduce::Partial;
+use seqrun_io::Memory;
 use std::alloc::{AllocError, Global};
 use std::marker::Model;
 use store::Store;
@@ -37,6 +38,8 @@ pub struct Piece {
     pub partials: Vec<Partial>,
     /// What each lastprivate variable holds, where the chunk has the last iteration; no values where it has not.
     pub lasts: Vec<u64>,
+    /// What its iterations print, in their order.
+    pub text: Memory,
 }
 
 /// What a worker leaves to one of a later loop: memory, in which nothing is written.
@@ -75,6 +78,7 @@ fn finish(alloc: Global, told: Told, cells: &mut Chunk<'_>) -> Result<Piece, All
     ensures once { IfOk result (λ piece. AreOnce piece.changes) }
     ensures partials { IfOk result (λ piece. piece.partials ≡ told.partials) }
     ensures lasts { IfOk result (λ piece. piece.lasts ≡ told.lasts) }
+    ensures text { IfOk result (λ piece. piece.text ≡ told.text) }
     ensures store { cells.new.store ≡ cells.old.store }
     ensures unwritten { cells.new.written
         ≡ replicate (length (values_of cells.new.store)) None }
@@ -84,6 +88,7 @@ fn finish(alloc: Global, told: Told, cells: &mut Chunk<'_>) -> Result<Piece, All
             changes,
             partials: told.partials,
             lasts: told.lasts,
+            text: told.text,
         }),
         Err(AllocError) => Err(AllocError),
     }
@@ -181,7 +186,7 @@ impl<'s> Worker<'s> {
         }
     }
 
-    /// Runs a chunk from the store before the loop and from registers that stand as before it, and tells what it leaves.
+    /// Runs a chunk from the store before the loop and from registers that stand as before it, and tells what it leaves and prints.
     ///
     /// A reduction variable begins with its operator's identity, or of && and || with what it held before the loop, and its partial is
     /// what it holds in the end, unless that is what it began with.

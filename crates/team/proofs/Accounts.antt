@@ -116,7 +116,7 @@ module _ (l : LoweredLoop) (registers : List ℕ) (ks : List Kept) (chunks : Lis
   account_one space p chunk split there (leaves, last) only =
       record {
         numbers_are = refl;
-        each = All-cons P _ [] (record { chunk = chunk; there = there; piece = p.piece; leaves = leaves; changes_are = refl; partials_are = refl; only = only }) (All-nil P);
+        each = All-cons P _ [] (record { chunk = chunk; there = there; piece = p.piece; leaves = leaves; changes_are = refl; partials_are = refl; text_is = refl; only = only }) (All-nil P);
         lasts = λ layout mark roles loops body outer us effects reached ran.
             let same : us ≡ vectors space = split.iterations layout mark roles loops body outer us ks reached in
             let count : length us ≡ length (vectors space) = ap (λ vs. length vs) same in

@@ -71,22 +71,22 @@ module _ (p : ℕ) where
   split : (n : ℕ) (ws : List Change) → writes_of ws p ≡ last_of (writes_of (drop n ws) p) (writes_of (take n ws) p)
   split n ws = ap (λ (k : List Change). writes_of k p) (sym (take-append-drop n ws)) ∙ writes_both (take n ws) (drop n ws) p
 
-  none_logged : (es : List EndedChunk) (ws : List Change) (ps : List (Option ℕ)) → writes_of ws p ≡ None → NoneWrites (logged es ws ps) p
-  none_logged [] ws ps none = All-nil (λ (c : Leaving). writes_of c.changes p ≡ None)
-  none_logged (e ∷ es) ws ps none = go (writes_of (drop e.changes ws) p) (writes_of (take e.changes ws) p) refl refl (sym (split e.changes ws) ∙ none) (λ later. none_logged es (drop e.changes ws) (drop e.partials ps) later)
+  none_logged : (es : List EndedChunk) (ws : List Change) (ps : List (Option ℕ)) (bs : List ℕ) → writes_of ws p ≡ None → NoneWrites (logged es ws ps bs) p
+  none_logged [] ws ps bs none = All-nil (λ (c : Leaving). writes_of c.changes p ≡ None)
+  none_logged (e ∷ es) ws ps bs none = go (writes_of (drop e.changes ws) p) (writes_of (take e.changes ws) p) refl refl (sym (split e.changes ws) ∙ none) (λ later. none_logged es (drop e.changes ws) (drop e.partials ps) (drop e.bytes bs) later)
     where
       go : (o q : Option ℕ) → writes_of (drop e.changes ws) p ≡ o → writes_of (take e.changes ws) p ≡ q → last_of (writes_of (drop e.changes ws) p) (writes_of (take e.changes ws) p) ≡ None
-          → (writes_of (drop e.changes ws) p ≡ None → NoneWrites (logged es (drop e.changes ws) (drop e.partials ps)) p) → NoneWrites (logged (e ∷ es) ws ps) p
+          → (writes_of (drop e.changes ws) p ≡ None → NoneWrites (logged es (drop e.changes ws) (drop e.partials ps) (drop e.bytes bs)) p) → NoneWrites (logged (e ∷ es) ws ps bs) p
       go None q later own is rest = All-cons (λ (c : Leaving). writes_of c.changes p ≡ None) _ _ (sym (ap (λ o. last_of o (writes_of (take e.changes ws) p)) later) ∙ is) (rest later)
       go (Some n) q later own is rest = absurd (none-some n (sym is ∙ ap (λ o. last_of o (writes_of (take e.changes ws) p)) later))
 
-  one_logged : (es : List EndedChunk) (ws : List Change) (ps : List (Option ℕ)) (n : ℕ) → changes_in es ≡ length ws → writes_of ws p ≡ Some n → IsWritten (logged es ws ps) p n
-  one_logged [] [] ps n told is = absurd (cc is)
-  one_logged [] (w ∷ ws) ps n told is = absurd (omega arith)
-  one_logged (e ∷ es) ws ps n told is = go (writes_of (drop e.changes ws) p) refl (sym (split e.changes ws) ∙ is) (λ long later. one_logged es (drop e.changes ws) (drop e.partials ps) n long later)
+  one_logged : (es : List EndedChunk) (ws : List Change) (ps : List (Option ℕ)) (bs : List ℕ) (n : ℕ) → changes_in es ≡ length ws → writes_of ws p ≡ Some n → IsWritten (logged es ws ps bs) p n
+  one_logged [] [] ps bs n told is = absurd (cc is)
+  one_logged [] (w ∷ ws) ps bs n told is = absurd (omega arith)
+  one_logged (e ∷ es) ws ps bs n told is = go (writes_of (drop e.changes ws) p) refl (sym (split e.changes ws) ∙ is) (λ long later. one_logged es (drop e.changes ws) (drop e.partials ps) (drop e.bytes bs) n long later)
     where
       go : (o : Option ℕ) → writes_of (drop e.changes ws) p ≡ o → last_of (writes_of (drop e.changes ws) p) (writes_of (take e.changes ws) p) ≡ Some n
-          → (changes_in es ≡ length (drop e.changes ws) → writes_of (drop e.changes ws) p ≡ Some n → IsWritten (logged es (drop e.changes ws) (drop e.partials ps)) p n) → IsWritten (logged (e ∷ es) ws ps) p n
+          → (changes_in es ≡ length (drop e.changes ws) → writes_of (drop e.changes ws) p ≡ Some n → IsWritten (logged es (drop e.changes ws) (drop e.partials ps) (drop e.bytes bs)) p n) → IsWritten (logged (e ∷ es) ws ps bs) p n
       go None later here rest =
           record { number = 0; chunk = _; among = refl; writes = sym (ap (λ o. last_of o (writes_of (take e.changes ws) p)) later) ∙ here }
       go (Some m) later here rest =
@@ -96,15 +96,15 @@ module _ (p : ℕ) where
           record { number = suc r.number; chunk = r.chunk; among = r.among; writes = r.writes }
 
 -- all changes at once leave what the chunks' changes leave one after another
-pub applied_log : (es : List EndedChunk) (ws : List Change) (ps : List (Option ℕ)) (before after : List ℕ) → changes_in es ≡ length ws → after ≡ written_over (writes_of ws) before
-    → AreApplied before after (logged es ws ps)
-applied_log es ws ps before after told is =
+pub applied_log : (es : List EndedChunk) (ws : List Change) (ps : List (Option ℕ)) (bs before after : List ℕ) → changes_in es ≡ length ws → after ≡ written_over (writes_of ws) before
+    → AreApplied before after (logged es ws ps bs)
+applied_log es ws ps bs before after told is =
     record { long = ap (λ (l : List ℕ). length l) is ∙ length_over (writes_of ws) before; each = λ place lt. go place lt (writes_of ws place) refl }
   where
-    go : (place : ℕ) → place < length before → (o : Option ℕ) → writes_of ws place ≡ o → Left before after (logged es ws ps) place
-    go place lt None none = inl (none_logged place es ws ps none, ap (λ l. slice_get l place) is ∙ get_none (writes_of ws) before place none)
+    go : (place : ℕ) → place < length before → (o : Option ℕ) → writes_of ws place ≡ o → Left before after (logged es ws ps bs) place
+    go place lt None none = inl (none_logged place es ws ps bs none, ap (λ l. slice_get l place) is ∙ get_none (writes_of ws) before place none)
     go place lt (Some n) some =
-        let r = one_logged place es ws ps n told some in
+        let r = one_logged place es ws ps bs n told some in
         inr (record { number = r.number; chunk = r.chunk; among = r.among; value = n; writes = r.writes; holds = ap (λ l. slice_get l place) is ∙ get_some (writes_of ws) before place n lt some })
 
 -- a store filled with cells has the same shape

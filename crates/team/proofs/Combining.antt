@@ -26,10 +26,10 @@ map_drop ℕ.zero ps = refl
 map_drop (suc n) [] = refl
 map_drop (suc n) (p ∷ ps) = map_drop n ps
 
-pub left_all : (index : ℕ) (es : List EndedChunk) (ws : List Change) (ps : List Partial) → told_of index (logged es ws (map partial_of ps)) ≡ left_of index es ps
-left_all index [] ws ps = refl
-left_all index (e ∷ es) ws ps =
-    let rest = ap (λ qs. told_of index (logged es (drop e.changes ws) qs)) (sym (map_drop e.partials ps)) ∙ left_all index es (drop e.changes ws) (drop e.partials ps) in
+pub left_all : (index : ℕ) (es : List EndedChunk) (ws : List Change) (ps : List Partial) (bs : List ℕ) → told_of index (logged es ws (map partial_of ps) bs) ≡ left_of index es ps
+left_all index [] ws ps bs = refl
+left_all index (e ∷ es) ws ps bs =
+    let rest = ap (λ qs. told_of index (logged es (drop e.changes ws) qs (drop e.bytes bs))) (sym (map_drop e.partials ps)) ∙ left_all index es (drop e.changes ws) (drop e.partials ps) (drop e.bytes bs) in
     λ i. value_at index (sym (map_take e.partials ps) i) ∷ rest i
 
 combined_both : (op : ReduceOp) (v : ℕ) (ps qs : List (Option ℕ)) → combined_all op v (ps ++ qs) ≡ combined_all op (combined_all op v ps) qs

@@ -1,5 +1,5 @@
-pub mod Whole
 pub mod Cutting
+pub mod Texts
 pub mod Ending
 pub mod Dealing
 pub mod Applying

@@ -1,5 +1,5 @@
 -- What all chunks leave, put together.
-use Rattle.std.specs.Prelude.{ℕ, zero, suc, Bool, true, false, ◌≡◌, ◌+◌, ◌*◌, ◌<◌, ◌≤◌, ◌==◌, ◌||◌, ◌&&◌, ◌⊎◌, nat_lt, is_none, List, [], ◌∷◌, length, map, flat_map, take, drop, slice_get, slice_index, All, Option, Some, None, option_map, option_and_then}
+use Rattle.std.specs.Prelude.{ℕ, zero, suc, Bool, true, false, ◌≡◌, ◌+◌, ◌*◌, ◌<◌, ◌≤◌, ◌==◌, ◌||◌, ◌&&◌, ◌⊎◌, nat_lt, is_none, List, [], ◌∷◌, ◌++◌, length, map, flat_map, take, drop, slice_get, slice_index, All, Option, Some, None, option_map, option_and_then}
 use Rattle.std.specs.List.{list_all}
 use Rattle.std.proofs.Common.{refl, sym, ap, ◌∙◌, cond, subst, inl, inr, arith}
 use Rattle.std.proofs.lemmas.Bool.Decides.{nat_tests}
@@ -45,11 +45,13 @@ use Rattle.lower.specs.Lowered.{IsReached}
 use Rattle.team.specs.Applied.{NoneWrites, OneWrites, AreApplied}
 use Rattle.team.specs.Ends.{IsCut, IsLeaving, AreAll, AreOfLoop}
 use Rattle.team.specs.Logged.{Leaving, Account}
+use Rattle.team.specs.Printed.{text_in_order}
 use Rattle.team.specs.Spots.{told_of, reduced, put_values, IsPut}
 use Rattle.team.specs.Together.{HoldsAt, PutTogether, LeavesTogether}
 use Rattle.team.proofs.Cutting.{chunk_within, each_filled, one_below}
 use Rattle.team.proofs.Effects.{all_at, same_length}
 use Rattle.team.proofs.Effects as steps
+use Rattle.team.proofs.Texts.{printed}
 use Rattle.team.proofs.Standing.{HoldsIn, SameIn, HasRoomFor, reduced_long, put_long, put_none, same_then, holds_still, room_still, put_others, put_own, reduced_others, reduced_own}
 
 -- a cell under writes that leave it out, and under one that names it
@@ -535,8 +537,8 @@ module _ (layout : List Laid) (mark : ℕ) (roles : Roles) (loops : List Loop) (
       long_end : length registers' ≡ length registers
       long_end = long_after l account registers registers' ks ks' put
 
-      pub put_together : PutTogether layout roles outer start (chunked us chunks) effects registers registers' ks ks'
-      put_together =
+      pub put_together : (text text' : List ℕ) → text' ≡ text ++ text_in_order (length chunks) account.chunks → PutTogether layout roles outer start (chunked us chunks) effects registers registers' ks ks' text text'
+      put_together text text' told =
           record {
             cells = λ x is plain. merges_same x is ((same_end x plain).cells is) (merged x plain is);
             reductions = λ x op v known h. (order, order_is, reduction x op v known h);
@@ -544,14 +546,16 @@ module _ (layout : List Laid) (mark : ℕ) (roles : Roles) (loops : List Loop) (
             no_last = λ x among none. let same = none_last x among none in (same.cells [] ∙ keeps x [] (last_apart x among), same.register);
             others = λ r plain. (same_end r plain).register;
             long = long_end;
+            printed = told ∙ ap (λ (t : List ℕ). text ++ t) (printed layout mark roles loops body outer us effects l registers ks chunks account reached ran all);
           }
 
 -- the chunks of the space are those of the iterations
-pub together : (l : LoweredLoop) (registers registers' : List ℕ) (ks ks' : List Kept) (kind : Kind) (workers : ℕ) (account : Account) → AreFilled ks → AreOfLoop l registers ks kind workers account
-    → IsPut l.roles account registers registers' ks ks' → LeavesTogether l registers registers' ks ks' kind workers
-together l registers registers' ks ks' kind workers account filled of put = λ layout mark roles loops body outer us effects reached ran helds.
+pub together : (l : LoweredLoop) (registers registers' : List ℕ) (ks ks' : List Kept) (kind : Kind) (workers : ℕ) (account : Account) (text text' : List ℕ) → AreFilled ks → (of : AreOfLoop l registers ks kind workers account) → IsPut l.roles account registers registers' ks ks'
+    → text' ≡ text ++ text_in_order (length (cut kind (length (vectors of.space)) workers)) account.chunks → LeavesTogether l registers registers' ks ks' text text' kind workers
+together l registers registers' ks ks' kind workers account text text' filled of put told = λ layout mark roles loops body outer us effects reached ran helds.
     let same : us ≡ vectors of.space = of.of layout mark roles loops body outer us ks reached in
     let chunks = cut kind (length us) workers in
     let all : AreAll l registers ks chunks account = subst (λ (vs : List Vector). AreAll l registers ks (cut kind (length vs) workers) account) (sym same) of.all in
     let cut_is : IsCut (length us) chunks = subst (λ (vs : List Vector). IsCut (length vs) (cut kind (length vs) workers)) (sym same) of.cut_is in
-    put_together layout mark roles loops body outer us effects l registers registers' ks ks' chunks account reached ran helds filled cut_is all put
+    let told_is : text' ≡ text ++ text_in_order (length chunks) account.chunks = subst (λ (vs : List Vector). text' ≡ text ++ text_in_order (length (cut kind (length vs) workers)) account.chunks) (sym same) told in
+    put_together layout mark roles loops body outer us effects l registers registers' ks ks' chunks account reached ran helds filled cut_is all put text text' told_is

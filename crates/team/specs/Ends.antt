@@ -47,6 +47,7 @@ pub record IsLeaving (l : LoweredLoop) (registers : List ℕ) (ks : List Kept) (
   pub leaves : IsChunkOf l registers ks (record { chunk = record { 0 = c.number }; first = chunk.first; count = chunk.count }) piece
   pub changes_are : c.changes ≡ piece.changes
   pub partials_are : c.partials ≡ map partial_of piece.partials.items
+  pub text_is : c.text ≡ piece.text.bytes
   pub only : ChangeOnly ks c.changes
 
 -- these are the values of lastprivate variables behind the last of these effects, if its chunk is among those of these numbers, and else there are none

@@ -1,5 +1,5 @@
 pub mod Together
-pub mod Whole
+pub mod Printed
 pub mod Applied
 pub mod Ends
 pub mod Dealt

@@ -1,5 +1,5 @@
 -- What a team leaves of a lowered loop. (OpenMP 5.2, 5.4.5, 5.5.2, 5.5.5, 11.5 and 11.5.3)
-use Rattle.std.specs.Prelude.{ℕ, true, false, ◌≡◌, ◌<◌, ◌≤◌, List, [], length, map, flat_map, slice_index, Some, All}
+use Rattle.std.specs.Prelude.{ℕ, true, false, ◌≡◌, ◌<◌, ◌≤◌, List, [], ◌++◌, length, map, flat_map, slice_index, Some, All}
 use Rattle.semantics.specs.Tree.{Variable, Stmt}
 use Rattle.semantics.specs.Meaning.State.{State, look, overwritten}
 use Rattle.semantics.specs.Meaning.Runs.{Effect}
@@ -15,6 +15,7 @@ use Rattle.law_roles.specs.Updates.{operator_of}
 use Rattle.law_roles.specs.Reducing.{AreHeld}
 use Rattle.law_roles.specs.Sharing.{MergesAt, last_filled, changed_from}
 use Rattle.law_starts.specs.Begun.{told_apart, begun}
+use Rattle.seqrun_io.specs.Told.{AddsBeginning}
 use Rattle.store.specs.Kept.{Kept}
 use Rattle.store.specs.Flat.{values_of}
 use Rattle.lower_code.specs.declared.term.Laid.{Laid}
@@ -27,8 +28,8 @@ pub record HoldsAt (layout : List Laid) (registers : List ℕ) (ks : List Kept) 
   pub cell : x < length layout → cell_at (shapes_of layout) (values_of ks) x [] ≡ Some v
   pub register : length layout ≤ x → slice_index registers x ≡ v
 
--- chunks of these iterations, whose effects from a common start these are, are put together over registers and a store: an object with no role is as before where no chunk changes it, and else as one leaves it that does; a reduction variable holds what it held before, combined with what the chunks tell of it in some order, each once; a lastprivate one holds what the last chunk with an iteration leaves in it, and where there is no iteration it is as before
-pub record PutTogether (layout : List Laid) (roles : Roles) (outer start : State) (chunks : List (List Vector)) (effects : List Effect) (registers registers' : List ℕ) (ks ks' : List Kept) : Type 0 where
+-- chunks of these iterations, whose effects from a common start these are, are put together over registers and a store: an object with no role is as before where no chunk changes it, and else as one leaves it that does; a reduction variable holds what it held before, combined with what the chunks tell of it in some order, each once; a lastprivate one holds what the last chunk with an iteration leaves in it, and where there is no iteration it is as before; and behind the text from before stands what the chunks print, in their order
+pub record PutTogether (layout : List Laid) (roles : Roles) (outer start : State) (chunks : List (List Vector)) (effects : List Effect) (registers registers' : List ℕ) (ks ks' : List Kept) (text text' : List ℕ) : Type 0 where
   pub cells : (x : Variable) (is : List ℕ) → is_among (told_apart roles) x ≡ false → MergesAt start effects (λ y js. cell_at (shapes_of layout) (values_of ks') y js) x is
   pub reductions : (x : Variable) (op : ReduceOp) (v : ℕ) → operator_of roles.reductions x ≡ Some op → look outer x [] ≡ Some v
       → (order : List ℕ) × EachOnceBelow (length chunks) order
@@ -39,16 +40,28 @@ pub record PutTogether (layout : List Laid) (roles : Roles) (outer start : State
       → (cell_at (shapes_of layout) (values_of ks') x [] ≡ cell_at (shapes_of layout) (values_of ks) x []) × (slice_index registers' x ≡ slice_index registers x)
   pub others : (r : ℕ) → is_among (told_apart roles) r ≡ false → slice_index registers' r ≡ slice_index registers r
   pub long : length registers' ≡ length registers
+  pub printed : text' ≡ text ++ flat_map (λ e. e.text) effects
 
 -- wherever the loop is reached with these registers and this store, and the chunks of its iterations, cut so for so many workers, have a run each from where a chunk may begin, which leaves numbers in the reduction variables, they are put together
-abbrev pub LeavesTogether : LoweredLoop → List ℕ → List ℕ → List Kept → List Kept → Kind → ℕ → Type 0
-LeavesTogether l registers registers' ks ks' kind workers =
+abbrev pub LeavesTogether : LoweredLoop → List ℕ → List ℕ → List Kept → List Kept → List ℕ → List ℕ → Kind → ℕ → Type 0
+LeavesTogether l registers registers' ks ks' text text' kind workers =
     (layout : List Laid) (mark : ℕ) (roles : Roles) (loops : List Loop) (body : Stmt) (outer : State) (us : List Vector) (effects : List Effect)
     → IsReached layout mark roles loops body outer us l registers ks
     → map (λ vs. walk loops body vs (begun roles outer)) (chunked us (cut kind (length us) workers)) ≡ map Some effects
     → All (λ e. AreHeld roles.reductions (overwritten (begun roles outer) e.writes)) effects
-    → PutTogether layout roles outer (begun roles outer) (chunked us (cut kind (length us) workers)) effects registers registers' ks ks'
+    → PutTogether layout roles outer (begun roles outer) (chunked us (cut kind (length us) workers)) effects registers registers' ks ks' text text'
 
--- the same as one fact
-pub record IsLeft (l : LoweredLoop) (registers registers' : List ℕ) (ks ks' : List Kept) (kind : Kind) (workers : ℕ) : Type 0 where
-  pub together : LeavesTogether l registers registers' ks ks' kind workers
+-- wherever the loop is reached so, and its chunks have a run each, a beginning of what they print stands behind the text from before, and nothing else
+abbrev pub BeginsTogether : LoweredLoop → List ℕ → List Kept → List ℕ → List ℕ → Kind → ℕ → Type 0
+BeginsTogether l registers ks text text' kind workers =
+    (layout : List Laid) (mark : ℕ) (roles : Roles) (loops : List Loop) (body : Stmt) (outer : State) (us : List Vector) (effects : List Effect)
+    → IsReached layout mark roles loops body outer us l registers ks
+    → map (λ vs. walk loops body vs (begun roles outer)) (chunked us (cut kind (length us) workers)) ≡ map Some effects
+    → AddsBeginning text text' (flat_map (λ e. e.text) effects)
+
+-- the same as one fact each
+pub record IsLeft (l : LoweredLoop) (registers registers' : List ℕ) (ks ks' : List Kept) (text text' : List ℕ) (kind : Kind) (workers : ℕ) : Type 0 where
+  pub together : LeavesTogether l registers registers' ks ks' text text' kind workers
+
+pub record IsBegun (l : LoweredLoop) (registers : List ℕ) (ks : List Kept) (text text' : List ℕ) (kind : Kind) (workers : ℕ) : Type 0 where
+  pub together : BeginsTogether l registers ks text text' kind workers

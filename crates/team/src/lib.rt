@@ -1,7 +1,6 @@
 //! A team of workers, each in a thread of its own, that runs the chunks of any lowered nest (OpenMP 5.2, 11.5).
 #![tactic(auto)]
 
-mod alone;
 mod applied;
 mod dealt;
 mod drawn;
@@ -11,6 +10,7 @@ mod job;
 mod lent;
 mod log;
 mod place;
+mod printing;
 mod putting;
 mod teamwork;
 mod way;

@@ -1,13 +1,14 @@
 //! What the chunks of a worker leave, kept in one log.
 
-ghost use Rattle.std.specs.Prelude.{◌≡◌, ◌++◌, map, IfErr, OnOk};
+ghost use Rattle.std.specs.Prelude.{◌≡◌, true, ◌++◌, length, map, slice_set, IfErr, OnOk};
 ghost use Rattle.ktree.specs.DirectiveView.{operator_of};
 ghost use Rattle.semantics.specs.Loops.Joined.{value_at};
 ghost use Rattle.semantics.specs.Loops.Operator.{combined, combined_all};
 ghost use Rattle.reduce.specs.Partial.{partial_of};
 ghost use Rattle.store.specs.Flat.{values_of};
 ghost use Rattle.team.specs.Applied.{AreApplied};
-ghost use Rattle.team.specs.Logged.{account_of, both, later, no_account};
+ghost use Rattle.team.specs.Logged.{account_of, both, bytes_in, later, no_account};
+ghost use Rattle.team.specs.Printed.{AreSilent, entered, entered_from};
 ghost use Rattle.team.specs.Spots.{told_of};
 
 use crate::worker::ChunkPiece;
@@ -20,12 +21,13 @@ use std::alloc::{AllocError, Global};
 use std::marker::Model;
 use store::Store;
 
-/// A chunk that has ended, how many changes it has, and how many partials.
+/// A chunk that has ended, how many changes it has, how many partials, and how many bytes it prints.
 #[derive(Clone, Copy, Debug, PartialEq, Eq)]
 pub struct EndedChunk {
     pub number: ChunkNo,
     pub changes: u64,
     pub partials: u64,
+    pub bytes: u64,
 }
 
 impl Default for EndedChunk {
@@ -34,33 +36,36 @@ impl Default for EndedChunk {
             number: ChunkNo(0),
             changes: 0,
             partials: 0,
+            bytes: 0,
         }
     }
 }
 
-/// What the chunks of a worker leave, in the order in which it ran them: 24 bytes for a chunk beside its changes and partials.
+/// What the chunks of a worker leave, in the order in which it ran them: 32 bytes for a chunk beside its changes, partials and text.
 #[derive(Drop)]
 pub struct ChunkLog {
     ended: SmallVec<EndedChunk, 1>,
     changes: Changes,
     partials: Vec<Partial>,
     lasts: Vec<u64>,
+    text: Vec<u8>,
 }
 
 impl Model for ChunkLog {
     ghost use Rattle.std.specs.Prelude.{◌≡◌, length, map};
     ghost use Rattle.reduce.specs.Partial.{partial_of};
-    ghost use Rattle.team.specs.Logged.{Account, changes_in, partials_in, logged};
+    ghost use Rattle.team.specs.Logged.{Account, changes_in, partials_in, bytes_in, logged};
 
     ghost Value = { Account };
 
     ghost view = { λ l. record {
-      chunks = logged l.ended.items l.changes (map partial_of l.partials.items);
+      chunks = logged l.ended.items l.changes (map partial_of l.partials.items) l.text.items;
       lasts = l.lasts.items;
     } };
 
     ghost invariant = { λ l. (changes_in l.ended.items ≡ length l.changes)
-        × (partials_in l.ended.items ≡ length l.partials.items) };
+        × (partials_in l.ended.items ≡ length l.partials.items)
+        × (bytes_in l.ended.items ≡ length l.text.items) };
 }
 
 // Adds a chunk's changes and partials to those of others, or neither.
@@ -85,6 +90,32 @@ fn add(
     Ok(())
 }
 
+// Adds a chunk's text as well, or none of the three.
+fn add_all(
+    text: &mut Vec<u8>,
+    changes: &mut Changes,
+    partials: &mut Vec<Partial>,
+    more_text: &[u8],
+    more_changes: Changes,
+    more_partials: &[Partial],
+) -> Result<(), AllocError>
+    ensures text { OnOk result (text.new.items ≡ text.old.items ++ more_text.now) }
+    ensures changes { OnOk result (changes.new ≡ changes.old ++ more_changes) }
+    ensures partials { OnOk result (partials.new.items
+        ≡ partials.old.items ++ more_partials.now) }
+    ensures kept_text { IfErr result (λ _. text.new.items ≡ text.old.items) }
+    ensures kept { IfErr result (λ _. changes.new ≡ changes.old) }
+    ensures kept_partials { IfErr result (λ _. partials.new.items ≡ partials.old.items) }
+{
+    let count = text.len();
+    text.extend_from_slice(more_text)?;
+    if let Err(AllocError) = add(changes, partials, more_changes, more_partials) {
+        text.truncate(count);
+        return Err(AllocError);
+    }
+    Ok(())
+}
+
 // Later values stand in place of others, where there are some.
 fn keep_later(lasts: &mut Vec<u64>, values: Vec<u64>)
     ensures { lasts.new.items ≡ later lasts.old.items values.items }
@@ -95,19 +126,40 @@ fn keep_later(lasts: &mut Vec<u64>, values: Vec<u64>)
     *lasts = values;
 }
 
-/// A value combined with the partial of an index, if there is one.
-pub(crate) fn combine_at(
-    operator: ReductionOperator,
-    index: u64,
-    value: u64,
-    partials: &[Partial],
-) -> u64
+// A value combined with the partial of an index, if there is one.
+fn combine_at(operator: ReductionOperator, index: u64, value: u64, partials: &[Partial]) -> u64
     ensures { result ≡ combined (operator_of operator) value
         (value_at index (map partial_of partials.now)) }
 {
     match partials.get(index as usize) {
         Some(partial) => combine_by(operator, value, *partial),
         None => value,
+    }
+}
+
+// The text of a chunk stands at its number, if there is a place for it.
+fn enter<'l>(texts: &mut [&'l [u8]], number: ChunkNo, text: &'l [u8])
+    ensures { map (λ t. t.now) texts.new
+        ≡ slice_set (map (λ t. t.now) texts.old) number.0 text.now }
+{
+    if (number.0 as usize) < texts.len() {
+        texts[number.0 as usize] = text;
+    }
+}
+
+// So does the text of each of these, which come one behind another.
+fn enter_each<'l>(ended: &[EndedChunk], text: &'l [u8], texts: &mut [&'l [u8]])
+    requires { bytes_in ended.now ≡ length text.now }
+    ensures { map (λ t. t.now) texts.new
+        ≡ entered_from ended.now text.now (map (λ t. t.now) texts.old) }
+{
+    let mut chunks = ended;
+    let mut left = text;
+    'chunks: while let Some((ended, more)) = chunks.split_first() {
+        let (own, behind) = left.split_at(ended.bytes as usize);
+        enter(texts, ended.number, own);
+        chunks = more;
+        left = behind;
     }
 }
 
@@ -121,6 +173,7 @@ impl ChunkLog {
             changes: Changes::none(alloc),
             partials: Vec::new(alloc),
             lasts: Vec::new(alloc),
+            text: Vec::new(alloc),
         }
     }
 
@@ -128,21 +181,25 @@ impl ChunkLog {
     pub(crate) fn push(&mut self, chunk: ChunkPiece) -> Result<(), AllocError>
         ensures { OnOk result (self.new ≡ both self.old (account_of chunk)) }
     {
+        self.ended.reserve(1)?;
         let ChunkPiece { number, piece } = chunk;
         let Piece {
             changes,
             partials,
             lasts,
+            text,
         } = piece;
         let ended = EndedChunk {
             number,
             changes: changes.len(),
             partials: partials.len() as u64,
+            bytes: text.bytes().len() as u64,
         };
-        self.ended.reserve(1)?;
-        add(
+        add_all(
+            &mut self.text,
             &mut self.changes,
             &mut self.partials,
+            text.bytes(),
             changes,
             partials.as_slice(),
         )?;
@@ -174,6 +231,21 @@ impl ChunkLog {
             partials = behind;
         }
         value
+    }
+
+    /// Whether these chunks print nothing.
+    pub(crate) fn is_silent(&self) -> bool
+        ensures { result ≡ true → AreSilent self.now.chunks }
+    {
+        self.text.is_empty()
+    }
+
+    /// What each of these chunks prints stands at its number.
+    pub(crate) fn enter_texts<'l>(&'l self, texts: &mut [&'l [u8]])
+        ensures { map (λ t. t.now) texts.new
+            ≡ entered self.now.chunks (map (λ t. t.now) texts.old) }
+    {
+        enter_each(self.ended.as_slice(), self.text.as_slice(), texts);
     }
 
     /// What the last chunk leaves in lastprivate variables, where it is among these; no values where it is not.

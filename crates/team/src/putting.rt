@@ -15,8 +15,8 @@ use ktree::{ReductionOperator, VarId};
 use lower::{LoweredReduction, LoweredRoles, Spot};
 use store::Store;
 
-/// What a scalar holds.
-pub(crate) fn read(spot: Spot, registers: &[u64], store: &Store) -> u64
+// What a scalar holds.
+fn read(spot: Spot, registers: &[u64], store: &Store) -> u64
     ensures { result ≡ held_at spot (machine registers.now (values_of store.now)) }
 {
     match spot {
@@ -25,8 +25,8 @@ pub(crate) fn read(spot: Spot, registers: &[u64], store: &Store) -> u64
     }
 }
 
-/// A scalar takes a value.
-pub(crate) fn write(spot: Spot, value: u64, registers: &mut [u64], store: &mut Store)
+// A scalar takes a value.
+fn write(spot: Spot, value: u64, registers: &mut [u64], store: &mut Store)
     ensures written { machine registers.new (values_of store.new)
         ≡ with_at spot value (machine registers.old (values_of store.old)) }
     ensures shape { map (λ k. k.lengths) store.new ≡ map (λ k. k.lengths) store.old }
@@ -91,8 +91,8 @@ fn put_reductions(
     put_reductions(rest, index + 1, logs, registers, store);
 }
 
-/// Scalars take these values, those that have one.
-pub(crate) fn put_lasts(spots: &[Spot], values: &[u64], registers: &mut [u64], store: &mut Store)
+// Scalars take these values, those that have one.
+fn put_lasts(spots: &[Spot], values: &[u64], registers: &mut [u64], store: &mut Store)
     ensures put { machine registers.new (values_of store.new)
         ≡ put_values spots.now values.now (machine registers.old (values_of store.old)) }
     ensures shape { map (λ k. k.lengths) store.new ≡ map (λ k. k.lengths) store.old }

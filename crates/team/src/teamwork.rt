@@ -1,30 +1,32 @@
 //! The team.
 
-ghost use Rattle.std.specs.Prelude.{◌≡◌, length, map, IfOk, IfErr, OnOk};
+ghost use Rattle.std.specs.Prelude.{◌≡◌, ◌+◌, ◌<◌, ◌^◌, length, map, IfOk, IfErr, OnOk};
 ghost use Rattle.semantics.specs.Loops.Chunk.{cut};
 ghost use Rattle.nest_space.specs.Space.{vectors};
 ghost use Rattle.schedule.specs.Sched.{kind_of, kind_said};
+ghost use Rattle.seqrun_io.specs.Told.{Refuses};
 ghost use Rattle.store.specs.Flat.{AreFilled};
-ghost use Rattle.team.specs.Ends.{IsSplit, AreOfLoop};
+ghost use Rattle.team.specs.Ends.{IsSplit, AreAll};
 ghost use Rattle.team.specs.Logged.{joined};
-ghost use Rattle.team.specs.Together.{LeavesTogether, IsLeft};
+ghost use Rattle.team.specs.Together.{LeavesTogether, BeginsTogether, IsLeft, IsBegun};
 
-use crate::alone::run_alone;
 use crate::gate::Gate;
 use crate::grounds::{Grounds, grounds_of};
 use crate::lent::{LoopCrew, lent_logs};
 use crate::log::ChunkLog;
+use crate::printing::put_texts;
 use crate::putting::put_together;
 use crew::{Crew, dismiss, serve_all};
 use ktree::{Refusal, Workers};
 use lower::LoweredLoop;
 use schedule::{Sched, sched_of};
+use seqrun_io::Sink;
 use std::alloc::Global;
 use std::sync::Wait;
 use std::thread::{Threads, join_mut};
 use store::Store;
 
-/// The logs of all chunks of a loop, cut by this schedule. Where it has no iteration, nothing is lent to the crew.
+/// The logs of all chunks of a loop. Where it has no iteration, nothing is lent to the crew.
 fn loop_logs<'l, R: Wait, G: Gate>(
     rt: &R,
     alloc: Global,
@@ -39,8 +41,8 @@ fn loop_logs<'l, R: Wait, G: Gate>(
     requires split { IsSplit lowered.now grounds.registers.items grounds.space grounds.chunks }
     requires chunks { grounds.chunks
         ≡ cut (kind_of sched.now) (length (vectors grounds.space)) workers }
-    ensures all { IfOk result (λ logs. AreOfLoop lowered.now grounds.registers.items store.old
-        (kind_of sched.now) workers (joined logs.items)) }
+    ensures all { IfOk result (λ logs. AreAll lowered.now grounds.registers.items store.old
+        grounds.chunks (joined logs.items)) }
     ensures store { store.new ≡ store.old }
     ensures refusal { IfErr result (λ refusal. refusal ≡ Refusal.OutOfMemory) }
 {
@@ -59,73 +61,12 @@ fn confirm_filled(store: &Store)
     let _cells = store.cells();
 }
 
-/// Runs a loop on a crew that stands by, from these grounds, and puts together what its chunks leave.
-fn share_chunks<'l, R: Wait, G: Gate>(
-    rt: &R,
-    alloc: Global,
-    crew: &LoopCrew<'l>,
-    lowered: &'l LoweredLoop,
-    grounds: Grounds,
-    registers: &mut [u64],
-    store: &mut Store,
-    workers: Workers,
-    sched: &Sched,
-    gate: &G,
-) -> Result<(), Refusal>
-    requires registers { grounds.registers.items ≡ registers.old }
-    requires split { IsSplit lowered.now grounds.registers.items grounds.space grounds.chunks }
-    requires chunks { grounds.chunks
-        ≡ cut (kind_of sched.now) (length (vectors grounds.space)) workers }
-    ensures leaves { OnOk result (IsLeft lowered.now registers.old registers.new store.old
-        store.new (kind_of sched.now) workers) }
-    ensures shape { map (λ k. k.lengths) store.new ≡ map (λ k. k.lengths) store.old }
-    ensures refusal { IfErr result (λ refusal. refusal ≡ Refusal.OutOfMemory) }
-    ensures kept { IfErr result (λ _. store.new ≡ store.old) }
-    ensures kept_registers { IfErr result (λ _. registers.new ≡ registers.old) }
-    ensures long { length registers.new ≡ length registers.old }
-{
-    let logs = loop_logs(
-        rt, alloc, crew, lowered, grounds, store, workers, sched, gate,
-    )?;
-    confirm_filled(store);
-    put_together(&lowered.roles, logs.as_slice(), registers, store);
-    Ok(())
-}
-
-/// Runs a loop whose iterations are one chunk.
-fn run_whole<G: Gate>(
-    alloc: Global,
-    lowered: &LoweredLoop,
-    grounds: &Grounds,
-    registers: &mut [u64],
-    store: &mut Store,
-    workers: Workers,
-    sched: &Sched,
-    gate: &G,
-) -> Result<(), Refusal>
-    requires split { IsSplit lowered.now registers.old grounds.now.space grounds.now.chunks }
-    requires chunks { grounds.now.chunks
-        ≡ cut (kind_of sched.now) (length (vectors grounds.now.space)) workers }
-    requires one { length grounds.now.chunks ≡ 1 }
-    ensures leaves { OnOk result (IsLeft lowered.now registers.old registers.new store.old
-        store.new (kind_of sched.now) workers) }
-    ensures shape { map (λ k. k.lengths) store.new ≡ map (λ k. k.lengths) store.old }
-    ensures refusal { IfErr result (λ refusal. refusal ≡ Refusal.OutOfMemory) }
-    ensures kept { IfErr result (λ _. store.new ≡ store.old) }
-    ensures kept_registers { IfErr result (λ _. registers.new ≡ registers.old) }
-    ensures long { length registers.new ≡ length registers.old }
-{
-    confirm_filled(store);
-    run_alone(alloc, lowered, grounds, registers, store, workers, gate)
-}
-
-/// Runs a loop on a crew that stands by, as [`run_loop`] does on a team of its own. One whose iterations are one chunk is run in
-/// place, and the crew is told nothing.
+/// Runs a loop on a crew that stands by, as [`run_loop`] does on a team of its own.
 ///
 /// # Errors
 ///
 /// As for [`run_loop`].
-pub fn share_loop<'l, R: Wait, G: Gate>(
+pub fn share_loop<'l, R: Wait, G: Gate, S: Sink>(
     rt: &R,
     alloc: Global,
     crew: &LoopCrew<'l>,
@@ -135,29 +76,35 @@ pub fn share_loop<'l, R: Wait, G: Gate>(
     workers: Workers,
     runtime: Sched,
     gate: &G,
+    sink: &mut S,
 ) -> Result<(), Refusal>
+    requires room { S.failed sink.old + 1 < 2 ^ 64 }
     ensures leaves { OnOk result (LeavesTogether lowered.now registers.old registers.new store.old
-        store.new (kind_said lowered.now.schedule runtime) workers) }
+        store.new (S.told sink.old) (S.told sink.new)
+        (kind_said lowered.now.schedule runtime) workers) }
+    ensures beginning { BeginsTogether lowered.now registers.old store.old (S.told sink.old)
+        (S.told sink.new) (kind_said lowered.now.schedule runtime) workers }
+    ensures sound { OnOk result (S.failed sink.new ≡ S.failed sink.old) }
     ensures shape { map (λ k. k.lengths) store.new ≡ map (λ k. k.lengths) store.old }
-    ensures refusal { IfErr result (λ refusal. refusal ≡ Refusal.OutOfMemory) }
+    ensures refusal { IfErr result (Refuses (S.failed sink.old) (S.failed sink.new)) }
     ensures kept { IfErr result (λ _. store.new ≡ store.old) }
     ensures kept_registers { IfErr result (λ _. registers.new ≡ registers.old) }
     ensures long { length registers.new ≡ length registers.old }
 {
     let sched = sched_of(lowered.schedule, runtime);
     let grounds = grounds_of(alloc, lowered, registers, &sched, workers)?;
-    if grounds.chunks.len() == 1 {
-        return run_whole(
-            alloc, lowered, &grounds, registers, store, workers, &sched, gate,
-        );
-    }
-    share_chunks(
-        rt, alloc, crew, lowered, grounds, registers, store, workers, &sched, gate,
-    )
+    let count = grounds.chunks.len();
+    let logs = loop_logs(
+        rt, alloc, crew, lowered, grounds, store, workers, &sched, gate,
+    )?;
+    put_texts(alloc, logs.as_slice(), count, sink)?;
+    confirm_filled(store);
+    put_together(&lowered.roles, logs.as_slice(), registers, store);
+    Ok(())
 }
 
 /// Runs a loop on a crew, and dismisses it.
-fn lead<'l, R: Wait, G: Gate>(
+fn lead<'l, R: Wait, G: Gate, S: Sink>(
     rt: &R,
     alloc: Global,
     crew: &LoopCrew<'l>,
@@ -167,24 +114,30 @@ fn lead<'l, R: Wait, G: Gate>(
     workers: Workers,
     runtime: Sched,
     gate: &G,
+    sink: &mut S,
 ) -> Result<(), Refusal>
+    requires room { S.failed sink.old + 1 < 2 ^ 64 }
     ensures leaves { OnOk result (IsLeft lowered.now registers.old registers.new store.old
-        store.new (kind_said lowered.now.schedule runtime) workers) }
+        store.new (S.told sink.old) (S.told sink.new)
+        (kind_said lowered.now.schedule runtime) workers) }
+    ensures beginning { IsBegun lowered.now registers.old store.old (S.told sink.old)
+        (S.told sink.new) (kind_said lowered.now.schedule runtime) workers }
+    ensures sound { OnOk result (S.failed sink.new ≡ S.failed sink.old) }
     ensures shape { map (λ k. k.lengths) store.new ≡ map (λ k. k.lengths) store.old }
-    ensures refusal { IfErr result (λ refusal. refusal ≡ Refusal.OutOfMemory) }
+    ensures refusal { IfErr result (Refuses (S.failed sink.old) (S.failed sink.new)) }
     ensures kept { IfErr result (λ _. store.new ≡ store.old) }
     ensures kept_registers { IfErr result (λ _. registers.new ≡ registers.old) }
     ensures long { length registers.new ≡ length registers.old }
 {
     let end = share_loop(
-        rt, alloc, crew, lowered, registers, store, workers, runtime, gate,
+        rt, alloc, crew, lowered, registers, store, workers, runtime, gate, sink,
     );
     dismiss(crew);
     end
 }
 
 /// Starts a crew, runs a loop on it, and ends it.
-fn run_led<'l, R: Threads + Wait + Sync, G: Gate + Sync>(
+fn run_led<'l, R: Threads + Wait + Sync, G: Gate + Sync, S: Sink>(
     rt: &R,
     alloc: Global,
     crew: &LoopCrew<'l>,
@@ -194,11 +147,17 @@ fn run_led<'l, R: Threads + Wait + Sync, G: Gate + Sync>(
     workers: Workers,
     runtime: Sched,
     gate: &G,
+    sink: &mut S,
 ) -> Result<(), Refusal>
+    requires room { S.failed sink.old + 1 < 2 ^ 64 }
     ensures leaves { OnOk result (IsLeft lowered.now registers.old registers.new store.old
-        store.new (kind_said lowered.now.schedule runtime) workers) }
+        store.new (S.told sink.old) (S.told sink.new)
+        (kind_said lowered.now.schedule runtime) workers) }
+    ensures beginning { IsBegun lowered.now registers.old store.old (S.told sink.old)
+        (S.told sink.new) (kind_said lowered.now.schedule runtime) workers }
+    ensures sound { OnOk result (S.failed sink.new ≡ S.failed sink.old) }
     ensures shape { map (λ k. k.lengths) store.new ≡ map (λ k. k.lengths) store.old }
-    ensures refusal { IfErr result (λ refusal. refusal ≡ Refusal.OutOfMemory) }
+    ensures refusal { IfErr result (Refuses (S.failed sink.old) (S.failed sink.new)) }
     ensures kept { IfErr result (λ _. store.new ≡ store.old) }
     ensures kept_registers { IfErr result (λ _. registers.new ≡ registers.old) }
     ensures long { length registers.new ≡ length registers.old }
@@ -206,9 +165,11 @@ fn run_led<'l, R: Threads + Wait + Sync, G: Gate + Sync>(
     let (_, end) = join_mut(
         rt,
         &mut || serve_all(rt, alloc, crew, gate),
-        &mut || {
+        &mut || -> Result<(), Refusal>
+            requires { S.failed sink.now + 1 < 2 ^ 64 }
+        {
             lead(
-                rt, alloc, crew, lowered, registers, store, workers, runtime, gate,
+                rt, alloc, crew, lowered, registers, store, workers, runtime, gate, sink,
             )
         },
     );
@@ -220,12 +181,14 @@ fn run_led<'l, R: Threads + Wait + Sync, G: Gate + Sync>(
 /// end, what they leave is put together. These registers stand as where the loop is reached. Where its chunks have a run each from
 /// there, each object with no role is then as before where none of these runs changes it, and else as one of them leaves it that does;
 /// each reduction variable holds what it held combined with what all chunks tell of it, and each lastprivate one what the last chunk
-/// leaves in it, in the store or in these registers (OpenMP 5.2, 5.4.5 and 5.5.5).
+/// leaves in it, in the store or in these registers (OpenMP 5.2, 5.4.5 and 5.5.5); and what the chunks print is put, the first chunk's
+/// first, which is the order of the iterations (OpenMP 5.2, 15.10).
 ///
 /// # Errors
 ///
-/// `OutOfMemory` alone, where memory is refused; registers and store are then as before. Of threads that do not start the others do the work.
-pub fn run_loop<R: Threads + Wait + Sync, G: Gate + Sync>(
+/// `OutOfMemory` where memory is refused, and nothing is put then; `OutputFailed` where a `put` fails, behind a beginning of the text.
+/// Registers and store are then as before. Of threads that do not start the others do the work.
+pub fn run_loop<R: Threads + Wait + Sync, G: Gate + Sync, S: Sink>(
     rt: &R,
     alloc: Global,
     lowered: &LoweredLoop,
@@ -234,11 +197,17 @@ pub fn run_loop<R: Threads + Wait + Sync, G: Gate + Sync>(
     workers: Workers,
     runtime: Sched,
     gate: &G,
+    sink: &mut S,
 ) -> Result<(), Refusal>
+    requires room { S.failed sink.old + 1 < 2 ^ 64 }
     ensures leaves { OnOk result (LeavesTogether lowered.now registers.old registers.new store.old
-        store.new (kind_said lowered.now.schedule runtime) workers) }
+        store.new (S.told sink.old) (S.told sink.new)
+        (kind_said lowered.now.schedule runtime) workers) }
+    ensures beginning { BeginsTogether lowered.now registers.old store.old (S.told sink.old)
+        (S.told sink.new) (kind_said lowered.now.schedule runtime) workers }
+    ensures sound { OnOk result (S.failed sink.new ≡ S.failed sink.old) }
     ensures shape { map (λ k. k.lengths) store.new ≡ map (λ k. k.lengths) store.old }
-    ensures refusal { IfErr result (λ refusal. refusal ≡ Refusal.OutOfMemory) }
+    ensures refusal { IfErr result (Refuses (S.failed sink.old) (S.failed sink.new)) }
     ensures kept { IfErr result (λ _. store.new ≡ store.old) }
     ensures kept_registers { IfErr result (λ _. registers.new ≡ registers.old) }
     ensures long { length registers.new ≡ length registers.old }
@@ -246,10 +215,10 @@ pub fn run_loop<R: Threads + Wait + Sync, G: Gate + Sync>(
     let crew = Crew::new(alloc, workers.get() - 1)?;
     if crew.others() == 0 {
         return share_loop(
-            rt, alloc, &crew, lowered, registers, store, workers, runtime, gate,
+            rt, alloc, &crew, lowered, registers, store, workers, runtime, gate, sink,
         );
     }
     run_led(
-        rt, alloc, &crew, lowered, registers, store, workers, runtime, gate,
+        rt, alloc, &crew, lowered, registers, store, workers, runtime, gate, sink,
     )
 }

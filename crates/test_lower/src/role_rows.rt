@@ -4,7 +4,7 @@ use crate::overlay_rows::{chunk, lowered, one_loop};
 use crate::stores::two_arrays_and_a_scalar;
 use ktree::{ChunkNo, ReductionOperator, VarId};
 use lower::{LoweredLoop, LoweredReduction, Spot};
-use overlay::{Piece, Told, Work, Worker, run_in_place};
+use overlay::{Piece, Work, Worker};
 use reduce::Partial;
 use std::alloc::Global;
 use store::Store;
@@ -247,99 +247,23 @@ fn last_chunks_tell_last_values(rt: HostRuntime) {
     assert!(rt; are_last(rt.alloc()));
 }
 
-/// What is told of a chunk of so many iterations from a first one on that is run on the cells of a store.
-fn told_by(
-    alloc: Global,
-    lowered: &LoweredLoop,
-    registers: &[u64],
-    store: &mut Store,
-    range: (u64, u64),
-) -> Option<Told> {
-    let Ok(space) = lowered.space(alloc, registers) else {
-        return None;
-    };
-    let (first, count) = range;
-    let end = first.checked_add(count)?;
-    if end > space.count() {
-        return None;
-    }
-    let work = Work {
-        chunk: ChunkNo(0),
-        first,
-        count,
-    };
-    run_in_place(alloc, lowered, registers, &space, work, store).ok()
-}
+const SUMMING: &str = "for (uint64_t i = 0; i < 6; i++) { s += i + 1; A[i] = i; }";
 
-/// Whether such a chunk leaves these cells, where the scalar and all registers hold 7 before, and tells this.
-fn leaves_over(
-    alloc: Global,
-    lowered: &LoweredLoop,
-    store: &mut Store,
-    range: (u64, u64),
-    cells: &[u64],
-    partials: &[Partial],
-    lasts: &[u64],
-) -> bool {
-    let registers = [7u64; 8];
-    store.put(14, 7);
-    match told_by(alloc, lowered, registers.as_slice(), store, range) {
-        Some(told) => {
-            store.cells() == cells
-                && told.partials.as_slice() == partials
-                && told.lasts.as_slice() == lasts
-        }
+/// Whether a chunk of a loop that sums up and writes tells its changes and its partial, and no last values.
+fn tells_both(alloc: Global, row: &Reduced, changes: u64) -> bool {
+    let (_lines, _reduced, before, range, partial) = *row;
+    let Some(lowered) = reducing(alloc, row) else {
+        return false;
+    };
+    match piece_of(alloc, &lowered, before, range) {
+        Some(piece) => piece.partials.as_slice() == [partial] && tells(Some(piece), changes, &[]),
         None => false,
     }
 }
 
-/// The same over the arrays and the scalar.
-fn leaves(
-    alloc: Global,
-    lowered: Option<LoweredLoop>,
-    range: (u64, u64),
-    cells: &[u64],
-    partials: &[Partial],
-    lasts: &[u64],
-) -> bool {
-    let Some(lowered) = lowered else {
-        return false;
-    };
-    match two_arrays_and_a_scalar(alloc) {
-        Ok(mut store) => leaves_over(alloc, &lowered, &mut store, range, cells, partials, lasts),
-        Err(_error) => false,
-    }
-}
-
-/// The loop with its sum.
-fn summing(alloc: Global) -> Option<LoweredLoop> {
-    let lines = "for (uint64_t i = 0; i < 6; i++) { s += i + 1; A[i] = i; }";
-    let mut lowered = lowered(alloc, lines, one_loop(0, 0, 1))?;
-    let reduction = LoweredReduction {
-        operator: ReductionOperator::Sum,
-        spot: SCALAR,
-    };
-    lowered.roles.reductions.push(reduction).ok()?;
-    Some(lowered)
-}
-
 #[test]
-fn chunks_in_place_keep_variables_with_a_role(rt: HostRuntime) {
-    let heap = rt.alloc();
-    let last = [0, 0, 1, 1, 1, 1, 0, 0, 0, 0, 0, 0, 0, 0, 7];
-    let first = [1, 1, 1, 1, 1, 0, 0, 0, 0, 0, 0, 0, 0, 0, 7];
-    let part = [0, 0, 2, 3, 4, 0, 0, 0, 0, 0, 0, 0, 0, 0, 7];
-    let sum = [Partial::Updated(12)];
-    assert!(rt; leaves(heap, lasting(heap), (2, 4), last.as_slice(), &[], &[25]));
-    assert!(rt; leaves(heap, lasting(heap), (0, 5), first.as_slice(), &[], &[]));
-    assert!(rt;
-        leaves(
-            heap,
-            summing(heap),
-            (2, 3),
-            part.as_slice(),
-            sum.as_slice(),
-            &[]
-        )
-    );
+fn chunks_tell_changes_and_partials(rt: HostRuntime) {
+    let sum = (ReductionOperator::Sum, SCALAR);
+    let row = (SUMMING, sum, 7, (2, 3), Partial::Updated(12));
+    assert!(rt; tells_both(rt.alloc(), &row, 3));
 }

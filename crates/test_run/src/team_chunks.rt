@@ -296,7 +296,7 @@ fn workers_enter_their_own_chunks(rt: HostRuntime) {
     assert!(rt; entered(&rt, heap, NUMBERS, threes, 2) == Some((15, 4, 0)));
     assert!(rt; entered(&rt, heap, NUMBERS, None, 64) == Some((1023, 10, 0)));
     assert!(rt; entered(&rt, heap, NUMBERS, Some(Schedule::Static), 3) == Some((7, 3, 0)));
-    // One chunk is run in place, and its worker enters it as others do.
+    // The worker of the only chunk enters it as others do.
     assert!(rt; entered(&rt, heap, NUMBERS, None, 1) == Some((1, 1, 0)));
 }
 

@@ -2,4 +2,4 @@ use Rattle.std.proofs.Common.{length}
 use Rattle.overlay.proofs.beginning.+begin.Given as goal
 
 abbrev pub decreases-begin : goal.decreases-begin
-decreases-begin g l = length l.reductions.now
+decreases-begin l = length l.reductions.now

@@ -1,13 +1,12 @@
-use Rattle.std.proofs.Common.{◌+◌, Bool, List, length, ap, ◌∙◌, subst}
+use Rattle.std.proofs.Common.{◌+◌, ℕ, Bool, List, [], length, sym, ap, ◌∙◌, subst}
 use Rattle.std.specs.Prelude.{◌==◌}
 use Rattle.nest_space.specs.Space.{vectors}
 use Rattle.store.specs.Kept.{Kept}
 use Rattle.store.specs.Flat.{values_of}
-use Rattle.lower_code.specs.Machine.{Machine, machine}
+use Rattle.lower_code.specs.Machine.{Machine, machine, running}
 use Rattle.lower.specs.declared.roles.LoweredReduction.{LoweredReduction}
 use Rattle.overlay_pages.specs.Over.{writes_in}
 use Rattle.overlay_pages.specs.Seen.{cells_of}
-use Rattle.overlay_pages.proofs.Lent.{lent_is}
 use Rattle.overlay_pages.proofs.Overlays.{length_over}
 use Rattle.overlay.specs.Walking.{WalksOver}
 use Rattle.overlay.specs.Spots.{begun_by, back_at_each, reduced_at}
@@ -21,23 +20,16 @@ returns-clause-ran c =
     let cells = c.run_iterations.new.cells in
     let behind : Machine = machine c.run_iterations.new.registers (cells_of cells) in
     let start : Machine = machine c.args.registers.now (cells_of c.args.cells.now) in
-    let stores = c.run_iterations.ensures.store ∙ lent_is c.begin.new.cells.store c.args.cells.now.store c.begin.ensures.kept in
+    let stores = c.run_iterations.ensures.store ∙ c.begin.ensures.store in
     record {
       behind = behind;
-      walks = subst (λ m. WalksOver l (part_of c.args.space.now c.args.work) m behind) (c.begin.ensures.begun ∙ ap (λ (ls : List LoweredReduction). begun_by ls start) c.as_slice.ensures.value) c.in_ok-run_iterations.ensures.walked;
+      walks =
+          subst (λ (text : List ℕ). WalksOver l (part_of c.args.space.now c.args.work) (running (begun_by l.roles.reductions.items start) []) (running behind text)) (ap (λ t. t.bytes) (sym c.in_ok-told.ensures.text))
+          (subst (λ m. WalksOver l (part_of c.args.space.now c.args.work) (running m []) (running behind c.in_ok-text.text.bytes)) (c.begin.ensures.begun ∙ ap (λ (ls : List LoweredReduction). begun_by ls start) c.as_slice.ensures.value) c.in_ok-text.ensures.walked);
       room = length_over (writes_in cells.written) (values_of cells.store) ∙ ap (λ (ks : List Kept). length (values_of ks)) stores;
       told_of =
           subst (λ (ks : List Kept). IsTold l.roles (c.args.work.first + c.args.work.count == length (vectors c.args.space.now)) (machine c.args.before.now (values_of ks)) behind c.in_ok-told.told) stores
-          (subst (λ (b : Bool). IsTold l.roles b (machine c.args.before.now (values_of cells.store)) behind c.in_ok-told.told) c.has_last-has_last.ensures c.in_ok-told.ensures);
+          (subst (λ (b : Bool). IsTold l.roles b (machine c.args.before.now (values_of cells.store)) behind c.in_ok-told.told) c.has_last-has_last.ensures c.in_ok-told.ensures.told);
       back = c.put_roles_back.ensures.back
           ∙ ap (λ (ks : List Kept). back_at_each (values_of ks) (reduced_at l.roles.reductions.items) (back_at_each (values_of ks) l.roles.lasts.items behind.cells)) stores;
     }
-
-pub returns-in_err-run_iterations-clause-store : goal.returns-in_err-run_iterations-clause-store
-returns-in_err-run_iterations-clause-store c = c.run_iterations.ensures.store ∙ lent_is c.begin.new.cells.store c.args.cells.now.store c.begin.ensures.kept
-
-pub returns-in_err-told-clause-store : goal.returns-in_err-told-clause-store
-returns-in_err-told-clause-store c = c.run_iterations.ensures.store ∙ lent_is c.begin.new.cells.store c.args.cells.now.store c.begin.ensures.kept
-
-pub returns-clause-store : goal.returns-clause-store
-returns-clause-store c = c.put_roles_back.ensures.store ∙ c.run_iterations.ensures.store ∙ lent_is c.begin.new.cells.store c.args.cells.now.store c.begin.ensures.kept

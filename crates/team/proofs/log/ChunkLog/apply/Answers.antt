@@ -14,7 +14,7 @@ returns-clause-applied c =
     let later = c.apply.new.store in
     let ws = c.self.inside.changes in
     subst (λ (a : Account). AreApplied (values_of ks) (values_of later) a.chunks) c.self.view_is
-    (applied_log c.self.inside.ended.items ws (map partial_of c.self.inside.partials.items) (values_of ks) (values_of later) c.self.invariant.0 (filled_over ks later ws c.apply.ensures))
+    (applied_log c.self.inside.ended.items ws (map partial_of c.self.inside.partials.items) c.self.inside.text.items (values_of ks) (values_of later) c.self.invariant.0 (filled_over ks later ws c.apply.ensures))
 
 pub returns-clause-shape : goal.returns-clause-shape
 returns-clause-shape c =

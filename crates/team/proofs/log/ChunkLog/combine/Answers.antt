@@ -15,5 +15,5 @@ chunks-init c =
       count = ap partials_in c.as_slice-chunks.ensures ∙ c.self.invariant.1 ∙ ap (λ (l : List Partial). length l) (sym c.as_slice-partials.ensures.value);
       left =
           ap (combined_all (operator_of c.args.operator) c.args.value)
-          ((λ i. left_of index (c.as_slice-chunks.ensures i) (c.as_slice-partials.ensures.value i)) ∙ sym (left_all index own.ended.items own.changes own.partials.items) ∙ ap (λ (a : Account). told_of index a.chunks) c.self.view_is);
+          ((λ i. left_of index (c.as_slice-chunks.ensures i) (c.as_slice-partials.ensures.value i)) ∙ sym (left_all index own.ended.items own.changes own.partials.items own.text.items) ∙ ap (λ (a : Account). told_of index a.chunks) c.self.view_is);
     }
