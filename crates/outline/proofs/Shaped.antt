@@ -161,6 +161,7 @@ module _ (layout : List Laid) (mark : ℕ) (loops : List ParallelLoop) where
               roles_at = subst (λ rs. AreRolesAt layout mark rs l.lowered.roles) roles (roles_by_line h.parallel.roles R line.line s l.lowered.roles kept n.roles);
             };
             locals = subst (λ a. AreLocals layout mark (declared_in a)) (sym h.statement) all;
+            code = subst (λ a. Performs layout mark (run a) l.code) (sym h.statement) (h.code all);
             privates = λ x e.
                 let f = is_among (targets_outside (stmt_of l.statement.now)) in
                 given.privates l.line x (second_of (f x) (is_among (R l.line).privates x) (sym (among_left f (R l.line).privates x) ∙ e));

@@ -36,7 +36,7 @@ pub record HeadFits (layout : List Laid) (mark : ℕ) (h : Head) (l : LoweredHea
   pub test : MeansTest layout (cond_of h.test) l.test
   pub step : StepPerforms layout mark h l.step
 
--- a loop for a team is lowered from a nest inside serial loops with what its line says of the scalars that it assigns, and the nest's chunks may be run apart
+-- a loop for a team is lowered from a nest inside serial loops with what its line says of the scalars that it assigns, the nest's chunks may be run apart, and its code does what the loop does
 pub record TeamFits (layout : List Laid) (mark : ℕ) (R : LineRoles) (serial : List Loop) (l : TeamLoop) : Type 0 where
   pub loops : List Loop
   pub body : Stmt
@@ -45,6 +45,7 @@ pub record TeamFits (layout : List Laid) (mark : ℕ) (R : LineRoles) (serial : 
   pub known : (x : Variable) → is_counter box x ≡ true → Contains (map (λ h. h.variable) serial) x
   pub lowered : IsLoweredFrom layout mark box (roles_in R l) loops body l.lowered
   pub locals : AreLocals layout mark (declared_in (stmt_of l.statement.now))
+  pub code : Performs layout mark (run (stmt_of l.statement.now)) l.code
   pub privates : (x : Variable) → is_among (roles_in R l).privates x ≡ true → length layout ≤ x
   pub declarations : List Declaration
   pub shares : SharesAsNest declarations (roles_in R l) serial l.depth (stmt_of l.statement.now)

@@ -74,7 +74,7 @@ pub record IsLowered (layout : List Laid) (mark : ℕ) (box : List Side) (n : �
   pub code : AreLocals layout mark (declared_in body) → Performs layout mark (run body) l.body
   pub roles : AreRolesAt layout mark (used_roles s (roles_of kept)) l.roles
 
--- a statement behind the directive line at this place is handed over, as many loops of it as that line associates, with its schedule (OpenMP 5.2, 11.5.3)
+-- a statement behind the directive line at this place is handed over, as many loops of it as that line associates, with its schedule (OpenMP 5.2, 11.5.3), and with code of the whole
 pub record IsHanded (layout : List Laid) (mark : ℕ) (box : List Side) (loops : List ParallelLoop) (line : Place) (s : Stmt) (l : TeamLoop) : Type 0 where
   pub parallel : ParallelLoop
   pub stands : StandsAt loops line parallel
@@ -83,3 +83,4 @@ pub record IsHanded (layout : List Laid) (mark : ℕ) (box : List Side) (loops :
   pub depth : l.depth ≡ associated parallel.directive.collapse
   pub schedule : l.lowered.schedule ≡ parallel.directive.schedule
   pub lowered : IsLowered layout mark box l.depth s parallel.roles l.lowered
+  pub code : AreLocals layout mark (declared_in s) → Performs layout mark (run s) l.code

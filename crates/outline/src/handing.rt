@@ -158,11 +158,13 @@ pub(crate) fn loop_for_team<'k>(
         return Err(Refusal::OutOfMemory);
     };
     let depth = parallel.directive.associated_loops();
+    let code = compile_statement(alloc, stmt, target)?;
     let lowered = lower(alloc, depth, stmt, parallel, target, bounds)?;
     Ok(TeamLoop {
         statement: stmt,
         line: directive.line,
         depth,
         lowered,
+        code,
     })
 }

@@ -6,13 +6,14 @@ use lower_block::Compiled;
 use lower_code::Test;
 
 /// A loop that a team runs: the statement, the number of the directive line before it, how many loops of it are associated
-/// (OpenMP 5.2, 4.4.3), and what it is lowered to.
+/// (OpenMP 5.2, 4.4.3), what it is lowered to, and the code of the whole statement for a team of one thread.
 #[derive(Drop)]
 pub struct TeamLoop<'k> {
     pub statement: &'k Stmt,
     pub line: u32,
     pub depth: u64,
     pub lowered: LoweredLoop,
+    pub code: Compiled,
 }
 
 /// A loop's head as it is run: the first value of its variable, the test before each turn, and the step behind it (C11 6.8.5.3).
