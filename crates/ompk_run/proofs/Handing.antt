@@ -1,7 +1,7 @@
 -- A loop that a team ran leaves the locals as they were but for lastprivate and reduction variables, and the file-scope objects as the loop's run does.
 use Rattle.std.specs.Prelude.{ℕ, Bool, true, false, ◌≡◌, ◌<◌, ◌≤◌, ◌^◌, ◌&&◌, if◌then◌else◌, List, ◌++◌, length, Option, Some, None, IsSome}
 use Rattle.std.specs.List.{list_all}
-use Rattle.std.proofs.Common.{refl, sym, ap, ◌∙◌, subst, append-nil}
+use Rattle.std.proofs.Common.{refl, sym, ap, ◌∙◌, subst}
 use Rattle.std.proofs.lemmas.List.Folds.{list_all-append}
 use Rattle.semantics.specs.Tree.{Variable, Stmt}
 use Rattle.semantics.specs.Meaning.Agrees.{is_among, visible_behind}
@@ -10,14 +10,16 @@ use Rattle.semantics.specs.Meaning.Value.{map_option}
 use Rattle.semantics.specs.Meaning.Runs.{Effect, run}
 use Rattle.semantics.specs.Loops.Chunk.{Kind, IsSized, cut}
 use Rattle.semantics.specs.Loops.Joined.{chunked}
-use Rattle.semantics.specs.Loops.Nest.{Loop, iterations}
+use Rattle.semantics.specs.Loops.Nest.{Loop, Vector, iterations}
 use Rattle.semantics.specs.Loops.Piece.{Roles}
 use Rattle.ktree.specs.View.{stmt_of}
 use Rattle.law_commute.proofs.Values.{first_of, second_of}
 use Rattle.law_roles.specs.Updates.{is_plain}
-use Rattle.law_roles.specs.Sharing.{role_variables}
+use Rattle.law_roles.specs.Reducing.{AreHeld}
+use Rattle.law_roles.specs.Sharing.{role_variables, SharesFrom, changed_from}
 use Rattle.law_starts.specs.Begun.{told_apart, begun}
 use Rattle.law_starts.proofs.Beginning.{may_begin}
+use Rattle.law_independence.specs.OrderLaws.{AreAtHand}
 use Rattle.law_independence.proofs.Targeted.{outside_visible}
 use Rattle.law_scopes.specs.Apart.{is_at_turn}
 use Rattle.law_scopes.proofs.Spots.{some_of}
@@ -25,15 +27,17 @@ use Rattle.law_scopes.proofs.Turning.{at_turns}
 use Rattle.law_apart.specs.Apart.{left_effect, is_at_hand, handed}
 use Rattle.store.specs.Kept.{Kept}
 use Rattle.store.specs.Flat.{values_of}
-use Rattle.seqrun.specs.Ran.{lengths_of}
+use Rattle.seqrun_io.specs.Told.{AddsBeginning}
+use Rattle.seqrun.specs.Ran.{lengths_of, text_of}
 use Rattle.lower_code.specs.declared.term.Laid.{Laid}
 use Rattle.lower_code.specs.Machine.{Fits, machine}
+use Rattle.lower.specs.Lowered.{IsReached}
 use Rattle.lower_run.specs.Walk.{StandFor, Arrives}
 use Rattle.flow.specs.Roles.{LineRoles}
 use Rattle.outline.specs.declared.shape.TeamLoop.{TeamLoop}
 use Rattle.outline.specs.Fit.{TeamFits}
 use Rattle.outline.specs.View.{roles_in}
-use Rattle.team.specs.Together.{LeavesTogether}
+use Rattle.team.specs.Together.{LeavesTogether, BeginsTogether}
 use Rattle.ompk_run.proofs.AtHand.{held, at_hand}
 use Rattle.ompk_run.proofs.AtTurn.{at_turn}
 use Rattle.ompk_run.proofs.Behind.{still_outside, local_left, cell_left}
@@ -56,45 +60,79 @@ module _ (layout : List Laid) (mark : ℕ) (s : State) (rs : List ℕ) (ks : Lis
   lasts_plain =
       second_of (list_all (is_plain roles.reductions) roles.privates) (list_all (is_plain roles.reductions) roles.lasts) (sym (list_all-append (is_plain roles.reductions) roles.privates roles.lasts) ∙ fits.shares.apart)
 
-  module _ (kind : Kind) (workers : ℕ) (sized : IsSized kind) (some : 0 < workers) (rs' : List ℕ) (ks' : List Kept) (leaves : LeavesTogether l.lowered rs rs' ks ks' kind workers) (shape : lengths_of ks' ≡ lengths_of ks)
-      (words : Fits (machine rs' (values_of ks'))) (room : length (values_of ks') < 2 ^ 64) (text : List ℕ) where
-    -- the new registers and the new store
-    behind : (is_at_turn serial s && is_at_hand roles loop s) ≡ true → (e : Effect) → run loop s ≡ Some e → Arrives layout mark (Some (left_effect (told_apart roles) s e)) s rs' ks' text text
-    behind guard e ran =
-        let here = first_of (is_at_turn serial s) (is_at_hand roles loop s) guard in
-        let near = second_of (is_at_turn serial s) (is_at_hand roles loop s) guard in
-        let turn = at_turns serial s here in
-        let hand = at_hand layout mark s rs ks stand roles loop near in
-        let numbers = held layout mark s rs ks stand roles loop near in
-        let us = some_of (iterations fits.loops s) (fits.shares.there fits.loops fits.body s fits.nest turn) in
-        let chunks = chunked us.0 (cut kind (length us.0) workers) in
-        let shares = fits.shares.chunks fits.loops fits.body s (begun roles s) us.0 chunks e fits.nest turn (declares layout mark s rs ks stand loop fits.locals) hand (may_begin roles s hand.scalars fits.shares.different) us.1 (cover us.0 kind workers sized some) ran in
-        let merged = leaves layout mark roles fits.loops fits.body s us.0 shares.effects
-        (record { box = fits.box; lowered = fits.lowered; stand = stand; counters = λ x counter. at_turn s serial here x (fits.known x counter); are = us.1; different = fits.shares.different; apart = lasts_plain; held = numbers })
-        shares.each (keep_numbers layout s rs rs' ks ks' roles l.depth loop fits.loops fits.body fits.nest seen hand chunks shares.effects shares.each numbers) in
-        record {
-          state = overwritten s (left_effect (told_apart roles) s e).writes;
-          stand = record {
-            machine = record {
-              laid = stand.machine.laid;
-              fits = words;
-              width = subst (λ n. mark ≤ n) (sym merged.long) stand.machine.width;
-              room = room;
-              local = λ x v q. local_left layout mark s rs ks stand rs' ks' roles l.depth loop fits.loops fits.body fits.nest seen hand fits.shares.apart fits.privates chunks e ran shares merged x v q;
-              file_scope = λ x lt. still_outside layout mark s rs ks stand rs' ks' roles l.depth loop fits.loops fits.body fits.nest seen hand fits.shares.apart fits.privates chunks e ran shares merged x (stand.machine.file_scope x lt);
-              unmarked = λ x le. still_outside layout mark s rs ks stand rs' ks' roles l.depth loop fits.loops fits.body fits.nest seen hand fits.shares.apart fits.privates chunks e ran shares merged x (stand.machine.unmarked x le);
-              cell = λ x is. cell_left layout mark s rs ks stand rs' ks' roles l.depth loop fits.loops fits.body fits.nest seen hand fits.shares.apart fits.privates chunks e ran shares merged x is;
-            };
-            shape = shape ∙ stand.shape;
-          };
-          ran = record { effect = left_effect (told_apart roles) s e; is = refl; left = refl; printed = sym (append-nil text) ∙ ap (λ t. text ++ t) (sym shares.quiet) };
-        }
+  -- where such a loop is reached, its chunks have a run each, and what they leave together is what the loop leaves
+  record IsHanded (kind : Kind) (workers : ℕ) (e : Effect) : Type 0 where
+    us : List Vector
+    hand : AreAtHand roles loop s
+    numbers : AreHeld roles.reductions s
+    reached : IsReached layout mark roles fits.loops fits.body s us l.lowered rs ks
+    shares : SharesFrom (begun roles s) (changed_from (begun roles s)) roles loop fits.loops fits.body (chunked us (cut kind (length us) workers)) s e
 
-    pub loop_arrives : IsSome (handed roles serial loop s) → Arrives layout mark (handed roles serial loop s) s rs' ks' text text
-    loop_arrives there = go (is_at_turn serial s && is_at_hand roles loop s) refl (run loop s) refl there
-      where
-        go : (b : Bool) → (is_at_turn serial s && is_at_hand roles loop s) ≡ b → (o : Option Effect) → run loop s ≡ o → IsSome (if b then map_option (left_effect (told_apart roles) s) o else None)
-            → Arrives layout mark (if b then map_option (left_effect (told_apart roles) s) o else None) s rs' ks' text text
-        go false q o r h = absurd cc
-        go true q None r h = absurd cc
-        go true q (Some e) r h = behind q e r
+  is_handed : (kind : Kind) (workers : ℕ) → IsSized kind → 0 < workers → (is_at_turn serial s && is_at_hand roles loop s) ≡ true → (e : Effect) → run loop s ≡ Some e → IsHanded kind workers e
+  is_handed kind workers sized some guard e ran =
+      let here = first_of (is_at_turn serial s) (is_at_hand roles loop s) guard in
+      let near = second_of (is_at_turn serial s) (is_at_hand roles loop s) guard in
+      let turn = at_turns serial s here in
+      let hand = at_hand layout mark s rs ks stand roles loop near in
+      let numbers = held layout mark s rs ks stand roles loop near in
+      let us = some_of (iterations fits.loops s) (fits.shares.there fits.loops fits.body s fits.nest turn) in
+      let chunks = chunked us.0 (cut kind (length us.0) workers) in
+      record {
+        us = us.0;
+        hand = hand;
+        numbers = numbers;
+        reached = record { box = fits.box; lowered = fits.lowered; stand = stand; counters = λ x counter. at_turn s serial here x (fits.known x counter); are = us.1; different = fits.shares.different; apart = lasts_plain; held = numbers };
+        shares = fits.shares.chunks fits.loops fits.body s (begun roles s) us.0 chunks e fits.nest turn (declares layout mark s rs ks stand loop fits.locals) hand (may_begin roles s hand.scalars fits.shares.different) us.1 (cover us.0 kind workers sized some) ran;
+      }
+
+  module _ (kind : Kind) (workers : ℕ) (sized : IsSized kind) (some : 0 < workers) (text text' : List ℕ) where
+    module _ (begins : BeginsTogether l.lowered rs ks text text' kind workers) where
+      -- a beginning of what the loop prints
+      began : (is_at_turn serial s && is_at_hand roles loop s) ≡ true → (e : Effect) → run loop s ≡ Some e → AddsBeginning text text' e.text
+      began guard e ran =
+          let h = is_handed kind workers sized some guard e ran in
+          subst (AddsBeginning text text') (sym h.shares.text) (begins layout mark roles fits.loops fits.body s h.us h.shares.effects h.reached h.shares.each)
+
+      pub loop_begins : IsSome (handed roles serial loop s) → AddsBeginning text text' (text_of (handed roles serial loop s))
+      loop_begins there = go (is_at_turn serial s && is_at_hand roles loop s) refl (run loop s) refl there
+        where
+          go : (b : Bool) → (is_at_turn serial s && is_at_hand roles loop s) ≡ b → (o : Option Effect) → run loop s ≡ o → IsSome (if b then map_option (left_effect (told_apart roles) s) o else None)
+              → AddsBeginning text text' (text_of (if b then map_option (left_effect (told_apart roles) s) o else None))
+          go false q o r h = absurd cc
+          go true q None r h = absurd cc
+          go true q (Some e) r h = began q e r
+
+    module _ (rs' : List ℕ) (ks' : List Kept) (leaves : LeavesTogether l.lowered rs rs' ks ks' text text' kind workers) (shape : lengths_of ks' ≡ lengths_of ks) (words : Fits (machine rs' (values_of ks'))) (room : length (values_of ks') < 2 ^ 64) where
+      -- the new registers and the new store
+      behind : (is_at_turn serial s && is_at_hand roles loop s) ≡ true → (e : Effect) → run loop s ≡ Some e → Arrives layout mark (Some (left_effect (told_apart roles) s e)) s rs' ks' text text'
+      behind guard e ran =
+          let h = is_handed kind workers sized some guard e ran in
+          let chunks = chunked h.us (cut kind (length h.us) workers) in
+          let merged = leaves layout mark roles fits.loops fits.body s h.us h.shares.effects h.reached h.shares.each
+          (keep_numbers layout s rs rs' ks ks' roles l.depth loop fits.loops fits.body fits.nest seen h.hand chunks h.shares.effects h.shares.each h.numbers) in
+          record {
+            state = overwritten s (left_effect (told_apart roles) s e).writes;
+            stand = record {
+              machine = record {
+                laid = stand.machine.laid;
+                fits = words;
+                width = subst (λ n. mark ≤ n) (sym merged.long) stand.machine.width;
+                room = room;
+                local = λ x v q. local_left layout mark s rs ks stand rs' ks' roles l.depth loop fits.loops fits.body fits.nest seen h.hand fits.shares.apart fits.privates chunks e ran h.shares merged x v q;
+                file_scope = λ x lt. still_outside layout mark s rs ks stand rs' ks' roles l.depth loop fits.loops fits.body fits.nest seen h.hand fits.shares.apart fits.privates chunks e ran h.shares merged x (stand.machine.file_scope x lt);
+                unmarked = λ x le. still_outside layout mark s rs ks stand rs' ks' roles l.depth loop fits.loops fits.body fits.nest seen h.hand fits.shares.apart fits.privates chunks e ran h.shares merged x (stand.machine.unmarked x le);
+                cell = λ x is. cell_left layout mark s rs ks stand rs' ks' roles l.depth loop fits.loops fits.body fits.nest seen h.hand fits.shares.apart fits.privates chunks e ran h.shares merged x is;
+              };
+              shape = shape ∙ stand.shape;
+            };
+            ran = record { effect = left_effect (told_apart roles) s e; is = refl; left = refl; printed = merged.printed ∙ ap (λ t. text ++ t) (sym h.shares.text) };
+          }
+
+      pub loop_arrives : IsSome (handed roles serial loop s) → Arrives layout mark (handed roles serial loop s) s rs' ks' text text'
+      loop_arrives there = go (is_at_turn serial s && is_at_hand roles loop s) refl (run loop s) refl there
+        where
+          go : (b : Bool) → (is_at_turn serial s && is_at_hand roles loop s) ≡ b → (o : Option Effect) → run loop s ≡ o → IsSome (if b then map_option (left_effect (told_apart roles) s) o else None)
+              → Arrives layout mark (if b then map_option (left_effect (told_apart roles) s) o else None) s rs' ks' text text'
+          go false q o r h = absurd cc
+          go true q None r h = absurd cc
+          go true q (Some e) r h = behind q e r
