@@ -3,7 +3,6 @@
 ghost use Rattle.std.specs.Prelude.{◌≡◌, ℕ, ◌+◌, ◌<◌, ◌^◌, List, OnOk, IfErr};
 ghost use Rattle.semantics.specs.Loops.Chunk.{IsSized};
 ghost use Rattle.semantics.specs.Loops.Nest.{Loop};
-ghost use Rattle.ktree.specs.declared.refusal.Refusal.TheVariants.{OutOfMemory};
 ghost use Rattle.flow.specs.Roles.{LineRoles};
 ghost use Rattle.schedule.specs.Sched.{kind_of, kind_said};
 ghost use Rattle.outline.specs.Fit.{Fits, ItemFits, AllFit};
@@ -16,6 +15,7 @@ ghost use Rattle.lower_code.specs.declared.term.Laid.{Laid};
 ghost use Rattle.lower_code.specs.Machine.{machine, truth};
 ghost use Rattle.lower_run.specs.Walk.{Walks, Begins, stage};
 
+use crate::single::run_by_one;
 use ktree::{Refusal, Schedule, Workers};
 use lower_code::{Test, truth};
 use lower_run::{confirm_words, perform};
@@ -68,21 +68,30 @@ fn confirm_cut(clause: Option<Schedule>, runtime: Sched, workers: Workers)
     let _count = workers.get();
 }
 
-// Runs a loop by the team (OpenMP 5.2, 11.5).
-fn run_team_loop<'l, R: Threads + Wait + Sync, G: Gate>(
+// Runs a loop by the team, and puts what it prints (OpenMP 5.2, 11.5 and 15.10).
+fn run_team_loop<'l, R: Threads + Wait + Sync, G: Gate, S: Sink>(
     construct: &'l TeamLoop<'_>,
     team: &Teaming<'_, '_, '_, 'l, R, G>,
     registers: &mut Vec<u64>,
     store: &mut Store,
+    sink: &mut S,
 ) -> Result<(), Refusal>
-    ensures ran { OnOk result ((layout : List Laid) (mark : ℕ) (R : LineRoles) (serial : List Loop) (text : List ℕ)
+    requires room { S.failed sink.old + 1 < 2 ^ 64 }
+    ensures ran { OnOk result ((layout : List Laid) (mark : ℕ) (R : LineRoles) (serial : List Loop)
         → Fits layout mark R serial (Team construct.now)
         → Walks layout mark (performed R serial (Team construct.now))
-        (stage registers.old.items store.old text) (stage registers.new.items store.new text)) }
-    ensures refusal { IfErr result (λ refusal. refusal ≡ OutOfMemory) }
+        (stage registers.old.items store.old (S.told sink.old))
+        (stage registers.new.items store.new (S.told sink.new))) }
+    ensures beginning { (layout : List Laid) (mark : ℕ) (R : LineRoles) (serial : List Loop)
+        → Fits layout mark R serial (Team construct.now)
+        → Begins layout mark (performed R serial (Team construct.now))
+        (stage registers.old.items store.old (S.told sink.old)) (S.told sink.new) }
+    ensures sound { OnOk result (S.failed sink.new ≡ S.failed sink.old) }
+    ensures refusal { IfErr result (Refuses (S.failed sink.old) (S.failed sink.new)) }
     ensures shape { lengths_of store.new ≡ lengths_of store.old }
 {
     let lowered = &construct.lowered;
+    confirm_cut(lowered.schedule, team.sched, team.workers);
     share_loop(
         team.rt,
         team.alloc,
@@ -93,10 +102,38 @@ fn run_team_loop<'l, R: Threads + Wait + Sync, G: Gate>(
         team.workers,
         team.sched,
         team.gate,
+        sink,
     )?;
     confirm_words(registers.as_slice(), store);
-    confirm_cut(lowered.schedule, team.sched, team.workers);
     Ok(())
+}
+
+// Runs a parallel loop: where there is one worker as any other statement, and else by the team.
+fn run_parallel_loop<'l, R: Threads + Wait + Sync, G: Gate, S: Sink>(
+    construct: &'l TeamLoop<'_>,
+    team: &Teaming<'_, '_, '_, 'l, R, G>,
+    registers: &mut Vec<u64>,
+    store: &mut Store,
+    sink: &mut S,
+) -> Result<(), Refusal>
+    requires room { S.failed sink.old + 1 < 2 ^ 64 }
+    ensures ran { OnOk result ((layout : List Laid) (mark : ℕ) (R : LineRoles) (serial : List Loop)
+        → Fits layout mark R serial (Team construct.now)
+        → Walks layout mark (performed R serial (Team construct.now))
+        (stage registers.old.items store.old (S.told sink.old))
+        (stage registers.new.items store.new (S.told sink.new))) }
+    ensures beginning { (layout : List Laid) (mark : ℕ) (R : LineRoles) (serial : List Loop)
+        → Fits layout mark R serial (Team construct.now)
+        → Begins layout mark (performed R serial (Team construct.now))
+        (stage registers.old.items store.old (S.told sink.old)) (S.told sink.new) }
+    ensures sound { OnOk result (S.failed sink.new ≡ S.failed sink.old) }
+    ensures refusal { IfErr result (Refuses (S.failed sink.old) (S.failed sink.new)) }
+    ensures shape { lengths_of store.new ≡ lengths_of store.old }
+{
+    if team.workers.get() == 1 {
+        return run_by_one(team.alloc, construct, team.gate, registers, store, sink);
+    }
+    run_team_loop(construct, team, registers, store, sink)
 }
 
 // Runs a statement, each parallel loop in it by the team (C11 6.8; OpenMP 5.2, 11.5).
@@ -122,7 +159,7 @@ fn team_statement<'l, R: Threads + Wait + Sync, G: Gate, S: Sink>(
 {
     match outline {
         Outline::Serial(code, _stmt) => perform(code, registers, store, sink),
-        Outline::Team(construct) => run_team_loop(construct, team, registers, store),
+        Outline::Team(construct) => run_parallel_loop(construct, team, registers, store, sink),
         Outline::If(test, _cond, then, other) => {
             if holds(test, registers, store) {
                 team_statement(then, team, registers, store, sink)
