@@ -28,7 +28,7 @@ use Rattle.ompk_run.proofs.Leaving.{none_told, role_told, IsTold, holds, stays, 
 use Rattle.ompk_run.proofs.Numbered.{no_cell}
 
 -- a name that is visible behind a statement is not declared in it
-undeclared : (b : Bool) → not b ≡ true → b ≡ false
+pub undeclared : (b : Bool) → not b ≡ true → b ≡ false
 undeclared true h = absurd (true≢false (sym h))
 undeclared false h = refl
 

@@ -16,3 +16,5 @@ pub mod Behind
 pub mod Leaving
 pub mod Numbered
 pub mod Carried
+pub mod Named
+pub mod ByOne

@@ -1,3 +1,4 @@
 pub mod Led
 pub mod Outcome
 pub mod Ready
+pub mod Taken

@@ -4,6 +4,7 @@
 mod leading;
 mod preparing;
 mod running;
+mod single;
 mod teaming;
 
 pub use running::{run, runs_of_accepted, seq};

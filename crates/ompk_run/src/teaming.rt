@@ -16,6 +16,7 @@ ghost use Rattle.lower_code.specs.declared.term.Laid.{Laid};
 ghost use Rattle.lower_code.specs.Machine.{machine, truth};
 ghost use Rattle.lower_run.specs.Walk.{Walks, Begins, stage};
 
+use crate::single::run_by_one;
 use ktree::{Refusal, Schedule, Workers};
 use lower_code::{Test, truth};
 use lower_run::{confirm_words, perform};
@@ -99,6 +100,34 @@ fn run_team_loop<'l, R: Threads + Wait + Sync, G: Gate>(
     Ok(())
 }
 
+// Runs a parallel loop: where there is one worker as any other statement, and else by the team.
+fn run_parallel_loop<'l, R: Threads + Wait + Sync, G: Gate, S: Sink>(
+    construct: &'l TeamLoop<'_>,
+    team: &Teaming<'_, '_, '_, 'l, R, G>,
+    registers: &mut Vec<u64>,
+    store: &mut Store,
+    sink: &mut S,
+) -> Result<(), Refusal>
+    requires room { S.failed sink.old + 1 < 2 ^ 64 }
+    ensures ran { OnOk result ((layout : List Laid) (mark : ℕ) (R : LineRoles) (serial : List Loop)
+        → Fits layout mark R serial (Team construct.now)
+        → Walks layout mark (performed R serial (Team construct.now))
+        (stage registers.old.items store.old (S.told sink.old))
+        (stage registers.new.items store.new (S.told sink.new))) }
+    ensures beginning { (layout : List Laid) (mark : ℕ) (R : LineRoles) (serial : List Loop)
+        → Fits layout mark R serial (Team construct.now)
+        → Begins layout mark (performed R serial (Team construct.now))
+        (stage registers.old.items store.old (S.told sink.old)) (S.told sink.new) }
+    ensures sound { OnOk result (S.failed sink.new ≡ S.failed sink.old) }
+    ensures refusal { IfErr result (Refuses (S.failed sink.old) (S.failed sink.new)) }
+    ensures shape { lengths_of store.new ≡ lengths_of store.old }
+{
+    if team.workers.get() == 1 {
+        return run_by_one(team.alloc, construct, team.gate, registers, store, sink);
+    }
+    run_team_loop(construct, team, registers, store)
+}
+
 // Runs a statement, each parallel loop in it by the team (C11 6.8; OpenMP 5.2, 11.5).
 #[cycle(teaming)]
 fn team_statement<'l, R: Threads + Wait + Sync, G: Gate, S: Sink>(
@@ -122,7 +151,7 @@ fn team_statement<'l, R: Threads + Wait + Sync, G: Gate, S: Sink>(
 {
     match outline {
         Outline::Serial(code, _stmt) => perform(code, registers, store, sink),
-        Outline::Team(construct) => run_team_loop(construct, team, registers, store),
+        Outline::Team(construct) => run_parallel_loop(construct, team, registers, store, sink),
         Outline::If(test, _cond, then, other) => {
             if holds(test, registers, store) {
                 team_statement(then, team, registers, store, sink)

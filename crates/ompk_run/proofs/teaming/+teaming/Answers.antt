@@ -150,7 +150,11 @@ team_statement-returns-in-Serial-clause-beginning g t c =
 
 pub team_statement-returns-in-Team-clause-ran : goal.team_statement-returns-in-Team-clause-ran
 team_statement-returns-in-Team-clause-ran g t c =
-    rw c.in-Team.is (on_ok_weaker c.run_team_loop.result (λ walked layout mark R serial fits. walked layout mark R serial (g.S.Sink.told c.args.sink.now) fits) c.run_team_loop.ensures.ran)
+    rw c.in-Team.is c.run_parallel_loop.ensures.ran
+
+pub team_statement-returns-in-Team-clause-beginning : goal.team_statement-returns-in-Team-clause-beginning
+team_statement-returns-in-Team-clause-beginning g t c =
+    rw c.in-Team.is c.run_parallel_loop.ensures.beginning
 
 pub team_item-returns-in-Plain-clause-ran : goal.team_item-returns-in-Plain-clause-ran
 team_item-returns-in-Plain-clause-ran g t c =
