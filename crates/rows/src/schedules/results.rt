@@ -162,4 +162,34 @@ pub(super) const ROWS: &[Row] = &[
         loops: "for (uint64_t i = 2; i < 8; i += 3) { s *= 3; t = i; }\n}",
         output: "A = 3 10 6 2 9 5 1 8\ns = 18\nt = 5\nx = 0\n",
     },
+    Row {
+        before: "for (uint64_t k = 0; k < 8; k++) { A[k] = (k * 7 + 3) % 11; }\nuint64_t y = 3;\nfor (uint64_t r = 1; r < 5; r++) {",
+        clause: "reduction(+: y)",
+        loops: "for (uint64_t i = 0; i < 8; i++) { y += A[i] * r; }\nt = t * 3 + y;\n}\ns = y;",
+        output: "A = 3 10 6 2 9 5 1 8\ns = 443\nt = 3728\nx = 0\n",
+    },
+    Row {
+        before: "for (uint64_t k = 0; k < 8; k++) { A[k] = (k * 7 + 3) % 11; }\nuint64_t y = 1; uint64_t z = 40;\nfor (uint64_t r = 0; r < 3; r++) {",
+        clause: "lastprivate(y) reduction(^: z)",
+        loops: "for (uint64_t i = r; i < 8; i += 2) { uint64_t w = 0; for (uint64_t j = 0; j < i; j++) { w += A[j] + r; } y = w; z ^= w * (r + 1); }\ns += y; t = t * 5 + z;\n}\nx = y + z;",
+        output: "A = 3 10 6 2 9 5 1 8\ns = 125\nt = 876\nx = 253\n",
+    },
+    Row {
+        before: "for (uint64_t k = 0; k < 8; k++) { A[k] = (k * 7 + 3) % 11; }\nuint64_t y = 9; uint64_t z = 2;\nfor (uint64_t r = 0; r < 3; r++) {\ny = r + z; s += y;",
+        clause: "private(y)",
+        loops: "for (uint64_t i = 0; i < 8; i++) { y = A[i] * z; A[i] = y + r; }\ny = A[r]; t += y;\n}",
+        output: "A = 28 84 52 20 76 44 12 68\ns = 9\nt = 99\nx = 0\n",
+    },
+    Row {
+        before: "for (uint64_t k = 0; k < 8; k++) { A[k] = (k * 7 + 3) % 11; }\nuint64_t y = 7; uint64_t z = 6;",
+        clause: "lastprivate(y) reduction(max: z)",
+        loops: "for (uint64_t i = 3; i < 3; i++) { y = A[i]; if (y > z) z = y; }\ns = y; t = z;",
+        output: "A = 3 10 6 2 9 5 1 8\ns = 7\nt = 6\nx = 0\n",
+    },
+    Row {
+        before: "for (uint64_t k = 0; k < 8; k++) { A[k] = (k * 7 + 3) % 11; }\nuint64_t y = 1; uint64_t z = 5;\nfor (uint64_t r = 1; r < 4; r++) {",
+        clause: "collapse(2) reduction(*: y) reduction(&&: z) lastprivate(x)",
+        loops: "for (uint64_t i = 0; i < 3; i++) for (uint64_t j = 1; j < 3; j++) { y *= j + r; z = z && A[i] != r; x = i * j + r; }\ns += y; t = t * 2 + z;\n}",
+        output: "A = 3 10 6 2 9 5 1 8\ns = 2986357464\nt = 6\nx = 7\n",
+    },
 ];
