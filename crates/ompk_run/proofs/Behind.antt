@@ -70,7 +70,7 @@ module _ (layout : List Laid) (mark : ℕ) (s : State) (rs : List ℕ) (ks : Lis
     (nest : nest_of n a ≡ Some (loops, body)) (seen : (x : Variable) → is_among (role_variables roles) x ≡ true → visible_behind a x ≡ true) (hand : AreAtHand roles a s)
     (plain : list_all (is_plain roles.reductions) (assigned_first roles) ≡ true) (privates : (x : Variable) → is_among roles.privates x ≡ true → length layout ≤ x)
     (chunks : List (List Vector)) (e : Effect) (ran : run a s ≡ Some e) (shares : SharesFrom (begun roles s) (changed_from (begun roles s)) roles a loops body chunks s e)
-    (merged : PutTogether layout roles s (begun roles s) chunks shares.effects rs rs' ks ks') where
+    {text text' : List ℕ} (merged : PutTogether layout roles s (begun roles s) chunks shares.effects rs rs' ks ks' text text') where
   abbrev after : State
   after = overwritten s e.writes
 

@@ -117,7 +117,7 @@ module _ (layout : List Laid) (s : State) (rs rs' : List ℕ) (ks ks' : List Kep
       each_effect loops body start (λ f. AreHeld roles.reductions (overwritten start f.writes)) (λ us f w. chunks_keep roles n a loops body us s f nest seen held w) chunks effects each
 
   module _ (plain : list_all (is_plain roles.reductions) (assigned_first roles) ≡ true) (chunks : List (List Vector)) (e : Effect) (shares : SharesFrom start (changed_from start) roles a loops body chunks s e)
-      (merged : PutTogether layout roles s start chunks shares.effects rs rs' ks ks') where
+      {text text' : List ℕ} (merged : PutTogether layout roles s start chunks shares.effects rs rs' ks ks' text text') where
     abbrev after : State
     after = overwritten s e.writes
 
