@@ -15,3 +15,5 @@ mod overlay_rows;
 mod role_rows;
 #[cfg(test)]
 mod stores;
+#[cfg(test)]
+mod text_rows;

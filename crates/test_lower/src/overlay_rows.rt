@@ -140,7 +140,7 @@ fn lowered_in(alloc: Global, text: &[u8], part: Part) -> Option<LoweredLoop> {
 /// The nest at the end of the kernel with these lines.
 pub(crate) fn lowered(alloc: Global, lines: &str, part: Part) -> Option<LoweredLoop> {
     match format!(in alloc;
-        "#include <stdint.h>\nuint64_t A[8]; uint64_t B[2][3]; uint64_t s; void kernel(void) {{\n{lines}\n}}\n"
+        "#include <inttypes.h>\n#include <stdint.h>\n#include <stdio.h>\nuint64_t A[8]; uint64_t B[2][3]; uint64_t s; void kernel(void) {{\n{lines}\n}}\n"
     ) {
         Ok(text) => lowered_in(alloc, text.as_bytes(), part),
         Err(_error) => None,

@@ -256,7 +256,11 @@ fn tells_both(alloc: Global, row: &Reduced, changes: u64) -> bool {
         return false;
     };
     match piece_of(alloc, &lowered, before, range) {
-        Some(piece) => piece.partials.as_slice() == [partial] && tells(Some(piece), changes, &[]),
+        Some(piece) => {
+            piece.partials.as_slice() == [partial].as_slice()
+                && piece.changes.len() == changes
+                && piece.lasts.is_empty()
+        }
         None => false,
     }
 }

@@ -6,6 +6,8 @@ mod draw_rows;
 #[cfg(test)]
 mod lowering;
 #[cfg(test)]
+mod printed_rows;
+#[cfg(test)]
 mod seqrun_io_rows;
 #[cfg(test)]
 mod seqrun_rows;

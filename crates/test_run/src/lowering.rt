@@ -9,6 +9,7 @@ use lower_block::{Compiled, compile};
 use lower_code::{Code, layout_of, mark_among, statement};
 use nest::{Nest, as_loop};
 use schedule::Sched;
+use seqrun_io::Memory;
 use std::alloc::{AllocError, Global};
 use std::sync::Wait;
 use std::thread::Threads;
@@ -118,7 +119,7 @@ fn lowered_in(alloc: Global, text: &[u8], site: Site) -> Option<LoweredLoop> {
 fn lowered_at(alloc: Global, site: Site) -> Option<LoweredLoop> {
     let (length, lines) = (site.length, site.lines);
     match format!(in alloc;
-        "#include <stdint.h>\nuint64_t A[{length}]; uint64_t B[2][3]; uint64_t s; void kernel(void) {{\n{lines}\n}}\n"
+        "#include <inttypes.h>\n#include <stdint.h>\n#include <stdio.h>\nuint64_t A[{length}]; uint64_t B[2][3]; uint64_t s; void kernel(void) {{\n{lines}\n}}\n"
     ) {
         Ok(text) => lowered_in(alloc, text.as_bytes(), site),
         Err(_error) => None,
@@ -154,7 +155,7 @@ pub(crate) fn variables(alloc: Global, length: u64) -> Result<Store, AllocError>
     Ok(store)
 }
 
-/// Whether a loop is run on a store by these workers.
+/// Whether a loop that prints nothing is run on a store by these workers.
 fn is_run<R: Threads + Wait + Sync, G: Gate + Sync>(
     rt: &R,
     alloc: Global,
@@ -168,7 +169,12 @@ fn is_run<R: Threads + Wait + Sync, G: Gate + Sync>(
     match Vec::from_elem(alloc, turn, 8) {
         Ok(mut registers) => {
             let registers = registers.as_mut_slice();
-            run_loop(rt, alloc, lowered, registers, store, workers, runtime, gate).is_ok()
+            let mut text = Memory::new(alloc);
+            run_loop(
+                rt, alloc, lowered, registers, store, workers, runtime, gate, &mut text,
+            )
+            .is_ok()
+                && text.bytes().is_empty()
         }
         Err(_error) => false,
     }

@@ -5,6 +5,7 @@ use crate::lowering::{Site, lowered, variables};
 use ktree::{ReductionOperator, VarId, Workers};
 use lower::{LoweredLoop, LoweredReduction, Spot};
 use schedule::Sched;
+use seqrun_io::Memory;
 use std::alloc::Global;
 use std::sync::Wait;
 use std::thread::Threads;
@@ -67,8 +68,9 @@ fn end_over<R: Threads + Wait + Sync>(
 ) -> End {
     let (_lines, _sums, _last, cells, held) = row;
     let sched = Sched::PlainStatic;
+    let mut text = Memory::new(alloc);
     match run_loop(
-        rt, alloc, lowered, registers, store, workers, sched, &OpenGate,
+        rt, alloc, lowered, registers, store, workers, sched, &OpenGate, &mut text,
     ) {
         Ok(()) => {
             let left = store.cells() == cells.as_slice() && &*registers == held.as_slice();
