@@ -1,6 +1,6 @@
 -- What the passes before the dependence test find out together, and which of them refuses.
-use Rattle.std.specs.Prelude.{ℕ, Bool, true, ◌≡◌, List, [], length, Some}
-use Rattle.std.proofs.Common.{sym, ap, ◌∙◌, subst, inr}
+use Rattle.std.specs.Prelude.{ℕ, Bool, true, false, ◌≡◌, ◌⊎◌, List, [], length, Some}
+use Rattle.std.proofs.Common.{sym, ap, ◌∙◌, subst, inl, inr}
 use Rattle.std.proofs.Math.Path.{fun_ext}
 use Rattle.semantics.specs.Tree.{Kernel, strip}
 use Rattle.semantics.specs.Source.Grammar.{ReadsText}
@@ -10,6 +10,7 @@ use Rattle.semantics.specs.Directives.Naming.{IsAttached}
 use Rattle.semantics.specs.Theorems.{StandsFor}
 use Rattle.semantics.proofs.EraseTextLaw.{text_erased}
 use Rattle.law_lines.proofs.Stripped.{stripped_trees_are_one}
+use Rattle.ktree.specs.Numbers.{number_of}
 use Rattle.ktree.specs.declared.refusal.Refusal.{Refusal}
 use Rattle.pragma_named.specs.Known.{Known, Lines, known_clauses, lines_known}
 use Rattle.pragma_region.specs.Regions.{is_left_out, alone}
@@ -21,7 +22,7 @@ use Rattle.flow_clauses.specs.Fitting.{fit_clauses}
 use Rattle.flow_ordered.specs.Ordered.{prints_in_order}
 use Rattle.deptest.specs.Accepted.{Program, tree_of, clauses_said, clauses_counted, roles_counted, HasPassed, HasLoops}
 use Rattle.ompk.specs.Judged.{IsLineKernel, IsOfKernel}
-use Rattle.ompk.specs.Refused.{IsJudged, RefusesAlone, RefusesKernel}
+use Rattle.ompk.specs.Refused.{IsJudged, RefusesScalars, RefusesClauses, RefusesData, RefusesAlone, RefusesKernel}
 
 -- what is said of each line is what the table knows
 pub clauses_are : (k : Kernel) (ds : Directives) (known : Known) → ((n : ℕ) → clauses_at k ds n ≡ Some (lines_known known n)) → clauses_said k ds ≡ lines_known known
@@ -82,6 +83,13 @@ alone_refused text tree k ds known in_order r attached clauses roles is ordered 
     let by_lines = subst (λ (lines : Lines). RefusesAlone text (alone text tree) (roles_known known (length tree.variables)) lines in_order r) (sym clauses) there in
     let by_roles = subst (λ (R : LineRoles). RefusesAlone text (alone text tree) R (clauses_counted text tree ds) in_order r) (sym roles) by_lines in
     inr (ds, attached, subst (λ (b : Bool). RefusesAlone text (alone text tree) (roles_counted text tree ds) (clauses_counted text tree ds) b r) ordered by_roles)
+
+-- data that are wrong, or what is printed out of order, whichever is told
+pub either_refused : (text : List ℕ) (tree : Kernel) (R : LineRoles) (lines : Lines) (in_order : Bool) (one other r : Refusal) → in_order ≡ false → number_of one ≡ 18
+    → RefusesScalars text tree R other ⊎ RefusesClauses lines tree other → (r ≡ one) ⊎ (r ≡ other) → RefusesData text tree R lines in_order r
+either_refused text tree R lines in_order one other r wrong told refused (inl e) = inr (inr (wrong, ap number_of e ∙ told))
+either_refused text tree R lines in_order one other r wrong told (inl scalars) (inr e) = subst (λ (q : Refusal). RefusesData text tree R lines in_order q) (sym e) (inl scalars)
+either_refused text tree R lines in_order one other r wrong told (inr clauses) (inr e) = subst (λ (q : Refusal). RefusesData text tree R lines in_order q) (sym e) (inr (inl clauses))
 
 -- what is kept stands for the text
 pub stands_for : (text : List ℕ) (tree : Kernel) (p : Program) → ReadsText text tree → IsOfKernel text tree p → StandsFor text (tree_of p)

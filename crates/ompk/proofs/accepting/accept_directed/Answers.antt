@@ -20,10 +20,10 @@ accept_alone-requires-clause-stands c =
     let ds = directives_of c.args.directives.now tree in
     let said = c.in_ok-lines.ensures in
     let known = kept c.in_ok-lines.lines in
-    line_kernel text tree (kernel_of c.in_ok-kernel.kernel) ds known (is_none c.first_disorder.result) c.requires.reads (subst (λ (t : List ℕ). IsAttached t tree ds) c.requires.lines said.attached) (subst (λ (t : List ℕ). clauses_counted t tree ds ≡ lines_known known) c.requires.lines said.clauses)
+    line_kernel text tree (kernel_of c.in_ok-kernel.kernel) ds known (is_none c.first_disorder-disorder.result) c.requires.reads (subst (λ (t : List ℕ). IsAttached t tree ds) c.requires.lines said.attached) (subst (λ (t : List ℕ). clauses_counted t tree ds ≡ lines_known known) c.requires.lines said.clauses)
     (subst (λ (t : List ℕ). roles_counted t tree ds ≡ roles_known known (length tree.variables)) c.requires.lines said.roles)
     (c.in_ok-kernel.ensures ∙ ap (λ (t : List ℕ). alone t tree) c.requires.lines)
-    (c.first_disorder.ensures ∙ ap (λ (t : List ℕ). prints_in_order t tree) c.requires.lines)
+    (c.first_disorder-disorder.ensures ∙ ap (λ (t : List ℕ). prints_in_order t tree) c.requires.lines)
 
 pub returns-clause-refusal : goal.returns-clause-refusal
 returns-clause-refusal c =
@@ -33,9 +33,9 @@ returns-clause-refusal c =
     let ds = directives_of c.args.directives.now tree in
     let known = kept c.in_ok-lines.lines in
     let said = c.in_ok-lines.ensures in
-    let in_order = is_none c.first_disorder.result in
+    let in_order = is_none c.first_disorder-disorder.result in
     IfErr-weaker c.accept_alone.result (RefusesAlone text k (roles_known known (length k.variables)) (lines_known known) in_order) (RefusesKernel text tree)
     (λ r h. alone_refused text tree k ds known in_order r (subst (λ (t : List ℕ). IsAttached t tree ds) c.requires.lines said.attached) (subst (λ (t : List ℕ). clauses_counted t tree ds ≡ lines_known known) c.requires.lines said.clauses)
     (subst (λ (t : List ℕ). roles_counted t tree ds ≡ roles_known known (length tree.variables)) c.requires.lines said.roles)
     (c.in_ok-kernel.ensures ∙ ap (λ (t : List ℕ). alone t tree) c.requires.lines)
-    (c.first_disorder.ensures ∙ ap (λ (t : List ℕ). prints_in_order t tree) c.requires.lines) h) c.accept_alone.ensures.refusal
+    (c.first_disorder-disorder.ensures ∙ ap (λ (t : List ℕ). prints_in_order t tree) c.requires.lines) h) c.accept_alone.ensures.refusal
