@@ -151,12 +151,7 @@ fn meet_behind(
 
 /// The same of an item.
 #[cycle(meeting)]
-fn meet_item(
-    directives: &Directives,
-    may: bool,
-    before: Met,
-    item: &Item,
-) -> Result<Met, Disorder>
+fn meet_item(directives: &Directives, may: bool, before: Met, item: &Item) -> Result<Met, Disorder>
     ensures ok { IfOk result (λ now. (rest : Items)
         → met_among directives.now may (is_some before.line) before.region
         (with_item item.now rest)

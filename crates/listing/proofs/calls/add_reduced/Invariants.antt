@@ -1,5 +1,4 @@
 use Rattle.std.specs.Prelude.{◌≡◌, ◌++◌, take, map, flat_map}
-use Rattle.semantics.specs.Theorems.{Begins}
 use Rattle.pragma_region.specs.Listed.{reduction_named}
 use Rattle.listing.specs.Regions.{reduction_words}
 use Rattle.listing.proofs.calls.add_reduced.Given as goal
