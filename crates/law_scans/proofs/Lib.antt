@@ -1,0 +1,3 @@
+pub mod Started
+pub mod Steps
+pub mod Walking
