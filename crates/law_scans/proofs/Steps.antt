@@ -49,7 +49,7 @@ pub record IsSet (x : Variable) (ps : List Variable) (loops : List Loop) (body :
 
 -- ---- entering an iteration
 
-same_entered : (ls : List Loop) (u : Vector) (s t : State) (y : Variable) → length u ≡ length ls → (is_among (variables_of ls) y ≡ false → s.locals y ≡ t.locals y) → (at_vector ls u s).locals y ≡ (at_vector ls u t).locals y
+pub same_entered : (ls : List Loop) (u : Vector) (s t : State) (y : Variable) → length u ≡ length ls → (is_among (variables_of ls) y ≡ false → s.locals y ≡ t.locals y) → (at_vector ls u s).locals y ≡ (at_vector ls u t).locals y
 same_entered [] u s t y long same = same refl
 same_entered (l ∷ ls) [] s t y long same = absurd (omega (arith, long))
 same_entered (l ∷ ls) (v ∷ vs) s t y long same =
@@ -97,20 +97,20 @@ same_slot x (w ∷ ws) a b h = same_slot x ws (written a w) (written b w) (one w
     one (Assigned z is n) = put z is n (x == z) refl
 
 -- as many writes fewer
-abbrev dropped : List Variable → List Write → List Write
+abbrev pub dropped : List Variable → List Write → List Write
 dropped [] ws = ws
 dropped (z ∷ zs) [] = []
 dropped (z ∷ zs) (w ∷ ws) = dropped zs ws
 
-abbrev dropped_one : List Write → List Write
+abbrev pub dropped_one : List Write → List Write
 dropped_one [] = []
 dropped_one (w ∷ ws) = ws
 
-drops : (vars : List Variable) (body : Stmt) (named : names_only (visible_behind body) body ≡ true) (known : KnownInside vars body) (zs : List Variable) (ws : List Write) → dropped zs (declareds vars body named known zs ++ ws) ≡ ws
+pub drops : (vars : List Variable) (body : Stmt) (named : names_only (visible_behind body) body ≡ true) (known : KnownInside vars body) (zs : List Variable) (ws : List Write) → dropped zs (declareds vars body named known zs ++ ws) ≡ ws
 drops vars body k j [] ws = refl
 drops vars body k j (z ∷ zs) ws = drops vars body k j zs ws
 
-near_self : (xs : List Variable) (q : State) → ((y : Variable) → is_among xs y ≡ true → is_outside (q.locals y) ≡ false) → Near xs q q
+pub near_self : (xs : List Variable) (q : State) → ((y : Variable) → is_among xs y ≡ true → is_outside (q.locals y) ≡ false) → Near xs q q
 near_self xs q h = record { agrees = record { cells = λ x is. refl; kinds = λ x k. refl; values = λ x k. refl }; inside = h }
 
 holds_same : (v w : ℕ) → Holds v ≡ Holds w → v ≡ w

@@ -1,1 +1,3 @@
 pub mod Iterations
+pub mod Phases
+pub mod Passes
