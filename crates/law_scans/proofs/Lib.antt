@@ -5,3 +5,5 @@ pub mod Phased
 pub mod Kept
 pub mod Firsts
 pub mod Passed
+pub mod Changing
+pub mod Merging

@@ -149,7 +149,7 @@ module _ (x : Variable) (ps : List Variable) (body : Stmt) (keeps : KeepsApart (
   there_forth : (v : ℕ) (a : Access) → Contains (accesses [] body) a → Contains (accesses [] (own_body ps (from v))) a
   there_forth v a h = subst (λ (found : List Access). Contains found a) (sym (same_accesses x ps body keeps none first apart v)) h
 
-  touch_back : (v : ℕ) (u : Vector) (mode : Mode) (y : Variable) (j : ℕ) (js : List ℕ) → MineAt v u mode y j js → TouchedBy loops body o u mode y j js
+  pub touch_back : (v : ℕ) (u : Vector) (mode : Mode) (y : Variable) (j : ℕ) (js : List ℕ) → MineAt v u mode y j js → TouchedBy loops body o u mode y j js
   touch_back v u mode y j js t = record { access = t.access; there = there_back v t.access t.there; reaches = t.reaches; mode_is = t.mode_is }
 
   touch_forth : (v : ℕ) (u : Vector) (mode : Mode) (y : Variable) (j : ℕ) (js : List ℕ) → TouchedBy loops body o u mode y j js → MineAt v u mode y j js
@@ -170,7 +170,7 @@ module _ (x : Variable) (ps : List Variable) (body : Stmt) (keeps : KeepsApart (
       at true e = absurd (true≢false (sym up ∙ started_visible x ps body keeps none first apart v y ∙ ap (λ b. not b && visible_behind body y) e))
       at false e = (ap (λ b. not b && visible_behind body y) (sym e) ∙ sym (started_visible x ps body keeps none first apart v y) ∙ up, ap (λ b. b || is_among ps y) e ∙ free)
 
-  ready_of : (w v : ℕ) (us : List Vector) (a : State) → IsSet x ps loops body o us a v → ReadyAt w us a
+  pub ready_of : (w v : ℕ) (us : List Vector) (a : State) → IsSet x ps loops body o us a v → ReadyAt w us a
   ready_of w v us a s = record {
     locals = λ y h free. let k = seen_own w y h in s.locals y k.0 k.1 free;
     scalars = λ y h. let k = seen_own w y h in s.scalars y k.0 k.1;
@@ -186,7 +186,7 @@ module _ (x : Variable) (ps : List Variable) (body : Stmt) (keeps : KeepsApart (
   clear_of v u [] h = tt
   clear_of v u (w ∷ us) h = (λ y j js mode s t. h.0 y j js mode (touch_back v u Writes y j js s) (touch_back v w mode y j js t), clear_of v u us h.1)
 
-  good_of : (v : ℕ) (u : Vector) → length u ≡ length loops → InnerLoopsTurn loops body o u → GoodAt v u
+  pub good_of : (v : ℕ) (u : Vector) → length u ≡ length loops → InnerLoopsTurn loops body o u → GoodAt v u
   good_of v u long turn = (long, λ access there. turn access (there_back v access there))
 
   set_of : (v w : ℕ) (us : List Vector) (b : State) → ReadyAt v us b → b.locals x ≡ Holds w → IsSet x ps loops body o us b w
@@ -209,7 +209,7 @@ module _ (x : Variable) (ps : List Variable) (body : Stmt) (keeps : KeepsApart (
 
   -- ---- an iteration
 
-  abbrev behind_at : ℕ → Effect → Effect
+  abbrev pub behind_at : ℕ → Effect → Effect
   behind_at v e = behind ps (from v) (named x ps body keeps none first apart v) (known x ps body keeps none first apart v) ps (begun x body v e)
 
   pub record Goes (u : Vector) (us : List Vector) (a : State) (v : ℕ) (e : Effect) : Type 0 where
