@@ -1,7 +1,6 @@
 -- What iterations of a scan change of elements.
-use Rattle.std.specs.Prelude.{ℕ, Bool, true, false, ◌≡◌, ◌==◌, ◌&&◌, ◌||◌, List, [], ◌∷◌, ◌++◌, length, Option, Some, None}
-use Rattle.std.specs.List.{AllByRecursion as Each}
-use Rattle.std.proofs.Common.{refl, sym, ap, ◌∙◌, subst, cond}
+use Rattle.std.specs.Prelude.{ℕ, Bool, true, false, ◌≡◌, ◌==◌, ◌&&◌, List, [], ◌∷◌, ◌++◌, length, Option, Some}
+use Rattle.std.proofs.Common.{refl, sym, ap, ◌∙◌, cond}
 use Rattle.std.proofs.lemmas.Bool.{true≢false, eqb-true, eq-eqb, or_left, or_right}
 use Rattle.std.proofs.lemmas.List.{append-nil}
 use Rattle.semantics.specs.Tree.{Variable, Stmt}
@@ -22,8 +21,8 @@ use Rattle.law_private.proofs.Own.{own_body, DeclaresNone, KnownInside}
 use Rattle.law_private.proofs.Near.{all_inside}
 use Rattle.law_roles.specs.Following.{variables_of}
 use Rattle.law_roles.proofs.Recorded.{declareds, entered_is}
-use Rattle.law_scans.proofs.Started.{started, named, known, keeps_own, begun}
-use Rattle.law_scans.proofs.Steps.{Apart, TouchedBy, IsSet, Goes, ready_of, good_of, touch_back, same_entered, kept_entered, behind_at}
+use Rattle.law_scans.proofs.Started.{started, named, known, keeps_own}
+use Rattle.law_scans.proofs.Steps.{TouchedBy, IsSet, ready_of, good_of, touch_back, same_entered, kept_entered, behind_at}
 
 -- ---- the same locals stand in both
 

@@ -1,5 +1,5 @@
 -- The first pass: the input phase alone.
-use Rattle.std.specs.Prelude.{ℕ, zero, suc, Bool, true, false, not, ◌≡◌, ◌==◌, ◌&&◌, ◌||◌, ◌⊎◌, List, [], ◌∷◌, ◌++◌, length, Option, Some, None, IsSome, Contains, is_none}
+use Rattle.std.specs.Prelude.{ℕ, zero, Bool, true, false, not, ◌≡◌, ◌==◌, ◌&&◌, ◌||◌, ◌⊎◌, List, [], ◌∷◌, ◌++◌, length, Option, Some, None, IsSome, Contains, is_none}
 use Rattle.std.specs.List.{AllByRecursion as Each}
 use Rattle.std.proofs.Common.{refl, sym, ap, ◌∙◌, subst, cond, inl, inr}
 use Rattle.std.proofs.lemmas.Bool.{true≢false, and_from, eqb-true, eq-eqb, or_parts, or_cases, or_right}
@@ -8,13 +8,13 @@ use Rattle.std.proofs.lemmas.List.Folds.{list_any-append}
 use Rattle.std.proofs.lemmas.List.Elements.{Contains-append_left}
 use Rattle.std.proofs.lemmas.Option.{same_Some, none-some}
 use Rattle.semantics.specs.Tree.{Variable, Stmt, Items, Block}
-use Rattle.semantics.specs.Meaning.State.{State, Slot, Outside, Empty, Holds, Write, Declared, Assigned, renewed, same_indexes, slot_of, with_local, assign_at, written, overwritten, look, look_in}
-use Rattle.semantics.specs.Meaning.Runs.{Effect, nothing, joined, then_from, run, run_items}
+use Rattle.semantics.specs.Meaning.State.{State, Slot, Outside, Empty, Holds, Write, Declared, Assigned, renewed, same_indexes, assign_at, written, overwritten, look, look_in}
+use Rattle.semantics.specs.Meaning.Runs.{Effect, nothing, joined, run, run_items}
 use Rattle.semantics.specs.Meaning.Definite.{DefinitelyAssigned, definite, no_privates}
 use Rattle.semantics.specs.Meaning.Agrees.{is_among, declared_in, declared_among, names_only, visible_behind}
 use Rattle.semantics.specs.Loops.Nest.{Loop, Vector, at_vector}
 use Rattle.semantics.specs.Loops.Access.{Access, Mode, Writes, accesses, items_accesses}
-use Rattle.semantics.specs.Loops.Operator.{ReduceOp, apply, combined}
+use Rattle.semantics.specs.Loops.Operator.{ReduceOp, combined}
 use Rattle.semantics.specs.Loops.OperatorLaw.{operators_are_lawful}
 use Rattle.semantics.specs.Loops.Piece.{is_outside}
 use Rattle.law_commute.specs.Steady.{IsSteady, AreSteady}
@@ -27,11 +27,11 @@ use Rattle.law_nests.proofs.Nested.{parts_of}
 use Rattle.law_private.proofs.Own.{own_body, others, DeclaresNone, innermost, replaced_keeps, own_accesses, KnownInside}
 use Rattle.law_private.proofs.Near.{Twin, twin_body, all_inside}
 use Rattle.law_roles.specs.Updates.{operator_of, is_plain, reduces, operands}
-use Rattle.law_roles.specs.Reducing.{AgreesBut, AreHeld, AreLocal, joined_with, partial_of, takes_all, IsTold}
+use Rattle.law_roles.specs.Reducing.{AgreesBut, AreHeld, AreLocal, joined_with, partial_of, takes_all}
 use Rattle.law_roles.specs.Following.{variables_of}
 use Rattle.law_roles.proofs.Chunked.{each_at}
 use Rattle.law_roles.proofs.Operands.{declared_operands, names_operands, steady_operands, accesses_operands, Less, More, definite_operands}
-use Rattle.law_roles.proofs.Recorded.{Good, Clear, Untouched, TouchesAt, Ready, steps, behind, declareds, own_visible, entered_is}
+use Rattle.law_roles.proofs.Recorded.{Good, Clear, Untouched, TouchesAt, Ready, steps, behind, own_visible, entered_is}
 use Rattle.law_roles.proofs.Shifting.{go, tell}
 use Rattle.law_scans.specs.Phases.{joined_items}
 use Rattle.law_scans.proofs.Started.{own_up}

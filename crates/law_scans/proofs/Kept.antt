@@ -1,16 +1,15 @@
 -- A local that a statement does not assign.
-use Rattle.std.specs.Prelude.{ℕ, zero, suc, Bool, true, false, ◌≡◌, ◌==◌, ◌||◌, List, [], ◌∷◌, ◌++◌, Option, Some, None}
+use Rattle.std.specs.Prelude.{ℕ, zero, suc, Bool, true, false, ◌≡◌, ◌==◌, ◌||◌, List, [], ◌∷◌, Option, Some, None}
 use Rattle.std.proofs.Common.{refl, sym, ap, ◌∙◌, subst, cond}
 use Rattle.std.proofs.lemmas.Bool.{true≢false, eqb-true}
 use Rattle.std.proofs.lemmas.Option.{none-some, same_Some}
-use Rattle.semantics.specs.Tree.{Variable, BinaryOp, Plus, Minus, Expr, Literal, Bare, Object, Exprs, no_exprs, more_exprs, Source, Cond, Increment, Up, Down, Set, Change, Stmt, Assign, Update, If, IfElse, For, Block, Print, Items, no_items, mark, local, stmt}
-use Rattle.semantics.specs.Meaning.State.{State, Slot, Outside, Empty, Holds, Write, Declared, Assigned, slot_of, with_local, assign_at, is_object, is_object_in, written, overwritten}
+use Rattle.semantics.specs.Tree.{Variable, Plus, Minus, Literal, Bare, Object, Exprs, no_exprs, more_exprs, Source, Cond, Increment, Up, Down, Set, Change, Stmt, Assign, Update, If, IfElse, For, Block, Print, Items, no_items, mark, local, stmt}
+use Rattle.semantics.specs.Meaning.State.{State, Slot, Outside, Empty, Holds, Write, Declared, Assigned, slot_of, assign_at, is_object, is_object_in, overwritten}
 use Rattle.semantics.specs.Meaning.Value.{map_option, by_test, both, both_then, operate, value, values, holds, source_value}
-use Rattle.semantics.specs.Meaning.Runs.{Effect, nothing, one_write, joined, then_from, declares, declared, assigned, updated, incremented, turns, greatest_trip_count, run, run_items, print_text}
+use Rattle.semantics.specs.Meaning.Runs.{Effect, nothing, one_write, joined, then_from, declares, declared, assigned, incremented, turns, greatest_trip_count, run, run_items, print_text}
 use Rattle.semantics.specs.Meaning.Agrees.{also}
-use Rattle.law_commute.specs.Steady.{IsFixedStep, IsSteady, AreSteady, IsSteadyTarget, AreFixed}
+use Rattle.law_commute.specs.Steady.{IsFixedStep, IsSteady, AreSteady, IsSteadyTarget}
 use Rattle.law_commute.proofs.Matched.{overwritten-append}
-use Rattle.law_roles.proofs.Seen.{apart_back}
 
 module _ (x : Variable) (n : ℕ) where
   -- where it held this number, it holds it behind these writes

@@ -7,3 +7,4 @@ pub mod Firsts
 pub mod Passed
 pub mod Changing
 pub mod Merging
+pub mod Once

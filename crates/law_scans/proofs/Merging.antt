@@ -1,25 +1,25 @@
 -- What chunks of a scan change of elements, put together.
-use Rattle.std.specs.Prelude.{ℕ, zero, suc, Bool, true, false, not, ◌&&◌, ◌≡◌, ◌==◌, ◌||◌, ◌⊎◌, List, [], ◌∷◌, ◌++◌, length, flat_map, Option, Some, None, slice_get}
+use Rattle.std.specs.Prelude.{ℕ, Bool, true, false, ◌&&◌, ◌≡◌, ◌==◌, ◌||◌, ◌⊎◌, List, [], ◌∷◌, ◌++◌, length, Option, Some}
 use Rattle.std.specs.List.{AllByRecursion as Each}
 use Rattle.std.proofs.Common.{refl, sym, ap, ◌∙◌, subst, cond, inl, inr}
-use Rattle.std.proofs.lemmas.Bool.{true≢false, or_parts, or_cases}
-use Rattle.std.proofs.lemmas.Option.{same_Some, none-some}
+use Rattle.std.proofs.lemmas.Bool.{true≢false, or_cases}
+use Rattle.std.proofs.lemmas.Option.{same_Some}
 use Rattle.semantics.specs.Tree.{Variable, Stmt}
-use Rattle.semantics.specs.Meaning.State.{State, Holds, Write, Declared, Assigned, renewed, same_indexes, with_local, overwritten}
-use Rattle.semantics.specs.Meaning.Runs.{Effect, nothing, joined, run}
-use Rattle.semantics.specs.Meaning.Agrees.{is_among, visible_behind}
+use Rattle.semantics.specs.Meaning.State.{State, Holds, Write, Declared, Assigned, renewed, same_indexes, overwritten}
+use Rattle.semantics.specs.Meaning.Runs.{Effect, nothing, joined}
+use Rattle.semantics.specs.Meaning.Agrees.{is_among}
 use Rattle.semantics.specs.Loops.Nest.{Loop, Vector, at_vector}
 use Rattle.semantics.specs.Loops.Access.{Writes}
 use Rattle.law_commute.specs.Targets.{KeepsApart, AssignsFirst}
 use Rattle.law_commute.specs.Commuting.{InnerLoopsTurn}
 use Rattle.law_commute.proofs.Iterations.{cells_at}
-use Rattle.law_commute.proofs.Changes.{acted, hit, not_hit}
+use Rattle.law_commute.proofs.Changes.{acted, hit}
 use Rattle.law_commute.proofs.Lists.{each_left, each_right}
 use Rattle.law_nests.specs.Walks.{walk, entered, enters}
 use Rattle.law_private.proofs.Own.{DeclaresNone}
 use Rattle.law_roles.specs.Following.{variables_of}
-use Rattle.law_scans.proofs.Steps.{Apart, Intact, TouchedBy, IsSet, goes, goes_too, same_slot, kept_entered}
-use Rattle.law_scans.proofs.Walking.{AllApart, split_of, left_cons, set_value, set_first}
+use Rattle.law_scans.proofs.Steps.{Apart, TouchedBy, IsSet, goes, goes_too, same_slot, kept_entered}
+use Rattle.law_scans.proofs.Walking.{AllApart, split_of, left_cons, set_value}
 use Rattle.law_scans.proofs.Changing.{changes}
 
 pub acted-append : (y : Variable) (js : List ℕ) (ws vs : List Write) (c : Option ℕ) → acted y js (ws ++ vs) c ≡ acted y js vs (acted y js ws c)
@@ -78,7 +78,7 @@ module _ (x : Variable) (ps : List Variable) (body : Stmt) (keeps : KeepsApart (
       let rest = changing us vs q one.next p.two fit.1 clear.1 one.after p.two_is in
       let mine = changes x ps body keeps none first apart loops o not_of_loops u (us ++ vs) a v p.one fit.0.0 fit.0.1 set one.own_is in
       let hit_is : (y : Variable) (js : List ℕ) → hit y js (joined (enters loops u) (joined p.one p.two)).writes ≡ (hit y js p.one.writes || hit y js p.two.writes) =
-          λ y js. hit_entered y js loops u (p.one.writes ++ p.two.writes) ∙ hit-append y js p.one.writes p.two.writes in
+      λ y js. hit_entered y js loops u (p.one.writes ++ p.two.writes) ∙ hit-append y js p.one.writes p.two.writes in
       subst (Changing (u ∷ us) vs v) p.whole
       (record {
         elements = λ b s y j js.

@@ -1,16 +1,15 @@
 -- What a body in two phases has of its first.
-use Rattle.std.specs.Prelude.{ℕ, Bool, true, false, not, ◌≡◌, ◌==◌, ◌&&◌, ◌||◌, List, [], ◌∷◌, ◌++◌, Option, Some, None, IsSome, option_and_then}
-use Rattle.std.proofs.Common.{refl, sym, ap, ◌∙◌, subst, cond}
+use Rattle.std.specs.Prelude.{Bool, true, false, ◌≡◌, ◌==◌, ◌&&◌, List, [], ◌∷◌, ◌++◌, Option, Some, None, IsSome, option_and_then}
+use Rattle.std.proofs.Common.{refl, sym, ap, ◌∙◌}
 use Rattle.std.proofs.lemmas.Bool.{true≢false, and_from, eq-eqb, or_left, or_right}
 use Rattle.std.proofs.lemmas.List.{append_assoc, append-nil}
-use Rattle.std.proofs.lemmas.Option.{same_Some, none-some}
 use Rattle.semantics.specs.Tree.{Variable, Literal, Bare, NotZero, Stmt, If, Block, Items, no_items, mark, local, stmt}
 use Rattle.semantics.specs.Meaning.State.{State, overwritten}
 use Rattle.semantics.specs.Meaning.Value.{map_option}
 use Rattle.semantics.specs.Meaning.Runs.{Effect, nothing, joined, then_from, declared, run, run_items}
-use Rattle.semantics.specs.Meaning.Definite.{Privates, DefinitelyAssigned, known_with, without, declared_known, after_both, definite, definite_items, no_privates}
+use Rattle.semantics.specs.Meaning.Definite.{Privates, DefinitelyAssigned, known_with, without, declared_known, after_both, definite, definite_items}
 use Rattle.semantics.specs.Meaning.Agrees.{also, is_among, declared_in, declared_among, names_only, names_items, names_start}
-use Rattle.semantics.specs.Loops.Access.{Access, accesses, items_accesses, start_accesses}
+use Rattle.semantics.specs.Loops.Access.{accesses, items_accesses, start_accesses}
 use Rattle.law_commute.specs.Steady.{IsSteady, AreSteady}
 use Rattle.law_commute.proofs.Matched.{overwritten-append}
 use Rattle.law_commute.proofs.Values.{first_of, second_of}

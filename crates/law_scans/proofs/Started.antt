@@ -1,5 +1,5 @@
 -- A body that begins with a number in the scan variable.
-use Rattle.std.specs.Prelude.{ℕ, zero, suc, Bool, true, false, not, ◌≡◌, ◌==◌, ◌&&◌, ◌||◌, List, [], ◌∷◌, ◌++◌, Option, Some, None, IsSome, option_and_then}
+use Rattle.std.specs.Prelude.{ℕ, zero, Bool, true, false, not, ◌≡◌, ◌==◌, ◌&&◌, ◌||◌, List, [], ◌∷◌, ◌++◌, Option, Some, None, IsSome, option_and_then}
 use Rattle.std.proofs.Common.{refl, sym, ap, ◌∙◌, subst, cond}
 use Rattle.std.proofs.Math.Path.{fun_ext}
 use Rattle.std.proofs.lemmas.Bool.{true≢false, eqb-true, eq-eqb, and_from}
@@ -7,7 +7,7 @@ use Rattle.std.proofs.lemmas.List.{append-nil}
 use Rattle.semantics.specs.Tree.{Variable, Literal, Bare, Number, Stmt, Block, no_items, local, stmt}
 use Rattle.semantics.specs.Meaning.State.{State, Slot, Holds, Declared, with_local}
 use Rattle.semantics.specs.Meaning.Value.{map_option}
-use Rattle.semantics.specs.Meaning.Runs.{Effect, joined, one_write, nothing, then_from, run, run_items}
+use Rattle.semantics.specs.Meaning.Runs.{Effect, joined, one_write, then_from, run, run_items}
 use Rattle.semantics.specs.Meaning.Definite.{DefinitelyAssigned, known_with, definite, no_privates}
 use Rattle.semantics.specs.Meaning.Agrees.{also, is_among, declared_in, names_only, visible_behind}
 use Rattle.semantics.specs.Loops.Access.{accesses}

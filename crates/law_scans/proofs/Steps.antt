@@ -1,10 +1,10 @@
 -- One iteration, from any state in which the scan variable holds the same.
-use Rattle.std.specs.Prelude.{ℕ, zero, suc, Bool, true, false, not, ◌≡◌, ◌≢◌, ◌==◌, ◌&&◌, ◌||◌, ◌⊎◌, List, [], ◌∷◌, ◌++◌, length, drop, Option, Some, None, IsSome, Contains}
+use Rattle.std.specs.Prelude.{ℕ, zero, Bool, true, false, not, ◌≡◌, ◌==◌, ◌&&◌, ◌||◌, List, [], ◌∷◌, ◌++◌, length, Option, Some, None, IsSome, Contains}
 use Rattle.std.specs.List.{AllByRecursion as Each}
-use Rattle.std.proofs.Common.{refl, sym, ap, ◌∙◌, subst, cond, inl, inr, arith}
-use Rattle.std.proofs.lemmas.Bool.{true≢false, eqb-true, eq-eqb, and_from, or_parts, or_cases, or_left, or_right}
+use Rattle.std.proofs.Common.{refl, sym, ap, ◌∙◌, subst, cond, arith}
+use Rattle.std.proofs.lemmas.Bool.{true≢false, eqb-true, eq-eqb, or_parts}
 use Rattle.std.proofs.lemmas.List.{append-nil}
-use Rattle.std.proofs.lemmas.Option.{same_Some, none-some}
+use Rattle.std.proofs.lemmas.Option.{same_Some}
 use Rattle.semantics.specs.Tree.{Variable, Stmt}
 use Rattle.semantics.specs.Meaning.State.{State, Slot, Outside, Empty, Holds, Write, Declared, Assigned, slot_of, with_local, assign_at, written, overwritten, look, look_in}
 use Rattle.semantics.specs.Meaning.Value.{map_option}
@@ -14,15 +14,13 @@ use Rattle.semantics.specs.Loops.Nest.{Loop, Vector, at_value, at_vector}
 use Rattle.semantics.specs.Loops.Access.{Access, Mode, Writes, Touches, accesses}
 use Rattle.semantics.specs.Loops.Piece.{is_outside}
 use Rattle.law_commute.specs.Targets.{KeepsApart, AssignsFirst}
-use Rattle.law_commute.specs.Commuting.{InnerLoopsTurn, LooksAlike, IsOwnWrite}
-use Rattle.law_commute.proofs.Same.{Point}
-use Rattle.law_commute.proofs.Matched.{Matched, overwritten-append}
+use Rattle.law_commute.specs.Commuting.{InnerLoopsTurn, LooksAlike}
 use Rattle.law_commute.proofs.Iterations.{cells_at, one_iteration}
 use Rattle.law_nests.specs.Walks.{walk, entered, enters}
 use Rattle.law_private.proofs.Own.{own_body, DeclaresNone, KnownInside}
 use Rattle.law_private.proofs.Near.{Near, Twin, twin_body, all_inside}
 use Rattle.law_roles.specs.Following.{variables_of}
-use Rattle.law_roles.proofs.Recorded.{Good, Clear, Untouched, TouchesAt, Ready, Stepped, steps, behind, declareds, own_visible, entered_is}
+use Rattle.law_roles.proofs.Recorded.{Good, Clear, Untouched, TouchesAt, Ready, steps, behind, declareds, own_visible, entered_is}
 use Rattle.law_roles.proofs.Seen.{apart_back}
 use Rattle.law_starts.proofs.Holding.{walks_keep}
 use Rattle.law_scans.proofs.Started.{started, started_visible, named, known, keeps_own, same_accesses, begun, same_state, started_runs, own_up, own_down}

@@ -1,5 +1,5 @@
 -- Walks over iterations of a scan, from any state in which the scan variable holds the same.
-use Rattle.std.specs.Prelude.{ℕ, zero, suc, Bool, true, false, ◌≡◌, ◌≢◌, ◌==◌, ◌||◌, ◌<◌, List, [], ◌∷◌, ◌++◌, length, Option, Some, None, Contains, slice_index_or}
+use Rattle.std.specs.Prelude.{ℕ, suc, false, ◌≡◌, ◌≢◌, ◌==◌, ◌||◌, ◌<◌, List, [], ◌∷◌, ◌++◌, length, Some, Contains, slice_index_or}
 use Rattle.std.specs.List.{AllPairs, AllByRecursion as Each}
 use Rattle.std.proofs.Common.{refl, sym, ap, ◌∙◌, subst, inl, arith}
 use Rattle.std.proofs.lemmas.Bool.{true≢false, eq-eqb, or_right}
@@ -9,7 +9,7 @@ use Rattle.semantics.specs.Tree.{Variable, Stmt}
 use Rattle.semantics.specs.Meaning.State.{State, Slot, Outside, Empty, Holds, overwritten, look, look_in}
 use Rattle.semantics.specs.Meaning.Value.{map_option}
 use Rattle.semantics.specs.Meaning.Runs.{Effect, nothing, joined, then_from, run}
-use Rattle.semantics.specs.Meaning.Agrees.{is_among, visible_behind}
+use Rattle.semantics.specs.Meaning.Agrees.{is_among}
 use Rattle.semantics.specs.Loops.Nest.{Loop, Vector, at_vector}
 use Rattle.semantics.specs.Loops.Access.{Writes, Conflict}
 use Rattle.semantics.specs.Loops.Piece.{is_outside}
@@ -23,8 +23,8 @@ use Rattle.law_private.proofs.Own.{DeclaresNone}
 use Rattle.law_roles.specs.Following.{variables_of}
 use Rattle.law_roles.proofs.Recorded.{entered_is}
 use Rattle.law_roles.proofs.Chunked.{each_contains}
-use Rattle.law_scans.specs.Iterations.{IsScan, StandsAt, Repeats, ChunksRepeat}
-use Rattle.law_scans.proofs.Steps.{Apart, Intact, TouchedBy, IsSet, Sound, goes, goes_too, same_slot, kept_entered}
+use Rattle.law_scans.specs.Iterations.{StandsAt, ChunksRepeat}
+use Rattle.law_scans.proofs.Steps.{Apart, Intact, IsSet, Sound, goes, goes_too, same_slot, kept_entered}
 
 -- ---- a walk and one more iteration
 

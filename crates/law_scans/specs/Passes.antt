@@ -1,17 +1,19 @@
 -- A scan in two passes: the input phase alone tells what each chunk adds, and then each chunk runs with the scan variable at its start. (OpenMP 5.2, 5.6)
-use Rattle.std.specs.Prelude.{ℕ, true, not, ◌&&◌, ◌≡◌, ◌<◌, ◌^◌, List, [], ◌∷◌, length, map, flat_map, Option, Some, slice_get}
+use Rattle.std.specs.Prelude.{ℕ, true, false, not, ◌&&◌, ◌≡◌, ◌<◌, ◌^◌, List, [], ◌∷◌, length, map, flat_map, Option, Some, slice_get}
 use Rattle.semantics.specs.Tree.{Variable, Stmt, Block, Items}
 use Rattle.semantics.specs.Meaning.State.{State, overwritten, look}
 use Rattle.semantics.specs.Meaning.Runs.{Effect}
 use Rattle.semantics.specs.Meaning.Agrees.{is_among, visible_behind}
 use Rattle.semantics.specs.Loops.Nest.{Loop, Vector}
-use Rattle.semantics.specs.Loops.Operator.{ReduceOp, combined_all}
+use Rattle.semantics.specs.Loops.Operator.{ReduceOp}
 use Rattle.semantics.specs.Loops.Scan.{start_of}
 use Rattle.law_commute.specs.Steady.{AreSteady}
 use Rattle.law_nests.specs.Walks.{walk}
+use Rattle.law_nests.specs.Merging.{Cells, left_by}
+use Rattle.law_roles.specs.Following.{variables_of}
 use Rattle.law_roles.specs.Updates.{reduces}
 use Rattle.law_roles.specs.Reducing.{takes_all}
-use Rattle.law_roles.specs.Sharing.{begins_with, changed_from}
+use Rattle.law_roles.specs.Sharing.{begins_with, MergesAt, changed_from}
 use Rattle.law_scans.specs.Phases.{joined_items}
 use Rattle.law_scans.specs.Iterations.{IsScan, StandsAt}
 
@@ -33,7 +35,7 @@ pub record AreStarts (x : Variable) (op : ReduceOp) (privates : List Variable) (
   pub long : length starts ≡ length chunks
   pub each : (c : ℕ) (t : State) → slice_get starts c ≡ Some t → (n : ℕ) × (start_of op before partials c ≡ Some n) × StandsAt x privates outer n t
 
--- the first pass has a run for each chunk, and so has the second; what the chunks of the second do, one after another, is what the loop does
+-- the first pass has a run for each chunk, and so has the second; what the chunks of the second do, one after another, is what the loop does, and what they change of elements, put together, what it leaves; other scalars are as before, and the scan variable holds the start of one chunk more
 pub record TwoPasses (x : Variable) (op : ReduceOp) (privates : List Variable) (loops : List Loop) (front back : Items) (outer first : State) (chunks : List (List Vector)) (e : Effect) : Type 0 where
   pub firsts : List Effect
   pub first_pass : map (λ us. walk loops (Block front) us first) chunks ≡ map Some firsts
@@ -42,6 +44,13 @@ pub record TwoPasses (x : Variable) (op : ReduceOp) (privates : List Variable) (
       → walks_from loops (Block (joined_items front back)) starts chunks ≡ map Some seconds
   pub writes : e.writes ≡ flat_map (λ (f : Effect). f.writes) seconds
   pub text : e.text ≡ flat_map (λ (f : Effect). f.text) seconds
+  pub merge : (after : Cells) → ((y : Variable) (i : ℕ) (is : List ℕ) → MergesAt outer seconds after y (i ∷ is))
+      → (y : Variable) (i : ℕ) (is : List ℕ) → after y (i ∷ is) ≡ left_by outer e y (i ∷ is)
+  pub same : (n : ℕ) (start : State) (f : Effect) → StandsAt x privates outer n start → (y : Variable) (i : ℕ) (is : List ℕ) → left_by start f y (i ∷ is) ≡ left_by outer f y (i ∷ is)
+  pub scalars : (y : Variable) → visible_behind (Block (joined_items front back)) y ≡ true → is_among (x ∷ privates) y ≡ false
+      → left_by outer e y [] ≡ outer.cells y []
+  pub locals : (y : Variable) → visible_behind (Block (joined_items front back)) y ≡ true → is_among (x ∷ privates) y ≡ false
+      → is_among (variables_of loops) y ≡ false → (overwritten outer e.writes).locals y ≡ outer.locals y
   pub value : look (overwritten outer e.writes) x [] ≡ start_of op (look outer x []) (map (λ f. changed_from first f x) firsts) (length chunks)
 
 abbrev pub InclusiveScansPassTwice : Type 0

@@ -1,4 +1,3 @@
-use Rattle.law_scans.proofs.Merging.{changing}
 use Rattle.law_scans.proofs.Walking.{repeat as the_law}
 use Rattle.law_scans.proofs.chunks_repeat.Goals as goal
 
