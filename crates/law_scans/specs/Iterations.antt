@@ -46,6 +46,7 @@ pub record Repeats (x : Variable) (privates : List Variable) (loops : List Loop)
       × (look (overwritten start alone.writes) x [] ≡ look (overwritten (overwritten outer before.writes) alone.writes) x [])
   pub whole : e ≡ joined before alone
 
+-- so do all iterations of a scan, from whichever state that stands so
 abbrev pub ChunksRepeat : Type 0
 ChunksRepeat =
     (x : Variable) (privates : List Variable) (loops : List Loop) (body : Stmt) (us vs : List Vector) (outer : State) (v : ℕ) (e : Effect)

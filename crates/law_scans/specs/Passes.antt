@@ -53,6 +53,7 @@ pub record TwoPasses (x : Variable) (op : ReduceOp) (privates : List Variable) (
       → is_among (variables_of loops) y ≡ false → (overwritten outer e.writes).locals y ≡ outer.locals y
   pub value : look (overwritten outer e.writes) x [] ≡ start_of op (look outer x []) (map (λ f. changed_from first f x) firsts) (length chunks)
 
+-- so does a scan whose input phase comes first, where the first pass begins with what a chunk's reduction may begin with
 abbrev pub InclusiveScansPassTwice : Type 0
 InclusiveScansPassTwice =
     (x : Variable) (op : ReduceOp) (privates : List Variable) (loops : List Loop) (front back : Items) (outer first : State) (chunks : List (List Vector)) (v : ℕ) (e : Effect)
