@@ -8,3 +8,4 @@ pub mod Passed
 pub mod Changing
 pub mod Merging
 pub mod Once
+pub mod Rows

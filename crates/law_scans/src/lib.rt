@@ -4,6 +4,7 @@
 
 ghost use Rattle.law_scans.specs.Iterations.{ChunksRepeat};
 ghost use Rattle.law_scans.specs.Phases.{PhasesRunInTurn};
+ghost use Rattle.law_scans.specs.Rows.{ScanRows};
 ghost use Rattle.law_scans.specs.Passes.{InclusiveScansPassTwice};
 
 /// Iterations of a scan do from the state before the loop, with the scan variable at the value that it has before them in sequence, what they
@@ -21,4 +22,9 @@ pub fn phases_run_in_turn()
 /// tells each chunk's start, and what the chunks do from there, one after another, is what the loop does (OpenMP 5.2, 5.6).
 pub fn inclusive_scans_pass_twice()
     ensures { InclusiveScansPassTwice }
+{}
+
+/// Worked rows: prefix sums are such a scan.
+pub fn scan_rows()
+    ensures { ScanRows }
 {}
