@@ -1,0 +1,11 @@
+pub mod Started
+pub mod Steps
+pub mod Walking
+pub mod Phased
+pub mod Kept
+pub mod Firsts
+pub mod Passed
+pub mod Changing
+pub mod Merging
+pub mod Once
+pub mod Rows

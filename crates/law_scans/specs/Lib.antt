@@ -1,0 +1,4 @@
+pub mod Iterations
+pub mod Phases
+pub mod Passes
+pub mod Rows

@@ -1,0 +1,30 @@
+//! Scans in two passes: the input phase alone tells what each chunk of iterations adds to the scan variable, and then each chunk runs whole
+//! from the state before the loop, with that variable at its start. Each law is the contract of a function that does nothing.
+#![tactic(auto)]
+
+ghost use Rattle.law_scans.specs.Iterations.{ChunksRepeat};
+ghost use Rattle.law_scans.specs.Phases.{PhasesRunInTurn};
+ghost use Rattle.law_scans.specs.Rows.{ScanRows};
+ghost use Rattle.law_scans.specs.Passes.{InclusiveScansPassTwice};
+
+/// Iterations of a scan do from the state before the loop, with the scan variable at the value that it has before them in sequence, what they
+/// do in sequence (OpenMP 5.2, 5.6).
+pub fn chunks_repeat()
+    ensures { ChunksRepeat }
+{}
+
+/// A body in two phases runs the first and then the second (C11 6.8.2).
+pub fn phases_run_in_turn()
+    ensures { PhasesRunInTurn }
+{}
+
+/// A scan whose input phase comes first may be run in two passes: what the input phase alone leaves in the scan variable, chunk by chunk,
+/// tells each chunk's start, and what the chunks do from there, one after another, is what the loop does (OpenMP 5.2, 5.6).
+pub fn inclusive_scans_pass_twice()
+    ensures { InclusiveScansPassTwice }
+{}
+
+/// Worked rows: prefix sums are such a scan.
+pub fn scan_rows()
+    ensures { ScanRows }
+{}
