@@ -2,6 +2,8 @@
 #![tactic(auto)]
 
 mod leveling;
+#[cfg(test)]
+mod rows;
 mod sinks;
 mod sorting;
 
