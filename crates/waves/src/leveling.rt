@@ -138,7 +138,8 @@ fn levels_by(
     requires ahead { list_all is_ahead (map (λ d. d.items) distances.now) ≡ true }
     requires values { length values.old ≡ length space.now }
     requires into { length into.old ≡ length space.now }
-    ensures { IfOk result (λ ls. (length ls.items ≡ length (vectors space.now)) × AreLevels (vectors space.now) (map (λ d. d.items) distances.now) ls.items) }
+    ensures { IfOk result (λ ls. (length ls.items ≡ length (vectors space.now))
+        × AreLevels (vectors space.now) (map (λ d. d.items) distances.now) ls.items) }
 {
     let count = space.count();
     let mut levels = Vec::with_capacity(alloc, count as usize)?;

@@ -64,7 +64,8 @@ impl Sinks {
     ///
     /// Where memory runs out; then the sinks are as before.
     pub fn push(&mut self, alloc: Global, distance: &[i64]) -> Result<bool, AllocError>
-        ensures ok { IfOk result (λ taken. taken ≡ (is_ahead distance.now && (length distance.now == self.old.loops))) }
+        ensures ok { IfOk result (λ taken. taken
+            ≡ (is_ahead distance.now && (length distance.now == self.old.loops))) }
         ensures sinks { IfOk result (λ taken. self.new
             ≡ (if taken then with_sink self.old distance.now else self.old)) }
         ensures err { IfErr result (λ error. self.new ≡ self.old) }
