@@ -1,0 +1,4 @@
+pub mod Earlier
+pub mod Known
+pub mod Sorted
+pub mod Tallies

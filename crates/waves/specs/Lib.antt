@@ -1,0 +1,3 @@
+pub mod Sorting
+pub mod Table
+pub mod Wanted
