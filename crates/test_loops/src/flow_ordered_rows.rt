@@ -44,7 +44,10 @@ fn first_other<'r>(alloc: Global, rows: &[(&'r str, Option<Disorder>)]) -> Optio
 fn regions_stand_in_loops_that_order_their_iterations(rt: HostRuntime) {
     let rows = [
         // Serial code prints where it will.
-        ("printf(\"1\"); for (uint64_t i = 0; i < 3; i++) printf(\"2\");", None),
+        (
+            "printf(\"1\"); for (uint64_t i = 0; i < 3; i++) printf(\"2\");",
+            None,
+        ),
         // One region: printf, or a block of these, behind a guard too, and in a collapsed nest.
         (
             "#pragma omp parallel for ordered\nfor (uint64_t i = 0; i < 3; i++) {\n#pragma omp ordered\nprintf(\"1\"); }",

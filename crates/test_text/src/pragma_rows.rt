@@ -94,7 +94,10 @@ fn clauses_stand_in_any_order(rt: HostRuntime) {
         ),
         ("#pragma omp for reduction(inscan, +: s)", Err(11)),
         ("#pragma omp for lastprivate(conditional: s)", Err(11)),
-        ("#pragma omp parallel for ordered schedule(dynamic, 2)", Ok((2, 0))),
+        (
+            "#pragma omp parallel for ordered schedule(dynamic, 2)",
+            Ok((2, 0)),
+        ),
         ("#pragma omp parallel for ordered(1)", Err(11)),
     ];
     no_other(&rt, other_outcome(rt.alloc(), ROWS));

@@ -3,8 +3,7 @@
 use crate::schedules::Row;
 
 /// What stands before each: two arrays, and scalars.
-pub(super) const DECLARATIONS: &str =
-    "uint64_t A[8];\nuint64_t B[3][4];\nuint64_t s;\nuint64_t t;";
+pub(super) const DECLARATIONS: &str = "uint64_t A[8];\nuint64_t B[3][4];\nuint64_t s;\nuint64_t t;";
 
 pub(super) const ROWS: &[Row] = &[
     Row {
