@@ -162,28 +162,6 @@ stops_left place box op a b fault h =
       ⊎_elim (λ (l : fault ≡ Limit place). inl l) (λ (s : shape_of box a ≡ None). inr (ap (λ (o : Option Bool). both_then (shape_by op) o (shape_of box b)) s)) e.1,
     )) h
 
-second_none : {A B C : Type 0} (f : A → B → Option C) (o : Option A) → both_then f o None ≡ None
-second_none f None = refl
-second_none f (Some a) = refl
-
-pub stops_right : (place : Place) (box : List Side) (op : BinaryOp) (a b : Expr) (fault : Fault) → Stops place (shape_of box b) (form_of box b) fault
-    → Stops place (shape_of box (Binary op a b)) (form_of box (Binary op a b)) fault
-stops_right place box op a b fault h =
-    ⊎_elim (λ (e : fault ≡ OutOfMemory). inl e)
-    (λ (e : (form_of box b ≡ None) × ((fault ≡ Limit place) ⊎ (shape_of box b ≡ None))).
-    inr (
-      ap (λ (o : Option Affine). both_then (operated op (is_number a) (is_number b)) (form_of box a) o) e.0 ∙ second_none (operated op (is_number a) (is_number b)) (form_of box a),
-      ⊎_elim (λ (l : fault ≡ Limit place). inl l)
-          (λ (s : shape_of box b ≡ None). inr (ap (λ (o : Option Bool). both_then (shape_by op) (shape_of box a) o) s ∙ second_none (shape_by op) (shape_of box a))) e.1,
-    )) h
-
-pub stops_negated : (place : Place) (box : List Side) (a : Expr) (fault : Fault) → Stops place (shape_of box a) (form_of box a) fault
-    → Stops place (shape_of box (Unary Negate a)) (form_of box (Unary Negate a)) fault
-stops_negated place box a fault h =
-    ⊎_elim (λ (e : fault ≡ OutOfMemory). inl e)
-    (λ (e : (form_of box a ≡ None) × ((fault ≡ Limit place) ⊎ (shape_of box a ≡ None))).
-    inr (ap (λ (o : Option Affine). option_and_then (λ f. kept (multiple_form f (negsuc 0))) o) e.0, e.1)) h
-
 -- the forms of both parts are those of the whole
 pub form_joined : (box : List Side) (op : BinaryOp) (a b : Expr) (f g : Affine) (m n : Bool) → form_of box a ≡ Some f → m ≡ is_number a → form_of box b ≡ Some g → n ≡ is_number b
     → form_of box (Binary op a b) ≡ operated op m n f g
@@ -193,9 +171,6 @@ form_joined box op a b f g m n p q r s = rw (p, r, q, s) refl
 pub shape_joined : (box : List Side) (op : BinaryOp) (a b : Expr) (f g : Affine) (m n : Bool) → form_of box a ≡ Some f → m ≡ is_number a → form_of box b ≡ Some g → n ≡ is_number b
     → shape_of box (Binary op a b) ≡ shape_by op m n
 shape_joined box op a b f g m n p q r s = rw (form_shaped box a f p, form_shaped box b g r, q, s) refl
-
-pub form_negated : (box : List Side) (a : Expr) (f : Affine) → form_of box a ≡ Some f → form_of box (Unary Negate a) ≡ kept (multiple_form f (negsuc 0))
-form_negated box a f p = rw p refl
 
 -- what an expression that has no form is refused by
 pub stopped : (place : Place) (box : List Side) (e : Expr) (fault : Fault) → Stops place (shape_of box e) (form_of box e) fault → (fault ≡ OutOfMemory) ⊎ (form_of box e ≡ None)

@@ -24,15 +24,6 @@ trigraph-step bs i whole h e s =
     e ∙ at_drop_more has_trigraph bs i 0 h
     ∙ ap (λ x. x || has_trigraph (drop (i + 1) bs)) (sym (ap (starts_with (codes "??")) (take_rest bs i ∙ drop_more bs i 0 h)) ∙ s)
 
--- the header of a token
-header_of_token : meant.Token → Option ℕ
-header_of_token (meant.Word w) = None
-header_of_token (meant.IntegerConstant n s) = None
-header_of_token (meant.StringLiteral cs o) = None
-header_of_token (meant.Punctuator s) = None
-header_of_token (meant.Header h) = Some h
-header_of_token (meant.Line n) = None
-
 none_first : (seen : List ℕ) (t : meant.Token) (ts : List meant.Token) → is_header t ≡ false → headers_first seen (t ∷ ts) ≡ not (list_any is_header ts)
 none_first seen (meant.Word w) ts h = refl
 none_first seen (meant.IntegerConstant n s) ts h = refl

@@ -30,20 +30,6 @@ pub record Reached (text : List ℕ) (tokens : List Token) (position line start 
   pub complete : (us : List meant.Token) → Cuts true 1 text us → (ts : List meant.Token) × (us ≡ done ++ ts) × Cuts fresh line (drop position text) ts
   pub placed : (ss : List Span) (ts : List meant.Token) → AreAt text position ss ts → AreAt text 0 (spans_of tokens ++ ss) (done ++ ts)
 
-pub reached_start : (text : List ℕ) → Reached text [] 0 1 0 true
-reached_start text =
-    record {
-      done = [];
-      within = omega arith;
-      from = omega arith;
-      few = omega arith;
-      lines = refl;
-      stand = tt;
-      sound = λ ts r. r;
-      complete = λ us r. (us, refl, r);
-      placed = λ ss ts h. h;
-    }
-
 -- line ends
 line_ends-append : (a b : List ℕ) → line_ends (a ++ b) ≡ line_ends a + line_ends b
 line_ends-append [] b = omega arith

@@ -130,10 +130,6 @@ digits_are b bs h = go (b == 48) refl
     go true e = h
     go false e = more (is_digit b) refl e
 
-digits_within : (bs : List ℕ) → digits_length bs ≤ length bs
-digits_within [] = omega arith
-digits_within (b ∷ bs) = cond_both (b == 48) 1 (run is_digit (b ∷ bs)) (λ m. m ≤ suc (length bs)) (λ e. omega arith) (λ e. run_within is_digit (b ∷ bs))
-
 digits_some : (ds : List ℕ) → is_decimal ds ≡ true → 0 < length ds
 digits_some [] h = absurd (true-is_not-false (sym h))
 digits_some (b ∷ ds) h = omega arith
@@ -302,10 +298,6 @@ comment_stops n (b ∷ bs) ts h r = go (b == 10) (b == 92) refl refl (not_true _
     no_cut : (bs : List ℕ) → Cuts false n (92 ∷ bs) ts → ⊥
     no_cut [] q = true-is_not-false (sym (into_next q).0)
     no_cut (c ∷ bs) q = true-is_not-false (sym (into_next q).0)
-
-    not_not : (x : Bool) → not x ≡ false → x ≡ true
-    not_not true e = refl
-    not_not false e = absurd (true-is_not-false e)
 
     go : (x y : Bool) → (b == 10) ≡ x → (b == 92) ≡ y → is_comment_byte b ≡ false → (rest : List ℕ) × (b ∷ bs ≡ 10 ∷ rest) × Cuts true (suc n) rest ts
     go true y e d k = (bs, ap (λ c. c ∷ bs) (eqb-true b 10 e), into_next (subst (λ c. Cuts false n (c ∷ bs) ts) (eqb-true b 10 e) r))

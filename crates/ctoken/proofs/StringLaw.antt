@@ -26,10 +26,6 @@ abbrev pub further : ℕ → Option (ℕ × Bool) → Option (ℕ × Bool)
 further i None = None
 further i (Some r) = Some (i + r.0, r.1)
 
-pub further-one_more : (i : ℕ) (o : Option (ℕ × Bool)) → further i (one_more o) ≡ further (i + 1) o
-further-one_more i None = refl
-further-one_more i (Some r) = ap (λ n. Some (n, r.1)) (omega arith)
-
 -- a string literal's bytes
 pub stands_string : {w rest cs : List ℕ} {o : Bool} → Stands w rest (StringLiteral cs o) → (bs : List ℕ) × (w ≡ 34 ∷ (bs ++ 34 ∷ [])) × Spells bs cs o
 stands_string (text {bs = bs} s) = (bs, refl, s)

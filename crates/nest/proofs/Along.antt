@@ -1,12 +1,12 @@
 -- A walk over directive lines along the facts of loops, item by item and loop by loop.
-use Rattle.std.specs.Prelude.{ℕ, ◌+◌, ◌-◌, ◌^◌, ◌≤◌, ◌≡◌, ◌<◌, ◌⊎◌, List, [], ◌∷◌, length, get_or, drop, take, IsOk, OnOk, OnErr, MatchResult}
+use Rattle.std.specs.Prelude.{ℕ, ◌+◌, ◌-◌, ◌^◌, ◌≤◌, ◌≡◌, ◌<◌, ◌⊎◌, List, ◌∷◌, length, get_or, drop, take, IsOk, OnOk, OnErr, MatchResult}
 use Rattle.std.specs.declared.result.Result.{Result}
 use Rattle.std.specs.declared.result.Result.TheVariants.{Ok, Err}
-use Rattle.std.proofs.Common.{inl, inr, refl, sym, ap, ◌∙◌, subst}
+use Rattle.std.proofs.Common.{inl, inr, sym, subst}
 use Rattle.semantics.specs.Tree
 use Rattle.ktree.specs.View.{items_of, with_item}
 use Rattle.ktree.specs.declared.statement.Head.{Head}
-use Rattle.ktree.specs.declared.statement.Item.{Item, Directive, Local, Statement'}
+use Rattle.ktree.specs.declared.statement.Item.{Item}
 use Rattle.ktree.proofs.Trees.{next_item}
 use Rattle.affine.specs.declared.interval.Side.{Side}
 use Rattle.affine_expr.specs.declared.faults.Fault.{Fault}

@@ -17,33 +17,11 @@ use Rattle.nest_loop.proofs.Standing.{FirstFacts, first_or, first_facts}
 use Rattle.nest.specs.Facts.{HasFacts, Pushes, product_of}
 use Rattle.nest.specs.Judged.{Entered, EntersLoop}
 use Rattle.nest.specs.Perfect.{NestHas, HasProduct}
-use Rattle.nest.proofs.Walks.{loop_of}
 use Rattle.nest.proofs.PerfectLaw.{product_once}
-
--- nothing is put
-pub pushes_none : (P : List LoopFacts → List LoopFacts → Type 0) (before : List LoopFacts) → ((rest : List LoopFacts) → P rest rest) → Pushes P before before
-pushes_none P before h = ([], sym (append-nil before), h)
-
--- these, and then those
-pub pushes_both : (P Q : List LoopFacts → List LoopFacts → Type 0) (a b c : List LoopFacts) → Pushes P a b → Pushes Q b c
-    → Pushes (λ facts rest. (middle : List LoopFacts) × P facts middle × Q middle rest) a c
-pushes_both P Q a b c (m, e, f) (n, g, h) = (
-  m ++ n,
-  g ∙ ap (λ (x : List LoopFacts). x ++ n) e ∙ append_assoc a m n,
-  λ rest. (n ++ rest, subst (λ (x : List LoopFacts). P x (n ++ rest)) (sym (append_assoc m n rest)) (f (n ++ rest)), h rest),
-)
 
 -- a loop's, and then those of its body
 pub entered : (box after : List Side) (found more : List LoopFacts) (head : Head) (body : Tree.Stmt) → EntersLoop box after found more head body → Entered box after head body
 entered box after found more head body e = (e.facts.canonical, e.facts.numbers, e.are.loop, e.inside)
-
-pub pushes_loop : (box after : List Side) (found own more : List LoopFacts) (head : Head) (body : Tree.Stmt) → EntersLoop box after found own head body → Pushes (FactsOf after body) own more
-    → Pushes (FactsOf box (loop_of head body)) found more
-pushes_loop box after found own more head body e (m, is, f) = (
-  e.facts ∷ m,
-  is ∙ ap (λ (x : List LoopFacts). x ++ m) e.put ∙ append_assoc found (e.facts ∷ []) m,
-  λ rest. (e.facts, m ++ rest, refl, e.are, subst (λ b. FactsOf b body (m ++ rest) rest) e.inside (f rest)),
-)
 
 -- an item's, and those of the others
 pub facts_joined : (box : List Side) (i : Item) (items : Tree.Items) (a b c : List LoopFacts) → FactsAmong box (with_item i Tree.no_items) a b → FactsAmong box items b c

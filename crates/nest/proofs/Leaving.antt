@@ -16,11 +16,6 @@ use Rattle.nest.specs.Leaves.{SomeLeaves, PartsMeet, Meet}
 use Rattle.nest.specs.Judged.{Tells}
 use Rattle.nest.proofs.Walks.{item_cut}
 
--- what is told comes to the same
-pub tells_same : (A B C D : Type 0) (a : Option Place) → (A → C) → (B → D) → Tells A B a → Tells C D a
-tells_same A B C D None f g p = f p
-tells_same A B C D (Some x) f g p = g p
-
 -- no dimension, no subscript
 pub no_subscripts : (box : List Side) (ns : List ℕ) (es : List Expr) → length ns ≡ 0 → length ns ≡ length es → Tells (AllStay box ns (exprs_of es)) (SomeLeaves box ns (exprs_of es)) None
 no_subscripts box [] [] e f = tt
@@ -66,11 +61,6 @@ told_more P Q box is i e told own lt p (left, so_far) here = (λ h. up (inr h), 
     go None (Some x) f h = up (inl h)
     go (Some x) own f h = f
 
--- nothing is left
-pub told_all : (P Q : Asked) (box : List Side) (is : List Item) (i : ℕ) (told : Option Place) → drop i is ≡ [] → ToldSoFar P Q box is i told
-    → Tells (Have P box (items_of is)) (Meet Q box (items_of is)) told
-told_all P Q box is i told e (left, so_far) = tells_same _ _ _ _ told (λ f. f (subst (λ xs. Have P box (items_of xs)) (sym e) tt)) (λ h. h) so_far
-
 -- the same of printf's arguments
 pub part_cut : (P : Asked) (box : List Side) (p : PrintPart) (rest : List Tree.PrintPart) → PartsHave P box (part_of p ∷ rest) ↔ PartsHave P box (part_of p ∷ []) × PartsHave P box rest
 part_cut P box (Characters bs) rest = (λ h. (tt, h), λ h. h.1)
@@ -109,7 +99,3 @@ parts_more P Q box ps i p told own lt e (left, so_far) here = (λ h. up (inr h),
     go None None f h = λ k. f (subst (PartsHave P box) (sym (next_part ps i p lt e)) ((part_cut P box p rest).1 (h, k)))
     go None (Some x) f h = up (inl h)
     go (Some x) own f h = f
-
-pub parts_all : (P Q : Asked) (box : List Side) (ps : List PrintPart) (i : ℕ) (told : Option Place) → drop i ps ≡ [] → PartsSoFar P Q box ps i told
-    → Tells (PartsHave P box (map part_of ps)) (PartsMeet Q box (map part_of ps)) told
-parts_all P Q box ps i told e (left, so_far) = tells_same _ _ _ _ told (λ f. f (subst (λ xs. PartsHave P box (map part_of xs)) (sym e) tt)) (λ h. h) so_far

@@ -77,9 +77,6 @@ together P Q n s (loops, body, is, p) (others, b, e, q) =
     let pair : (others, b) ≡ (loops, body) = some_same (sym e ∙ is) in
     (loops, body, is, (p, subst Q (ap (λ (r : List Loop × Stmt). r.0) pair) q))
 
-pub nest_weaker : (P Q : List Loop → Type 0) (n : ℕ) (s : Stmt) → ((hs : List Loop) → P hs → Q hs) → NestHas P n s → NestHas Q n s
-nest_weaker P Q n s f (loops, body, is, p) = (loops, body, is, f loops p)
-
 -- a fault that is passed on
 pub passed_on : {A B : Type 0} {f : Fault} → (A → B) → (f ≡ OutOfMemory) ⊎ (B → ⊥) → (f ≡ OutOfMemory) ⊎ (A → ⊥)
 passed_on g (inl e) = inl e
@@ -152,12 +149,6 @@ right_rectangular box n s (hs, t, is, (p, q)) = (hs, t, is, p)
 
 pub right_small : (box : List Side) (n : ℕ) (s : Stmt) → IsRightNest box n s → NestHas (λ hs. (k : ℕ) × HasProduct box hs k × (k ≤ 2 ^ 24)) n s
 right_small box n s (hs, t, is, (p, q)) = (hs, t, is, q)
-
-pub right_perfect : (box : List Side) (n : ℕ) (s : Stmt) → IsRightNest box n s → NestHas (λ loops. Unit {0}) n s
-right_perfect box n s (hs, t, is, p) = (hs, t, is, tt)
-
-pub rectangular_any : (box : List Side) (n : ℕ) (s : Stmt) (ls : List Canonical) → NestHas (λ hs. AreRectangular box hs ls) n s → NestHas (λ hs. (ls : List Canonical) × AreRectangular box hs ls) n s
-rectangular_any box n s ls (hs, t, is, r) = (hs, t, is, (ls, r))
 
 pub rectangular_more : (box : List Side) (h : Loop) (l : Canonical) (m : ℕ) (b : Stmt) (ls all : List Canonical) → (canonical box h.variable h.start h.test h.step ≡ Some l) × (is_counter box h.variable ≡ false)
     → all ≡ l ∷ ls → NestHas (λ hs. AreRectangular box hs ls) m b → NestHas (λ hs. AreRectangular box (h ∷ hs) all) m b

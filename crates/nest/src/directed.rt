@@ -58,9 +58,8 @@ fn line_nests(
     ensures { DecidesBy (FactsAmong bounds.now (items_of rest.now) found.entry.loops.now) result
         (LineNests directives.now bounds.now place.line (items_of rest.now)) }
 {
-    let line = match directives.at(place) {
-        Ok(line) => line,
-        Err(_refusal) => return Err(Fault::NotPerfect(place)),
+    let Ok(line) = directives.at(place) else {
+        return Err(Fault::NotPerfect(place));
     };
     nest_first(alloc, line.associated_loops(), rest, found, bounds, place)
 }

@@ -18,10 +18,9 @@ use Rattle.semantics.specs.Tree.{Variable}
 use Rattle.affine.specs.declared.interval.Side.{Side}
 use Rattle.affine.specs.declared.interval.Interval.{Interval}
 use Rattle.affine.specs.Affine.{Affine, value}
-use Rattle.affine.specs.Box.{IsInside, IsEmpty, IsRange, EndsFit}
+use Rattle.affine.specs.Box.{IsInside, IsRange, EndsFit}
 use Rattle.affine.specs.declared.term.Term.{Term}
 use Rattle.affine.proofs.Whole.{unsigned_abs-sum}
-use Rattle.affine.proofs.Ranges.{not_empty_inside}
 use Rattle.nest_loop.specs.Sides.{IsModest}
 use Rattle.nest_loop.specs.Whole.{IsAtLeast, IsAtMost, AreModest}
 
@@ -33,12 +32,6 @@ true_by false e = absurd (true≢false e)
 pub false_by : (b : Bool) → not b ≡ true → b ≡ false
 false_by false e = refl
 false_by true e = absurd (true≢false (sym e))
-
-pub empty_at_least : (n : ℤ) (f : Affine) (box : List Side) → IsEmpty box → IsAtLeast n f box
-empty_at_least n f box e values inside = absurd (not_empty_inside box values inside e)
-
-pub empty_at_most : (n : ℤ) (f : Affine) (box : List Side) → IsEmpty box → IsAtMost n f box
-empty_at_most n f box e values inside = absurd (not_empty_inside box values inside e)
 
 pub range_at_least : (n a b : ℤ) (f : Affine) (box : List Side) → IsRange f box a b → (n ≤ℤ a) ↔ IsAtLeast n f box
 range_at_least n a b f box r = (

@@ -122,7 +122,3 @@ pub left_more : (box : List Side) (is : List Item) (i : ℕ) (e : Item) (facts l
 left_more box is i e facts left now lt p are moved rest k =
     let parts = item_facts box e (items_of (drop (i + 1) is)) left rest (left_with_item box is i e facts left rest lt p are k) in
     subst (λ (x : List LoopFacts). FactsAmong box (items_of (drop (i + 1) is)) x rest) (sym (moved parts.middle parts.own)) parts.others
-
--- behind all items the rest is left
-pub all_passed : (box : List Side) (is : List Item) (i : ℕ) (facts left : List LoopFacts) → drop i is ≡ [] → AreLeft box is i facts left → IsLeft (FactsAmong box (items_of is) facts) left
-all_passed box is i facts left none are rest k = subst (λ (xs : List Item). FactsAmong box (items_of xs) left rest) none (are rest k)

@@ -1,5 +1,5 @@
 -- Turns between two numbers.
-use Rattle.std.specs.Prelude.{Bool, true, false, nat_lt, ℕ, ◌≡◌, ◌≤◌, ◌<◌, ◌+◌, ◌-◌, ◌*◌, ◌/◌, ◌%◌, ◌↔◌, unsigned_abs, ℤ, pos, negsuc, ◌+ℤ◌, ◌-ℤ◌, ◌≤ℤ◌, ◌<ℤ◌}
+use Rattle.std.specs.Prelude.{Bool, true, false, nat_lt, ℕ, ◌≡◌, ◌≤◌, ◌<◌, ◌+◌, ◌-◌, ◌*◌, ◌/◌, ◌%◌, ◌↔◌, unsigned_abs, ℤ, pos, negsuc, ◌+ℤ◌, ◌-ℤ◌, ◌≤ℤ◌}
 use Rattle.std.proofs.Common.{refl, sym, ap, ◌∙◌, subst, arith, mul-le-mul_left}
 use Rattle.std.proofs.lemmas.Int.{ints}
 use Rattle.std.proofs.lemmas.Bool.Decides.{Decides-ltb, nat_tests}
@@ -26,21 +26,6 @@ counts by d k one = (
         go : (t : Bool) → nat_lt a b ≡ t → P
         go true e = f ((Decides-ltb a b).0 e)
         go false e = g (grind (arith, nat_tests))
-
--- no step reaches below 0
-pub no_span : (by : ℕ) (d s : ℤ) → d <ℤ pos 0 → s ≡ pos 0 -ℤ pos by → IsSpan by d s
-no_span by d s below is =
-    record {
-      turns = 0;
-      counts = λ k. (λ (h : k < 0). absurd (omega arith), λ (h : pos (by * k) ≤ℤ d). absurd (never (by * k) h));
-      is = is ∙ ap (λ (n : ℕ). pos n -ℤ pos by) nothing;
-    }
-  where
-    never : (n : ℕ) → pos n ≤ℤ d → ⊥
-    never n h = omega (arith, ints)
-
-    nothing : 0 ≡ by * 0
-    nothing = omega arith
 
 -- from 0 on the quotient counts them
 pub some_span : (by d : ℕ) (s : ℤ) → 1 ≤ by → s ≡ pos (d - d % by) → IsSpan by (pos d) s

@@ -96,14 +96,11 @@ pub fn loop_of(alloc: Global, head: &Head, body: &Stmt, bounds: &VarBox) -> Resu
         → IsLoop bounds.now head.now.variable.0 (source_of head.now.start)
         (cond_of head.now.test) (increment_of head.now.step) (stmt_of body.now) l i → ⊥)) }
 {
-    let canonical = match canonical_of(alloc, head, bounds) {
-        Ok(canonical) => canonical,
-        Err(fault) => return Err(first_fault(head, body, bounds, fault)),
-    };
-    match numbers_of(&canonical, head, body, bounds) {
-        Ok(numbers) => Ok(Loop { canonical, numbers }),
-        Err(fault) => Err(fault),
-    }
+    let canonical = canonical_of(alloc, head, bounds).map_err(|fault| first_fault(
+        head, body, bounds, fault,
+    ))?;
+    let numbers = numbers_of(&canonical, head, body, bounds)?;
+    Ok(Loop { canonical, numbers })
 }
 
 /// What is found of a loop: its canonical form, the numbers that its variable may have, and how often it turns at most

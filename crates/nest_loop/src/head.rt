@@ -74,14 +74,12 @@ pub fn canonical_of(alloc: Global, head: &Head, bounds: &VarBox) -> Result<Canon
     let Some(bound) = bound_of(*operator, stride) else {
         return Err(Fault::NotCanonical(head.place));
     };
-    let start = match start_form(alloc, &head.start, bounds, head.start_place) {
-        Ok(form) => form,
-        Err(fault) => return Err(bound_fault(head, right, fault)),
-    };
-    let limit = match form_of(alloc, right, bounds, *place) {
-        Ok(form) => form,
-        Err(fault) => return Err(bound_fault(head, right, fault)),
-    };
+    let start = start_form(alloc, &head.start, bounds, head.start_place).map_err(
+        |fault| bound_fault(head, right, fault),
+    )?;
+    let limit = form_of(alloc, right, bounds, *place).map_err(|fault| bound_fault(
+        head, right, fault,
+    ))?;
     Ok(Canonical {
         variable: head.variable,
         stride,

@@ -10,14 +10,14 @@ use Rattle.std.proofs.lemmas.Slice.Zip.{length-zip, get_or-zip}
 use Rattle.std.proofs.lemmas.List.Quantifiers.{Any-push}
 use Rattle.std.proofs.Common.{length-append}
 use Rattle.pairtest.specs.declared.reach.Reach.{Reach}
-use Rattle.pairtest.specs.Equations.{Unknown, unknown, equation, last_product, least_sum, greatest_sum, IsRefutedByGcd, IsRefutedByBounds, IsWithin, CoefficientsWithin}
+use Rattle.pairtest.specs.Equations.{Unknown, unknown, equation, last_product, least_sum, greatest_sum, IsRefutedByGcd, IsWithin, CoefficientsWithin}
 use Rattle.pairtest.specs.Reached.{Summarizes}
 use Rattle.std.proofs.Math.Nat.{zero-dvd, dvd_of_mod-eq-zero, mod-eq-zero_of_dvd}
 use Rattle.std.proofs.lemmas.Bool.Decides.{Decides-eqb, Decides-ltb, nat_tests}
 use Rattle.std.specs.Prelude.{nat_eq, nat_lt, int_lt}
 use Rattle.pairtest.specs.DirectionVectors.{coefficient, counters}
 use Rattle.pairtest.proofs.CounterLists.{counters-more, counters-append}
-use Rattle.pairtest.proofs.Sums.{least_sum-append, greatest_sum-append, least_sum-below, greatest_sum-above, greatest_divisor-push, saturated_low_more, saturated_high_more, below_saturated, above_saturated}
+use Rattle.pairtest.proofs.Sums.{least_sum-append, greatest_sum-append, least_sum-below, greatest_sum-above, greatest_divisor-push, saturated_low_more, saturated_high_more}
 
 -- one more unknown
 pub summarizes_push : (r : Reach) (us : List Unknown) (c : ℤ) (n d : ℕ) (far low high : ℤ) → Summarizes r us → IsWithin (2 ^ 62) c → far ≡ last_product (unknown c n)
@@ -47,17 +47,6 @@ summarizes_push r us c n d far low high h within is gcd lower higher =
 
     plus : (a b : ℤ) → a +ℤ b ≡ a +ℤ (b +ℤ pos 0)
     plus a b = omega (arith, ints)
-
--- what is kept of a sum decides the bounds test
-pub refuted_below : (r : Reach) (us : List Unknown) (right : ℤ) → Summarizes r us → IsWithin (2 ^ 62) right → right <ℤ r.least → IsRefutedByBounds (equation us right)
-refuted_below r us right h within low = inl ((below_saturated right r.least (least_sum us) within (least_sum-below us) h.least).0 low)
-
-pub refuted_above : (r : Reach) (us : List Unknown) (right : ℤ) → Summarizes r us → IsWithin (2 ^ 62) right → r.greatest <ℤ right → IsRefutedByBounds (equation us right)
-refuted_above r us right h within high = inr ((above_saturated right r.greatest (greatest_sum us) within (greatest_sum-above us) h.greatest).0 high)
-
-pub not_refuted : (r : Reach) (us : List Unknown) (right : ℤ) → Summarizes r us → IsWithin (2 ^ 62) right → ¬ (right <ℤ r.least) → ¬ (r.greatest <ℤ right) → ¬ (IsRefutedByBounds (equation us right))
-not_refuted r us right h within low high (inl k) = low ((below_saturated right r.least (least_sum us) within (least_sum-below us) h.least).1 k)
-not_refuted r us right h within low high (inr k) = high ((above_saturated right r.greatest (greatest_sum us) within (greatest_sum-above us) h.greatest).1 k)
 
 -- the remainder tells whether a number is a multiple
 pub is_multiple : (d k n m : ℕ) → k ≡ d → n ≡ m → (nat_eq (n % k) 0 ≡ true) ↔ (d ∣ m)

@@ -5,7 +5,7 @@ use Rattle.std.proofs.lemmas.Int.{ints, clamps, by_lt_z, unsigned_abs-mul}
 use Rattle.std.proofs.lemmas.Nat.Gcd.{dvd-zero, dvd_trans}
 use Rattle.std.proofs.Math.Nat.{dvd-add, dvd-sub, dvd-mul_right_of_dvd}
 use Rattle.std.proofs.lemmas.List.Elements.{All-nil, All-cons, All-head, All-tail, All-push}
-use Rattle.pairtest.specs.Equations.{Unknown, Equation, sum_at, AreValues, HasSolution, DividesAll, IsGreatestDivisor, last_product, least_sum, greatest_sum, IsRefuted, IsWithin}
+use Rattle.pairtest.specs.Equations.{Unknown, Equation, sum_at, AreValues, HasSolution, DividesAll, IsGreatestDivisor, last_product, least_sum, greatest_sum, IsRefuted}
 
 -- ---- joined sums
 
@@ -93,9 +93,6 @@ divides_sum_at d (u ∷ us) (k ∷ ks) h =
     (divides_product d u.coefficient (pos k) (All-head P u us h))
     (divides_sum_at d us ks (All-tail P u us h))
 
-pub greatest_divisor-nil : IsGreatestDivisor [] 0
-greatest_divisor-nil = record { divides = All-nil (λ (u : Unknown). 0 ∣ unsigned_abs u.coefficient); greatest = λ d h. dvd-zero d }
-
 pub greatest_divisor-push : (us : List Unknown) (u : Unknown) (g r : ℕ) → IsGreatestDivisor us g → IsGcd g (unsigned_abs u.coefficient) r → IsGreatestDivisor (us ++ u ∷ []) r
 greatest_divisor-push us u g r h is =
     record {
@@ -151,14 +148,3 @@ saturated_high_more l s p hs hp e =
   where
     cut : int_min (pos (2 ^ 127 - 1)) (l +ℤ p) ≡ int_min (pos (2 ^ 127 - 1)) (s +ℤ p)
     cut = let is : l ≡ int_min (pos (2 ^ 127 - 1)) s = e ∙ saturated_high s hs in omega (arith, ints, clamps)
-
--- a number within 2^62 is below the end exactly if it is below what is kept of it
-pub below_saturated : (n l s : ℤ) → IsWithin (2 ^ 62) n → s ≤ℤ pos 0 → l ≡ saturate_signed w128 s → (n <ℤ l → n <ℤ s) × (n <ℤ s → n <ℤ l)
-below_saturated n l s h hs e =
-    let is : l ≡ int_max (negsuc (2 ^ 127 - 1)) s = e ∙ saturated_low s hs in
-    (λ (k : n <ℤ l). omega (arith, ints, clamps), λ (k : n <ℤ s). omega (arith, ints, clamps))
-
-pub above_saturated : (n l s : ℤ) → IsWithin (2 ^ 62) n → pos 0 ≤ℤ s → l ≡ saturate_signed w128 s → (l <ℤ n → s <ℤ n) × (s <ℤ n → l <ℤ n)
-above_saturated n l s h hs e =
-    let is : l ≡ int_min (pos (2 ^ 127 - 1)) s = e ∙ saturated_high s hs in
-    (λ (k : l <ℤ n). omega (arith, ints, clamps), λ (k : s <ℤ n). omega (arith, ints, clamps))

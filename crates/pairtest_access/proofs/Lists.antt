@@ -14,7 +14,7 @@ use Rattle.affine_expr.specs.declared.faults.Fault.{Fault}
 use Rattle.affine_expr.specs.declared.faults.Fault.TheVariants.{OutOfMemory, Limit}
 use Rattle.pairtest_counter.specs.Levels.{Nesting}
 use Rattle.pairtest.specs.declared.access.Subscript.{Subscript}
-use Rattle.pairtest_access.specs.Refused.{Because, AreNotAffine, SubscriptFails, SubscriptsFail}
+use Rattle.pairtest_access.specs.Refused.{Because, SubscriptFails, SubscriptsFail}
 use Rattle.pairtest_access.specs.Found.{AreEach, IsSubscript}
 
 -- one subscript more

@@ -194,14 +194,6 @@ pub loop_passed : (before after : Nesting) (head : Head) (body : Tree.Stmt) (loo
     → IsLeft (FactsOf before.box (loop_of head body) loops) passed
 loop_passed before after head body loops inner passed enters behind rest k = behind rest (enters body rest k).1
 
--- both branches of a selection
-pub other_first : (box : List Side) (c : Tree.Cond) (s t : Tree.Stmt) (loops passed : List LoopFacts) → StandFirst box (Tree.IfElse c s t) loops → IsLeft (FactsOf box s loops) passed → StandFirst box t passed
-other_first box c s t loops passed (rest, (middle, f, g)) behind = (rest, subst (λ (x : List LoopFacts). FactsOf box t x rest) (sym (behind middle f)) g)
-
-pub both_passed : (box : List Side) (c : Tree.Cond) (s t : Tree.Stmt) (loops middle passed : List LoopFacts) → IsLeft (FactsOf box s loops) middle → IsLeft (FactsOf box t middle) passed
-    → IsLeft (FactsOf box (Tree.IfElse c s t) loops) passed
-both_passed box c s t loops middle passed one other rest (m, f, g) = other rest (subst (λ (x : List LoopFacts). FactsOf box t x rest) (sym (one m f)) g)
-
 -- the loop that a statement is
 pub for_is : (s : code.Stmt) (head : Head) (body : Box code.Stmt Global) (inner : code.Stmt) → s ≡ code.For head body → inner ≡ body.value → loop_of head (stmt_of inner) ≡ stmt_of s
 for_is s head body inner e f = ap (λ b. loop_of head (stmt_of b)) f ∙ sym (ap stmt_of e)

@@ -53,9 +53,8 @@ fn access(
         (Because (AreNotAffine chain.now.box (exprs_of expressions.now))) }
 {
     let (is_counted, subscripts) = match subscripts(alloc, chain, expressions, mention) {
-        Ok(found) => (true, found),
         Err(Fault::Limit(_)) => (false, Vec::new(alloc)),
-        Err(fault) => return Err(fault),
+        found => (true, found?),
     };
     Ok(Access {
         array,

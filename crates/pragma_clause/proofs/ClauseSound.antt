@@ -76,10 +76,6 @@ number_in_is most w n e =
     (λ h e. tested (nat_le (decimal_from 0 w) most) _ _ n e (λ g e. subst (ReadsNumber most w) (out e)
     (grammar.number (first_true (is_decimal w) _ h) (both_true (second_true (is_decimal w) _ h) g))) no_some) no_some
 
--- a number as it stands, one word
-abbrev pub IsNumber : ℕ → List Token → ℕ → Type 0
-IsNumber most ts n = (w : List ℕ) × (ts ≡ Word w ∷ []) × ReadsNumber most w n
-
 pub number_sound : (most : ℕ) (ts : List Token) (x : ℕ × List Token) → number true most ts ≡ Some x → (w : List ℕ) × (ts ≡ Word w ∷ x.1) × ReadsNumber most w x.0
 number_sound most ts x e =
     bound (run ts) _ x e (λ w h e. bound (number_in true most w.0) _ x e (λ n g e.

@@ -120,7 +120,7 @@ fn naming(word: &[u8], names: Vec<Written>) -> Option<Clause<Written>>
 }
 
 /// Names and the clause of a word that they stand in, and what stands behind them.
-fn named<'l>(
+fn names_clause<'l>(
     setting: Setting,
     word: &[u8],
     text: &'l [u8],
@@ -205,11 +205,11 @@ fn inside<'l>(
     if is_word(word, b"lastprivate") {
         return last(setting, text);
     }
-    named(setting, word, text)
+    names_clause(setting, word, text)
 }
 
 /// The parentheses behind a word with what stands between them, and what stands behind them.
-fn enclosed<'l>(
+fn enclosed_clause<'l>(
     setting: Setting,
     word: &[u8],
     text: &'l [u8],
@@ -268,7 +268,7 @@ fn behind_word<'l>(
             None => Err(Unread::Malformed),
         };
     }
-    enclosed(setting, word, text)
+    enclosed_clause(setting, word, text)
 }
 
 /// The clause that comes next, and what stands behind it.

@@ -125,13 +125,9 @@ fn further(setting: Setting, text: &[u8]) -> Result<Vec<Clause<Written>>, Unread
         if is_end(rest) {
             return Ok(clauses);
         }
-        match clause(setting, behind_comma(rest)) {
-            Ok((clause, behind)) => {
-                clauses.push(clause)?;
-                rest = behind;
-            }
-            Err(unread) => return Err(unread),
-        }
+        let (next, behind) = clause(setting, behind_comma(rest))?;
+        clauses.push(next)?;
+        rest = behind;
     }
     Err(Unread::Malformed)
 }

@@ -1,6 +1,6 @@
 -- Variables that lie one behind another in one list of cells.
-use Rattle.std.specs.Prelude.{ℕ, zero, suc, ◌≡◌, ◌≢◌, ◌+◌, ◌-◌, ◌<◌, ◌≤◌, List, [], ◌∷◌, ◌++◌, length, take, drop, replicate, map, Option, Some, None, slice_get, slice_set, slice_index}
-use Rattle.std.proofs.Common.{refl, sym, ap, ◌∙◌, subst, arith, get_or}
+use Rattle.std.specs.Prelude.{ℕ, zero, suc, ◌≡◌, ◌+◌, ◌-◌, ◌<◌, ◌≤◌, List, [], ◌∷◌, ◌++◌, length, take, drop, replicate, map, Option, Some, slice_get, slice_set, slice_index}
+use Rattle.std.proofs.Common.{refl, sym, ap, ◌∙◌, subst, arith}
 use Rattle.std.proofs.lemmas.List.{take-append-drop, drop-drop, drop_all, drop-set-lt, drop-set-add, take-set-le, length-set, length-take, length-drop, drop-replicate, take-replicate}
 use Rattle.std.proofs.lemmas.List.Concat.{flat_map-cons}
 use Rattle.std.proofs.Math.Seq.{take-set-lt}
@@ -79,11 +79,6 @@ refilled cells new from end (p ∷ ps) (f, l) e =
 pub put_fills : (cells new : List ℕ) (ps : List Placed) (place value : ℕ) → Lie 0 ps (length cells) → new ≡ slice_set cells place value → kept_in new ps ≡ filled (slice_set (values_of (kept_in cells ps)) place value) (kept_in cells ps)
 put_fills cells new ps place value l e =
     sym (refilled cells new 0 (length cells) ps l refl) ∙ ap (λ cs. filled cs (kept_in cells ps)) (e ∙ ap (λ cs. slice_set cs place value) (sym (values_are cells ps l)))
-
-pub set_outside : (xs : List ℕ) (i v : ℕ) → length xs ≤ i → slice_set xs i v ≡ xs
-set_outside [] i v le = refl
-set_outside (x ∷ xs) zero v le = absurd (omega arith)
-set_outside (x ∷ xs) (suc i) v le = ap (λ l. x ∷ l) (set_outside xs i v (omega arith))
 
 pub index_outside : (xs : List ℕ) (i : ℕ) → length xs ≤ i → slice_index xs i ≡ 0
 index_outside [] i le = refl

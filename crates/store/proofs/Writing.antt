@@ -1,15 +1,11 @@
 -- Values written one behind another into a store are writes to its state, one after another.
-use Rattle.std.specs.Prelude.{ℕ, zero, suc, Bool, true, false, ◌≡◌, ◌≢◌, ◌+◌, ◌*◌, ◌<◌, ◌≤◌, ◌==◌, ◌&&◌, nat_lt, List, [], ◌∷◌, ◌++◌, length, take, drop, Option, Some, None, slice_get, slice_set, slice_index, map}
-use Rattle.std.proofs.Common.{refl, sym, ap, ◌∙◌, subst, cond, arith}
-use Rattle.std.proofs.Math.Path.{fun_ext}
+use Rattle.std.specs.Prelude.{ℕ, zero, suc, Bool, true, false, ◌≡◌, ◌≢◌, ◌+◌, ◌*◌, ◌<◌, ◌≤◌, ◌==◌, ◌&&◌, nat_lt, List, [], ◌∷◌, ◌++◌, length, take, drop, Option, Some, None, slice_get, slice_set, map}
+use Rattle.std.proofs.Common.{refl, sym, ap, ◌∙◌, cond, arith}
 use Rattle.std.proofs.Math.Seq.{take-suc-set}
 use Rattle.std.proofs.lemmas.List.{take-append-drop, append_assoc, length-set, drop-set-lt}
-use Rattle.std.proofs.lemmas.Bool.{eq-eqb, eqb-true, eqb-false, lt-ltb}
-use Rattle.std.specs.Cmp.Lexicographic.{same_text}
-use Rattle.std.proofs.lemmas.Bool.Decides.{nat_tests}
-use Rattle.semantics.proofs.EraseTokenLaw.{first_of, second_of}
-use Rattle.semantics.specs.Meaning.State.{State, Outside, assign_at, cells_after, with_cell, renewed, same_indexes, overwritten}
-use Rattle.store.specs.Kept.{Kept, cell_of, state_of, overlaid, rewritten, rewritten_at, HasRoom, Covers, writes_from}
+use Rattle.std.proofs.lemmas.Bool.{eqb-true, eqb-false, lt-ltb}
+use Rattle.semantics.specs.Meaning.State.{renewed, same_indexes}
+use Rattle.store.specs.Kept.{Kept, cell_of, overlaid, rewritten, rewritten_at, HasRoom}
 
 -- one more value written over others
 pub overlaid_none : (old : List ℕ) (first : ℕ) → overlaid old first [] ≡ old
@@ -104,97 +100,6 @@ one_cell n i v values (j ∷ k ∷ js) e lt = go (nat_lt j n) (j == i) (slice_ge
     go false true x y = refl
     go false false x y = refl
 
--- the same at any variable
-any_cell : (ks : List Kept) (x i v y : ℕ) (js : List ℕ) (k : Kept) (n : ℕ) → slice_get ks x ≡ Some k → k.lengths ≡ n ∷ [] → length k.values ≡ n → i < n → cell_of (slice_get (rewritten_at ks x i (v ∷ [])) y) js ≡ cells_after (state_of ks).cells x (i ∷ []) v y js
-any_cell ks x i v y js k n e l c lt = go (y == x) refl
-  where
-    shape : k ≡ record { lengths = n ∷ []; values = k.values }
-    shape = λ t. record { lengths = l t; values = k.values }
-
-    here : cell_of (slice_get (rewritten_at ks x i (v ∷ [])) x) js ≡ cond (same_indexes js (i ∷ [])) (renewed (cell_of (slice_get ks x) js) v) (cell_of (slice_get ks x) js)
-    here =
-        ap (λ o. cell_of o js) (at_same ks x i (v ∷ []) k e ∙ ap (λ (j : Kept). Some (rewritten j i (v ∷ []))) shape)
-        ∙ one_cell n i v k.values js c lt
-        ∙ ap (λ o. cond (same_indexes js (i ∷ [])) (renewed (cell_of o js) v) (cell_of o js)) (sym (e ∙ ap Some shape))
-
-    go : (b : Bool) → (y == x) ≡ b → cell_of (slice_get (rewritten_at ks x i (v ∷ [])) y) js ≡ cond (b && same_indexes js (i ∷ [])) (renewed (cell_of (slice_get ks y) js) v) (cell_of (slice_get ks y) js)
-    go true q =
-        let same = eqb-true y x q in
-        subst (λ (z : ℕ). cell_of (slice_get (rewritten_at ks x i (v ∷ [])) z) js ≡ cond (same_indexes js (i ∷ [])) (renewed (cell_of (slice_get ks z) js) v) (cell_of (slice_get ks z) js)) (sym same) here
-    go false q = ap (λ o. cell_of o js) (at_other ks x y i (v ∷ []) (eqb-false y x q))
-
-one_state : (ks : List Kept) (x i v : ℕ) → Covers (suc i) (slice_get ks x) → state_of (rewritten_at ks x i (v ∷ [])) ≡ with_cell (state_of ks) x (i ∷ []) v
-one_state ks x i v h = go (slice_get ks x) refl h
-  where
-    go : (o : Option Kept) → slice_get ks x ≡ o → Covers (suc i) o → state_of (rewritten_at ks x i (v ∷ [])) ≡ with_cell (state_of ks) x (i ∷ []) v
-    go None e h = absurd h
-    go (Some k) e (n, l, c, le) = λ t. record { cells = fun_ext (λ y. fun_ext (λ js. any_cell ks x i v y js k n e l c (omega arith))) t; locals = λ y. (state_of ks).locals y }
-
--- a write leaves the array as long as it was
-covers_after : (ks : List Kept) (x i v m : ℕ) → i < m → Covers m (slice_get ks x) → Covers m (slice_get (rewritten_at ks x i (v ∷ [])) x)
-covers_after ks x i v m lt h = go (slice_get ks x) refl h
-  where
-    go : (o : Option Kept) → slice_get ks x ≡ o → Covers m o → Covers m (slice_get (rewritten_at ks x i (v ∷ [])) x)
-    go None e h = absurd h
-    go (Some k) e (n, l, c, le) =
-        subst (Covers m) (sym (at_same ks x i (v ∷ []) k e))
-        (n, l, ap (λ xs. length xs) (overlaid_one k.values i v (omega arith)) ∙ length-set k.values i v ∙ c, le)
-
--- values written behind one another are writes one after another
-pub written_state : (ks : List Kept) (x first : ℕ) (vs : List ℕ) → Covers (first + length vs) (slice_get ks x) → state_of (rewritten_at ks x first vs) ≡ overwritten (state_of ks) (writes_from x first vs)
-written_state ks x first [] h = ap state_of (rewritten_none ks x first)
-written_state ks x first (v ∷ vs) h =
-    ap state_of (rewritten_more ks x first v vs (room (slice_get ks x) h))
-    ∙ written_state (rewritten_at ks x first (v ∷ [])) x (suc first) vs
-    (subst (λ (m : ℕ). Covers m (slice_get (rewritten_at ks x first (v ∷ [])) x)) (omega arith) (covers_after ks x first v (first + suc (length vs)) (omega arith) h))
-    ∙ ap (λ (s : State). overwritten s (writes_from x (suc first) vs)) (one_state ks x first v (fewer (slice_get ks x) h))
-  where
-    room : (o : Option Kept) → Covers (first + suc (length vs)) o → HasRoom o (suc first)
-    room None h = absurd h
-    room (Some k) (n, l, c, le) = omega arith
-
-    fewer : (o : Option Kept) → Covers (first + suc (length vs)) o → Covers (suc first) o
-    fewer None h = absurd h
-    fewer (Some k) (n, l, c, le) = (n, l, c, omega arith)
-
--- an element that none of the writes names stays
-pub writes_other : (x first : ℕ) (vs : List ℕ) (s : State) → s.locals x ≡ Outside → (y : ℕ) (js : List ℕ) → ((j : ℕ) → j < length vs → y ≡ x → js ≡ (first + j) ∷ [] → ⊥) → (overwritten s (writes_from x first vs)).cells y js ≡ s.cells y js
-writes_other x first [] s e y js h = refl
-writes_other x first (v ∷ vs) s e y js h =
-    ap (λ slot. (overwritten (assign_at slot s x (first ∷ []) v) (writes_from x (suc first) vs)).cells y js) e
-    ∙ writes_other x (suc first) vs (with_cell s x (first ∷ []) v) e y js (λ j lt a q. h (suc j) (omega arith) a (q ∙ ap (λ n. n ∷ []) (let m : suc first + j ≡ first + suc j = omega arith in m)))
-    ∙ apart ((y == x) && same_indexes js (first ∷ [])) refl
-  where
-    apart : (b : Bool) → ((y == x) && same_indexes js (first ∷ [])) ≡ b → cond b (renewed (s.cells y js) v) (s.cells y js) ≡ s.cells y js
-    apart true q =
-        absurd
-        (h 0 (omega arith) (eqb-true y x (first_of (y == x) (same_indexes js (first ∷ [])) q))
-        (same_text js (first ∷ []) (sym (second_of (y == x) (same_indexes js (first ∷ [])) q)) ∙ ap (λ n. n ∷ []) (let m : first ≡ first + 0 = omega arith in m)))
-    apart false q = refl
-
--- and an element that one names holds what it wrote
-pub writes_there : (x first : ℕ) (vs : List ℕ) (s : State) → s.locals x ≡ Outside → (j : ℕ) → j < length vs → (old : ℕ) → s.cells x ((first + j) ∷ []) ≡ Some old → (overwritten s (writes_from x first vs)).cells x ((first + j) ∷ []) ≡ Some (slice_index vs j)
-writes_there x first [] s e j lt old there = absurd (omega arith)
-writes_there x first (v ∷ vs) s e zero lt old there =
-    ap (λ slot. (overwritten (assign_at slot s x (first ∷ []) v) (writes_from x (suc first) vs)).cells x ((first + 0) ∷ [])) e
-    ∙ writes_other x (suc first) vs (with_cell s x (first ∷ []) v) e x ((first + 0) ∷ []) (λ j less a q. let same : first + 0 ≡ suc first + j = cc in absurd (omega arith))
-    ∙ ap (λ b. cond (b && same_indexes ((first + 0) ∷ []) (first ∷ [])) (renewed (s.cells x ((first + 0) ∷ [])) v) (s.cells x ((first + 0) ∷ []))) (eq-eqb x x refl)
-    ∙ ap (λ b. cond (b && true) (renewed (s.cells x ((first + 0) ∷ [])) v) (s.cells x ((first + 0) ∷ []))) (eq-eqb (first + 0) first (omega arith))
-    ∙ ap (λ o. renewed o v) there
-writes_there x first (v ∷ vs) s e (suc j) lt old there =
-    ap (λ slot. (overwritten (assign_at slot s x (first ∷ []) v) (writes_from x (suc first) vs)).cells x ((first + suc j) ∷ [])) e
-    ∙ ap (λ n. (overwritten (with_cell s x (first ∷ []) v) (writes_from x (suc first) vs)).cells x (n ∷ [])) (let m : first + suc j ≡ suc first + j = omega arith in m)
-    ∙ writes_there x (suc first) vs (with_cell s x (first ∷ []) v) e j (omega arith) old (later ∙ there)
-  where
-    later : (with_cell s x (first ∷ []) v).cells x ((suc first + j) ∷ []) ≡ s.cells x ((first + suc j) ∷ [])
-    later =
-        ap (λ b. cond (b && same_indexes ((suc first + j) ∷ []) (first ∷ [])) (renewed (s.cells x ((suc first + j) ∷ [])) v) (s.cells x ((suc first + j) ∷ []))) (eq-eqb x x refl)
-        ∙ ap (λ b. cond (b && true) (renewed (s.cells x ((suc first + j) ∷ [])) v) (s.cells x ((suc first + j) ∷ []))) (past (suc first + j) first (omega arith))
-        ∙ ap (λ n. s.cells x (n ∷ [])) (let m : suc first + j ≡ first + suc j = omega arith in m)
-      where
-        past : (a b : ℕ) → b < a → (a == b) ≡ false
-        past a b less = grind (arith, nat_tests)
-
 -- what was written over keeps its length
 length_overlaid : (old : List ℕ) (first : ℕ) (vs : List ℕ) → first + length vs ≤ length old → length (overlaid old first vs) ≡ length old
 length_overlaid old first [] le = ap (λ (l : List ℕ). length l) (overlaid_none old first)
@@ -202,14 +107,6 @@ length_overlaid old first (v ∷ vs) le =
     ap (λ (l : List ℕ). length l) (overlaid_more old first v vs (omega arith))
     ∙ length_overlaid (slice_set old first v) (suc first) vs (omega (arith, length-set old first v))
     ∙ length-set old first v
-
--- a store that was written to reaches as far as it did
-pub covers_kept : (ks : List Kept) (x first m : ℕ) (vs : List ℕ) → first + length vs ≤ m → Covers m (slice_get ks x) → Covers m (slice_get (rewritten_at ks x first vs) x)
-covers_kept ks x first m vs fit h = go (slice_get ks x) refl h
-  where
-    go : (o : Option Kept) → slice_get ks x ≡ o → Covers m o → Covers m (slice_get (rewritten_at ks x first vs) x)
-    go None e h = absurd h
-    go (Some k) e (n, l, c, le) = subst (Covers m) (sym (at_same ks x first vs k e)) (n, l, length_overlaid k.values first vs (omega arith) ∙ c, le)
 
 -- and has the same shape
 pub same_lengths : (ks : List Kept) (x first : ℕ) (vs : List ℕ) → map (λ (k : Kept). k.lengths) (rewritten_at ks x first vs) ≡ map (λ (k : Kept). k.lengths) ks

@@ -4,8 +4,8 @@ use Rattle.pragma.specs.Views.{scheduled}
 use Rattle.nest.proofs.NestedLaw.{line_judged}
 use Rattle.nest.proofs.directed.line_nests.Goals as goal
 
-pub returns-in-Err : goal.returns-in-Err
-returns-in-Err c rest k = inr (λ h. c.in-Err.ensures.err.1 h.0 h.1 h.2)
+pub returns-in_default : goal.returns-in_default
+returns-in_default c rest k = inr (λ h. c.in_default.ensures.err.1 h.0 h.1 h.2)
 
 pub returns : goal.returns
 returns c rest k =

@@ -1,10 +1,8 @@
 use Rattle.std.proofs.Common.{◌≡◌, ◌<◌, ◌+◌, ◌≤◌, List, length, map, sym, ap, ◌∙◌, refl, arith, Some}
 use Rattle.std.specs.Prelude.{slice_get, option_map}
-use Rattle.std.proofs.lemmas.List.{length-map}
 use Rattle.std.proofs.lemmas.Option.{slice_get_read, slice_get-map}
 use Rattle.store.specs.Kept.{Kept}
 use Rattle.store.specs.Placing.{kept_at}
-use Rattle.store.specs.declared.arrays.Placed.{Placed}
 use Rattle.store.proofs.Laid.{lie_at, count_at, there}
 use Rattle.store.proofs.arrays.Store.array.Goals as goal
 
