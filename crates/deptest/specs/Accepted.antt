@@ -17,7 +17,7 @@ use Rattle.pragma_region.specs.Regions.{alone}
 use Rattle.pragma_region.specs.Counted.{counted_in}
 use Rattle.pragma_region.specs.Listed.{regions_of, parts_of, part_said}
 use Rattle.pragma_region.specs.declared.listing.RegionPart.{RegionPart}
-use Rattle.flow.specs.Roles.{LineRoles, line_roles, privates_by, ItemsHaveBy, ItemsKeepRoles}
+use Rattle.flow.specs.Roles.{LineData, line_roles, privates_by, ItemsHaveBy, ItemsKeepRoles}
 use Rattle.flow_clauses.specs.Fitting.{fit_clauses}
 use Rattle.flow_ordered.specs.Ordered.{prints_in_order}
 use Rattle.flow.specs.Parallel.{AreParallelLoops}
@@ -43,8 +43,8 @@ abbrev pub clauses_counted : List ℕ → Kernel → Directives → Lines
 clauses_counted text k ds = counted_in text k (clauses_said k ds)
 
 -- what they say of the scalars that the loop assigns (OpenMP 5.2, 5.4.3, 5.4.5 and 5.5.8)
-abbrev pub roles_counted : List ℕ → Kernel → Directives → LineRoles
-roles_counted text k ds line = line_roles (length k.variables) (clauses_counted text k ds line)
+abbrev pub data_counted : List ℕ → Kernel → Directives → LineData
+data_counted text k ds line = line_roles (length k.variables) (clauses_counted text k ds line)
 
 -- what is known before the dependence test: the tree is one of the text, whose directives are attached to the whole of it; its loops are canonical and never wrap, no subscript leaves its array, each directive line left in it is that of a loop directly behind it that holds no other, with a right nest, that writes no scalar but its own and those with a role, and keeps their roles, and no local is read before it is assigned; the roles are those of the clauses that count for a loop, and these name what they may; parallel loops print in ordered regions alone
 pub record HasPassed (text : List ℕ) (k : Kernel) : Type 0 where
@@ -54,19 +54,19 @@ pub record HasPassed (text : List ℕ) (k : Kernel) : Type 0 where
   pub in_range : IsInRange k
   pub directed : IsDirected text k
   pub nested : AreRightNests text k
-  pub definite : IsDefinite (privates_by (roles_counted text reads.whole directives)) k
-  pub roles : ItemsKeepRoles text (roles_counted text reads.whole directives) [] k.body
+  pub definite : IsDefinite (privates_by (data_counted text reads.whole directives)) k
+  pub roles : ItemsKeepRoles text (data_counted text reads.whole directives) [] k.body
   pub fit : fit_clauses (clauses_counted text reads.whole directives) k ≡ true
   pub ordered : prints_in_order text reads.whole ≡ true
 
 -- the roles of a kernel that has passed
-abbrev pub roles_passed : {text : List ℕ} {k : Kernel} → HasPassed text k → LineRoles
-roles_passed {text} passed = roles_counted text passed.reads.whole passed.directives
+abbrev pub data_passed : {text : List ℕ} {k : Kernel} → HasPassed text k → LineData
+data_passed {text} passed = data_counted text passed.reads.whole passed.directives
 
 -- at each turn of the serial loops round a parallel loop no two of its iterations conflict, and chunks of them, with the roles of what it assigns, leave together what it leaves, without reductions in any order
 pub record AreIndependent (text : List ℕ) (k : Kernel) : Type 0 where
   pub apart : ItemsHave text IsIndependentNest [] k.body
-  pub share : (passed : HasPassed text k) → ItemsHaveBy text (SharesBy k.variables (roles_passed passed)) [] k.body
+  pub share : (passed : HasPassed text k) → ItemsHaveBy text (SharesBy k.variables (data_passed passed)) [] k.body
 
 -- what holds of each accepted text
 pub record IsAccepted (p : Program) : Type 0 where
@@ -83,12 +83,12 @@ pub record AreRegions (text : List ℕ) (k : Kernel) (parts : List RegionPart) :
 -- a kernel has passed, and these are its parallel loops, in the order of the text
 pub record HasLoops (text : List ℕ) (k : Kernel) (loops : List ParallelLoop) : Type 0 where
   pub passed : HasPassed text k
-  pub listed : AreParallelLoops text (roles_passed passed) k loops
+  pub listed : AreParallelLoops text (data_passed passed) k loops
 
 -- so it is of an accepted text
 pub record KeepsLoops (p : Program) (loops : List ParallelLoop) : Type 0 where
   pub accepted : IsAccepted p
-  pub listed : AreParallelLoops p.text (roles_passed accepted.passed) (kernel_of p.kernel) loops
+  pub listed : AreParallelLoops p.text (data_passed accepted.passed) (kernel_of p.kernel) loops
 
 -- and what is kept of it: its parallel loops and the parts of its parallel regions, in the order of the text
 pub record IsKept (p : Program) (loops : List ParallelLoop) (parts : List RegionPart) : Type 0 where

@@ -8,12 +8,15 @@ use Rattle.std.proofs.lemmas.List.{map-append}
 use Rattle.semantics.specs.Tree.{Variable}
 use Rattle.semantics.specs.Directives.Directive as meant
 use Rattle.semantics.specs.Directives.Directive.{Clause}
-use Rattle.semantics.specs.Directives.Clauses.{reduction_of}
+use Rattle.semantics.specs.Directives.Clauses.{reduction_of, inscan_of}
 use Rattle.semantics.specs.Loops.Operator.{ReduceOp}
 use Rattle.semantics.specs.Meaning.Agrees.{is_among}
 use Rattle.semantics.proofs.EraseTokenLaw.{first_of, second_of}
 use Rattle.law_roles.specs.Updates.{operator_of, is_plain}
+use Rattle.law_roles.specs.Sharing.{role_variables}
 use Rattle.flow.specs.Private.{all_but}
+use Rattle.flow.specs.Roles.{LoopData, left_roles}
+use Rattle.flow.proofs.PrivateLemmas.{among_both}
 
 -- ---- all of a list
 
@@ -72,3 +75,29 @@ reduced_names op xs = sym (firsts_of op xs)
 pub reduced_among : (cs : List (Clause Variable)) → flat_map (λ c. map (λ r. r.0) (reduction_of c)) cs ≡ map (λ r. r.0) (flat_map reduction_of cs)
 reduced_among [] = refl
 reduced_among (c ∷ cs) = ap (λ ys. map (λ r. r.0) (reduction_of c) ++ ys) (reduced_among cs) ∙ sym (map-append (λ r. r.0) (reduction_of c) (flat_map reduction_of cs))
+
+-- ---- scans
+
+pub scanned_among : (cs : List (Clause Variable)) → flat_map (λ c. map (λ r. r.0) (inscan_of c)) cs ≡ map (λ r. r.0) (flat_map inscan_of cs)
+scanned_among [] = refl
+scanned_among (c ∷ cs) = ap (λ ys. map (λ r. r.0) (inscan_of c) ++ ys) (scanned_among cs) ∙ sym (map-append (λ r. r.0) (inscan_of c) (flat_map inscan_of cs))
+
+-- the variables with a role, and those that are carried
+pub left_among : (d : LoopData) (x : Variable) → is_among (role_variables (left_roles d)) x ≡ (is_among (role_variables d.roles) x || is_among (map (λ r. r.0) d.carried) x)
+left_among d x =
+    let firsts = d.roles.privates in
+    let lasts = d.roles.lasts in
+    let carried = map (λ r. r.0) d.carried in
+    let reduced = map (λ r. r.0) d.roles.reductions in
+    among_both (firsts ++ (lasts ++ carried)) reduced x
+    ∙ ap (λ b. b || is_among reduced x) (among_both firsts (lasts ++ carried) x ∙ ap (λ b. is_among firsts x || b) (among_both lasts carried x))
+    ∙ exchanged (is_among firsts x) (is_among lasts x) (is_among carried x) (is_among reduced x)
+    ∙ sym (ap (λ b. b || is_among carried x) (among_both (firsts ++ lasts) reduced x ∙ ap (λ b. b || is_among reduced x) (among_both firsts lasts x)))
+  where
+    exchanged : (a b c e : Bool) → ((a || (b || c)) || e) ≡ (((a || b) || e) || c)
+    exchanged true b c e = refl
+    exchanged false true c e = refl
+    exchanged false false true true = refl
+    exchanged false false true false = refl
+    exchanged false false false true = refl
+    exchanged false false false false = refl

@@ -4,7 +4,7 @@ ghost use Rattle.std.specs.Prelude.{◌≡◌, ℕ, Some, IfSome};
 ghost use Rattle.ktree.specs.View.{stmt_of};
 ghost use Rattle.pragma_named.specs.Known.{kept};
 ghost use Rattle.flow.specs.Private.{nest_body_of};
-ghost use Rattle.flow.specs.Roles.{roles_known, KeepsItsRoles};
+ghost use Rattle.flow.specs.Roles.{data_known, KeepsItsRoles};
 ghost use Rattle.flow.specs.Told.{Finds, TellsOfRoles};
 
 use crate::fault::{DataFault, earlier};
@@ -25,9 +25,9 @@ pub(crate) fn nest_fault(
     files: usize,
 ) -> Option<DataFault>
     ensures judged { (n : ℕ) → Some (stmt_of body.now) ≡ nest_body_of n (stmt_of statement.now)
-        → Finds result (KeepsItsRoles (roles_known (kept lines.now) files line) n
+        → Finds result (KeepsItsRoles (data_known (kept lines.now) files line) n
         (stmt_of statement.now)) }
-    ensures cause { IfSome result (λ f. TellsOfRoles f (roles_known (kept lines.now) files line)
+    ensures cause { IfSome result (λ f. TellsOfRoles f (data_known (kept lines.now) files line)
         (stmt_of statement.now) (stmt_of body.now)) }
 {
     let reduced = earlier(

@@ -23,7 +23,7 @@ use Rattle.nest_loop.proofs.Visible.{each_weaker}
 use Rattle.nest_loop.proofs.Heads.{head_of}
 use Rattle.pragma.specs.Parallel.{associated, LineHas}
 use Rattle.nest.specs.Nests.{Has, Have, StaysInside}
-use Rattle.flow.specs.Roles.{LineRoles, privates_by, KeepsItsRoles, KeepsRolesThere, LoopsHaveBy, ItemsHaveBy, LoopsKeepRoles, ItemsKeepRoles}
+use Rattle.flow.specs.Roles.{left_roles, LineData, privates_by, KeepsItsRoles, KeepsRolesThere, LoopsHaveBy, ItemsHaveBy, LoopsKeepRoles, ItemsKeepRoles}
 use Rattle.law_runs.proofs.Going.{known_with_less}
 use Rattle.law_runs.proofs.Growing.{grows, known_below, visible_behind as also_visible, visible_later}
 use Rattle.law_runs.proofs.Points.{rises, IsBelow, allowed, tested_known, branches, and_then}
@@ -93,7 +93,7 @@ left_within a b k e y h = first_of (a y) (b y) (ap (λ (j : DefinitelyAssigned).
 right_within : (a b k : DefinitelyAssigned) → (λ y. a y && b y) ≡ k → IsWithin k b
 right_within a b k e y h = second_of (a y) (b y) (ap (λ (j : DefinitelyAssigned). j y) e ∙ h)
 
-module _ (text : List ℕ) (ds : List Declaration) (R : LineRoles) where
+module _ (text : List ℕ) (ds : List Declaration) (R : LineData) where
   abbrev P : Privates
   P = privates_by R
 
@@ -106,7 +106,7 @@ module _ (text : List ℕ) (ds : List Declaration) (R : LineRoles) where
   -- a parallel loop with the roles of its line
   handed_here : {scope : Scope} {o next next' : ℕ} {ts : List Token} {a : Stmt} → ReadsStmt scope o next ts a next' → length ds ≤ next → Each (IsBelow next) scope → Each IsSmall scope → (F V k k' : Variable → Bool) → Each (IsNamed V) scope → AreBelow F next → AreBelow V next → AreBelow k next → definite P a k ≡ Some k'
       → (box : List Side) → Has (StaysInside ds) box a → Spares F a → (serial : List Loop) (depth m : ℕ) → depth ≡ suc m → (at : ℕ) (number : ℕ) → SharesBy ds R at serial depth a
-      → KeepsItsRoles (R at) number a → IsHanded ds P R F V k (without k' (P at)) (used_roles a (R at)) serial a
+      → KeepsItsRoles (R at) number a → IsHanded ds P R F V k (without k' (P at)) (used_roles a (left_roles (R at))) serial a
   handed_here {scope} {o} {next = next} {next' = next'} {ts = ts} {a = a} r room v small F V k k' sees fixed below known d box has spared serial depth m one at number nest kept =
       record {
         round = nest.round;
@@ -118,7 +118,7 @@ module _ (text : List ℕ) (ds : List Declaration) (R : LineRoles) where
         seen = λ x v. shown x (below x v);
         still = λ x q. let before = without_within (P at) k' x q in let known_there = loop_knows P a loop.loop loop.inside k k' loop.is d x before in (before, known_there, shown x (known x known_there), private x (without_gone (P at) k' x q));
         scalars = λ x t. scalar_assigned ds x box a has (outside_target a x t);
-        reduced = λ x h. reduced x (sym (among_reduced (is_among (targets_outside a)) (R at).reductions x) ∙ h);
+        reduced = λ x h. reduced x (sym (among_reduced (is_among (targets_outside a)) (R at).roles.reductions x) ∙ h);
         free = λ x f. no_outside_target a x (no_target x a (spared x f));
       }
     where
@@ -158,18 +158,18 @@ module _ (text : List ℕ) (ds : List Declaration) (R : LineRoles) where
       shown : (x : Variable) → x < next → visible_behind a x ≡ true
       shown x lt = not_from_false (is_among (declared_in a) x) (undeclared r x lt)
 
-      private : (x : Variable) → is_among (P at) x ≡ false → is_among (used_roles a (R at)).privates x ≡ false
+      private : (x : Variable) → is_among (P at) x ≡ false → is_among (used_roles a (left_roles (R at))).privates x ≡ false
       private x none = among_some (is_among (targets_outside a)) (P at) x ∙ ap (λ b. is_among (targets_outside a) x && b) none ∙ nothing (is_among (targets_outside a) x)
         where
           nothing : (b : Bool) → (b && false) ≡ false
           nothing true = refl
           nothing false = refl
 
-      reduced : (x : Variable) → (is_among (targets_outside a) x && is_among (map (λ r. r.0) (R at).reductions) x) ≡ true → k x ≡ true
+      reduced : (x : Variable) → (is_among (targets_outside a) x && is_among (map (λ r. r.0) (R at).roles.reductions) x) ≡ true → k x ≡ true
       reduced x h =
-          let t = first_of (is_among (targets_outside a) x) (is_among (map (λ r. r.0) (R at).reductions) x) h in
-          let op = reduced_of (R at).reductions x (second_of (is_among (targets_outside a) x) (is_among (map (λ r. r.0) (R at).reductions) x) h) in
-          known_before P (R at).reductions x op.0 op.1 a k k' kept.updates d (outside_target a x t)
+          let t = first_of (is_among (targets_outside a) x) (is_among (map (λ r. r.0) (R at).roles.reductions) x) h in
+          let op = reduced_of (R at).roles.reductions x (second_of (is_among (targets_outside a) x) (is_among (map (λ r. r.0) (R at).roles.reductions) x) h) in
+          known_before P (R at).roles.reductions x op.0 op.1 a k k' kept.updates d (outside_target a x t)
 
   -- what is visible behind a declaration
   also_named : (V : Variable → Bool) (scope : Scope) (name : Name) (next : ℕ) → Each (IsNamed V) scope → Each (IsNamed (also V next)) ((name, AVariable next 0) ∷ scope)

@@ -27,7 +27,7 @@ use Rattle.law_independence.proofs.Links.{one_entered}
 use Rattle.law_independence.proofs.IndependentNests.{body_there}
 use Rattle.law_independence.proofs.Grammar.{decls_small, decls_short, items_read}
 use Rattle.law_private.proofs.More.{more_known}
-use Rattle.flow.specs.Roles.{LineRoles, privates_by, KeepsRolesThere, LoopsHaveBy, ItemsHaveBy, LoopsKeepRoles, ItemsKeepRoles}
+use Rattle.flow.specs.Roles.{LineData, privates_by, KeepsRolesThere, LoopsHaveBy, ItemsHaveBy, LoopsKeepRoles, ItemsKeepRoles}
 use Rattle.law_independence.specs.OrderLaws.{SharesBy, AcceptedLoopsShare}
 use Rattle.law_independence.proofs.Numbering.{IsPlace, place_later, place_behind, place_inside}
 use Rattle.law_independence.proofs.Starts.{StartsNameOthers, AllNameOthers, all_start}
@@ -35,7 +35,7 @@ use Rattle.law_independence.proofs.ReorderedNests.{loop_commutes}
 
 -- ---- the walk
 
-module _ (text : List ℕ) (ds : List Declaration) (short : HaveShort ds) (R : LineRoles) where
+module _ (text : List ℕ) (ds : List Declaration) (short : HaveShort ds) (R : LineData) where
   first_commutes : {scope : Scope} {o next next' : ℕ} {ts : List Token} {items : Items} → ReadsItems scope o next ts items next' → (round : Nesting) (serial : List Loop) (n : ℕ) → AreEntered no_loops serial round
       → IsPlace ds round.box scope next → AllNameOthers items → AllKeep round.box items → (line : ℕ) → ShownFirst round n items → FirstHas (KeepsRolesThere (R line)) serial n items → ItemsAreRead round.box items → Have (StaysInside ds) round.box items
       → FirstHas (SharesBy ds R line) serial n items

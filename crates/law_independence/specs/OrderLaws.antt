@@ -21,7 +21,7 @@ use Rattle.law_roles.specs.Sharing.{assigned_first, role_variables, are_differen
 use Rattle.nest_loop.specs.Constants.{Each, IsSmall}
 use Rattle.nest.specs.Nests.{IsInRange}
 use Rattle.deptest_verdict.specs.Shown.{AreShownLoops}
-use Rattle.flow.specs.Roles.{LineRoles, privates_by, AskedByLine, ItemsHaveBy, ItemsKeepRoles}
+use Rattle.flow.specs.Roles.{LineData, left_roles, privates_by, AskedByLine, ItemsHaveBy, ItemsKeepRoles}
 
 -- at each turn of the serial loops round a nest of so many loops at which the scalars that its body assigns from outside are locals, its iterations leave the same elements in any order
 abbrev pub CommutesAtTurns : List Loop → ℕ → Stmt → Type 0
@@ -112,26 +112,30 @@ TakesAtTurns ds roles serial s =
     → ReadsStmt scope order next tokens s next' → IsTurn serial outer → IsMet ds scope next known serial outer
     → IsSome (definite no_privates s known) → TakesOperands roles.reductions s outer
 
--- a statement is a nest of so many loops, whose iterations leave the same elements in any order and may be run in chunks, with these roles of what it assigns, of which no variable has two
-pub record SharesAsNest (ds : List Declaration) (roles : Roles) (serial : List Loop) (n : ℕ) (s : Stmt) : Type 0 where
-  pub nest : IsSome (nest_of n s)
-  pub round : HaveTurns serial
-  pub steps : HasStepsRead n s
-  pub assigned : (x : Variable) → is_among (targets_outside s) x ≡ is_among (role_variables roles) x
+-- iterations leave the same elements in any order and may be run in chunks, with these roles of what they assign, of which no variable has two
+pub record SharesInChunks (roles : Roles) (serial : List Loop) (n : ℕ) (s : Stmt) : Type 0 where
   pub order : roles.reductions ≡ [] → CommutesAtTurns serial n s
-  pub there : IterateAtTurns serial n s
-  pub leaves : LeavesOthers s
-  pub takes : TakesAtTurns ds roles serial s
   pub chunks : SharesAtTurns roles serial n s
   pub different : are_different (map (λ r. r.0) roles.reductions) ≡ true
   pub apart : list_all (is_plain roles.reductions) (assigned_first roles) ≡ true
 
+-- a statement is a nest of so many loops that assigns of scalars those alone that have these roles; where its iterations carry nothing from one to the next, they may be run in chunks
+pub record SharesAsNest (ds : List Declaration) (carried : List (Variable × ReduceOp)) (roles : Roles) (serial : List Loop) (n : ℕ) (s : Stmt) : Type 0 where
+  pub nest : IsSome (nest_of n s)
+  pub round : HaveTurns serial
+  pub steps : HasStepsRead n s
+  pub assigned : (x : Variable) → is_among (targets_outside s) x ≡ is_among (role_variables roles) x
+  pub there : IterateAtTurns serial n s
+  pub leaves : LeavesOthers s
+  pub takes : TakesAtTurns ds roles serial s
+  pub shares : carried ≡ [] → SharesInChunks roles serial n s
+
 -- so the loop behind each directive line, with the roles that the line gives
-abbrev pub SharesBy : List Declaration → LineRoles → AskedByLine
-SharesBy ds R line serial n s = SharesAsNest ds (used_roles s (R line)) serial n s
+abbrev pub SharesBy : List Declaration → LineData → AskedByLine
+SharesBy ds R line serial n s = SharesAsNest ds (R line).carried (used_roles s (left_roles (R line))) serial n s
 
 -- so each parallel loop of a kernel of the grammar, where no subscript leaves its dimension, no local is read before it is assigned, parallel loops keep the roles of the scalars that they assign, and the test of pairs shows all of them to be independent
 abbrev pub AcceptedLoopsShare : Type 0
 AcceptedLoopsShare =
-    (text : List ℕ) (k : Kernel) (R : LineRoles) → IsTreeOf text k → IsInRange k → IsDefinite (privates_by R) k → ItemsKeepRoles text R [] k.body
+    (text : List ℕ) (k : Kernel) (R : LineData) → IsTreeOf text k → IsInRange k → IsDefinite (privates_by R) k → ItemsKeepRoles text R [] k.body
     → AreShownLoops text k → ItemsHaveBy text (SharesBy k.variables R) [] k.body

@@ -33,7 +33,7 @@ use Rattle.lower_code.specs.declared.term.Laid.{Laid}
 use Rattle.lower_code.specs.Machine.{Fits, machine}
 use Rattle.lower.specs.Lowered.{IsReached}
 use Rattle.lower_run.specs.Walk.{StandFor, Arrives}
-use Rattle.flow.specs.Roles.{LineRoles}
+use Rattle.flow.specs.Roles.{LineData}
 use Rattle.outline.specs.declared.shape.TeamLoop.{TeamLoop}
 use Rattle.outline.specs.Fit.{TeamFits}
 use Rattle.outline.specs.View.{roles_in}
@@ -45,7 +45,7 @@ use Rattle.ompk_run.proofs.Chunks.{cover}
 use Rattle.ompk_run.proofs.Leaving.{keep_numbers}
 use Rattle.ompk_run.proofs.Numbered.{declares}
 
-module _ (layout : List Laid) (mark : ℕ) (s : State) (rs : List ℕ) (ks : List Kept) (stand : StandFor layout mark s rs ks) (R : LineRoles) (serial : List Loop) (l : TeamLoop) (fits : TeamFits layout mark R serial l) where
+module _ (layout : List Laid) (mark : ℕ) (s : State) (rs : List ℕ) (ks : List Kept) (stand : StandFor layout mark s rs ks) (R : LineData) (serial : List Loop) (l : TeamLoop) (fits : TeamFits layout mark R serial l) where
   abbrev roles : Roles
   roles = roles_in R l
 

@@ -3,7 +3,7 @@
 ghost use Rattle.std.specs.Prelude.{◌≡◌, ℕ, ◌+◌, ◌<◌, ◌^◌, List, OnOk, IfErr};
 ghost use Rattle.semantics.specs.Loops.Chunk.{IsSized};
 ghost use Rattle.semantics.specs.Loops.Nest.{Loop};
-ghost use Rattle.flow.specs.Roles.{LineRoles};
+ghost use Rattle.flow.specs.Roles.{LineData};
 ghost use Rattle.schedule.specs.Sched.{kind_of, kind_said};
 ghost use Rattle.outline.specs.Fit.{Fits, ItemFits, AllFit};
 ghost use Rattle.outline.specs.View.{performed, item_performed, items_performed};
@@ -77,12 +77,12 @@ fn run_team_loop<'l, R: Threads + Wait + Sync, G: Gate, S: Sink>(
     sink: &mut S,
 ) -> Result<(), Refusal>
     requires room { S.failed sink.old + 1 < 2 ^ 64 }
-    ensures ran { OnOk result ((layout : List Laid) (mark : ℕ) (R : LineRoles) (serial : List Loop)
+    ensures ran { OnOk result ((layout : List Laid) (mark : ℕ) (R : LineData) (serial : List Loop)
         → Fits layout mark R serial (Team construct.now)
         → Walks layout mark (performed R serial (Team construct.now))
         (stage registers.old.items store.old (S.told sink.old))
         (stage registers.new.items store.new (S.told sink.new))) }
-    ensures beginning { (layout : List Laid) (mark : ℕ) (R : LineRoles) (serial : List Loop)
+    ensures beginning { (layout : List Laid) (mark : ℕ) (R : LineData) (serial : List Loop)
         → Fits layout mark R serial (Team construct.now)
         → Begins layout mark (performed R serial (Team construct.now))
         (stage registers.old.items store.old (S.told sink.old)) (S.told sink.new) }
@@ -117,12 +117,12 @@ fn run_parallel_loop<'l, R: Threads + Wait + Sync, G: Gate, S: Sink>(
     sink: &mut S,
 ) -> Result<(), Refusal>
     requires room { S.failed sink.old + 1 < 2 ^ 64 }
-    ensures ran { OnOk result ((layout : List Laid) (mark : ℕ) (R : LineRoles) (serial : List Loop)
+    ensures ran { OnOk result ((layout : List Laid) (mark : ℕ) (R : LineData) (serial : List Loop)
         → Fits layout mark R serial (Team construct.now)
         → Walks layout mark (performed R serial (Team construct.now))
         (stage registers.old.items store.old (S.told sink.old))
         (stage registers.new.items store.new (S.told sink.new))) }
-    ensures beginning { (layout : List Laid) (mark : ℕ) (R : LineRoles) (serial : List Loop)
+    ensures beginning { (layout : List Laid) (mark : ℕ) (R : LineData) (serial : List Loop)
         → Fits layout mark R serial (Team construct.now)
         → Begins layout mark (performed R serial (Team construct.now))
         (stage registers.old.items store.old (S.told sink.old)) (S.told sink.new) }
@@ -146,11 +146,11 @@ fn team_statement<'l, R: Threads + Wait + Sync, G: Gate, S: Sink>(
     sink: &mut S,
 ) -> Result<(), Refusal>
     requires room { S.failed sink.old + 1 < 2 ^ 64 }
-    ensures ran { OnOk result ((layout : List Laid) (mark : ℕ) (R : LineRoles) (serial : List Loop)
+    ensures ran { OnOk result ((layout : List Laid) (mark : ℕ) (R : LineData) (serial : List Loop)
         → Fits layout mark R serial outline.now → Walks layout mark (performed R serial outline.now)
         (stage registers.old.items store.old (S.told sink.old))
         (stage registers.new.items store.new (S.told sink.new))) }
-    ensures beginning { (layout : List Laid) (mark : ℕ) (R : LineRoles) (serial : List Loop)
+    ensures beginning { (layout : List Laid) (mark : ℕ) (R : LineData) (serial : List Loop)
         → Fits layout mark R serial outline.now → Begins layout mark (performed R serial outline.now)
         (stage registers.old.items store.old (S.told sink.old)) (S.told sink.new) }
     ensures sound { OnOk result (S.failed sink.new ≡ S.failed sink.old) }
@@ -194,12 +194,12 @@ pub(crate) fn team_block<'l, R: Threads + Wait + Sync, G: Gate, S: Sink>(
     sink: &mut S,
 ) -> Result<(), Refusal>
     requires room { S.failed sink.old + 1 < 2 ^ 64 }
-    ensures ran { OnOk result ((layout : List Laid) (mark : ℕ) (R : LineRoles) (serial : List Loop)
+    ensures ran { OnOk result ((layout : List Laid) (mark : ℕ) (R : LineData) (serial : List Loop)
         → AllFit layout mark R serial items.now
         → Walks layout mark (items_performed R serial items.now)
         (stage registers.old.items store.old (S.told sink.old))
         (stage registers.new.items store.new (S.told sink.new))) }
-    ensures beginning { (layout : List Laid) (mark : ℕ) (R : LineRoles) (serial : List Loop)
+    ensures beginning { (layout : List Laid) (mark : ℕ) (R : LineData) (serial : List Loop)
         → AllFit layout mark R serial items.now
         → Begins layout mark (items_performed R serial items.now)
         (stage registers.old.items store.old (S.told sink.old)) (S.told sink.new) }
@@ -223,12 +223,12 @@ fn team_item<'l, R: Threads + Wait + Sync, G: Gate, S: Sink>(
     sink: &mut S,
 ) -> Result<(), Refusal>
     requires room { S.failed sink.old + 1 < 2 ^ 64 }
-    ensures ran { OnOk result ((layout : List Laid) (mark : ℕ) (R : LineRoles) (serial : List Loop)
+    ensures ran { OnOk result ((layout : List Laid) (mark : ℕ) (R : LineData) (serial : List Loop)
         → ItemFits layout mark R serial item.now
         → Walks layout mark (item_performed R serial item.now)
         (stage registers.old.items store.old (S.told sink.old))
         (stage registers.new.items store.new (S.told sink.new))) }
-    ensures beginning { (layout : List Laid) (mark : ℕ) (R : LineRoles) (serial : List Loop)
+    ensures beginning { (layout : List Laid) (mark : ℕ) (R : LineData) (serial : List Loop)
         → ItemFits layout mark R serial item.now
         → Begins layout mark (item_performed R serial item.now)
         (stage registers.old.items store.old (S.told sink.old)) (S.told sink.new) }

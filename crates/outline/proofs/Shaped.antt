@@ -30,7 +30,7 @@ use Rattle.pragma.specs.Clauses.{ReadsLoop}
 use Rattle.pragma.specs.Parallel.{associated, LineHas}
 use Rattle.pragma.specs.Views.{scheduled}
 use Rattle.pragma.proofs.LoopLaw.{read_once}
-use Rattle.flow.specs.Roles.{LineRoles, ItemsHaveBy}
+use Rattle.flow.specs.Roles.{LineData, ItemsHaveBy}
 use Rattle.flow.specs.Parallel.{AreRolesOf}
 use Rattle.flow.specs.declared.environment.LoopRoles.{LoopRoles}
 use Rattle.flow.specs.declared.environment.ParallelLoop.{ParallelLoop}
@@ -122,7 +122,7 @@ module _ (layout : List Laid) (mark : ℕ) (loops : List ParallelLoop) where
   -- ---- a loop for a team
 
   -- the variables with a role are those that the line gives
-  roles_by_line : (roles : LoopRoles) (R : LineRoles) (line : ℕ) (s : Stmt) (ls : LoweredRoles) → AreRolesOf (R line) roles → AreRolesAt layout mark (used_roles s (roles_of roles)) ls → AreRolesAt layout mark (used_roles s (R line)) ls
+  roles_by_line : (roles : LoopRoles) (R : LineData) (line : ℕ) (s : Stmt) (ls : LoweredRoles) → AreRolesOf (R line) roles → AreRolesAt layout mark (used_roles s (roles_of roles)) ls → AreRolesAt layout mark (used_roles s (R line)) ls
   roles_by_line roles R line s ls e at = record {
     reductions = subst (λ rs. AreReduced layout mark (filter (λ r. is_among (targets_outside s) r.0) rs) ls.reductions.items) e.reductions at.reductions;
     lasts = subst (λ xs. StandEach layout mark (filter (is_among (targets_outside s)) xs) ls.lasts.items) e.lasts at.lasts;
@@ -134,7 +134,7 @@ module _ (layout : List Laid) (mark : ℕ) (loops : List ParallelLoop) where
     fits = λ text ds R serial given shares all. team_fits text ds R serial given shares all;
   }
     where
-      team_fits : (text : List ℕ) (ds : List Tree.Declaration) (R : LineRoles) (serial : List Loop) → IsGiven (length layout) mark text R loops serial box → SharesBehind text ds R serial (Some line) s → AreLocals layout mark (declared_in s)
+      team_fits : (text : List ℕ) (ds : List Tree.Declaration) (R : LineData) (serial : List Loop) → IsGiven (length layout) mark text R loops serial box → SharesBehind text ds R serial (Some line) s → AreLocals layout mark (declared_in s)
           → TeamFits layout mark R serial l
       team_fits text ds R serial given (k, c, reads, share) all =
           let own = of_all (IsOfText text R) loops h.parallel given.table h.stands.0 in
@@ -230,7 +230,7 @@ module _ (layout : List Laid) (mark : ℕ) (loops : List ParallelLoop) where
   IsNoStatement (Local l) = Unit {0}
   IsNoStatement (Statement' p s) = ⊥
 
-  plain_performs : (d : Option Place) (item : Item) → IsNoStatement item → (R : LineRoles) (serial : List Loop) (rest : Tree.Items)
+  plain_performs : (d : Option Place) (item : Item) → IsNoStatement item → (R : LineData) (serial : List Loop) (rest : Tree.Items)
       → items_behind R d serial (with_item item rest) ≡ (λ s. then_from s (run_items (with_item item Tree.no_items) s) (items_behind R (line_of item) serial rest))
   plain_performs None (Directive place) h R serial rest = λ i s. sym (nothing_first s (apart_behind R place.line serial rest)) i
   plain_performs (Some line) (Directive place) h R serial rest = λ i s. sym (nothing_first s (apart_behind R place.line serial rest)) i
@@ -248,7 +248,7 @@ module _ (layout : List Laid) (mark : ℕ) (loops : List ParallelLoop) where
     fits = λ text ds R serial given shares all. made.fits text ds R serial given shares (subst (AreLocals layout mark) (append-nil (declared_in (stmt_of s))) all);
   }
     where
-      at : (R : LineRoles) (serial : List Loop) (e : Option Place) → performed R serial inner.value ≡ run_behind R e serial (stmt_of s) → (rest : Tree.Items)
+      at : (R : LineData) (serial : List Loop) (e : Option Place) → performed R serial inner.value ≡ run_behind R e serial (stmt_of s) → (rest : Tree.Items)
           → items_behind R e serial (Tree.stmt (stmt_of s) rest) ≡ (λ t. then_from t (performed R serial inner.value t) (apart_items R serial rest))
       at R serial None is rest = λ i t. then_from t (sym is i t) (apart_items R serial rest)
       at R serial (Some line) is rest = λ i t. then_from t (sym is i t) (apart_items R serial rest)
@@ -283,7 +283,7 @@ module _ (layout : List Laid) (mark : ℕ) (loops : List ParallelLoop) where
   pub all_so_far : (box : List Side) (items : List Item) (n : ℕ) (os : List OutlineItem) (d : Option Place) → length items ≤ n → SoFar box items n os d → AreMade layout mark loops box None items os
   all_so_far box items n os d le so_far = subst (λ l. AreMade layout mark loops box None l os) (take_all n items le) so_far.made
 
-  pub items_perform : (box : List Side) (d : Option Place) (is : List Item) (os : List OutlineItem) → AreMade layout mark loops box d is os → (R : LineRoles) (serial : List Loop) → items_performed R serial os ≡ items_behind R d serial (items_of is)
+  pub items_perform : (box : List Side) (d : Option Place) (is : List Item) (os : List OutlineItem) → AreMade layout mark loops box d is os → (R : LineData) (serial : List Loop) → items_performed R serial os ≡ items_behind R d serial (items_of is)
   items_perform box None [] [] h R serial = refl
   items_perform box (Some line) [] [] h R serial = refl
   items_perform box d [] (o ∷ os) h R serial = absurd h
@@ -292,11 +292,11 @@ module _ (layout : List Laid) (mark : ℕ) (loops : List ParallelLoop) where
       (λ j s. then_from s (item_performed R serial o s) (items_perform box (line_of i) is os h.1 R serial j)) ∙ sym (h.0.performs R serial (items_of is))
 
   -- what may be shared of some items, also of the first where it stands behind a line
-  abbrev ShareFrom : List ℕ → List Tree.Declaration → LineRoles → List Loop → Option Place → Tree.Items → Type 0
+  abbrev ShareFrom : List ℕ → List Tree.Declaration → LineData → List Loop → Option Place → Tree.Items → Type 0
   ShareFrom text ds R serial None items = ItemsHaveBy text (SharesBy ds R) serial items
   ShareFrom text ds R serial (Some line) items = LineHas text (SharesBy ds R line.line) serial line.line items × ItemsHaveBy text (SharesBy ds R) serial items
 
-  split : (text : List ℕ) (ds : List Tree.Declaration) (R : LineRoles) (serial : List Loop) (d : Option Place) (i : Item) (rest : Tree.Items)
+  split : (text : List ℕ) (ds : List Tree.Declaration) (R : LineData) (serial : List Loop) (d : Option Place) (i : Item) (rest : Tree.Items)
       → ShareFrom text ds R serial d (with_item i rest) → ItemShares text ds R serial d i × ShareFrom text ds R serial (line_of i) rest
   split text ds R serial None (Directive place) rest h = (tt, h)
   split text ds R serial None (Local l) rest h = (tt, h)
@@ -312,7 +312,7 @@ module _ (layout : List Laid) (mark : ℕ) (loops : List ParallelLoop) where
       let xs = declared_in (stmt_of s) in
       (subst (AreLocals layout mark) (sym (append-nil xs)) (locals_left layout mark xs (declared_among rest) all), locals_right layout mark xs (declared_among rest) all)
 
-  items_fitted : (box : List Side) (d : Option Place) (is : List Item) (os : List OutlineItem) → AreMade layout mark loops box d is os → (text : List ℕ) (ds : List Tree.Declaration) (R : LineRoles) (serial : List Loop)
+  items_fitted : (box : List Side) (d : Option Place) (is : List Item) (os : List OutlineItem) → AreMade layout mark loops box d is os → (text : List ℕ) (ds : List Tree.Declaration) (R : LineData) (serial : List Loop)
       → IsGiven (length layout) mark text R loops serial box → ShareFrom text ds R serial d (items_of is)
       → AreLocals layout mark (declared_among (items_of is)) → AllFit layout mark R serial os
   items_fitted box d [] [] h text ds R serial given share all = tt
@@ -331,6 +331,6 @@ module _ (layout : List Laid) (mark : ℕ) (loops : List ParallelLoop) where
 
   -- ---- a body
 
-  pub body_fits : (items : List Item) (os : List OutlineItem) → AreMade layout mark loops [] None items os → (text : List ℕ) (ds : List Tree.Declaration) (R : LineRoles) → ArePrivateLocals (length layout) R → AreOfText text R loops
+  pub body_fits : (items : List Item) (os : List OutlineItem) → AreMade layout mark loops [] None items os → (text : List ℕ) (ds : List Tree.Declaration) (R : LineData) → ArePrivateLocals (length layout) R → AreOfText text R loops
       → ItemsHaveBy text (SharesBy ds R) [] (items_of items) → AreLocals layout mark (declared_among (items_of items)) → AllFit layout mark R [] os
   body_fits items os h text ds R privates table share all = items_fitted [] None items os h text ds R [] (record { round = λ x is. absurd cc; table = table; privates = privates }) share all

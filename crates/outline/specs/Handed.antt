@@ -16,7 +16,7 @@ use Rattle.pragma.specs.Parallel.{associated}
 use Rattle.pragma.specs.Views.{scheduled}
 use Rattle.nest.specs.Perfect.{AreRectangular}
 use Rattle.flow_reduction.specs.Reduced.{reduced}
-use Rattle.flow.specs.Roles.{LineRoles}
+use Rattle.flow.specs.Roles.{LineData}
 use Rattle.flow.specs.Parallel.{numbers, AreRolesOf}
 use Rattle.flow.specs.declared.environment.LoopRoles.{LoopRoles}
 use Rattle.flow.specs.declared.environment.ParallelLoop.{ParallelLoop}
@@ -38,12 +38,12 @@ abbrev pub NoneStandsAt : List ParallelLoop → Place → Type 0
 NoneStandsAt loops line = All (λ l. l.line ≡ line → ⊥) loops
 
 -- the directive line of a loop says what is kept of it
-pub record IsOfText (text : List ℕ) (R : LineRoles) (l : ParallelLoop) : Type 0 where
+pub record IsOfText (text : List ℕ) (R : LineData) (l : ParallelLoop) : Type 0 where
   pub reads : ReadsLoop (line_at text l.line.line) (scheduled l.directive) l.directive.collapse
   pub roles : AreRolesOf (R l.line.line) l.roles
 
 -- so it is of each of some loops
-abbrev pub AreOfText : List ℕ → LineRoles → List ParallelLoop → Type 0
+abbrev pub AreOfText : List ℕ → LineData → List ParallelLoop → Type 0
 AreOfText text R loops = All (IsOfText text R) loops
 
 -- the locals among the variables of a box stand in a list
