@@ -17,7 +17,7 @@ use Rattle.pragma_region.specs.Regions.{alone}
 use Rattle.pragma_region.specs.Counted.{counted_in}
 use Rattle.pragma_region.specs.Listed.{regions_of, parts_of, part_said}
 use Rattle.pragma_region.specs.declared.listing.RegionPart.{RegionPart}
-use Rattle.flow.specs.Roles.{LineData, line_roles, privates_by, ItemsHaveBy, ItemsKeepRoles}
+use Rattle.flow.specs.Roles.{LineData, line_data, privates_by, ItemsHaveBy, ItemsKeepRoles}
 use Rattle.flow_clauses.specs.Fitting.{fit_clauses}
 use Rattle.flow_ordered.specs.Ordered.{prints_in_order}
 use Rattle.flow.specs.Parallel.{AreParallelLoops}
@@ -44,7 +44,7 @@ clauses_counted text k ds = counted_in text k (clauses_said k ds)
 
 -- what they say of the scalars that the loop assigns (OpenMP 5.2, 5.4.3, 5.4.5 and 5.5.8)
 abbrev pub data_counted : List ℕ → Kernel → Directives → LineData
-data_counted text k ds line = line_roles (length k.variables) (clauses_counted text k ds line)
+data_counted text k ds line = line_data (length k.variables) (clauses_counted text k ds line)
 
 -- what is known before the dependence test: the tree is one of the text, whose directives are attached to the whole of it; its loops are canonical and never wrap, no subscript leaves its array, each directive line left in it is that of a loop directly behind it that holds no other, with a right nest, that writes no scalar but its own and those with a role, and keeps their roles, and no local is read before it is assigned; the roles are those of the clauses that count for a loop, and these name what they may; parallel loops print in ordered regions alone
 pub record HasPassed (text : List ℕ) (k : Kernel) : Type 0 where

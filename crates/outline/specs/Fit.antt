@@ -1,5 +1,5 @@
 -- Outlines whose code does what their statements do. (C11 6.8)
-use Rattle.std.specs.Prelude.{ℕ, ◌≡◌, ◌≤◌, true, List, [], ◌∷◌, ◌++◌, length, map, Contains, Some}
+use Rattle.std.specs.Prelude.{ℕ, ◌≡◌, ◌≤◌, true, false, List, [], ◌∷◌, ◌++◌, length, map, Contains, Some}
 use Rattle.semantics.specs.Tree
 use Rattle.semantics.specs.Tree.{Variable, Stmt, Declaration}
 use Rattle.semantics.specs.Meaning.Agrees.{is_among, declared_in}
@@ -36,7 +36,7 @@ pub record HeadFits (layout : List Laid) (mark : ℕ) (h : Head) (l : LoweredHea
   pub test : MeansTest layout (cond_of h.test) l.test
   pub step : StepPerforms layout mark h l.step
 
--- a loop for a team is lowered from a nest inside serial loops with what its line says of the scalars that it assigns, the nest's chunks may be run apart, and its code does what the loop does
+-- a loop for a team is lowered from a nest inside serial loops with what its line says of the scalars that it assigns, the nest's chunks may be run apart where it carries nothing, and its code does what the loop does
 pub record TeamFits (layout : List Laid) (mark : ℕ) (R : LineData) (serial : List Loop) (l : TeamLoop) : Type 0 where
   pub loops : List Loop
   pub body : Stmt
@@ -48,7 +48,8 @@ pub record TeamFits (layout : List Laid) (mark : ℕ) (R : LineData) (serial : L
   pub code : Performs layout mark (run (stmt_of l.statement.now)) l.code
   pub privates : (x : Variable) → is_among (roles_in R l).privates x ≡ true → length layout ≤ x
   pub declarations : List Declaration
-  pub shares : SharesAsNest declarations (roles_in R l) serial l.depth (stmt_of l.statement.now)
+  pub carries : l.carries ≡ false → (R l.line).carried ≡ []
+  pub nested : SharesAsNest declarations (R l.line).carried (roles_in R l) serial l.depth (stmt_of l.statement.now)
 
 abbrev mutual
   -- so does all code of an outline inside serial loops

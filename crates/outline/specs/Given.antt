@@ -15,7 +15,7 @@ IsRound mark serial box = (x : Variable) → is_counter box x ≡ true → (x < 
 
 -- private variables of lines are locals: they have numbers behind those of so many file-scope variables (OpenMP 5.2, 5.4.3)
 abbrev pub ArePrivateLocals : ℕ → LineData → Type 0
-ArePrivateLocals files R = (line : ℕ) (x : Variable) → is_among (R line).privates x ≡ true → files ≤ x
+ArePrivateLocals files R = (line : ℕ) (x : Variable) → is_among (R line).roles.privates x ≡ true → files ≤ x
 
 -- the loops round a place, and the table of what the text's directive lines say, over so many file-scope variables
 pub record IsGiven (files mark : ℕ) (text : List ℕ) (R : LineData) (loops : List ParallelLoop) (serial : List Loop) (box : List Side) : Type 0 where

@@ -17,7 +17,7 @@ use Rattle.affine.specs.declared.interval.Side.{Side}
 use Rattle.nest_loop.specs.Loops.{inside}
 use Rattle.pragma.specs.Clauses.{ReadsLoop}
 use Rattle.pragma.specs.Parallel.{associated}
-use Rattle.flow.specs.Roles.{LineData, LoopsHaveBy}
+use Rattle.flow.specs.Roles.{left_roles, LineData, LoopsHaveBy}
 use Rattle.flow.specs.declared.environment.ParallelLoop.{ParallelLoop}
 use Rattle.law_independence.specs.OrderLaws.{SharesBy}
 use Rattle.law_independence.specs.OrderLaws.{used_roles}
@@ -47,7 +47,7 @@ IsInside head box within = (i : Interval) × (within ≡ inside box head.variabl
 -- what a statement does behind such a line or behind none, and what items do
 abbrev pub run_behind : LineData → Option Place → List Loop → Stmt → State → Option Effect
 run_behind R None serial a = apart R serial a
-run_behind R (Some line) serial a = handed (used_roles a (R line.line)) serial a
+run_behind R (Some line) serial a = handed (used_roles a (left_roles (R line.line))) serial a
 
 abbrev pub items_behind : LineData → Option Place → List Loop → Tree.Items → State → Option Effect
 items_behind R None serial items = apart_items R serial items

@@ -8,7 +8,7 @@ use Rattle.semantics.specs.Loops.Nest.{Loop}
 use Rattle.ktree.specs.View.{source_of, cond_of, increment_of, stmt_of, with_item}
 use Rattle.nest.specs.Heads.{head_of}
 use Rattle.semantics.specs.Loops.Piece.{Roles}
-use Rattle.flow.specs.Roles.{LineData}
+use Rattle.flow.specs.Roles.{LineData, left_roles}
 use Rattle.law_independence.specs.OrderLaws.{used_roles}
 use Rattle.law_apart.specs.Apart.{handed}
 use Rattle.outline.specs.declared.shape.Outline.{Outline, Serial, Team, If', For', Block', Held-Outline-If-3, None', Some', Row_of-OutlineItem, end_of-OutlineItem, more_of-OutlineItem}
@@ -17,7 +17,7 @@ use Rattle.outline.specs.declared.shape.OutlineItem.{OutlineItem, Plain, Stateme
 
 -- what a loop's line says of the scalars that it assigns from outside
 abbrev pub roles_in : LineData → TeamLoop → Roles
-roles_in R l = used_roles (stmt_of l.statement.now) (R l.line)
+roles_in R l = used_roles (stmt_of l.statement.now) (left_roles (R l.line))
 
 abbrev mutual
   -- a statement, by what each directive line says
