@@ -66,7 +66,7 @@ module _ (layout : List Laid) (mark : ℕ) (s : State) (rs : List ℕ) (ks : Lis
 
   -- no local with a role is declared in the loop
   free : (x : Variable) → is_among (told_apart roles) x ≡ true → is_among (declared_in loop) x ≡ false
-  free x h = undeclared (is_among (declared_in loop) x) (outside_visible loop x (fits.shares.assigned x ∙ told_role roles x h))
+  free x h = undeclared (is_among (declared_in loop) x) (outside_visible loop x (fits.nested.assigned x ∙ told_role roles x h))
 
   module _ (e : Effect) (ran : run loop s ≡ Some e) (own : List ℕ) (ks' : List Kept) (there : StandFor layout mark (overwritten s e.writes) own ks') where
     abbrev after : State

@@ -76,6 +76,7 @@ fn run_team_loop<'l, R: Threads + Wait + Sync, G: Gate, S: Sink>(
     store: &mut Store,
     sink: &mut S,
 ) -> Result<(), Refusal>
+    requires plain { construct.now.carries ≡ false }
     requires room { S.failed sink.old + 1 < 2 ^ 64 }
     ensures ran { OnOk result ((layout : List Laid) (mark : ℕ) (R : LineData) (serial : List Loop)
         → Fits layout mark R serial (Team construct.now)
@@ -108,7 +109,8 @@ fn run_team_loop<'l, R: Threads + Wait + Sync, G: Gate, S: Sink>(
     Ok(())
 }
 
-// Runs a parallel loop: where there is one worker as any other statement, and else by the team.
+// Runs a parallel loop: where there is one worker, or something is carried from one iteration to the next, as any other statement, and
+// else by the team.
 fn run_parallel_loop<'l, R: Threads + Wait + Sync, G: Gate, S: Sink>(
     construct: &'l TeamLoop<'_>,
     team: &Teaming<'_, '_, '_, 'l, R, G>,
@@ -130,7 +132,7 @@ fn run_parallel_loop<'l, R: Threads + Wait + Sync, G: Gate, S: Sink>(
     ensures refusal { IfErr result (Refuses (S.failed sink.old) (S.failed sink.new)) }
     ensures shape { lengths_of store.new ≡ lengths_of store.old }
 {
-    if team.workers.get() == 1 {
+    if construct.carries || team.workers.get() == 1 {
         return run_by_one(team.alloc, construct, team.gate, registers, store, sink);
     }
     run_team_loop(construct, team, registers, store, sink)
