@@ -15,7 +15,7 @@ use Rattle.ktree.specs.declared.refusal.Refusal.{Refusal}
 use Rattle.pragma_named.specs.Known.{Known, Lines, known_clauses, lines_known}
 use Rattle.pragma_region.specs.Regions.{is_left_out, alone}
 use Rattle.pragma_region.specs.Counted.{counted_in}
-use Rattle.flow.specs.Roles.{LineData, line_roles, data_known, privates_by, ItemsKeepRoles}
+use Rattle.flow.specs.Roles.{LineData, line_data, data_known, privates_by, ItemsKeepRoles}
 use Rattle.flow.specs.Parallel.{AreParallelLoops}
 use Rattle.flow.specs.declared.environment.ParallelLoop.{ParallelLoop}
 use Rattle.flow_clauses.specs.Fitting.{fit_clauses}
@@ -35,7 +35,7 @@ counted_are text k ds before after each is = ap (counted_in text k) (clauses_are
 
 pub roles_are : (text : List ℕ) (k : Kernel) (ds : Directives) (known : Known) → clauses_counted text k ds ≡ lines_known known → data_counted text k ds ≡ data_known known (length k.variables)
 roles_are text k ds known is =
-    let roles : Lines → LineData = λ lines n. line_roles (length k.variables) (lines n) in
+    let roles : Lines → LineData = λ lines n. line_data (length k.variables) (lines n) in
     ap roles is
 
 -- a kernel that is judged has passed
