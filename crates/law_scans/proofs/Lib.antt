@@ -3,6 +3,7 @@ pub mod Steps
 pub mod Walking
 pub mod Phased
 pub mod Kept
+pub mod Inputs
 pub mod Firsts
 pub mod Passed
 pub mod Changing
