@@ -28,16 +28,16 @@ use Rattle.law_roles.proofs.Shared.{Ground, CountsAs, shares}
 
 -- ---- these variables as locals
 
-held_slot : Slot → Option ℕ → Slot
+pub held_slot : Slot → Option ℕ → Slot
 held_slot Outside c = slot_of c
 held_slot Empty c = Empty
 held_slot (Holds n) c = Holds n
 
 module _ (vars : List Variable) (s : State) where
-  abbrev localized : State
+  abbrev pub localized : State
   localized = record { cells = λ x is. cond (is_among vars x) None (s.cells x is); locals = λ x. cond (is_among vars x) (held_slot (s.locals x) (s.cells x [])) (s.locals x) }
 
-  localized_inside : (x : Variable) → is_among vars x ≡ true → is_outside (localized.locals x) ≡ false
+  pub localized_inside : (x : Variable) → is_among vars x ≡ true → is_outside (localized.locals x) ≡ false
   unfolding held_slot
   localized_inside x h = ap (λ b. is_outside (cond b (held_slot (s.locals x) (s.cells x [])) (s.locals x))) h ∙ at (s.locals x) (s.cells x [])
     where
@@ -47,7 +47,7 @@ module _ (vars : List Variable) (s : State) where
       at Empty c = refl
       at (Holds n) c = refl
 
-  localized_moved : ((x : Variable) → is_among vars x ≡ true → IsScalar s x) → Moved vars s localized
+  pub localized_moved : ((x : Variable) → is_among vars x ≡ true → IsScalar s x) → Moved vars s localized
   unfolding held_slot
   localized_moved scalars = record {
     locals = λ x h. sym (ap (λ b. cond b (held_slot (s.locals x) (s.cells x [])) (s.locals x)) h);

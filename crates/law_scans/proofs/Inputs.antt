@@ -39,9 +39,10 @@ module _ (x : Variable) (op : ReduceOp) (ps : List Variable) (front back : Items
   abbrev body : Stmt
   body = Block (joined_items front back)
 
-  -- the phase in front, where the one behind does not assign the scan variable
-  pub front_input : reduces ((x, op) ∷ []) (Block front) ≡ true → AreSteady (λ y. visible_behind body y && not (is_among ps y)) back → IsInput x op ps body (Block front)
-  front_input updates reads = record {
+  -- the phase in front, where the one behind leaves the scan variable as it is
+  pub front_input : reduces ((x, op) ∷ []) (Block front) ≡ true → ((n : ℕ) (s : State) (e : Effect) → run_items back s ≡ Some e → s.locals x ≡ Holds n → (overwritten s e.writes).locals x ≡ Holds n)
+      → IsInput x op ps body (Block front)
+  front_input updates stays = record {
     declared = λ y h. ap (λ ds. is_among ds y) (declared_joined front back) ∙ list_any-append (λ z. z == y) (declared_among front) (declared_among back) ∙ or_left (is_among (declared_among front) y) (is_among (declared_among back) y) h;
     names = names_front front back (visible_behind body) keeps.names;
     steady = steady_front front back (λ y. visible_behind body y && not (is_among (x ∷ ps) y)) keeps.steady;
@@ -51,9 +52,6 @@ module _ (x : Variable) (op : ReduceOp) (ps : List Variable) (front back : Items
     runs = runs;
   }
     where
-      scans_it : (visible_behind body x && not (is_among ps x)) ≡ true
-      scans_it = and_from (visible_behind body x) (not (is_among ps x)) (none x (ap (λ b. b || is_among ps x) (eq-eqb x x refl))) (ap not apart)
-
       seen : visible_behind (Block front) x ≡ true
       seen = ap not (or_parts (is_among (declared_among front) x) (is_among (declared_among back) x) (sym (list_any-append (λ z. z == x) (declared_among front) (declared_among back)) ∙ ap (λ ds. is_among ds x) (sym (declared_joined front back)) ∙ not_true (is_among (declared_in body) x) (none x (ap (λ b. b || is_among ps x) (eq-eqb x x refl))))).0
 
@@ -65,6 +63,6 @@ module _ (x : Variable) (op : ReduceOp) (ps : List Variable) (front back : Items
           let n = number_left x (Block front) q v p.one seen h p.one_is in (
             p.one,
             p.one_is,
-            n.1 ∙ sym (items_keep x n.0 back (λ y. visible_behind body y && not (is_among ps y)) scans_it reads s p.two p.two_is n.1)
+            n.1 ∙ sym (stays n.0 s p.two p.two_is n.1)
                 ∙ sym (ap (λ (t : State). t.locals x) (overwritten-append q p.one.writes p.two.writes)) ∙ ap (λ (g : Effect). (overwritten q g.writes).locals x) p.is,
           )

@@ -3,9 +3,12 @@ pub mod Steps
 pub mod Walking
 pub mod Phased
 pub mod Kept
+pub mod Spared
 pub mod Inputs
 pub mod Firsts
 pub mod Passed
+pub mod Settled
+pub mod Grounded
 pub mod Changing
 pub mod Merging
 pub mod Once

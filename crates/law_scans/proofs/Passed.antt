@@ -1,8 +1,8 @@
 -- Both passes, chunk by chunk.
-use Rattle.std.specs.Prelude.{ℕ, zero, suc, Bool, true, false, ◌≡◌, ◌==◌, ◌<◌, ◌^◌, List, [], ◌∷◌, ◌++◌, length, map, flat_map, Option, Some, None, slice_get}
+use Rattle.std.specs.Prelude.{ℕ, zero, suc, Bool, true, false, not, ◌≡◌, ◌==◌, ◌&&◌, ◌||◌, ◌<◌, ◌^◌, List, [], ◌∷◌, ◌++◌, length, map, flat_map, Option, Some, None, slice_get}
 use Rattle.std.specs.List.{AllByRecursion as Each}
 use Rattle.std.proofs.Common.{refl, sym, ap, ◌∙◌, subst, cond, inl, inr, arith}
-use Rattle.std.proofs.lemmas.Bool.{or_parts, eq-eqb}
+use Rattle.std.proofs.lemmas.Bool.{or_parts, eq-eqb, and_from}
 use Rattle.std.proofs.lemmas.List.{append-nil}
 use Rattle.std.proofs.lemmas.Option.{same_Some}
 use Rattle.semantics.specs.Tree.{Variable, Stmt, Items, Block}
@@ -31,6 +31,7 @@ use Rattle.law_roles.proofs.Partials.{Grown, in_place_counts}
 use Rattle.law_scans.specs.Phases.{joined_items}
 use Rattle.law_scans.specs.Iterations.{StandsAt}
 use Rattle.law_scans.specs.Passes.{IsInclusive, walks_from, InclusiveScansPassTwice}
+use Rattle.law_scans.proofs.Kept.{items_keep}
 use Rattle.law_scans.proofs.Steps.{IsSet, TouchedBy}
 use Rattle.law_scans.proofs.Changing.{Kin, kin_cells}
 use Rattle.law_scans.proofs.Merging.{changing}
@@ -52,6 +53,20 @@ pub record Scans (x : Variable) (op : ReduceOp) (ps : List Variable) (loops : Li
   pub first : AssignsFirst ps body
   pub not_of_loops : is_among (variables_of loops) x ≡ false
   pub part : IsInput x op ps body input
+
+-- so it does with another number in the scan variable
+pub numbered : (x : Variable) (ps : List Variable) (outer : State) (v : ℕ) → StandsAt x ps outer v outer → (w : ℕ) → StandsAt x ps outer w (with_local outer x (Holds w))
+numbered x ps outer v stands w = record {
+  locals = λ y h. ap (λ b. cond b (Holds w) (outer.locals y)) (apart_back x y (or_parts (x == y) (is_among ps y) h).0);
+  scalars = λ y h. refl;
+  elements = λ y i is. refl;
+  inside = λ y h. at (outer.locals y) (y == x) (stands.inside y h);
+  value = ap (λ b. look_in (cond b (Holds w) (outer.locals x)) (with_local outer x (Holds w)) x []) (eq-eqb x x refl);
+}
+  where
+    at : (k : Slot) (b : Bool) → is_outside k ≡ false → is_outside (cond b (Holds w) k) ≡ false
+    at k true h = refl
+    at k false h = h
 
 module _ (x : Variable) (op : ReduceOp) (ps : List Variable) (loops : List Loop) (body input : Stmt) (outer zero_state : State) (v : ℕ) (k : Scans x op ps loops body input)
     (stands : StandsAt x ps outer v outer) (fits : v < 2 ^ 64) (zero_is : StandsAt x ps outer (begins_with op v) zero_state) where
@@ -90,17 +105,7 @@ module _ (x : Variable) (op : ReduceOp) (ps : List Variable) (loops : List Loop)
   with_number w = with_local outer x (Holds w)
 
   pub number_stands : (w : ℕ) → StandsAt x ps outer w (with_number w)
-  number_stands w = record {
-    locals = λ y h. ap (λ b. cond b (Holds w) (outer.locals y)) (apart_back x y (or_parts (x == y) (is_among ps y) h).0);
-    scalars = λ y h. refl;
-    elements = λ y i is. refl;
-    inside = λ y h. at (outer.locals y) (y == x) (stands.inside y h);
-    value = ap (λ b. look_in (cond b (Holds w) (outer.locals x)) (with_number w) x []) (eq-eqb x x refl);
-  }
-    where
-      at : (k : Slot) (b : Bool) → is_outside k ≡ false → is_outside (cond b (Holds w) k) ≡ false
-      at k true h = refl
-      at k false h = h
+  number_stands w = numbered x ps outer v stands w
 
   pub kin_stands : (w : ℕ) (t : State) → StandsAt x ps outer w t → Kin t outer
   kin_stands w t s y = at (is_among (x ∷ ps) y) refl
@@ -213,7 +218,9 @@ pass_twice x op ps loops front back outer zero_state chunks v e is stands fits z
       apart = g.apart;
       first = g.first;
       not_of_loops = g.not_of_loops;
-      part = front_input x op ps front back g.keeps g.declares_none g.first g.apart is.updates is.reads;
+      part = front_input x op ps front back g.keeps g.declares_none g.first g.apart is.updates
+          (λ n s e ran h. items_keep x n back (λ y. visible_behind body y && not (is_among ps y))
+          (and_from (visible_behind body x) (not (is_among ps x)) (g.declares_none x (ap (λ b. b || is_among ps x) (eq-eqb x x refl))) (ap not g.apart)) is.reads s e ran h);
     } in
     let us = flat_map (λ (us : List Vector). us) chunks in
     let set = set_start x ps body k.keeps k.declares_none k.first k.apart loops outer k.not_of_loops us outer v stands in
