@@ -80,7 +80,7 @@ each_slice P [] h k x is = absurd (none-some x is)
 each_slice P (y ∷ xs) h zero x is = subst P (same_Some y x is) h.0
 each_slice P (y ∷ xs) h (suc k) x is = each_slice P xs h.1 k x is
 
-each_filled : (P : Effect → Type 0) (chunks : List (List Vector)) (fs : List Effect) → Each P fs → (f : Effect) → last_filled chunks fs ≡ Some f → P f
+pub each_filled : (P : Effect → Type 0) (chunks : List (List Vector)) (fs : List Effect) → Each P fs → (f : Effect) → last_filled chunks fs ≡ Some f → P f
 each_filled P [] fs h f is = absurd (none-some f is)
 each_filled P (us ∷ chunks) [] h f is = absurd (none-some f is)
 each_filled P (us ∷ chunks) (g ∷ fs) h f is = at us (last_filled chunks fs) refl is (λ k. each_filled P chunks fs h.1 f k)

@@ -9,6 +9,7 @@ pub mod Firsts
 pub mod Passed
 pub mod Settled
 pub mod Grounded
+pub mod Carried
 pub mod Changing
 pub mod Merging
 pub mod Once
