@@ -64,6 +64,16 @@ pub record Ground (privates lasts : List Variable) (x : Variable) (op : ReduceOp
   pub whole : flat_map (λ vs. vs) chunks ≡ us
   pub ran : run s o ≡ Some e
 
+-- the scan variable may stand first
+pub same_variables : (privates lasts : List Variable) (x : Variable) (op : ReduceOp) (y : Variable) → is_among (role_variables (roles_with privates lasts ((x, op) ∷ []))) y ≡ is_among (x ∷ (privates ++ lasts)) y
+same_variables privates lasts x op y = list_any-append (λ z. z == y) (privates ++ lasts) (x ∷ []) ∙ turned (is_among (privates ++ lasts) y) (x == y)
+  where
+    turned : (a b : Bool) → (a || (b || false)) ≡ (b || a)
+    turned true true = refl
+    turned true false = refl
+    turned false true = refl
+    turned false false = refl
+
 -- an assignment to a local
 pub given_local : (x : Variable) (o : State) (w : ℕ) → is_outside (o.locals x) ≡ false → given o x (Some w) ≡ with_local o x (Holds w)
 given_local x o w h = at (o.locals x) h
@@ -105,13 +115,7 @@ module _ (privates lasts : List Variable) (x : Variable) (op : ReduceOp) (n : �
   -- ---- the variables
 
   among_same : (y : Variable) → is_among (role_variables roles) y ≡ is_among (x ∷ ps) y
-  among_same y = list_any-append (λ z. z == y) ps (x ∷ []) ∙ turned (is_among ps y) (x == y)
-    where
-      turned : (a b : Bool) → (a || (b || false)) ≡ (b || a)
-      turned true true = refl
-      turned true false = refl
-      turned false true = refl
-      turned false false = refl
+  among_same y = same_variables privates lasts x op y
 
   mine : is_among (x ∷ ps) x ≡ true
   mine = or_left (x == x) (is_among ps x) (eq-eqb x x refl)

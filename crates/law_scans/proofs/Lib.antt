@@ -10,6 +10,7 @@ pub mod Passed
 pub mod Settled
 pub mod Grounded
 pub mod Carried
+pub mod Scanning
 pub mod Changing
 pub mod Merging
 pub mod Once
