@@ -183,7 +183,7 @@ module _ (privates lasts : List Variable) (x : Variable) (op : ReduceOp) (n : �
   stays m t f ran h =
       let k = keeps privates lasts x op true n s loops front back outer chunks e is in
       spared_local x f.writes t
-      (items_spare true x back (λ y. visible_behind (whole_of front back) y && not (is_among (x ∷ (privates ++ lasts)) y)) (steady_back front back (λ y. visible_behind (whole_of front back) y && not (is_among (x ∷ (privates ++ lasts)) y)) k.steady)
+      (items_spare true true refl x back (λ y. visible_behind (whole_of front back) y && not (is_among (x ∷ (privates ++ lasts)) y)) (steady_back front back (λ y. visible_behind (whole_of front back) y && not (is_among (x ∷ (privates ++ lasts)) y)) k.steady)
       (only_read privates lasts x op true n s loops front back outer chunks e is) (declared_apart privates lasts x op true n s loops front back outer chunks e is).1 t f ran)
       ∙ h
 
