@@ -4,6 +4,7 @@ pub mod Walking
 pub mod Phased
 pub mod Kept
 pub mod Spared
+pub mod Reading
 pub mod Inputs
 pub mod Firsts
 pub mod Passed
