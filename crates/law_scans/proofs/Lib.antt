@@ -5,6 +5,7 @@ pub mod Phased
 pub mod Kept
 pub mod Spared
 pub mod Reading
+pub mod Determined
 pub mod Inputs
 pub mod Firsts
 pub mod Passed
