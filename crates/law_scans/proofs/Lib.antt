@@ -6,6 +6,7 @@ pub mod Kept
 pub mod Spared
 pub mod Reading
 pub mod Determined
+pub mod Exclusive
 pub mod Inputs
 pub mod Firsts
 pub mod Passed
