@@ -34,6 +34,7 @@ use Rattle.law_scans.specs.Scanning.{whole_of, IsScanned, ScansFrom, TakesInputs
 use Rattle.law_scans.proofs.Phased.{declared_joined, steady_back}
 use Rattle.law_scans.proofs.Spared.{items_spare, spared_local}
 use Rattle.law_scans.proofs.Inputs.{IsInput, front_input}
+use Rattle.law_scans.proofs.Exclusive.{back_input}
 use Rattle.law_scans.proofs.Passed.{Scans}
 use Rattle.law_scans.proofs.Grounded.{Ground, same_variables, scans_from}
 use Rattle.law_scans.proofs.Carried.{scalar_object, carried}
@@ -110,6 +111,9 @@ module _ (privates lasts : List Variable) (x : Variable) (op : ReduceOp) (inclus
   only_read =
       not_true (is_among (written_among (scan_of inclusive front back)) x)
       (second_of updated untouched (first_of (updated && untouched) (spares x front back) (first_of (updated && untouched && spares x front back) (spares x back front) is.keeps.phases)))
+
+  spared : spares x front back ≡ true
+  spared = second_of (updated && untouched) (spares x front back) (first_of (updated && untouched && spares x front back) (spares x back front) is.keeps.phases)
 
   declared_apart : (is_among (declared_among front) x ≡ false) × (is_among (declared_among back) x ≡ false)
   declared_apart =
@@ -192,13 +196,27 @@ module _ (privates lasts : List Variable) (x : Variable) (op : ReduceOp) (n : �
       front_input x op (privates ++ lasts) front back (keeps privates lasts x op true n s loops front back outer chunks e is) (none privates lasts x op true n s loops front back outer chunks e is)
       (first privates lasts x op true n s loops front back outer chunks e is) is.keeps.apart (updates privates lasts x op true n s loops front back outer chunks e is) stays
 
+-- ---- the input phase behind
+
+module _ (privates lasts : List Variable) (x : Variable) (op : ReduceOp) (n : ℕ) (s : Stmt) (loops : List Loop) (front back : Items) (outer : State) (chunks : List (List Vector)) (e : Effect)
+    (is : IsScanned (roles_with privates lasts ((x, op) ∷ [])) x op false n s loops front back outer chunks e) where
+  pub exclusive_part : IsInput x op (privates ++ lasts) (whole_of front back) (law.first_of false front back)
+  exclusive_part =
+      back_input x op (privates ++ lasts) front back (keeps privates lasts x op false n s loops front back outer chunks e is) (none privates lasts x op false n s loops front back outer chunks e is)
+      (first privates lasts x op false n s loops front back outer chunks e is) (only_read privates lasts x op false n s loops front back outer chunks e is)
+      (spared privates lasts x op false n s loops front back outer chunks e is) (updates privates lasts x op false n s loops front back outer chunks e is)
+
 -- no variable of these roles is firstprivate or conditional, and one is reduced
 same_roles : (roles : Roles) (x : Variable) (op : ReduceOp) → roles.firsts ≡ [] → roles.conditionals ≡ [] → roles.reductions ≡ (x, op) ∷ [] → roles_with roles.privates roles.lasts ((x, op) ∷ []) ≡ roles
 same_roles roles x op firsts conditionals only =
     λ i. record { privates = roles.privates; firsts = sym firsts i; lasts = roles.lasts; conditionals = sym conditionals i; reductions = sym only i }
 
-pub inclusive_join : law.InclusiveChunksJoin
-inclusive_join roles x op n s loops front back outer chunks e is =
-    subst (λ r. IsScanned r x op true n s loops front back outer chunks e → ScansFrom r x op s loops (Block front) (whole_of front back) chunks outer e)
-    (same_roles roles x op is.keeps.no_firsts is.keeps.no_conditionals is.keeps.only)
-    (λ scanned. by_part roles.privates roles.lasts x op true n s loops front back outer chunks e scanned (inclusive_part roles.privates roles.lasts x op n s loops front back outer chunks e scanned)) is
+pub join : law.ScanChunksJoin
+join roles x op inclusive n s loops front back outer chunks e is =
+    subst (λ r. IsScanned r x op inclusive n s loops front back outer chunks e → ScansFrom r x op s loops (law.first_of inclusive front back) (whole_of front back) chunks outer e)
+    (same_roles roles x op is.keeps.no_firsts is.keeps.no_conditionals is.keeps.only) (by_phases inclusive) is
+  where
+    by_phases : (inclusive : Bool) → IsScanned (roles_with roles.privates roles.lasts ((x, op) ∷ [])) x op inclusive n s loops front back outer chunks e
+        → ScansFrom (roles_with roles.privates roles.lasts ((x, op) ∷ [])) x op s loops (law.first_of inclusive front back) (whole_of front back) chunks outer e
+    by_phases true scanned = by_part roles.privates roles.lasts x op true n s loops front back outer chunks e scanned (inclusive_part roles.privates roles.lasts x op n s loops front back outer chunks e scanned)
+    by_phases false scanned = by_part roles.privates roles.lasts x op false n s loops front back outer chunks e scanned (exclusive_part roles.privates roles.lasts x op n s loops front back outer chunks e scanned)

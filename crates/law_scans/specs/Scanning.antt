@@ -101,10 +101,3 @@ ScanChunksJoin =
     (roles : Roles) (x : Variable) (op : ReduceOp) (inclusive : Bool) (n : ℕ) (s : Stmt) (loops : List Loop) (front back : Items) (outer : State) (chunks : List (List Vector)) (e : Effect)
     → IsScanned roles x op inclusive n s loops front back outer chunks e
     → ScansFrom roles x op s loops (first_of inclusive front back) (whole_of front back) chunks outer e
-
--- with the input phase in front
-abbrev pub InclusiveChunksJoin : Type 0
-InclusiveChunksJoin =
-    (roles : Roles) (x : Variable) (op : ReduceOp) (n : ℕ) (s : Stmt) (loops : List Loop) (front back : Items) (outer : State) (chunks : List (List Vector)) (e : Effect)
-    → IsScanned roles x op true n s loops front back outer chunks e
-    → ScansFrom roles x op s loops (first_of true front back) (whole_of front back) chunks outer e
