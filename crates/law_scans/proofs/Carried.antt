@@ -24,7 +24,8 @@ use Rattle.law_roles.proofs.Starts.{roles_with}
 use Rattle.law_starts.specs.Begun.{begun}
 use Rattle.law_starts.proofs.Beginning.{given_only}
 use Rattle.law_scans.specs.Passes.{walks_from}
-use Rattle.law_scans.specs.Scanning.{scan_partials, starts_of, ScansFrom}
+use Rattle.law_scans.specs.Scanning.{scan_partials, scan_starts, ScansFrom}
+use Rattle.law_scans.proofs.Beginning.{starts_of, starts_are}
 use Rattle.law_scans.proofs.Once.{each_slice}
 use Rattle.law_scans.proofs.Steps.{same_slot}
 
@@ -152,7 +153,7 @@ module _ (privates lasts : List Variable) (x : Variable) (op : ReduceOp) (s : St
       tail k = cc
 
   seconds : Seconds 0 chunks inner.seconds
-  seconds = seconds_of 0 chunks inner.seconds inner.second_pass
+  seconds = seconds_of 0 chunks inner.seconds (ap (λ ts. walks_from loops body ts chunks) (starts_are x op o P chunks) ∙ inner.second_pass)
 
   -- ---- what is left
 
@@ -191,7 +192,9 @@ module _ (privates lasts : List Variable) (x : Variable) (op : ReduceOp) (s : St
     firsts = inner.firsts;
     first_pass = firsts.each;
     seconds = inner.seconds;
-    second_pass = ap (λ ps. walks_from loops body (starts_of x op outer ps 0 chunks) chunks) partials_are ∙ seconds.each;
+    second_pass =
+        ap (λ ps. walks_from loops body (scan_starts x op outer ps (length chunks)) chunks) partials_are
+        ∙ ap (λ ts. walks_from loops body ts chunks) (sym (starts_are x op outer P chunks)) ∙ seconds.each;
     merge = λ after merges y is h. inner.merge after (λ z js k. merges_on after z js k (merges z js k)) y is h ∙ sym (left.cells y is h);
     value = seen_left x ∙ inner.value ∙ (λ i. start_of op (sym seen i) (sym partials_are i) (length chunks));
     lasts = λ y f h filled. seen_left y ∙ inner.lasts y f h filled ∙ last_same y f h filled;

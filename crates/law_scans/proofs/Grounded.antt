@@ -38,7 +38,8 @@ use Rattle.law_roles.proofs.Shared.{none_stays, look_inside}
 use Rattle.law_starts.specs.Begun.{begun}
 use Rattle.law_scans.specs.Iterations.{StandsAt}
 use Rattle.law_scans.specs.Passes.{walks_from}
-use Rattle.law_scans.specs.Scanning.{scan_partials, starts_of, ScansFrom}
+use Rattle.law_scans.specs.Scanning.{scan_partials, ScansFrom}
+use Rattle.law_scans.proofs.Beginning.{starts_of, starts_are}
 use Rattle.law_scans.proofs.Walking.{AllApart, all_apart, Walked, walked_all, set_start}
 use Rattle.law_scans.proofs.Firsts.{all_told, walk_tells, ready1}
 use Rattle.law_scans.proofs.Merging.{changing}
@@ -280,7 +281,7 @@ module _ (privates lasts : List Variable) (x : Variable) (op : ReduceOp) (n : �
     firsts = p.firsts;
     first_pass = p.first_pass;
     seconds = p.seconds;
-    second_pass = second_pass;
+    second_pass = ap (λ ts. walks_from loops body ts chunks) (sym (starts_are x op o partials chunks)) ∙ second_pass;
     merge = λ after merges y is h. merged after y is h (merges y is h) ∙ sym (sequence.cells y is);
     value = seen_same x (g.declares x mine) ∙ p.value ∙ ap (λ before. start_of op before partials (length chunks)) (sym g.number.1);
     lasts = lasts_are;

@@ -11,6 +11,7 @@ pub mod Inputs
 pub mod Firsts
 pub mod Passed
 pub mod Settled
+pub mod Beginning
 pub mod Grounded
 pub mod Carried
 pub mod Scanning

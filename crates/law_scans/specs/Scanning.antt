@@ -1,9 +1,10 @@
 -- Chunks of a scan loop, in two passes, put together. (OpenMP 5.2, 5.4.3, 5.4.5, 5.6 and 11.5.3)
-use Rattle.std.specs.Prelude.{ℕ, suc, Bool, true, false, ◌≡◌, ◌≢◌, ◌⊎◌, List, [], ◌∷◌, length, map, flat_map, Option, Some, Contains, IsSome}
+use Rattle.std.specs.Prelude.{ℕ, Bool, true, false, ◌≡◌, ◌≢◌, ◌⊎◌, List, [], ◌∷◌, length, map, flat_map, Option, Some, Contains, IsSome}
 use Rattle.std.specs.List.{AllPairs}
 use Rattle.semantics.specs.Tree.{Variable, Stmt, Block, Items}
 use Rattle.semantics.specs.Meaning.State.{State, overwritten, look}
 use Rattle.semantics.specs.Meaning.Runs.{Effect, run}
+use Rattle.semantics.specs.Meaning.Places.{below}
 use Rattle.semantics.specs.Meaning.Agrees.{is_among, visible_behind}
 use Rattle.semantics.specs.Loops.Nest.{Loop, Vector, nest_of, iterations}
 use Rattle.semantics.specs.Loops.Access.{Conflict}
@@ -71,17 +72,16 @@ pub record IsScanned (roles : Roles) (x : Variable) (op : ReduceOp) (inclusive :
 abbrev pub scan_partials : Roles → Variable → State → List Effect → List (Option ℕ)
 scan_partials roles x outer firsts = map (λ f. changed_from (begun roles outer) f x) firsts
 
--- where the chunks of the second pass begin, from number c on: as before the loop, with the scan variable at the chunk's start
-abbrev pub starts_of : Variable → ReduceOp → State → List (Option ℕ) → ℕ → List (List Vector) → List State
-starts_of x op outer partials c [] = []
-starts_of x op outer partials c (us ∷ chunks) = given outer x (start_of op (look outer x []) partials c) ∷ starts_of x op outer partials (suc c) chunks
+-- where so many chunks of the second pass begin: as before the loop, each with the scan variable at its start
+abbrev pub scan_starts : Variable → ReduceOp → State → List (Option ℕ) → ℕ → List State
+scan_starts x op outer partials count = map (λ c. given outer x (start_of op (look outer x []) partials c)) (below count)
 
 -- both passes have a run for each chunk; what the chunks of the second leave, put together, is what the nest leaves, and the scan variable holds the start of one chunk more; the nest leaves what is visible round it as it was, but for variables with a role, and prints what the chunks of the second print, one after another in their order (OpenMP 5.2, 5.6 and 15.10.2)
 pub record ScansFrom (roles : Roles) (x : Variable) (op : ReduceOp) (s : Stmt) (loops : List Loop) (first whole : Stmt) (chunks : List (List Vector)) (outer : State) (e : Effect) : Type 0 where
   pub firsts : List Effect
   pub first_pass : map (λ us. walk loops first us (begun roles outer)) chunks ≡ map Some firsts
   pub seconds : List Effect
-  pub second_pass : walks_from loops whole (starts_of x op outer (scan_partials roles x outer firsts) 0 chunks) chunks ≡ map Some seconds
+  pub second_pass : walks_from loops whole (scan_starts x op outer (scan_partials roles x outer firsts) (length chunks)) chunks ≡ map Some seconds
   pub merge : (after : Cells)
       → ((y : Variable) (is : List ℕ) → is_among (role_variables roles) y ≡ false → MergesAt outer seconds after y is)
       → (y : Variable) (is : List ℕ) → is_among (role_variables roles) y ≡ false → after y is ≡ left_by outer e y is
