@@ -28,16 +28,16 @@ use Rattle.law_roles.proofs.Shared.{Ground, CountsAs, shares}
 
 -- ---- these variables as locals
 
-held_slot : Slot → Option ℕ → Slot
+pub held_slot : Slot → Option ℕ → Slot
 held_slot Outside c = slot_of c
 held_slot Empty c = Empty
 held_slot (Holds n) c = Holds n
 
 module _ (vars : List Variable) (s : State) where
-  abbrev localized : State
+  abbrev pub localized : State
   localized = record { cells = λ x is. cond (is_among vars x) None (s.cells x is); locals = λ x. cond (is_among vars x) (held_slot (s.locals x) (s.cells x [])) (s.locals x) }
 
-  localized_inside : (x : Variable) → is_among vars x ≡ true → is_outside (localized.locals x) ≡ false
+  pub localized_inside : (x : Variable) → is_among vars x ≡ true → is_outside (localized.locals x) ≡ false
   unfolding held_slot
   localized_inside x h = ap (λ b. is_outside (cond b (held_slot (s.locals x) (s.cells x [])) (s.locals x))) h ∙ at (s.locals x) (s.cells x [])
     where
@@ -47,7 +47,7 @@ module _ (vars : List Variable) (s : State) where
       at Empty c = refl
       at (Holds n) c = refl
 
-  localized_moved : ((x : Variable) → is_among vars x ≡ true → IsScalar s x) → Moved vars s localized
+  pub localized_moved : ((x : Variable) → is_among vars x ≡ true → IsScalar s x) → Moved vars s localized
   unfolding held_slot
   localized_moved scalars = record {
     locals = λ x h. sym (ap (λ b. cond b (held_slot (s.locals x) (s.cells x [])) (s.locals x)) h);
@@ -80,7 +80,7 @@ each_slice P [] h k x is = absurd (none-some x is)
 each_slice P (y ∷ xs) h zero x is = subst P (same_Some y x is) h.0
 each_slice P (y ∷ xs) h (suc k) x is = each_slice P xs h.1 k x is
 
-each_filled : (P : Effect → Type 0) (chunks : List (List Vector)) (fs : List Effect) → Each P fs → (f : Effect) → last_filled chunks fs ≡ Some f → P f
+pub each_filled : (P : Effect → Type 0) (chunks : List (List Vector)) (fs : List Effect) → Each P fs → (f : Effect) → last_filled chunks fs ≡ Some f → P f
 each_filled P [] fs h f is = absurd (none-some f is)
 each_filled P (us ∷ chunks) [] h f is = absurd (none-some f is)
 each_filled P (us ∷ chunks) (g ∷ fs) h f is = at us (last_filled chunks fs) refl is (λ k. each_filled P chunks fs h.1 f k)

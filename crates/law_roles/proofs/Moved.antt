@@ -176,7 +176,7 @@ module _ (vars : List Variable) where
         moved_write x (written s (Declared x v)) (written t (Declared x v)) (only_declared x v s) (only_declared x v t) (λ h. same) (λ is h. m.cells x is h)
         (λ h. inl (record { same = same; inside = ap is_outside (local_same t x (slot_of v)) ∙ slot_inside v }))
 
-    moved_assigned : (x : Variable) (is : List ℕ) (n : ℕ) → is_object s x is ≡ true → Moved (written s (Assigned x is n)) (written t (Assigned x is n))
+    pub moved_assigned : (x : Variable) (is : List ℕ) (n : ℕ) → is_object s x is ≡ true → Moved (written s (Assigned x is n)) (written t (Assigned x is n))
     moved_assigned x is n there =
         moved_write x (written s (Assigned x is n)) (written t (Assigned x is n)) (only_assigned x is n s) (only_assigned x is n t)
         (λ h. same_slot (s.locals x) (t.locals x) (m.locals x h)) (λ js h. same_cell js h (s.locals x) (t.locals x) (m.locals x h)) (λ h. own (m.theirs x h))

@@ -48,7 +48,7 @@ use Rattle.law_roles.proofs.Chunked.{IsReduced, nest_reduces, nest_variables, al
 -- ---- small facts
 
 -- an object that is not there does not come to be
-none_stays : (x : Variable) (is : List ℕ) (ws : List Write) (s : State) → s.cells x is ≡ None → (overwritten s ws).cells x is ≡ None
+pub none_stays : (x : Variable) (is : List ℕ) (ws : List Write) (s : State) → s.cells x is ≡ None → (overwritten s ws).cells x is ≡ None
 none_stays x is [] s h = h
 none_stays x is (Declared y v ∷ ws) s h = none_stays x is ws (written s (Declared y v)) h
 none_stays x is (Assigned y js n ∷ ws) s h = none_stays x is ws (written s (Assigned y js n)) (at (s.locals y))
@@ -63,7 +63,7 @@ none_stays x is (Assigned y js n ∷ ws) s h = none_stays x is ws (written s (As
     at (Holds m) = h
 
 -- a local is seen by what it holds alone
-look_inside : (x : Variable) (s t : State) → s.locals x ≡ t.locals x → is_outside (s.locals x) ≡ false → look s x [] ≡ look t x []
+pub look_inside : (x : Variable) (s t : State) → s.locals x ≡ t.locals x → is_outside (s.locals x) ≡ false → look s x [] ≡ look t x []
 look_inside x s t same up = at (s.locals x) up ∙ ap (λ l. look_in l t x []) same
   where
     at : (l : Slot) → is_outside l ≡ false → look_in l s x [] ≡ look_in l t x []

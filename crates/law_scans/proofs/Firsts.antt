@@ -2,6 +2,7 @@
 use Rattle.std.specs.Prelude.{ℕ, zero, Bool, true, false, not, ◌≡◌, ◌==◌, ◌&&◌, ◌||◌, ◌⊎◌, List, [], ◌∷◌, ◌++◌, length, Option, Some, None, IsSome, Contains, is_none}
 use Rattle.std.specs.List.{AllByRecursion as Each}
 use Rattle.std.proofs.Common.{refl, sym, ap, ◌∙◌, subst, cond, inl, inr}
+use Rattle.std.proofs.Math.Path.{fun_ext}
 use Rattle.std.proofs.lemmas.Bool.{true≢false, and_from, eqb-true, eq-eqb, or_parts, or_cases, or_right}
 use Rattle.std.proofs.lemmas.List.{append-nil}
 use Rattle.std.proofs.lemmas.List.Folds.{list_any-append}
@@ -33,7 +34,7 @@ use Rattle.law_roles.proofs.Chunked.{each_at}
 use Rattle.law_roles.proofs.Operands.{declared_operands, names_operands, steady_operands, accesses_operands, Less, More, definite_operands}
 use Rattle.law_roles.proofs.Recorded.{Good, Clear, Untouched, TouchesAt, Ready, steps, behind, own_visible, entered_is}
 use Rattle.law_roles.proofs.Shifting.{go, tell}
-use Rattle.law_scans.specs.Phases.{joined_items}
+use Rattle.law_scans.proofs.Inputs.{IsInput}
 use Rattle.law_scans.proofs.Started.{own_up}
 use Rattle.law_scans.proofs.Steps.{Apart, Intact, TouchedBy, IsSet, goes, near_self, dropped, drops, kept_entered, same_entered}
 use Rattle.law_scans.proofs.Phased.{runs_joined, declared_joined, accesses_joined, names_front, steady_front, definite_front, beside, beside_runs, beside_declares, beside_names, beside_accesses, beside_known, beside_steady}
@@ -67,47 +68,49 @@ joined_is op v p None = refl
 joined_is op v None (Some n) = refl
 joined_is op v (Some m) (Some n) = (operators_are_lawful op).associative v m n
 
-module _ (x : Variable) (op : ReduceOp) (ps : List Variable) (front back : Items) (keeps : KeepsApart (x ∷ ps) (Block (joined_items front back))) (none : DeclaresNone (x ∷ ps) (Block (joined_items front back)))
-    (first : AssignsFirst ps (Block (joined_items front back))) (apart : is_among ps x ≡ false) (updates : reduces ((x, op) ∷ []) (Block front) ≡ true) (all_taken : takes_all ((x, op) ∷ []) ≡ true) where
-  abbrev body : Stmt
-  body = Block (joined_items front back)
-
+module _ (x : Variable) (op : ReduceOp) (ps : List Variable) (body input : Stmt) (keeps : KeepsApart (x ∷ ps) body) (none : DeclaresNone (x ∷ ps) body) (first : AssignsFirst ps body) (apart : is_among ps x ≡ false)
+    (inp : IsInput x op ps body input) where
   abbrev rs : List (Variable × ReduceOp)
   rs = (x, op) ∷ []
 
   abbrev vars : List Variable
   vars = x ∷ ps
 
-  abbrev input : Stmt
-  input = Block front
-
   abbrev shadow : Stmt
-  shadow = beside (operands rs input) (declared_among back)
+  shadow = beside (operands rs input) (declared_in body)
 
   -- ---- what stands in it
 
-  same_declared : declared_in shadow ≡ declared_in body
-  same_declared = beside_declares (operands rs input) (declared_among back) ∙ ap (λ ds. ds ++ declared_among back) (declared_operands rs input) ∙ sym (declared_joined front back)
+  among_same : (y : Variable) → is_among (declared_in body) y ≡ is_among (declared_in shadow) y
+  among_same y =
+      either (is_among (declared_in input) y) refl
+      ∙ sym (list_any-append (λ z. z == y) (declared_in input) (declared_in body))
+      ∙ ap (λ ds. is_among (ds ++ declared_in body) y) (sym (declared_operands rs input))
+      ∙ ap (λ ds. is_among ds y) (sym (beside_declares (operands rs input) (declared_in body)))
+    where
+      either : (b : Bool) → is_among (declared_in input) y ≡ b → is_among (declared_in body) y ≡ (is_among (declared_in input) y || is_among (declared_in body) y)
+      either true e = inp.declared y e ∙ sym (ap (λ b. b || is_among (declared_in body) y) e)
+      either false e = sym (ap (λ b. b || is_among (declared_in body) y) e)
 
   seen_same : ◌≡◌ {A = Variable → Bool} (visible_behind body) (visible_behind shadow)
-  seen_same = λ i y. not (is_among (sym same_declared i) y)
+  seen_same = fun_ext (λ y. ap not (among_same y))
 
   pub named : names_only (visible_behind shadow) shadow ≡ true
   named =
       subst (λ (V : Variable → Bool). names_only V shadow ≡ true) seen_same
-      (beside_names (operands rs input) (declared_among back) (visible_behind body) (names_operands rs input (visible_behind body) (names_front front back (visible_behind body) keeps.names)))
+      (beside_names (operands rs input) (declared_in body) (visible_behind body) (names_operands rs input (visible_behind body) inp.names))
 
   abbrev F : Variable → Bool
   F y = visible_behind body y && not (is_among vars y)
 
-  hidden : (z : Variable) → is_among (declared_among back) z ≡ true → F z ≡ false
-  hidden z h = ap (λ b. not b && not (is_among vars z)) (ap (λ ds. is_among ds z) (declared_joined front back) ∙ list_any-append (λ y. y == z) (declared_among front) (declared_among back) ∙ or_right (is_among (declared_among front) z) (is_among (declared_among back) z) h)
+  hidden : (z : Variable) → is_among (declared_in body) z ≡ true → F z ≡ false
+  hidden z h = ap (λ b. not b && not (is_among vars z)) h
 
   keeps_apart : KeepsApart vars shadow
   keeps_apart = record {
     names = named;
     steady = subst (λ (V : Variable → Bool). IsSteady (λ y. V y && not (is_among vars y)) shadow) seen_same
-        (beside_steady (operands rs input) (declared_among back) F hidden (steady_operands rs input F (steady_front front back F keeps.steady)));
+        (beside_steady (operands rs input) (declared_in body) F hidden (steady_operands rs input F inp.steady));
   }
 
   plain_is : (y : Variable) → is_plain rs y ≡ true → (x == y) ≡ false
@@ -126,9 +129,9 @@ module _ (x : Variable) (op : ReduceOp) (ps : List Variable) (front back : Items
   pub known : KnownInside vars shadow
   known =
       make (definite no_privates shadow (others vars)) refl
-      (beside_known no_privates (operands rs input) (declared_among back) (others vars)
-      (there (definite no_privates input (others ps)) (definite no_privates (operands rs input) (others vars)) (definite_operands rs no_privates input updates (others ps) (others vars) less)
-      (definite_front no_privates [] front back (others ps) first)))
+      (beside_known no_privates (operands rs input) (declared_in body) (others vars)
+      (there (definite no_privates input (others ps)) (definite no_privates (operands rs input) (others vars)) (definite_operands rs no_privates input inp.updates (others ps) (others vars) less)
+      inp.first))
     where
       there : (a b : Option DefinitelyAssigned) → More rs a b → IsSome a → IsSome b
       there None b m h = absurd (true≢false (sym h))
@@ -147,10 +150,9 @@ module _ (x : Variable) (op : ReduceOp) (ps : List Variable) (front back : Items
 
   there_back : (a : Access) → Contains (accesses [] (own_body vars shadow)) a → Contains (accesses [] body) a
   there_back a h =
-      subst (λ (found : List Access). Contains found a) (sym (accesses_joined front back))
-      (Contains-append_left (items_accesses [] front) (items_accesses [] back) a
+      inp.accesses a
       (each_at (Contains (accesses [] input)) (accesses [] (operands rs input)) (accesses_operands rs [] input) a
-      (subst (λ (found : List Access). Contains found a) (own_accesses vars shadow ∙ beside_accesses (operands rs input) (declared_among back)) h)))
+      (subst (λ (found : List Access). Contains found a) (own_accesses vars shadow ∙ beside_accesses (operands rs input) (declared_in body)) h))
 
   module _ (loops : List Loop) (o : State) (not_of_loops : is_among (variables_of loops) x ≡ false) where
     abbrev Ready1 : List Vector → State → Type 0
@@ -237,7 +239,7 @@ module _ (x : Variable) (op : ReduceOp) (ps : List Variable) (front back : Items
 
     inputs : (q : State) (v : ℕ) (f : Effect) → q.locals x ≡ Holds v → run (operands rs input) q ≡ Some f → Inputs q v f
     inputs q v f h is =
-        let t = tell rs input q q f updates (itself q) (held q v h) (are_local q v h) is in
+        let t = tell rs input q q f inp.updates (itself q) (held q v h) (are_local q v h) is in
         let seen : look (overwritten q t.effect.writes) x [] ≡ Some (combined op v (partial f)) = t.shifted x op v its_operator (ap (λ l. look_in l q x []) h) in
         record {
           effect = t.effect;
@@ -254,38 +256,23 @@ module _ (x : Variable) (op : ReduceOp) (ps : List Variable) (front back : Items
     abbrev Sound1 : Vector → Type 0
     Sound1 u = (length u ≡ length loops) × InnerLoopsTurn loops body o u
 
-    module _ (reads : AreSteady (λ y. visible_behind body y && not (is_among ps y)) back) where
-      scans_it : (visible_behind body x && not (is_among ps x)) ≡ true
-      scans_it = and_from (visible_behind body x) (not (is_among ps x)) (none x (ap (λ b. b || is_among ps x) (eq-eqb x x refl))) (ap not apart)
+    -- in sequence, where no operand is left out
+    abbrev pub Told : Vector → Type 0
+    Told u = (f : Effect) × Tells u f
 
-      -- in sequence
-      pub record Told (u : Vector) (q : State) (v : ℕ) (e : Effect) : Type 0 where
-        pub operands : Effect
-        pub tells : Tells u operands
-        pub value : (overwritten q e.writes).locals x ≡ Holds (combined op v (partial operands))
-
-      pub told : (u : Vector) (us : List Vector) (a : State) (v : ℕ) (e : Effect) → Sound1 u → IsSet x ps loops body o (u ∷ us) a v → Each (Apart loops body o u) us → run body (at_vector loops u a) ≡ Some e
-          → Told u (at_vector loops u a) v e
-      told u us a v e sound set clear is =
-          let q : State = at_vector loops u a in
-          let holds : q.locals x ≡ Holds v = kept_entered loops u a x not_of_loops ∙ set.holds in
-          let p = parts_of q (run_items front q) (run_items back) e (sym (runs_joined front back q) ∙ is) in
-          let f = there (run (operands rs input) q) (go rs input q q p.one updates all_taken (itself q) (held q v holds) (are_local q v holds) p.one_is) in
-          let i = inputs q v f.0 holds f.1 in
-          let same : i.effect ≡ p.one = same_Some i.effect p.one (sym i.is ∙ p.one_is) in
-          let middle : (overwritten q p.one.writes).locals x ≡ Holds (combined op v (partial f.0)) = ap (λ (g : Effect). (overwritten q g.writes).locals x) (sym same) ∙ i.value in
-          let s = steps vars shadow named known loops o keeps_own u us a f.0 (good1 u sound.0 sound.1) (ready1 (u ∷ us) a v set) (clear1 u us clear) (beside_runs (operands rs input) (declared_among back) q ∙ f.1) in
-          record {
-            operands = f.0;
-            tells = s.own_is;
-            value =
-                ap (λ (g : Effect). (overwritten q g.writes).locals x) (sym p.is) ∙ ap (λ (t : State). t.locals x) (overwritten-append q p.one.writes p.two.writes)
-                ∙ items_keep x (combined op v (partial f.0)) back (λ y. visible_behind body y && not (is_among ps y)) scans_it reads (overwritten q p.one.writes) p.two p.two_is middle;
-          }
-        where
-          there : (o : Option Effect) → IsSome o → (f : Effect) × (o ≡ Some f)
-          there None h = absurd (true≢false (sym h))
-          there (Some f) h = (f, refl)
+    told : takes_all rs ≡ true → (u : Vector) (us : List Vector) (a : State) (v : ℕ) (e : Effect) → Sound1 u → IsSet x ps loops body o (u ∷ us) a v → Each (Apart loops body o u) us → run body (at_vector loops u a) ≡ Some e
+        → Told u
+    told all_taken u us a v e sound set clear is =
+        let q : State = at_vector loops u a in
+        let holds : q.locals x ≡ Holds v = kept_entered loops u a x not_of_loops ∙ set.holds in
+        let i = inp.runs q v e holds is in
+        let f = there (run (operands rs input) q) (go rs input q q i.0 inp.updates all_taken (itself q) (held q v holds) (are_local q v holds) i.1) in
+        let s = steps vars shadow named known loops o keeps_own u us a f.0 (good1 u sound.0 sound.1) (ready1 (u ∷ us) a v set) (clear1 u us clear) (beside_runs (operands rs input) (declared_in body) q ∙ f.1) in
+        (f.0, s.own_is)
+      where
+        there : (o : Option Effect) → IsSome o → (f : Effect) × (o ≡ Some f)
+        there None h = absurd (true≢false (sym h))
+        there (Some f) h = (f, refl)
 
     -- alone
     same_effect : (e f : Effect) → behind1 e ≡ behind1 f → e ≡ f
@@ -310,7 +297,7 @@ module _ (x : Variable) (op : ReduceOp) (ps : List Variable) (front back : Items
     alone u us t w f sound ready holds clear tells =
         let s = steps vars shadow named known loops o keeps_own u us t mine.0 (good1 u sound.0 sound.1) ready (clear1 u us clear) mine.1 in
         let same : mine.0 ≡ f = same_effect mine.0 f (same_Some (behind1 mine.0) (behind1 f) (sym s.own_is ∙ tells)) in
-        let i = inputs q w f entered_holds (sym (beside_runs (operands rs input) (declared_among back) q) ∙ mine.1 ∙ ap Some same) in
+        let i = inputs q w f entered_holds (sym (beside_runs (operands rs input) (declared_in body) q) ∙ mine.1 ∙ ap Some same) in
         let r : Ready1 us (overwritten q f.writes) = subst (λ (g : Effect). Ready1 us (overwritten q g.writes)) same s.ready in
         record { effect = i.effect; is = i.is; ready = moved i.effect i.agrees r; value = i.value }
       where
@@ -377,27 +364,49 @@ module _ (x : Variable) (op : ReduceOp) (ps : List Variable) (front back : Items
       pub tells : AllTell us operands
       pub value : (overwritten a f.writes).locals x ≡ Holds (combined op v (joined_all p operands))
 
-    pub sequence : AreSteady (λ y. visible_behind body y && not (is_among ps y)) back → (us vs : List Vector) (a : State) (v : ℕ) (p : Option ℕ) (f : Effect) → Each Sound1 us → AllApart loops body o (us ++ vs)
-        → IsSet x ps loops body o (us ++ vs) a (combined op v p) → walk loops body us a ≡ Some f → Sequence us vs a v p f
-    sequence reads [] vs a v p f sound clear set ran =
+    set_to : (us : List Vector) (b : State) (m n : ℕ) → IsSet x ps loops body o us b m → b.locals x ≡ Holds n → IsSet x ps loops body o us b n
+    set_to us b m n k h = record { locals = k.locals; scalars = k.scalars; elements = k.elements; inside = k.inside; holds = h }
+
+    pub sequence : (us vs : List Vector) (a : State) (v : ℕ) (p : Option ℕ) (f : Effect) → Each Sound1 us → AllApart loops body o (us ++ vs)
+        → IsSet x ps loops body o (us ++ vs) a (combined op v p) → Each Told us → walk loops body us a ≡ Some f → Sequence us vs a v p f
+    sequence [] vs a v p f sound clear set all ran =
         subst (Sequence [] vs a v p) (same_Some nothing f ran) (record { operands = []; tells = tt; value = set.holds })
-    sequence reads (u ∷ us) vs a v p f sound clear set ran =
+    sequence (u ∷ us) vs a v p f sound clear set all ran =
         let s = split_of loops body u us a f ran in
-        let q : State = overwritten (at_vector loops u a) s.one.writes in
+        let t : State = at_vector loops u a in
+        let q : State = overwritten t s.one.writes in
         let one = goes x ps body keeps none first apart loops o not_of_loops u (us ++ vs) a (combined op v p) s.one sound.0.0 sound.0.1 set clear.0 s.one_is in
-        let t = told reads u (us ++ vs) a (combined op v p) s.one sound.0 set clear.0 s.one_is in
-        let p' = joined_maybe op p (partial t.operands) in
-        let next : q.locals x ≡ Holds (combined op v p') = t.value ∙ ap Holds (joined_is op v p (partial t.operands)) in
-        let rest = sequence reads us vs q v p' s.two sound.1 clear.1 (set_to (us ++ vs) q one.next (combined op v p') one.after next) s.two_is in
+        let mine = alone u (us ++ vs) a (combined op v p) all.0.0 sound.0 (ready1 (u ∷ (us ++ vs)) a (combined op v p) set) set.holds clear.0 all.0.1 in
+        let i = inp.runs t (combined op v p) s.one (kept_entered loops u a x not_of_loops ∙ set.holds) s.one_is in
+        let same : mine.effect ≡ i.0 = same_Some mine.effect i.0 (sym mine.is ∙ i.1) in
+        let p' = joined_maybe op p (partial all.0.0) in
+        let next : q.locals x ≡ Holds (combined op v p') = sym i.2 ∙ ap (λ (g : Effect). (overwritten t g.writes).locals x) (sym same) ∙ mine.value ∙ ap Holds (joined_is op v p (partial all.0.0)) in
+        let rest = sequence us vs q v p' s.two sound.1 clear.1 (set_to (us ++ vs) q one.next (combined op v p') one.after next) all.1 s.two_is in
         subst (Sequence (u ∷ us) vs a v p) s.whole
         (record {
-          operands = t.operands ∷ rest.operands;
-          tells = (t.tells, rest.tells);
+          operands = all.0.0 ∷ rest.operands;
+          tells = (all.0.1, rest.tells);
           value = ap (λ (z : State). z.locals x) (left_cons loops u a s.one s.two) ∙ rest.value;
         })
-      where
-        set_to : (us : List Vector) (b : State) (m n : ℕ) → IsSet x ps loops body o us b m → b.locals x ≡ Holds n → IsSet x ps loops body o us b n
-        set_to us b m n k h = record { locals = k.locals; scalars = k.scalars; elements = k.elements; inside = k.inside; holds = h }
+
+    -- where no operand is left out, each iteration tells
+    pub all_told : takes_all rs ≡ true → (us : List Vector) (a : State) (v : ℕ) (f : Effect) → Each Sound1 us → AllApart loops body o us → IsSet x ps loops body o us a v → walk loops body us a ≡ Some f → Each Told us
+    all_told taken [] a v f sound clear set ran = tt
+    all_told taken (u ∷ us) a v f sound clear set ran =
+        let s = split_of loops body u us a f ran in
+        let one = goes x ps body keeps none first apart loops o not_of_loops u us a v s.one sound.0.0 sound.0.1 set clear.0 s.one_is in (
+          told taken u us a v s.one sound.0 set clear.0 s.one_is,
+          all_told taken us (overwritten (at_vector loops u a) s.one.writes) one.next s.two sound.1 clear.1 one.after s.two_is,
+        )
+
+    -- so it does where the operands have a walk
+    pub walk_tells : (us : List Vector) (a : State) (f : Effect) → Each Sound1 us → AllApart loops body o us → Ready1 us a → walk loops (operands rs input) us a ≡ Some f → Each Told us
+    walk_tells [] a f sound clear ready ran = tt
+    walk_tells (u ∷ us) a f sound clear ready ran =
+        let s = split_of loops (operands rs input) u us a f ran in
+        let q : State = at_vector loops u a in
+        let one = steps vars shadow named known loops o keeps_own u us a s.one (good1 u sound.0.0 sound.0.1) ready (clear1 u us clear.0) (beside_runs (operands rs input) (declared_in body) q ∙ s.one_is) in
+        ((s.one, one.own_is), walk_tells us (overwritten q s.one.writes) s.two sound.1 clear.1 one.ready s.two_is)
 
     pub record Pass (us : List Vector) (t : State) (v : ℕ) (p : Option ℕ) (fs : List Effect) : Type 0 where
       pub effect : Effect

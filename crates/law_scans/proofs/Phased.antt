@@ -78,6 +78,12 @@ steady_front (mark line rest) back F h = steady_front rest back F h
 steady_front (local x name start rest) back F h = (h.0, h.1, steady_front rest back F h.2)
 steady_front (stmt a rest) back F h = (h.0, steady_front rest back F h.1)
 
+pub steady_back : (front back : Items) (F : Variable → Bool) → AreSteady F (joined_items front back) → AreSteady F back
+steady_back no_items back F h = h
+steady_back (mark line rest) back F h = steady_back rest back F h
+steady_back (local x name start rest) back F h = steady_back rest back F h.2
+steady_back (stmt a rest) back F h = steady_back rest back F h.1
+
 pub definite_front : (P : Privates) (pending : List Variable) (front back : Items) (k : DefinitelyAssigned) → IsSome (definite_items P pending (joined_items front back) k) → IsSome (definite_items P pending front k)
 definite_front P pending no_items back k h = refl
 definite_front P pending (mark line rest) back k h = definite_front P (P line) rest back k h

@@ -119,6 +119,28 @@ holds_same v w e = ap number e
     number Outside = 0
     number Empty = 0
 
+-- a number is left in a local that held one
+pub number_left : (x : Variable) (a : Stmt) (q : State) (v : ℕ) (e : Effect) → visible_behind a x ≡ true → q.locals x ≡ Holds v → run a q ≡ Some e → (n : ℕ) × ((overwritten q e.writes).locals x ≡ Holds n)
+number_left x a q v e seen h is = at ((overwritten q e.writes).locals x) refl inside held
+  where
+    inside : is_outside ((overwritten q e.writes).locals x) ≡ false
+    inside = all_inside e.writes q x (ap is_outside h)
+
+    walked : walk [] a ([] ∷ []) q ≡ Some (joined (enters [] []) (joined e nothing))
+    walked = ap (λ o. map_option (joined (enters [] [])) (then_from q o (walk [] a []))) is
+
+    held : IsSome (look (overwritten q e.writes) x [])
+    held =
+        subst (λ ws. IsSome (look (overwritten q ws) x [])) (append-nil e.writes)
+        (walks_keep zero a [] a ([] ∷ []) q (joined (enters [] []) (joined e nothing)) x refl seen walked
+        (subst (λ k. IsSome (look_in k q x [])) (sym h) refl))
+
+    at : (k : Slot) → (overwritten q e.writes).locals x ≡ k → is_outside ((overwritten q e.writes).locals x) ≡ false → IsSome (look (overwritten q e.writes) x [])
+        → (n : ℕ) × ((overwritten q e.writes).locals x ≡ Holds n)
+    at Outside k i j = absurd (true≢false (sym (ap is_outside k) ∙ i))
+    at Empty k i j = absurd (true≢false (sym (subst (λ l. IsSome (look_in l (overwritten q e.writes) x [])) k j)))
+    at (Holds n) k i j = (n, k)
+
 module _ (x : Variable) (ps : List Variable) (body : Stmt) (keeps : KeepsApart (x ∷ ps) body) (none : DeclaresNone (x ∷ ps) body) (first : AssignsFirst ps body) (apart : is_among ps x ≡ false) (loops : List Loop) (o : State)
     (not_of_loops : is_among (variables_of loops) x ≡ false) where
   abbrev from : ℕ → Stmt
@@ -215,28 +237,6 @@ module _ (x : Variable) (ps : List Variable) (body : Stmt) (keeps : KeepsApart (
     pub next : ℕ
     pub after : IsSet x ps loops body o us (overwritten (at_vector loops u a) e.writes) next
 
-  -- a number is left in the scan variable
-  number_left : (q : State) (v : ℕ) (e : Effect) → q.locals x ≡ Holds v → run body q ≡ Some e → (n : ℕ) × ((overwritten q e.writes).locals x ≡ Holds n)
-  number_left q v e h is = at ((overwritten q e.writes).locals x) refl inside held
-    where
-      inside : is_outside ((overwritten q e.writes).locals x) ≡ false
-      inside = all_inside e.writes q x (ap is_outside h)
-
-      walked : walk [] body ([] ∷ []) q ≡ Some (joined (enters [] []) (joined e nothing))
-      walked = ap (λ o. map_option (joined (enters [] [])) (then_from q o (walk [] body []))) is
-
-      held : IsSome (look (overwritten q e.writes) x [])
-      held =
-          subst (λ ws. IsSome (look (overwritten q ws) x [])) (append-nil e.writes)
-          (walks_keep zero body [] body ([] ∷ []) q (joined (enters [] []) (joined e nothing)) x refl (none x (ap (λ b. b || is_among ps x) (eq-eqb x x refl))) walked
-          (subst (λ k. IsSome (look_in k q x [])) (sym h) refl))
-
-      at : (k : Slot) → (overwritten q e.writes).locals x ≡ k → is_outside ((overwritten q e.writes).locals x) ≡ false → IsSome (look (overwritten q e.writes) x [])
-          → (n : ℕ) × ((overwritten q e.writes).locals x ≡ Holds n)
-      at Outside k i j = absurd (true≢false (sym (ap is_outside k) ∙ i))
-      at Empty k i j = absurd (true≢false (sym (subst (λ l. IsSome (look_in l (overwritten q e.writes) x [])) k j)))
-      at (Holds n) k i j = (n, k)
-
   pub goes : (u : Vector) (us : List Vector) (a : State) (v : ℕ) (e : Effect) → length u ≡ length loops → InnerLoopsTurn loops body o u → IsSet x ps loops body o (u ∷ us) a v → Each (Apart loops body o u) us
       → run body (at_vector loops u a) ≡ Some e → Goes u us a v e
   goes u us a v e long turn set clear is =
@@ -245,7 +245,7 @@ module _ (x : Variable) (ps : List Variable) (body : Stmt) (keeps : KeepsApart (
       let s = steps ps (from v) (named x ps body keeps none first apart v) (known x ps body keeps none first apart v) loops o (keeps_own x ps body keeps none first apart v) u us a (begun x body v e) (good_of v u long turn)
       (ready_of v v (u ∷ us) a set) (clear_of v u us clear) (started_runs x body v q holds ∙ ap (map_option (begun x body v)) is) in
       let left : overwritten q (begun x body v e).writes ≡ overwritten q e.writes = λ i. overwritten (same_state x body v q holds i) (append-nil e.writes i) in
-      let n = number_left q v e holds is in
+      let n = number_left x body q v e (none x (ap (λ b. b || is_among ps x) (eq-eqb x x refl))) holds is in
       record { own_is = s.own_is; next = n.0; after = set_of v n.0 us (overwritten q e.writes) (subst (ReadyAt v us) left s.ready) n.1 }
 
   -- ---- from another state

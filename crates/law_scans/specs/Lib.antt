@@ -1,4 +1,5 @@
 pub mod Iterations
 pub mod Phases
 pub mod Passes
+pub mod Scanning
 pub mod Rows

@@ -6,6 +6,7 @@ ghost use Rattle.law_scans.specs.Iterations.{ChunksRepeat};
 ghost use Rattle.law_scans.specs.Phases.{PhasesRunInTurn};
 ghost use Rattle.law_scans.specs.Rows.{ScanRows};
 ghost use Rattle.law_scans.specs.Passes.{InclusiveScansPassTwice};
+ghost use Rattle.law_scans.specs.Scanning.{ScanChunksJoin};
 
 /// Iterations of a scan do from the state before the loop, with the scan variable at the value that it has before them in sequence, what they
 /// do in sequence (OpenMP 5.2, 5.6).
@@ -22,6 +23,13 @@ pub fn phases_run_in_turn()
 /// tells each chunk's start, and what the chunks do from there, one after another, is what the loop does (OpenMP 5.2, 5.6).
 pub fn inclusive_scans_pass_twice()
     ensures { InclusiveScansPassTwice }
+{}
+
+/// Chunks of a scan loop's iterations of which no two conflict, with private and lastprivate variables, have a run each in both passes: the
+/// first tells where each chunk of the second begins, and these leave put together, and print one after another, what the loop leaves and
+/// prints (OpenMP 5.2, 5.4.3, 5.4.5, 5.6, 11.5.3 and 15.10.2).
+pub fn scan_chunks_join()
+    ensures { ScanChunksJoin }
 {}
 
 /// Worked rows: prefix sums are such a scan.
