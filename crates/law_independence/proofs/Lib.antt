@@ -28,3 +28,5 @@ pub mod PrivateNests
 pub mod RoleNests
 pub mod Taking
 pub mod Hiding
+pub mod ScanNests
+pub mod JudgedNests
