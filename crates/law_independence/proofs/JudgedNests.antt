@@ -166,6 +166,7 @@ module _ (ds : List Declaration) (around : List Loop) (round : Nesting) (n : ℕ
         there = iterates ds short round outer serial n s found stmt stays (left_roles d) private around entered;
         leaves = leaves_others ds short round outer serial n s found stmt stays (left_roles d) private;
         takes = takes phases;
+        phases = phases;
         shares = plain_shares;
         scans = λ x op sole taken target. scans phases x op sole taken target;
       }

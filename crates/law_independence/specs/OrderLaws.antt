@@ -1,5 +1,5 @@
 -- The iterations of parallel loops that are accepted leave the same elements in any order, and chunks of them leave and print together what the loop does. (OpenMP 5.2, 1.4.1, 11.5 and 15.10.2)
-use Rattle.std.specs.Prelude.{ℕ, Bool, true, false, ◌≡◌, ◌≤◌, ◌<◌, List, [], ◌∷◌, length, map, filter, flat_map, Some, IsSome, slice_get, Option}
+use Rattle.std.specs.Prelude.{ℕ, Bool, true, false, ◌≡◌, ◌≤◌, ◌<◌, List, [], ◌∷◌, length, map, filter, flat_map, Some, IsSome, slice_get, Option, ◌⊎◌}
 use Rattle.std.specs.List.{list_all, AllByRecursion}
 use Rattle.semantics.specs.Tree.{Variable, Stmt, Items, Declaration, Kernel}
 use Rattle.semantics.specs.Source.Token.{Token}
@@ -21,7 +21,7 @@ use Rattle.law_roles.specs.Sharing.{assigned_first, role_variables, are_differen
 use Rattle.nest_loop.specs.Constants.{Each, IsSmall}
 use Rattle.nest.specs.Nests.{IsInRange}
 use Rattle.deptest_verdict.specs.Shown.{AreShownLoops}
-use Rattle.flow.specs.Phases.{PhasesSaid, LinePhases, item_count, PhasesBy}
+use Rattle.flow.specs.Phases.{PhasesSaid, LinePhases, item_count, HasPhases, PhasesBy}
 use Rattle.law_scans.specs.Scanning.{whole_of, first_of, ScansFrom}
 use Rattle.flow.specs.Roles.{LoopData, LineData, takes_operands, left_roles, privates_by, AskedByLine, ItemsHaveBy, ItemsKeepRoles}
 
@@ -149,6 +149,7 @@ pub record SharesAsNest (ds : List Declaration) (d : LoopData) (said : Option Ph
   pub there : IterateAtTurns serial n s
   pub leaves : LeavesOthers s
   pub takes : TakesAtTurns ds (used_roles s (left_roles d)) serial s
+  pub phases : (d.carried ≡ []) ⊎ HasPhases d said n s
   pub shares : d.carried ≡ [] → SharesInChunks (used_roles s (left_roles d)) serial n s
   pub scans : (x : Variable) (op : ReduceOp) → d.carried ≡ (x, op) ∷ [] → takes_operands (x, op) ≡ true → is_among (targets_outside s) x ≡ true
       → ScansInChunks said x op (used_roles s (left_roles d)) serial n s
