@@ -66,7 +66,7 @@ fn is_scan_directive(directive: &Directive<Written>) -> bool
 
 /// Whether the line at a place is a `scan` directive (OpenMP 5.2, 5.6).
 #[tactic(auto, using(crate::proofs::Lines::scan_none))]
-fn is_scan(directives: &Directives, place: Place) -> bool
+pub fn is_scan(directives: &Directives, place: Place) -> bool
     ensures { result ≡ is_scan_line directives.now place.line }
 {
     let Ok(directive) = directives.directive(place) else {

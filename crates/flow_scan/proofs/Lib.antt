@@ -1,0 +1,3 @@
+pub mod LinesLaw
+pub mod CutLaw
+pub mod SharingLaw

@@ -1,0 +1,5 @@
+pub mod Lines
+pub mod Parts
+pub mod Sharing
+pub mod Scans
+pub mod Views
