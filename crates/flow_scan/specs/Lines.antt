@@ -1,11 +1,12 @@
 -- What directive lines say of scans, and by which name a variable is declared. (OpenMP 5.2, 5.6; C11 6.2.1)
-use Rattle.std.specs.Prelude.{ℕ, Bool, true, false, ◌==◌, ◌&&◌, ◌||◌, nat_eq, List, [], ◌∷◌, flat_map, Option, Some, None, slice_get}
-use Rattle.std.specs.List.{list_all, list_any}
+use Rattle.std.specs.Prelude.{ℕ, Bool, true, false, ◌==◌, ◌&&◌, ◌||◌, List, [], ◌∷◌, flat_map, Option, Some, None, slice_get}
 use Rattle.semantics.specs.Tree.{Name, Variable, Declaration, Stmt, Assign, Update, If, IfElse, For, Block, Print, Items, no_items, mark, local, stmt, Kernel}
 use Rattle.semantics.specs.Meaning.State.{same_indexes}
 use Rattle.semantics.specs.Loops.Operator.{ReduceOp}
-use Rattle.semantics.specs.Directives.Directive.{Clause, Ordered, OrderedLoops, Reduction, Inscan, ScheduledBy, Collapse, Directive, ParallelFor, Worksharing, ScanInclusive, ScanExclusive}
+use Rattle.semantics.specs.Directives.Directive.{Clause, Ordered, OrderedLoops, Reduction, ScheduledBy, Directive, ParallelFor, Worksharing, ScanInclusive, ScanExclusive}
 use Rattle.semantics.specs.Directives.Clauses.{inscan_of}
+use Rattle.pragma.specs.Clauses.{Said, loop_of}
+use Rattle.pragma.specs.Parallel.{associated}
 use Rattle.pragma_attach.specs.Standing.{directive_on}
 
 -- ---- `scan` directives
@@ -35,13 +36,25 @@ is_loop _ = false
 abbrev pub is_loop_line : List ℕ → ℕ → Bool
 is_loop_line text n = is_loop (directive_on text n)
 
--- beside that of a scan: no schedule, no order, no other reduction, and no second loop
+-- one loop (OpenMP 5.2, 4.4.3)
+abbrev pub is_one : Option Said → Bool
+is_one None = false
+is_one (Some said) = associated said.1 == 1
+
+-- so many a directive associates
+abbrev pub associates_one : Option (Directive Name) → Bool
+associates_one None = false
+associates_one (Some d) = is_one (loop_of d)
+
+abbrev pub associates_one_on : List ℕ → ℕ → Bool
+associates_one_on text n = associates_one (directive_on text n)
+
+-- beside that of a scan: no schedule, no order and no other reduction
 abbrev pub suits_scan : Clause Variable → Bool
 suits_scan (ScheduledBy k) = false
 suits_scan Ordered = false
 suits_scan (OrderedLoops n) = false
 suits_scan (Reduction op xs) = false
-suits_scan (Collapse c) = c == 1
 suits_scan _ = true
 
 -- one variable with its operator

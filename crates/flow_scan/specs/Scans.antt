@@ -8,7 +8,7 @@ use Rattle.semantics.specs.Directives.Clauses.{is_scan}
 use Rattle.law_scans.specs.Phases.{keeps_phases}
 use Rattle.pragma_named.specs.Known.{Lines}
 use Rattle.pragma_region.specs.Regions.{is_scan_line, is_left_out}
-use Rattle.flow_scan.specs.Lines.{is_loop_line, suits_scan, sole_of, scanned, is_called}
+use Rattle.flow_scan.specs.Lines.{is_loop_line, associates_one_on, suits_scan, sole_of, scanned, is_called}
 use Rattle.flow_scan.specs.Parts.{Parts, body_parts, has_statement, count, have_scan}
 
 -- a body in two phases, with a statement in each, and no further `scan` line; its own one lists the variable of the scan
@@ -18,9 +18,9 @@ has_phases text k (Some r) (Some p) =
     && keeps_phases r.0 r.1 p.said.inclusive p.front p.back
 has_phases text k _ _ = false
 
--- the loop of a scan, by the clauses that count for it
-abbrev pub scans_loop : List ℕ → Kernel → List (Clause Variable) → Stmt → Bool
-scans_loop text k cs s = list_all suits_scan cs && has_phases text k (sole_of (scanned cs)) (body_parts text s)
+-- the loop of a scan behind the line of this number, by the clauses that count for it: one loop
+abbrev pub scans_loop : List ℕ → Kernel → ℕ → List (Clause Variable) → Stmt → Bool
+scans_loop text k n cs s = associates_one_on text n && list_all suits_scan cs && has_phases text k (sole_of (scanned cs)) (body_parts text s)
 
 -- a line is that of a scan's loop
 abbrev pub is_scan_loop : List ℕ → Lines → ℕ → Bool
@@ -29,7 +29,7 @@ is_scan_loop text lines n = is_loop_line text n && is_scan (lines n)
 -- a statement behind a line, or behind none; inside: what is judged where that is no scan's loop
 abbrev pub scans_behind : List ℕ → Kernel → Lines → Option ℕ → Stmt → Bool → Bool
 scans_behind text k lines None s inside = inside
-scans_behind text k lines (Some n) s inside = if is_scan_loop text lines n then scans_loop text k (lines n) s else inside
+scans_behind text k lines (Some n) s inside = if is_scan_loop text lines n then scans_loop text k n (lines n) s else inside
 
 -- the line before the next item; those that are left out stand before none
 abbrev pub line_before : List ℕ → Option ℕ → ℕ → Option ℕ

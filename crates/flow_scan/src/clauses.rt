@@ -9,13 +9,13 @@ ghost use Rattle.ktree.specs.DirectiveView.{name_of, directive_of};
 ghost use Rattle.pragma_named.specs.Views.{resolved_clause};
 ghost use Rattle.pragma_named.specs.Known.{kept, lines_known};
 ghost use Rattle.flow_reduction.specs.Reduced.{reduction_of};
-ghost use Rattle.flow_scan.specs.Lines.{scan_said, scan_on, is_loop, is_loop_line, suits_scan, sole_of, scanned};
+ghost use Rattle.flow_scan.specs.Lines.{scan_said, scan_on, is_loop, is_loop_line, associates_one, associates_one_on, suits_scan, sole_of, scanned};
 ghost use Rattle.flow_scan.specs.Scans.{is_scan_loop};
 ghost use Rattle.flow_scan.specs.Views.{line_said, reduced_there};
 
 use flow_reduction::Reduction;
 use ktree::{Clause, Directive, Place, Written};
-use pragma::Directives;
+use pragma::{Directives, loop_of};
 use pragma_named::{LineClauses, Named, clauses_known};
 
 /// What a `scan` directive says (OpenMP 5.2, 5.6).
@@ -127,6 +127,27 @@ pub(crate) fn sole_scan(clauses: &[Clause<Named>]) -> Option<Reduction>
     sole
 }
 
+/// Whether a directive associates one loop.
+fn associates_one(directive: &Directive<Written>) -> bool
+    ensures { result ≡ associates_one (Some (directive_of name_of directive.now)) }
+{
+    match loop_of(directive) {
+        None => false,
+        Some(said) => said.associated_loops() == 1,
+    }
+}
+
+/// Whether that on the line at a place does (OpenMP 5.2, 4.4.3).
+#[tactic(auto, using(crate::proofs::LinesLaw::one_none))]
+pub(crate) fn associates_one_at(directives: &Directives, place: Place) -> bool
+    ensures { result ≡ associates_one_on directives.now place.line }
+{
+    let Ok(directive) = directives.directive(place) else {
+        return false;
+    };
+    associates_one(directive)
+}
+
 /// Whether a clause may stand beside it.
 fn suits_scan(clause: &Clause<Named>) -> bool
     ensures { result ≡ suits_scan (resolved_clause clause.now) }
@@ -136,7 +157,6 @@ fn suits_scan(clause: &Clause<Named>) -> bool
         Clause::Ordered => false,
         Clause::OrderedLoops(_) => false,
         Clause::Reduction(_, _) => false,
-        Clause::Collapse(loops) => loops.get() == 1,
         _ => true,
     }
 }

@@ -13,7 +13,7 @@ ghost use Rattle.flow_scan.specs.Parts.{have_scan};
 ghost use Rattle.flow_scan.specs.Scans.{has_phases, scans_loop};
 ghost use Rattle.flow_scan.specs.Views.{line_said, parts_cut};
 
-use crate::clauses::{ScanLine, sole_scan, suit_scan};
+use crate::clauses::{ScanLine, associates_one_at, sole_scan, suit_scan};
 use crate::cutting::{Parts, body_parts, has_statement, line_among};
 use crate::fault::{ScanFault, earliest, reduction_fault, scan_fault};
 use crate::naming::is_called;
@@ -143,9 +143,10 @@ pub(crate) fn loop_fault(
     statement: &Stmt,
 ) -> Result<Option<ScanFault>, AllocError>
     ensures { IfOk result (λ found. is_none found ≡ scans_loop directives.now
-        (kernel_of kernel.now) (map resolved_clause clauses.now) (stmt_of statement.now)) }
+        (kernel_of kernel.now) line.line (map resolved_clause clauses.now)
+        (stmt_of statement.now)) }
 {
-    if !suit_scan(clauses) {
+    if !associates_one_at(directives, line) || !suit_scan(clauses) {
         return Ok(Some(ScanFault::Scan(line)));
     }
     let Some(scan) = sole_scan(clauses) else {
