@@ -4,6 +4,7 @@
 mod clauses;
 mod cutting;
 mod fault;
+mod laws;
 mod listing;
 mod naming;
 mod phases;
@@ -12,5 +13,6 @@ mod walking;
 mod writing;
 
 pub use fault::ScanFault;
+pub use laws::{lines_tell_scans, scans_stand_alone};
 pub use listing::{ScanLoop, scans_of};
 pub use walking::first_misuse;
