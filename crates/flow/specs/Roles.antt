@@ -71,6 +71,7 @@ pub record KeepsItsRoles (d : LoopData) (n : ℕ) (s : Stmt) : Type 0 where
   pub keeps : is_private_body (role_variables (left_roles d)) body ≡ true
   pub different : are_different (map (λ r. r.0) d.roles.reductions) ≡ true
   pub apart : list_all (is_plain d.roles.reductions) (assigned_first d.roles) ≡ true
+  pub once : list_all (all_but (assigned_first d.roles)) (map (λ r. r.0) d.carried) ≡ true
   pub first : IsSome (definite no_privates s (all_but (assigned_first d.roles)))
   pub last : (d.roles.lasts ≡ [] → ⊥) → AssignsAll (assigned_first d.roles) d.roles.lasts body
   pub updates : reduces d.roles.reductions s ≡ true
@@ -130,3 +131,7 @@ AssignsLasts roles body = (roles.lasts ≡ [] → ⊥) → AssignsAll (assigned_
 -- no reduction variable has a second role
 abbrev pub HaveOneRole : Roles → Type 0
 HaveOneRole roles = (are_different (map (λ r. r.0) roles.reductions) ≡ true) × (list_all (is_plain roles.reductions) (assigned_first roles) ≡ true)
+
+-- nor has a carried one
+abbrev pub CarriesOthers : LoopData → Type 0
+CarriesOthers d = list_all (all_but (assigned_first d.roles)) (map (λ r. r.0) d.carried) ≡ true

@@ -13,7 +13,7 @@ use Rattle.pragma.specs.Parallel.{AskedOfLoop, LineHas}
 use Rattle.flow.specs.declared.fault.DataFault.{DataFault}
 use Rattle.flow.specs.declared.fault.DataFault.TheVariants.{Written, Copied, Unassigned, LastUnassigned, Reduced, Directive, OutOfMemory}
 use Rattle.flow.specs.Private.{is_own}
-use Rattle.flow.specs.Roles.{LoopData, LineData, left_roles, ReadsAssigned}
+use Rattle.flow.specs.Roles.{LoopData, LineData, left_roles, ReadsAssigned, CarriesOthers}
 
 -- no fault where it is so, and where it is not so, or memory is refused, a fault
 abbrev pub Finds : Option DataFault → Type 0 → Type 0
@@ -65,6 +65,12 @@ TellsOfSecond (Reduced place) roles = (are_different (map (λ r. r.0) roles.redu
 TellsOfSecond OutOfMemory roles = Unit {0}
 TellsOfSecond _ roles = ⊥
 
+-- a fault tells of a scan's variable with a second role, or memory was refused where that was looked for (OpenMP 5.2, 5.4)
+abbrev pub TellsOfCarried : DataFault → LoopData → Type 0
+TellsOfCarried (Reduced place) d = CarriesOthers d → ⊥
+TellsOfCarried OutOfMemory d = Unit {0}
+TellsOfCarried _ d = ⊥
+
 -- a fault tells of a reduction variable that a nest names outside its updates, or memory was refused where that was looked for (OpenMP 5.2, 5.5.8)
 abbrev pub TellsOfMisuse : DataFault → Roles → Stmt → Type 0
 TellsOfMisuse (Reduced place) roles s = reduces roles.reductions s ≡ false
@@ -73,7 +79,7 @@ TellsOfMisuse _ roles s = ⊥
 
 -- a fault tells of a nest with this body, by the roles of its line
 abbrev pub TellsOfRoles : DataFault → LoopData → Stmt → Stmt → Type 0
-TellsOfRoles f d s body = TellsOfBody f (left_roles d) body ⊎ TellsOfRead f d.roles s ⊎ TellsOfLast f d.roles body ⊎ TellsOfSecond f d.roles ⊎ TellsOfMisuse f d.roles s
+TellsOfRoles f d s body = TellsOfBody f (left_roles d) body ⊎ TellsOfRead f d.roles s ⊎ TellsOfLast f d.roles body ⊎ TellsOfSecond f d.roles ⊎ TellsOfCarried f d ⊎ TellsOfMisuse f d.roles s
 
 -- behind the directive stands a nest of so many loops
 abbrev pub IsNest : AskedOfLoop

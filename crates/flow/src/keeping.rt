@@ -9,7 +9,7 @@ ghost use Rattle.flow.specs.Told.{Finds, TellsOfRoles};
 
 use crate::fault::{DataFault, earlier};
 use crate::firsts::{last_fault, read_fault};
-use crate::reductions::{misuse_fault, second_fault};
+use crate::reductions::{carried_fault, misuse_fault, second_fault};
 use crate::sharing::body_fault;
 use ktree::Stmt;
 use pragma_named::LineClauses;
@@ -30,10 +30,11 @@ pub(crate) fn nest_fault(
     ensures cause { IfSome result (λ f. TellsOfRoles f (data_known (kept lines.now) files line)
         (stmt_of statement.now) (stmt_of body.now)) }
 {
-    let reduced = earlier(
-        second_fault(alloc, line, lines, files),
+    let carried = earlier(
+        carried_fault(alloc, line, lines, files),
         misuse_fault(alloc, statement, line, lines, files),
     );
+    let reduced = earlier(second_fault(alloc, line, lines, files), carried);
     let last = earlier(last_fault(alloc, body, line, lines, files), reduced);
     let read = earlier(read_fault(alloc, statement, line, lines, files), last);
     earlier(body_fault(body, line, lines, files), read)
