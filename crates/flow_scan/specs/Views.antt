@@ -26,6 +26,11 @@ abbrev pub number_told : ScanFault → ℕ
 number_told (Scan place) = 17
 number_told (Reduced place) = 16
 
+-- where it is told
+abbrev pub place_told : ScanFault → Place
+place_told (Scan place) = place
+place_told (Reduced place) = place
+
 -- what a `scan` line says
 abbrev pub line_said : ScanLine → ScanSaid
 line_said l = record { inclusive = l.inclusive; name = name_of l.name.now }

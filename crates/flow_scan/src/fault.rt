@@ -1,8 +1,9 @@
 //! What is wrong with a scan.
 
-ghost use Rattle.std.specs.Prelude.{◌≡◌, ◌&&◌, is_none};
+ghost use Rattle.std.specs.Prelude.{◌≡◌, ◌&&◌, Some, is_none};
 ghost use Rattle.ktree.specs.Numbers.{number_of};
-ghost use Rattle.flow_scan.specs.Views.{number_told};
+ghost use Rattle.ktree.specs.Places.{place_of};
+ghost use Rattle.flow_scan.specs.Views.{number_told, place_told};
 
 use ktree::{Place, Refusal};
 
@@ -20,7 +21,8 @@ pub enum ScanFault {
 impl ScanFault {
     /// The refusal that tells it.
     pub fn refusal(self) -> Refusal
-        ensures { number_of result ≡ number_told self }
+        ensures number { number_of result ≡ number_told self }
+        ensures place { place_of result ≡ Some (place_told self) }
     {
         match self {
             ScanFault::Scan(place) => Refusal::Scan(place),
@@ -29,7 +31,9 @@ impl ScanFault {
     }
 
     /// Where it is.
-    pub fn place(self) -> Place {
+    pub fn place(self) -> Place
+        ensures { result ≡ place_told self }
+    {
         match self {
             ScanFault::Scan(place) | ScanFault::Reduced(place) => place,
         }

@@ -47,7 +47,10 @@ fn fault_of(
 
 /// What is wrong with the scans of a text, or the number of its refusal.
 fn fault_in(alloc: Global, text: &str) -> Result<Option<ScanFault>, u8> {
-    match (parsed(alloc, text), Directives::read(alloc, text.as_bytes())) {
+    match (
+        parsed(alloc, text),
+        Directives::read(alloc, text.as_bytes()),
+    ) {
         (Ok(kernel), Ok(directives)) => fault_of(alloc, &kernel, &directives),
         (Err(number), _) => Err(number),
         (_, Err(refusal)) => Err(refusal.number()),
