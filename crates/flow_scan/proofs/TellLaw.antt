@@ -9,12 +9,12 @@ use Rattle.law_roles.specs.Sharing.{are_different}
 use Rattle.flow_scan.specs.Scans.{ScanPart}
 use Rattle.flow_scan.specs.Laws.{LinesTellScans}
 
-among_at : {A : Type 0} (xs : List A) (x : A) (k : ℕ) → k < length xs → slice_index_or xs k x ≡ x → Among xs x
+pub among_at : {A : Type 0} (xs : List A) (x : A) (k : ℕ) → k < length xs → slice_index_or xs k x ≡ x → Among xs x
 among_at [] x k lt e = absurd (omega arith)
 among_at (y ∷ ys) x zero lt e = inl e
 among_at (y ∷ ys) x (suc k) lt e = inr (among_at ys x k (omega arith) e)
 
-abbrev lines_of : List ScanPart → List ℕ
+abbrev pub lines_of : List ScanPart → List ℕ
 lines_of parts = map (λ (p : ScanPart). p.line) parts
 
 line_among : (parts : List ScanPart) (b : ScanPart) → Among parts b → is_among (lines_of parts) b.line ≡ true
@@ -27,7 +27,7 @@ line_among (p ∷ ps) b (inr h) = either (p.line == b.line) (is_among (lines_of 
     either false d e = e
 
 -- no second one on this line
-never_twice : (p : ScanPart) (ps : List ScanPart) (b : ScanPart) → not (is_among (lines_of ps) p.line) ≡ true → Among ps b → p.line ≡ b.line → ⊥
+pub never_twice : (p : ScanPart) (ps : List ScanPart) (b : ScanPart) → not (is_among (lines_of ps) p.line) ≡ true → Among ps b → p.line ≡ b.line → ⊥
 never_twice p ps b alone h same = true≢false (sym alone ∙ ap not (ap (is_among (lines_of ps)) same ∙ line_among ps b h))
 
 one_told : (parts : List ScanPart) (a b : ScanPart) → are_different (lines_of parts) ≡ true → Among parts a → Among parts b → a.line ≡ b.line → a ≡ b
