@@ -1,5 +1,5 @@
 -- What the passes before the dependence test find out together, and which of them refuses.
-use Rattle.std.specs.Prelude.{ℕ, Bool, false, ◌≡◌, ◌⊎◌, List, [], length, Some}
+use Rattle.std.specs.Prelude.{ℕ, ◌≡◌, ◌⊎◌, List, [], length, map, Some}
 use Rattle.std.proofs.Common.{sym, ap, ◌∙◌, subst, inl, inr}
 use Rattle.std.proofs.Math.Path.{fun_ext}
 use Rattle.semantics.specs.Tree.{Kernel, strip}
@@ -19,10 +19,13 @@ use Rattle.flow.specs.Roles.{LineData, line_data, data_known, privates_by, Items
 use Rattle.flow.specs.Parallel.{AreParallelLoops}
 use Rattle.flow.specs.declared.environment.ParallelLoop.{ParallelLoop}
 use Rattle.flow_clauses.specs.Fitting.{fit_clauses}
-use Rattle.flow_ordered.specs.Ordered.{prints_in_order}
-use Rattle.deptest.specs.Accepted.{Program, tree_of, clauses_said, clauses_counted, data_counted, HasPassed, HasLoops}
-use Rattle.ompk.specs.Judged.{IsLineKernel, IsOfKernel}
-use Rattle.ompk.specs.Refused.{IsJudged, RefusesScalars, RefusesClauses, RefusesData, RefusesAlone, RefusesKernel}
+use Rattle.deptest.specs.Accepted.{Program, tree_of, clauses_said, clauses_counted, data_counted, scans_counted, HasPassed, HasLoops}
+use Rattle.flow_scan.specs.Scans.{scans_of}
+use Rattle.flow_scan.specs.Views.{scan_part}
+use Rattle.flow_scan.specs.declared.listing.ScanLoop.{ScanLoop}
+use Rattle.flow_scan.proofs.Different.{scan_lines_differ}
+use Rattle.ompk.specs.Judged.{Whole, whole_found, IsLineKernel, IsScannedKernel, IsOfKernel}
+use Rattle.ompk.specs.Refused.{IsJudged, RefusesScalars, RefusesClauses, RefusesWhole, RefusesData, RefusesAlone, RefusesKernel}
 
 -- what is said of each line is what the table knows
 pub clauses_are : (k : Kernel) (ds : Directives) (known : Known) → ((n : ℕ) → clauses_at k ds n ≡ Some (lines_known known n)) → clauses_said k ds ≡ lines_known known
@@ -39,8 +42,8 @@ roles_are text k ds known is =
     ap roles is
 
 -- a kernel that is judged has passed
-pub has_passed : (text : List ℕ) (k : Kernel) (known : Known) (in_order : Bool) → IsLineKernel text k known in_order → IsJudged text k (data_known known (length k.variables)) (lines_known known) in_order → HasPassed text k
-has_passed text k known in_order stands judged =
+pub has_passed : (text : List ℕ) (k : Kernel) (known : Known) (whole : Whole) → IsLineKernel text k known whole → IsJudged text k (data_known known (length k.variables)) (lines_known known) whole → HasPassed text k
+has_passed text k known whole stands judged =
     record {
       reads = stands.reads;
       directives = stands.directives;
@@ -51,45 +54,58 @@ has_passed text k known in_order stands judged =
       definite = subst (λ (R : LineData). IsDefinite (privates_by R) k) (sym stands.roles) judged.environment.0;
       roles = subst (λ (R : LineData). ItemsKeepRoles text R [] k.body) (sym stands.roles) judged.environment.1;
       fit = ap (λ (lines : Lines). fit_clauses lines k) stands.clauses ∙ judged.environment.2;
-      ordered = stands.ordered ∙ judged.environment.3;
+      ordered = ap (λ (w : Whole). w.ordered) stands.found ∙ judged.environment.3;
+      dissolved = stands.dissolved;
+      scans = ap (λ (w : Whole). w.phased) stands.found ∙ judged.environment.4;
+      numbered = scan_lines_differ text (clauses_counted text stands.reads.whole stands.directives) stands.reads.whole stands.reads.reads;
     }
 
 -- and has these loops
-pub has_loops : (text : List ℕ) (k : Kernel) (known : Known) (in_order : Bool) (loops : List ParallelLoop) → IsLineKernel text k known in_order → IsJudged text k (data_known known (length k.variables)) (lines_known known) in_order
-    → AreParallelLoops text (data_known known (length k.variables)) k loops → HasLoops text k loops
+pub has_loops : (text : List ℕ) (k : Kernel) (known : Known) (whole : Whole) (loops : List ParallelLoop) (scans : List ScanLoop) (stands : IsLineKernel text k known whole)
+    → IsJudged text k (data_known known (length k.variables)) (lines_known known) whole → AreParallelLoops text (data_known known (length k.variables)) k loops
+    → map scan_part scans ≡ scans_counted text stands.reads.whole stands.directives → HasLoops text k loops scans
 unfolding has_passed
-has_loops text k known in_order loops stands judged listed =
-    record { passed = has_passed text k known in_order stands judged; listed = subst (λ (R : LineData). AreParallelLoops text R k loops) (sym stands.roles) listed }
+has_loops text k known whole loops scans stands judged listed are =
+    record { passed = has_passed text k known whole stands judged; listed = subst (λ (R : LineData). AreParallelLoops text R k loops) (sym stands.roles) listed; scans_are = are }
 
 -- a kernel whose directives are attached, with its regions dissolved
-pub line_kernel : (text : List ℕ) (tree k : Kernel) (ds : Directives) (known : Known) (in_order : Bool) → ReadsText text tree → IsAttached text tree ds → clauses_counted text tree ds ≡ lines_known known
-    → data_counted text tree ds ≡ data_known known (length tree.variables) → k ≡ alone text tree → in_order ≡ prints_in_order text tree → IsLineKernel text k known in_order
-line_kernel text tree k ds known in_order reads attached clauses roles is ordered =
+pub line_kernel : (text : List ℕ) (tree k : Kernel) (ds : Directives) (known : Known) (whole : Whole) → ReadsText text tree → IsAttached text tree ds → clauses_counted text tree ds ≡ lines_known known
+    → data_counted text tree ds ≡ data_known known (length tree.variables) → k ≡ alone text tree → whole ≡ whole_found text (lines_known known) tree → IsLineKernel text k known whole
+line_kernel text tree k ds known whole reads attached clauses roles is found =
     record {
       reads = record { whole = tree; reads = reads; left_out = is_left_out text; is = is };
       directives = ds;
       attached = attached;
       clauses = clauses;
       roles = roles ∙ ap (λ (j : Kernel). data_known known (length j.variables)) (sym is);
-      ordered = sym ordered;
+      dissolved = is;
+      found = ap (λ (lines : Lines). whole_found text lines tree) clauses ∙ sym found;
     }
 
--- it is refused
-pub alone_refused : (text : List ℕ) (tree k : Kernel) (ds : Directives) (known : Known) (in_order : Bool) (r : Refusal) → IsAttached text tree ds → clauses_counted text tree ds ≡ lines_known known
-    → data_counted text tree ds ≡ data_known known (length tree.variables) → k ≡ alone text tree → in_order ≡ prints_in_order text tree
-    → RefusesAlone text k (data_known known (length k.variables)) (lines_known known) in_order r → RefusesKernel text tree r
-alone_refused text tree k ds known in_order r attached clauses roles is ordered refused =
-    let there = subst (λ (j : Kernel). RefusesAlone text j (data_known known (length j.variables)) (lines_known known) in_order r) is refused in
-    let by_lines = subst (λ (lines : Lines). RefusesAlone text (alone text tree) (data_known known (length tree.variables)) lines in_order r) (sym clauses) there in
-    let by_roles = subst (λ (R : LineData). RefusesAlone text (alone text tree) R (clauses_counted text tree ds) in_order r) (sym roles) by_lines in
-    inr (ds, attached, subst (λ (b : Bool). RefusesAlone text (alone text tree) (data_counted text tree ds) (clauses_counted text tree ds) b r) ordered by_roles)
+-- and the loops of its scans
+pub scanned_kernel : (text : List ℕ) (tree k : Kernel) (ds : Directives) (known : Known) (whole : Whole) (scans : List ScanLoop) → ReadsText text tree → IsAttached text tree ds → clauses_counted text tree ds ≡ lines_known known
+    → data_counted text tree ds ≡ data_known known (length tree.variables) → k ≡ alone text tree → whole ≡ whole_found text (lines_known known) tree → map scan_part scans ≡ scans_of text (lines_known known) tree
+    → IsScannedKernel text k known whole scans
+unfolding line_kernel
+scanned_kernel text tree k ds known whole scans reads attached clauses roles is found are =
+    record { stands = line_kernel text tree k ds known whole reads attached clauses roles is found; scans_are = are ∙ ap (λ (lines : Lines). scans_of text lines tree) (sym clauses) }
 
--- data that are wrong, or what is printed out of order, whichever is told
-pub either_refused : (text : List ℕ) (tree : Kernel) (R : LineData) (lines : Lines) (in_order : Bool) (one other r : Refusal) → in_order ≡ false → number_of one ≡ 18
-    → RefusesScalars text tree R other ⊎ RefusesClauses lines tree other → (r ≡ one) ⊎ (r ≡ other) → RefusesData text tree R lines in_order r
-either_refused text tree R lines in_order one other r wrong told refused (inl e) = inr (inr (wrong, ap number_of e ∙ told))
-either_refused text tree R lines in_order one other r wrong told (inl scalars) (inr e) = subst (λ (q : Refusal). RefusesData text tree R lines in_order q) (sym e) (inl scalars)
-either_refused text tree R lines in_order one other r wrong told (inr clauses) (inr e) = subst (λ (q : Refusal). RefusesData text tree R lines in_order q) (sym e) (inr (inl clauses))
+-- it is refused
+pub alone_refused : (text : List ℕ) (tree k : Kernel) (ds : Directives) (known : Known) (whole : Whole) (r : Refusal) → IsAttached text tree ds → clauses_counted text tree ds ≡ lines_known known
+    → data_counted text tree ds ≡ data_known known (length tree.variables) → k ≡ alone text tree → whole ≡ whole_found text (lines_known known) tree
+    → RefusesAlone text k (data_known known (length k.variables)) (lines_known known) whole r → RefusesKernel text tree r
+alone_refused text tree k ds known whole r attached clauses roles is found refused =
+    let there = subst (λ (j : Kernel). RefusesAlone text j (data_known known (length j.variables)) (lines_known known) whole r) is refused in
+    let by_lines = subst (λ (lines : Lines). RefusesAlone text (alone text tree) (data_known known (length tree.variables)) lines whole r) (sym clauses) there in
+    let by_roles = subst (λ (R : LineData). RefusesAlone text (alone text tree) R (clauses_counted text tree ds) whole r) (sym roles) by_lines in
+    inr (ds, attached, subst (λ (w : Whole). RefusesAlone text (alone text tree) (data_counted text tree ds) (clauses_counted text tree ds) w r) (found ∙ ap (λ (lines : Lines). whole_found text lines tree) (sym clauses)) by_roles)
+
+-- data that are wrong, or the whole, whichever is told
+pub either_refused : (text : List ℕ) (tree : Kernel) (R : LineData) (lines : Lines) (whole : Whole) (one other r : Refusal) → RefusesWhole whole one
+    → RefusesScalars text tree R other ⊎ RefusesClauses lines tree other → (r ≡ one) ⊎ (r ≡ other) → RefusesData text tree R lines whole r
+either_refused text tree R lines whole one other r told refused (inl e) = subst (λ (q : Refusal). RefusesData text tree R lines whole q) (sym e) (inr (inr told))
+either_refused text tree R lines whole one other r told (inl scalars) (inr e) = subst (λ (q : Refusal). RefusesData text tree R lines whole q) (sym e) (inl scalars)
+either_refused text tree R lines whole one other r told (inr clauses) (inr e) = subst (λ (q : Refusal). RefusesData text tree R lines whole q) (sym e) (inr (inl clauses))
 
 -- what is kept stands for the text
 pub stands_for : (text : List ℕ) (tree : Kernel) (p : Program) → ReadsText text tree → IsOfKernel text tree p → StandsFor text (tree_of p)

@@ -1,24 +1,51 @@
 -- The kernel that the passes behind the directives judge. (OpenMP 5.2, 10.1)
-use Rattle.std.specs.Prelude.{ℕ, Bool, ◌≡◌, List, length}
+use Rattle.std.specs.Prelude.{ℕ, Bool, true, ◌≡◌, is_none, List, map, length}
 use Rattle.semantics.specs.Tree.{Kernel}
 use Rattle.semantics.specs.Directives.Annotated.{Directives}
 use Rattle.semantics.specs.Directives.Naming.{IsAttached}
 use Rattle.law_lines.specs.Without.{IsTreeOf}
 use Rattle.ktree.specs.View.{kernel_of}
-use Rattle.pragma_named.specs.Known.{Known, lines_known}
+use Rattle.pragma_named.specs.Known.{Known, Lines, lines_known}
 use Rattle.pragma_region.specs.Regions.{alone}
 use Rattle.flow.specs.Roles.{data_known}
 use Rattle.flow_ordered.specs.Ordered.{prints_in_order}
-use Rattle.deptest.specs.Accepted.{Program, clauses_counted, data_counted}
+use Rattle.flow_scan.specs.Scans.{scans_rightly}
+use Rattle.flow_scan.specs.Views.{scan_part}
+use Rattle.flow_scan.specs.declared.listing.ScanLoop.{ScanLoop}
+use Rattle.ompk.specs.declared.accepting.WholeFaults.{WholeFaults}
+use Rattle.deptest.specs.Accepted.{Program, clauses_counted, data_counted, scans_counted}
 
--- a tree of a text, whose directives are attached to the whole of it; this is known of the clauses that count for each line, and of whether parallel loops print in order
-pub record IsLineKernel (text : List ℕ) (tree : Kernel) (known : Known) (in_order : Bool) : Type 0 where
+-- what only a tree with all of its directive lines shows: whether parallel loops print in order, and whether scans have their phases
+pub record Whole : Type 0 where
+  pub ordered : Bool
+  pub phased : Bool
+
+-- what is found of it
+abbrev pub whole_of : WholeFaults → Whole
+whole_of f = record { ordered = is_none f.disorder; phased = is_none f.misuse }
+
+-- what there is to be found, by the clauses that count for each line
+abbrev pub whole_found : List ℕ → Lines → Kernel → Whole
+whole_found text lines k = record { ordered = prints_in_order text k; phased = scans_rightly text lines k }
+
+-- nothing is wrong with it
+abbrev pub IsRight : Whole → Type 0
+IsRight w = (w.ordered ≡ true) × (w.phased ≡ true)
+
+-- a tree of a text, whose directives are attached to the whole of it and dissolved in it; this is known of the clauses that count for each line, and of the whole
+pub record IsLineKernel (text : List ℕ) (tree : Kernel) (known : Known) (whole : Whole) : Type 0 where
   pub reads : IsTreeOf text tree
   pub directives : Directives
   pub attached : IsAttached text reads.whole directives
   pub clauses : clauses_counted text reads.whole directives ≡ lines_known known
   pub roles : data_counted text reads.whole directives ≡ data_known known (length tree.variables)
-  pub ordered : prints_in_order text reads.whole ≡ in_order
+  pub dissolved : tree ≡ alone text reads.whole
+  pub found : whole_found text (clauses_counted text reads.whole directives) reads.whole ≡ whole
+
+-- and these are the loops of its scans
+pub record IsScannedKernel (text : List ℕ) (tree : Kernel) (known : Known) (whole : Whole) (scans : List ScanLoop) : Type 0 where
+  pub stands : IsLineKernel text tree known whole
+  pub scans_are : map scan_part scans ≡ scans_counted text stands.reads.whole stands.directives
 
 -- what is kept of a text that reads as a tree: the text, and the tree with its regions dissolved
 pub record IsOfKernel (text : List ℕ) (tree : Kernel) (p : Program) : Type 0 where

@@ -1,5 +1,5 @@
 -- Why a text is not accepted.
-use Rattle.std.specs.Prelude.{ℕ, Bool, ◌≡◌, ◌⊎◌, true, false, List, [], Some, None}
+use Rattle.std.specs.Prelude.{ℕ, ◌≡◌, ◌⊎◌, true, false, List, [], Some, None}
 use Rattle.semantics.specs.Tree.{Kernel}
 use Rattle.semantics.specs.Source.Grammar.{ReadsText}
 use Rattle.semantics.specs.Meaning.Definite.{IsDefinite}
@@ -27,9 +27,9 @@ use Rattle.flow.specs.declared.fault.DataFault.{DataFault}
 use Rattle.pragma_named.specs.Known.{Lines}
 use Rattle.flow_clauses.specs.Fitting.{fit_clauses, number_told}
 use Rattle.flow_clauses.specs.declared.judging.Misuse.{Misuse}
-use Rattle.flow_ordered.specs.Ordered.{prints_in_order}
 use Rattle.deptest.specs.Accepted.{clauses_counted, data_counted, HasPassed}
 use Rattle.deptest.specs.Refused.{RefusesLoops}
+use Rattle.ompk.specs.Judged.{Whole, IsRight, whole_found}
 
 -- memory was refused, or a loop is not canonical or may wrap, or a subscript is not affine, or a parallel loop has no right nest
 abbrev pub RefusesNests : List ℕ → Kernel → Refusal → Type 0
@@ -68,37 +68,37 @@ RefusesScalars text tree R r =
 abbrev pub RefusesClauses : Lines → Kernel → Refusal → Type 0
 RefusesClauses lines tree r = (r ≡ OutOfMemory) ⊎ ((m : Misuse) × (number_of r ≡ number_told m) × (fit_clauses lines tree ≡ false))
 
--- an ordered region stands where it may not, or a parallel loop prints outside of one (K18)
-abbrev pub RefusesOrder : Bool → Refusal → Type 0
-RefusesOrder in_order r = (in_order ≡ false) × (number_of r ≡ 18)
+-- an ordered region stands where it may not, or a parallel loop prints outside of one (K18); or a scan is misused (K17, and K16 of its variable in an input phase)
+abbrev pub RefusesWhole : Whole → Refusal → Type 0
+RefusesWhole whole r = ((whole.ordered ≡ false) × (number_of r ≡ 18)) ⊎ ((whole.phased ≡ false) × ((number_of r ≡ 17) ⊎ (number_of r ≡ 16)))
 
--- one of these; in_order: whether parallel loops print in order
-abbrev pub RefusesData : List ℕ → Kernel → LineData → Lines → Bool → Refusal → Type 0
-RefusesData text tree R lines in_order r = RefusesScalars text tree R r ⊎ (RefusesClauses lines tree r ⊎ RefusesOrder in_order r)
+-- one of these
+abbrev pub RefusesData : List ℕ → Kernel → LineData → Lines → Whole → Refusal → Type 0
+RefusesData text tree R lines whole r = RefusesScalars text tree R r ⊎ (RefusesClauses lines tree r ⊎ RefusesWhole whole r)
 
 -- the passes before that of the data find nothing wrong, nor does that of the data
 abbrev pub IsNestedRightly : List ℕ → Kernel → Type 0
 IsNestedRightly text tree = IsDirected text tree × AreRightNests text tree
 
-abbrev pub HasRightData : List ℕ → Kernel → LineData → Lines → Bool → Type 0
-HasRightData text tree R lines in_order = IsDefinite (privates_by R) tree × ItemsKeepRoles text R [] tree.body × (fit_clauses lines tree ≡ true) × (in_order ≡ true)
+abbrev pub HasRightData : List ℕ → Kernel → LineData → Lines → Whole → Type 0
+HasRightData text tree R lines whole = IsDefinite (privates_by R) tree × ItemsKeepRoles text R [] tree.body × (fit_clauses lines tree ≡ true) × IsRight whole
 
 -- the data are wrong, or they are right and a subscript leaves its array
-abbrev pub RefusesDataOrRanges : List ℕ → Kernel → LineData → Lines → Bool → Refusal → Type 0
-RefusesDataOrRanges text tree R lines in_order r = RefusesData text tree R lines in_order r ⊎ (HasRightData text tree R lines in_order × RefusesRanges tree r)
+abbrev pub RefusesDataOrRanges : List ℕ → Kernel → LineData → Lines → Whole → Refusal → Type 0
+RefusesDataOrRanges text tree R lines whole r = RefusesData text tree R lines whole r ⊎ (HasRightData text tree R lines whole × RefusesRanges tree r)
 
 -- memory was refused, or the first pass that finds something wrong tells it: places of lines, then nests, then data, then ranges
-abbrev pub RefusesPasses : List ℕ → Kernel → LineData → Lines → Bool → Refusal → Type 0
-RefusesPasses text tree R lines in_order r =
+abbrev pub RefusesPasses : List ℕ → Kernel → LineData → Lines → Whole → Refusal → Type 0
+RefusesPasses text tree R lines whole r =
     (r ≡ OutOfMemory)
     ⊎ (RefusesPlaces text tree r
     ⊎ ((IsDirected text tree × RefusesNests text tree r)
-    ⊎ (IsNestedRightly text tree × RefusesDataOrRanges text tree R lines in_order r)))
+    ⊎ (IsNestedRightly text tree × RefusesDataOrRanges text tree R lines whole r)))
 
 -- none of them finds anything, by the clauses that are known of each line
-pub record IsJudged (text : List ℕ) (tree : Kernel) (R : LineData) (lines : Lines) (in_order : Bool) : Type 0 where
+pub record IsJudged (text : List ℕ) (tree : Kernel) (R : LineData) (lines : Lines) (whole : Whole) : Type 0 where
   pub right : IsNestedRightly text tree
-  pub environment : HasRightData text tree R lines in_order
+  pub environment : HasRightData text tree R lines whole
   pub in_range : IsInRange tree
 
 -- all of that is well, and the dependence test refuses the tree, or memory was refused
@@ -106,12 +106,12 @@ abbrev pub RefusesPairs : List ℕ → Kernel → Refusal → Type 0
 RefusesPairs text tree r = HasPassed text tree × RefusesLoops text tree r
 
 -- a tree whose regions are dissolved is refused by one of these passes or by that test
-abbrev pub RefusesAlone : List ℕ → Kernel → LineData → Lines → Bool → Refusal → Type 0
-RefusesAlone text tree R lines in_order r = RefusesPasses text tree R lines in_order r ⊎ RefusesPairs text tree r
+abbrev pub RefusesAlone : List ℕ → Kernel → LineData → Lines → Whole → Refusal → Type 0
+RefusesAlone text tree R lines whole r = RefusesPasses text tree R lines whole r ⊎ RefusesPairs text tree r
 
 -- the directives are attached, and the tree with its regions dissolved is refused, by the clauses that count for its lines
 abbrev pub RefusesAttached : List ℕ → Kernel → Refusal → Type 0
-RefusesAttached text tree r = (ds : Directives) × IsAttached text tree ds × RefusesAlone text (alone text tree) (data_counted text tree ds) (clauses_counted text tree ds) (prints_in_order text tree) r
+RefusesAttached text tree r = (ds : Directives) × IsAttached text tree ds × RefusesAlone text (alone text tree) (data_counted text tree ds) (clauses_counted text tree ds) (prints_whole text tree) r
 
 -- the tree is none that is run
 abbrev pub RefusesKernel : List ℕ → Kernel → Refusal → Type 0

@@ -1,6 +1,6 @@
 //! Which texts are accepted.
 
-ghost use Rattle.std.specs.Prelude.{◌≡◌, ◌⊎◌, [], true, is_none, length, OnOk, IfOk, IfErr};
+ghost use Rattle.std.specs.Prelude.{◌≡◌, ◌⊎◌, [], true, length, MatchOption, OnOk, IfOk, IfErr};
 ghost use Rattle.flow_clauses.specs.Fitting.{fit_clauses};
 ghost use Rattle.flow.specs.Roles.{data_known, privates_by, ItemsKeepRoles};
 ghost use Rattle.pragma_named.specs.Known.{kept, lines_known};
@@ -8,6 +8,7 @@ ghost use Rattle.pragma_attach.specs.Attached.{directives_of};
 ghost use Rattle.semantics.specs.Directives.Naming.{IsAttached};
 ghost use Rattle.flow.specs.Parallel.{AreParallelLoops};
 ghost use Rattle.ktree.specs.View.{kernel_of};
+ghost use Rattle.ktree.specs.declared.refusal.Refusal.TheVariants.{OutOfMemory};
 ghost use Rattle.semantics.specs.Source.Grammar.{ReadsText};
 ghost use Rattle.semantics.specs.Theorems.{StandsFor};
 ghost use Rattle.semantics.specs.Meaning.Definite.{IsDefinite};
@@ -16,8 +17,8 @@ ghost use Rattle.nest.specs.Nests.{IsInRange};
 ghost use Rattle.nest.specs.Perfect.{AreRightNests};
 ghost use Rattle.nest.specs.Judged.{IsTableOf};
 ghost use Rattle.deptest.specs.Accepted.{tree_of, clauses_counted, data_counted, AreRegions, IsAccepted};
-ghost use Rattle.ompk.specs.Judged.{IsLineKernel, IsOfKernel};
-ghost use Rattle.ompk.specs.Refused.{IsJudged, RefusesLines, RefusesPlaces, RefusesNests, RefusesRanges, RefusesScalars, RefusesClauses, HasRightData, RefusesData, RefusesPasses, RefusesAlone, RefusesKernel, RefusesText};
+ghost use Rattle.ompk.specs.Judged.{whole_of, whole_found, IsRight, IsScannedKernel, IsOfKernel};
+ghost use Rattle.ompk.specs.Refused.{IsJudged, RefusesLines, RefusesPlaces, RefusesNests, RefusesRanges, RefusesScalars, RefusesClauses, RefusesWhole, HasRightData, RefusesData, RefusesPasses, RefusesAlone, RefusesKernel, RefusesText};
 
 use cparse::parse;
 use deptest::{Checked, Parallel, accept};
@@ -25,6 +26,7 @@ use flow::{DataFault, ParallelLoop, classify};
 use flow_clauses::first_misuse;
 use flow_definite::definite;
 use flow_ordered::{Disorder, first_disorder};
+use flow_scan::{ScanFault, ScanLoop, scans_of};
 use ktree::{Kernel, Refusal};
 use nest::{LoopTable, nests};
 use pragma::{Directives, first_fault};
@@ -204,29 +206,67 @@ fn judge_values(
     }
 }
 
-// Refuses it so, or by what is printed out of order, whichever comes first in the text.
+// What is wrong with a kernel that only its directive lines inside parallel loops show.
+#[derive(Clone, Copy)]
+struct WholeFaults {
+    disorder: Option<Disorder>,
+    misuse: Option<ScanFault>,
+}
+
+// What is wrong with an ordered region, with a loop that prints, or with a scan, in a kernel with all of its directive lines.
+fn whole_faults(
+    alloc: Global,
+    kernel: &Kernel,
+    directives: &Directives,
+    lines: &LineClauses,
+) -> Result<WholeFaults, Refusal>
+    ensures found { IfOk result (λ faults. whole_of faults ≡ whole_found directives.now
+        (lines_known (kept lines.now)) (kernel_of kernel.now)) }
+    ensures refusal { IfErr result (λ refusal. refusal ≡ OutOfMemory) }
+{
+    let disorder = first_disorder(kernel, directives);
+    let misuse = flow_scan::first_misuse(alloc, kernel, directives, lines)?;
+    Ok(WholeFaults { disorder, misuse })
+}
+
+// What tells of that, of what comes first in the text.
+fn whole_refusal(faults: WholeFaults) -> Option<Refusal>
+    ensures { MatchOption result (IsRight (whole_of faults)) (RefusesWhole (whole_of faults)) }
+{
+    match (faults.disorder, faults.misuse) {
+        (None, None) => None,
+        (Some(disorder), None) => Some(disorder.refusal()),
+        (None, Some(misuse)) => Some(misuse.refusal()),
+        (Some(disorder), Some(misuse)) => Some(first_of(disorder.refusal(), misuse.refusal())),
+    }
+}
+
+// Refuses a kernel by its values, or by what is wrong with the whole, whichever comes first in the text.
 fn judge_data(
     alloc: Global,
     kernel: &Kernel,
     directives: &Directives,
     lines: &LineClauses,
-    disorder: Option<Disorder>,
+    faults: WholeFaults,
 ) -> Result<Vec<ParallelLoop>, Refusal>
     ensures listed { IfOk result (λ loops. AreParallelLoops directives.now
         (data_known (kept lines.now) (length (kernel_of kernel.now).variables))
         (kernel_of kernel.now) loops.items) }
     ensures right { IfOk result (λ _. HasRightData directives.now (kernel_of kernel.now)
         (data_known (kept lines.now) (length (kernel_of kernel.now).variables))
-        (lines_known (kept lines.now)) (is_none disorder)) }
+        (lines_known (kept lines.now)) (whole_of faults)) }
     ensures refusal { IfErr result (RefusesData directives.now (kernel_of kernel.now)
         (data_known (kept lines.now) (length (kernel_of kernel.now).variables))
-        (lines_known (kept lines.now)) (is_none disorder)) }
+        (lines_known (kept lines.now)) (whole_of faults)) }
 {
-    match (judge_values(alloc, kernel, directives, lines), disorder) {
+    match (
+        judge_values(alloc, kernel, directives, lines),
+        whole_refusal(faults),
+    ) {
         (Ok(loops), None) => Ok(loops),
-        (Ok(_loops), Some(disorder)) => Err(disorder.refusal()),
+        (Ok(_loops), Some(whole)) => Err(whole),
         (Err(refusal), None) => Err(refusal),
-        (Err(refusal), Some(disorder)) => Err(first_of(disorder.refusal(), refusal)),
+        (Err(refusal), Some(whole)) => Err(first_of(whole, refusal)),
     }
 }
 
@@ -243,22 +283,22 @@ fn judge(
     kernel: &Kernel,
     directives: &Directives,
     lines: &LineClauses,
-    disorder: Option<Disorder>,
+    faults: WholeFaults,
 ) -> Result<KnownLoops, Refusal>
     ensures judged { IfOk result (λ _. IsJudged directives.now (kernel_of kernel.now)
         (data_known (kept lines.now) (length (kernel_of kernel.now).variables))
-        (lines_known (kept lines.now)) (is_none disorder)) }
+        (lines_known (kept lines.now)) (whole_of faults)) }
     ensures table { IfOk result (λ known. IsTableOf (kernel_of kernel.now) known.table) }
     ensures listed { IfOk result (λ known. AreParallelLoops directives.now
         (data_known (kept lines.now) (length (kernel_of kernel.now).variables))
         (kernel_of kernel.now) known.loops.items) }
     ensures refusal { IfErr result (RefusesPasses directives.now (kernel_of kernel.now)
         (data_known (kept lines.now) (length (kernel_of kernel.now).variables))
-        (lines_known (kept lines.now)) (is_none disorder)) }
+        (lines_known (kept lines.now)) (whole_of faults)) }
 {
     judge_places(kernel, directives)?;
     let table = judge_nests(alloc, kernel, directives)?;
-    let loops = judge_data(alloc, kernel, directives, lines, disorder)?;
+    let loops = judge_data(alloc, kernel, directives, lines, faults)?;
     judge_ranges(kernel, &table)?;
     Ok(KnownLoops { table, loops })
 }
@@ -270,19 +310,25 @@ fn accept_alone(
     text: &[u8],
     directives: &Directives,
     lines: &LineClauses,
+    scans: Vec<ScanLoop>,
     regions: Vec<RegionPart>,
-    disorder: Option<Disorder>,
+    faults: WholeFaults,
 ) -> Result<Checked, Refusal>
-    requires stands { IsLineKernel text.now (kernel_of kernel) (kept lines.now) (is_none disorder) }
+    requires stands { IsScannedKernel text.now (kernel_of kernel) (kept lines.now) (whole_of faults)
+        scans.items }
     requires lines { directives.now ≡ text.now }
     requires regions { AreRegions text.now (kernel_of kernel) regions.items }
     ensures is { IfOk result (λ checked. checked ≡ record { text = text.now; kernel = kernel }) }
     ensures refusal { IfErr result (RefusesAlone text.now (kernel_of kernel)
         (data_known (kept lines.now) (length (kernel_of kernel).variables))
-        (lines_known (kept lines.now)) (is_none disorder)) }
+        (lines_known (kept lines.now)) (whole_of faults)) }
 {
-    let KnownLoops { table, loops } = judge(alloc, &kernel, directives, lines, disorder)?;
-    let parallel = Parallel { loops, regions };
+    let KnownLoops { table, loops } = judge(alloc, &kernel, directives, lines, faults)?;
+    let parallel = Parallel {
+        loops,
+        scans,
+        regions,
+    };
     accept(alloc, directives, &table, text, kernel, parallel)
 }
 
@@ -299,10 +345,13 @@ fn accept_directed(
     ensures refusal { IfErr result (RefusesKernel text.now (kernel_of kernel)) }
 {
     let lines = judge_lines(alloc, &kernel, directives)?;
+    let faults = whole_faults(alloc, &kernel, directives, &lines)?;
     let regions = regions_of(alloc, directives, &kernel)?;
-    let disorder = first_disorder(&kernel, directives);
+    let scans = scans_of(alloc, &kernel, directives, &lines)?;
     let kernel = dissolve_regions(alloc, directives, kernel)?;
-    accept_alone(alloc, kernel, text, directives, &lines, regions, disorder)
+    accept_alone(
+        alloc, kernel, text, directives, &lines, scans, regions, faults,
+    )
 }
 
 // Accepts the kernel of a text, or refuses it.

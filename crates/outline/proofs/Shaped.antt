@@ -1,5 +1,5 @@
 -- Outlines made of parts that are made right.
-use Rattle.std.specs.Prelude.{filter, ℕ, zero, suc, Bool, true, false, ◌≡◌, ◌+◌, ◌<◌, ◌≤◌, ◌==◌, List, [], ◌∷◌, ◌++◌, length, map, take, Option, Some, None, All, Contains, option_and_then}
+use Rattle.std.specs.Prelude.{filter, not, ℕ, zero, suc, Bool, true, false, ◌≡◌, ◌+◌, ◌<◌, ◌≤◌, ◌==◌, List, [], ◌∷◌, ◌++◌, length, map, take, Option, Some, None, All, Contains, option_and_then}
 use Rattle.std.proofs.Common.{Vec, Box, Bor, Global, refl, sym, ap, ◌∙◌, subst, cond, arith, get_or, append-nil}
 use Rattle.std.proofs.lemmas.Bool.{eqb-true}
 use Rattle.std.proofs.lemmas.List.{take_more, take_all}
@@ -31,9 +31,10 @@ use Rattle.pragma.specs.Clauses.{ReadsLoop}
 use Rattle.pragma.specs.Parallel.{associated, LineHas}
 use Rattle.pragma.specs.Views.{scheduled}
 use Rattle.pragma.proofs.LoopLaw.{read_once}
-use Rattle.flow.specs.Roles.{LineData, left_roles, ItemsHaveBy}
+use Rattle.flow.specs.Phases.{LinePhases}
+use Rattle.flow.specs.Roles.{LineData, takes_operands, left_roles, ItemsHaveBy}
 use Rattle.flow_reduction.specs.Reduced.{reduced}
-use Rattle.flow.specs.Parallel.{numbers, AreRolesOf}
+use Rattle.flow.specs.Parallel.{AreRolesOf}
 use Rattle.flow.specs.declared.environment.LoopRoles.{LoopRoles}
 use Rattle.flow.specs.declared.environment.ParallelLoop.{ParallelLoop}
 use Rattle.law_commute.specs.Targets.{targets_outside}
@@ -119,38 +120,42 @@ module _ (layout : List Laid) (mark : ℕ) (loops : List ParallelLoop) where
 
   pub serial_made : (box : List Side) (code : Compiled) (s : Bor statements.Stmt) → has_line (stmt_of s.now) ≡ false → (AreLocals layout mark (declared_in (stmt_of s.now)) → Performs layout mark (run (stmt_of s.now)) code)
       → IsMade layout mark loops box None (stmt_of s.now) (Serial code s)
-  serial_made box code s none code_fits = record { performs = λ R serial. sym (whole (stmt_of s.now) R serial none); fits = λ text ds R serial given shares all. code_fits all }
+  serial_made box code s none code_fits = record { performs = λ R serial. sym (whole (stmt_of s.now) R serial none); fits = λ text ds R P serial given shares all. code_fits all }
 
   -- ---- a loop for a team
 
   -- the variables with a role are those that the line gives
   roles_by_line : (roles : LoopRoles) (R : LineData) (line : ℕ) (s : Stmt) (ls : LoweredRoles) → AreRolesOf (R line) roles → AreRolesAt layout mark (used_roles s (roles_of roles)) ls → AreRolesAt layout mark (used_roles s (left_roles (R line))) ls
   roles_by_line roles R line s ls e at = record {
-    reductions = subst (λ rs. AreReduced layout mark (filter (λ r. is_among (targets_outside s) r.0) rs) ls.reductions.items) e.reductions at.reductions;
+    reductions = subst (λ rs. AreReduced layout mark (filter (λ r. is_among (targets_outside s) r.0) rs) ls.reductions.items) reduces at.reductions;
     lasts = subst (λ xs. StandEach layout mark (filter (is_among (targets_outside s)) xs) ls.lasts.items) left at.lasts;
   }
     where
-      left : (numbers roles.lasts.items ++ map (λ r. r.0) (reduced roles.carried.items)) ≡ (left_roles (R line)).lasts
-      left = ap (λ xs. xs ++ map (λ r. r.0) (reduced roles.carried.items)) e.lasts ∙ ap (λ (cs : List (Variable × ReduceOp)). (R line).roles.lasts ++ map (λ r. r.0) cs) e.carried
+      left : (roles_of roles).lasts ≡ (left_roles (R line)).lasts
+      left =
+          ap (λ xs. xs ++ map (λ r. r.0) (filter (λ r. not (takes_operands r)) (reduced roles.carried.items))) e.lasts
+          ∙ ap (λ (cs : List (Variable × ReduceOp)). (R line).roles.lasts ++ map (λ r. r.0) (filter (λ r. not (takes_operands r)) cs)) e.carried
+
+      reduces : (roles_of roles).reductions ≡ (left_roles (R line)).reductions
+      reduces = ap (λ rs. rs ++ filter takes_operands (reduced roles.carried.items)) e.reductions ∙ ap (λ (cs : List (Variable × ReduceOp)). (R line).roles.reductions ++ filter takes_operands cs) e.carried
 
   pub team_made : (box : List Side) (line : Place) (s : Stmt) (l : TeamLoop) → IsHanded layout mark box loops line s l → IsMade layout mark loops box (Some line) s (Team l)
   team_made box line s l h = record {
     performs = λ R serial. ap (λ a. handed (used_roles a (left_roles (R l.line))) serial a) h.statement ∙ ap (λ m. handed (used_roles s (left_roles (R m))) serial s) h.at;
-    fits = λ text ds R serial given shares all. team_fits text ds R serial given shares all;
+    fits = λ text ds R P serial given shares all. team_fits text ds R P serial given shares all;
   }
     where
-      team_fits : (text : List ℕ) (ds : List Tree.Declaration) (R : LineData) (serial : List Loop) → IsGiven (length layout) mark text R loops serial box → SharesBehind text ds R serial (Some line) s → AreLocals layout mark (declared_in s)
+      team_fits : (text : List ℕ) (ds : List Tree.Declaration) (R : LineData) (P : LinePhases) (serial : List Loop) → IsGiven (length layout) mark text R loops serial box → SharesBehind text ds R P serial (Some line) s → AreLocals layout mark (declared_in s)
           → TeamFits layout mark R serial l
-      team_fits text ds R serial given (k, c, reads, share) all =
+      team_fits text ds R P serial given (k, c, reads, share) all =
           let own = of_all (IsOfText text R) loops h.parallel given.table h.stands.0 in
           let here = subst (λ (p : Place). ReadsLoop (line_at text p.line) (scheduled h.parallel.directive) h.parallel.directive.collapse) h.stands.1 own.reads in
           let kept = subst (λ (p : Place). AreRolesOf (R p.line) h.parallel.roles) h.stands.1 own.roles in
           let same = (read_once (line_at text line.line) (scheduled h.parallel.directive) h.parallel.directive.collapse k c here reads).1 in
           let depth : associated c ≡ l.depth = ap associated (sym same) ∙ sym h.depth in
           let roles : used_roles s (left_roles (R line.line)) ≡ roles_in R l = sym (ap (λ a. used_roles a (left_roles (R l.line))) h.statement ∙ ap (λ m. used_roles s (left_roles (R m))) h.at) in
-          let deep : SharesAsNest ds (R line.line).carried (used_roles s (left_roles (R line.line))) serial l.depth s = subst (λ d. SharesAsNest ds (R line.line).carried (used_roles s (left_roles (R line.line))) serial d s) depth share in
-          let there : SharesAsNest ds (R l.line).carried (used_roles s (left_roles (R line.line))) serial l.depth s = subst (λ m. SharesAsNest ds (R m).carried (used_roles s (left_roles (R line.line))) serial l.depth s) (sym h.at) deep in
-          let nested : SharesAsNest ds (R l.line).carried (roles_in R l) serial l.depth s = subst (λ rs. SharesAsNest ds (R l.line).carried rs serial l.depth s) roles there in
+          let deep : SharesAsNest ds (R line.line) (P line.line) serial l.depth s = subst (λ d. SharesAsNest ds (R line.line) (P line.line) serial d s) depth share in
+          let nested : SharesAsNest ds (R l.line) (P line.line) serial l.depth s = subst (λ m. SharesAsNest ds (R m) (P line.line) serial l.depth s) (sym h.at) deep in
           let n = h.lowered in
           let parts = nest_locals l.depth s n.loops n.body n.nest in
           let both = subst (AreLocals layout mark) parts all in
@@ -174,7 +179,8 @@ module _ (layout : List Laid) (mark : ℕ) (loops : List ParallelLoop) where
                 given.privates l.line x (second_of (f x) (is_among (R l.line).roles.privates x) (sym (among_left f (R l.line).roles.privates x) ∙ e));
             declarations = ds;
             carries = λ none. ap (λ m. (R m).carried) h.at ∙ sym kept.carried ∙ h.carries none;
-            nested = subst (λ a. SharesAsNest ds (R l.line).carried (roles_in R l) serial l.depth a) (sym h.statement) nested;
+            said = P line.line;
+            nested = subst (λ a. SharesAsNest ds (R l.line) (P line.line) serial l.depth a) (sym h.statement) nested;
           }
 
   -- ---- a serial loop
@@ -197,9 +203,9 @@ module _ (layout : List Laid) (mark : ℕ) (loops : List ParallelLoop) where
   loop_made box within head lowered inner a is head_fits made = record {
     performs = λ R serial i s. then_from s (declared s head.now.variable.0 (Some (source_of head.now.start)))
         (turns greatest_trip_count (λ t. holds t (cond_of head.now.test)) (made.performs R (serial ++ head_of head.now ∷ []) i) (λ t. incremented t (increment_of head.now.step)));
-    fits = λ text ds R serial given shares all. (
+    fits = λ text ds R P serial given shares all. (
       head_fits (all.0, tt),
-      made.fits text ds R (serial ++ head_of head.now ∷ []) (record { round = inside_round box within head.now serial is all.0.1 given.round; table = given.table; privates = given.privates }) shares all.1,
+      made.fits text ds R P (serial ++ head_of head.now ∷ []) (record { round = inside_round box within head.now serial is all.0.1 given.round; table = given.table; privates = given.privates }) shares all.1,
     );
   }
 
@@ -209,10 +215,10 @@ module _ (layout : List Laid) (mark : ℕ) (loops : List ParallelLoop) where
       → IsMade layout mark loops box None (Tree.IfElse (cond_of cond.now) a b) (If test cond then (Some other))
   two_made box test cond then other a b means one two = record {
     performs = λ R serial i s. by_test (holds s (cond_of cond.now)) (one.performs R serial i s) (two.performs R serial i s);
-    fits = λ text ds R serial given shares all. (
+    fits = λ text ds R P serial given shares all. (
       means,
-      one.fits text ds R serial given shares.0 (locals_left layout mark (declared_in a) (declared_in b) all),
-      two.fits text ds R serial given shares.1 (locals_right layout mark (declared_in a) (declared_in b) all),
+      one.fits text ds R P serial given shares.0 (locals_left layout mark (declared_in a) (declared_in b) all),
+      two.fits text ds R P serial given shares.1 (locals_right layout mark (declared_in a) (declared_in b) all),
     );
   }
 
@@ -248,12 +254,12 @@ module _ (layout : List Laid) (mark : ℕ) (loops : List ParallelLoop) where
 
   pub plain_made : (box : List Side) (d : Option Place) (item : Bor Item) (code : Compiled) → IsNoStatement item.now
       → (AreLocals layout mark (declared_among (with_item item.now Tree.no_items)) → Performs layout mark (run_items (with_item item.now Tree.no_items)) code) → IsMadeItem layout mark loops box d item.now (Plain code item)
-  plain_made box d item code none code_fits = record { performs = λ R serial rest. plain_performs d item.now none R serial rest; fits = λ text ds R serial given shares all. code_fits all }
+  plain_made box d item code none code_fits = record { performs = λ R serial rest. plain_performs d item.now none R serial rest; fits = λ text ds R P serial given shares all. code_fits all }
 
   pub statement_made : (box : List Side) (d : Option Place) (p : _) (s : statements.Stmt) (inner : Box Outline Global) → IsMade layout mark loops box d (stmt_of s) inner.value → IsMadeItem layout mark loops box d (Statement' p s) (Statement inner)
   statement_made box d p s inner made = record {
     performs = λ R serial rest. at R serial d (made.performs R serial) rest;
-    fits = λ text ds R serial given shares all. made.fits text ds R serial given shares (subst (AreLocals layout mark) (append-nil (declared_in (stmt_of s))) all);
+    fits = λ text ds R P serial given shares all. made.fits text ds R P serial given shares (subst (AreLocals layout mark) (append-nil (declared_in (stmt_of s))) all);
   }
     where
       at : (R : LineData) (serial : List Loop) (e : Option Place) → performed R serial inner.value ≡ run_behind R e serial (stmt_of s) → (rest : Tree.Items)
@@ -300,18 +306,18 @@ module _ (layout : List Laid) (mark : ℕ) (loops : List ParallelLoop) where
       (λ j s. then_from s (item_performed R serial o s) (items_perform box (line_of i) is os h.1 R serial j)) ∙ sym (h.0.performs R serial (items_of is))
 
   -- what may be shared of some items, also of the first where it stands behind a line
-  abbrev ShareFrom : List ℕ → List Tree.Declaration → LineData → List Loop → Option Place → Tree.Items → Type 0
-  ShareFrom text ds R serial None items = ItemsHaveBy text (SharesBy ds R) serial items
-  ShareFrom text ds R serial (Some line) items = LineHas text (SharesBy ds R line.line) serial line.line items × ItemsHaveBy text (SharesBy ds R) serial items
+  abbrev ShareFrom : List ℕ → List Tree.Declaration → LineData → LinePhases → List Loop → Option Place → Tree.Items → Type 0
+  ShareFrom text ds R P serial None items = ItemsHaveBy text (SharesBy ds R P) serial items
+  ShareFrom text ds R P serial (Some line) items = LineHas text (SharesBy ds R P line.line) serial line.line items × ItemsHaveBy text (SharesBy ds R P) serial items
 
-  split : (text : List ℕ) (ds : List Tree.Declaration) (R : LineData) (serial : List Loop) (d : Option Place) (i : Item) (rest : Tree.Items)
-      → ShareFrom text ds R serial d (with_item i rest) → ItemShares text ds R serial d i × ShareFrom text ds R serial (line_of i) rest
-  split text ds R serial None (Directive place) rest h = (tt, h)
-  split text ds R serial None (Local l) rest h = (tt, h)
-  split text ds R serial None (Statement' p s) rest h = (h.0, h.1)
-  split text ds R serial (Some line) (Directive place) rest h = absurd h.0.3
-  split text ds R serial (Some line) (Local l) rest h = absurd h.0.3
-  split text ds R serial (Some line) (Statement' p s) rest h = ((h.0.0, h.0.1, h.0.2, h.0.3), h.1.1)
+  split : (text : List ℕ) (ds : List Tree.Declaration) (R : LineData) (P : LinePhases) (serial : List Loop) (d : Option Place) (i : Item) (rest : Tree.Items)
+      → ShareFrom text ds R P serial d (with_item i rest) → ItemShares text ds R P serial d i × ShareFrom text ds R P serial (line_of i) rest
+  split text ds R P serial None (Directive place) rest h = (tt, h)
+  split text ds R P serial None (Local l) rest h = (tt, h)
+  split text ds R P serial None (Statement' p s) rest h = (h.0, h.1)
+  split text ds R P serial (Some line) (Directive place) rest h = absurd h.0.3
+  split text ds R P serial (Some line) (Local l) rest h = absurd h.0.3
+  split text ds R P serial (Some line) (Statement' p s) rest h = ((h.0.0, h.0.1, h.0.2, h.0.3), h.1.1)
 
   cut : (item : Item) (rest : Tree.Items) → AreLocals layout mark (declared_among (with_item item rest)) → AreLocals layout mark (declared_among (with_item item Tree.no_items)) × AreLocals layout mark (declared_among rest)
   cut (Directive place) rest all = (tt, all)
@@ -320,25 +326,25 @@ module _ (layout : List Laid) (mark : ℕ) (loops : List ParallelLoop) where
       let xs = declared_in (stmt_of s) in
       (subst (AreLocals layout mark) (sym (append-nil xs)) (locals_left layout mark xs (declared_among rest) all), locals_right layout mark xs (declared_among rest) all)
 
-  items_fitted : (box : List Side) (d : Option Place) (is : List Item) (os : List OutlineItem) → AreMade layout mark loops box d is os → (text : List ℕ) (ds : List Tree.Declaration) (R : LineData) (serial : List Loop)
-      → IsGiven (length layout) mark text R loops serial box → ShareFrom text ds R serial d (items_of is)
+  items_fitted : (box : List Side) (d : Option Place) (is : List Item) (os : List OutlineItem) → AreMade layout mark loops box d is os → (text : List ℕ) (ds : List Tree.Declaration) (R : LineData) (P : LinePhases) (serial : List Loop)
+      → IsGiven (length layout) mark text R loops serial box → ShareFrom text ds R P serial d (items_of is)
       → AreLocals layout mark (declared_among (items_of is)) → AllFit layout mark R serial os
-  items_fitted box d [] [] h text ds R serial given share all = tt
-  items_fitted box d [] (o ∷ os) h text ds R serial given share all = absurd h
-  items_fitted box d (i ∷ is) [] h text ds R serial given share all = absurd h
-  items_fitted box d (i ∷ is) (o ∷ os) h text ds R serial given share all =
-      let c = split text ds R serial d i (items_of is) share in
+  items_fitted box d [] [] h text ds R P serial given share all = tt
+  items_fitted box d [] (o ∷ os) h text ds R P serial given share all = absurd h
+  items_fitted box d (i ∷ is) [] h text ds R P serial given share all = absurd h
+  items_fitted box d (i ∷ is) (o ∷ os) h text ds R P serial given share all =
+      let c = split text ds R P serial d i (items_of is) share in
       let l = cut i (items_of is) all in
-      (h.0.fits text ds R serial given c.0 l.0, items_fitted box (line_of i) is os h.1 text ds R serial given c.1 l.1)
+      (h.0.fits text ds R P serial given c.0 l.0, items_fitted box (line_of i) is os h.1 text ds R P serial given c.1 l.1)
 
   pub block_made : (box : List Side) (items : List Item) (outlines : Vec OutlineItem Global) → AreMade layout mark loops box None items outlines.items → IsMade layout mark loops box None (Tree.Block (items_of items)) (Block outlines)
   block_made box items outlines h = record {
     performs = λ R serial. block_performed R serial outlines ∙ items_perform box None items outlines.items h R serial;
-    fits = λ text ds R serial given shares all. block_fits layout mark R serial outlines (items_fitted box None items outlines.items h text ds R serial given shares all);
+    fits = λ text ds R P serial given shares all. block_fits layout mark R serial outlines (items_fitted box None items outlines.items h text ds R P serial given shares all);
   }
 
   -- ---- a body
 
-  pub body_fits : (items : List Item) (os : List OutlineItem) → AreMade layout mark loops [] None items os → (text : List ℕ) (ds : List Tree.Declaration) (R : LineData) → ArePrivateLocals (length layout) R → AreOfText text R loops
-      → ItemsHaveBy text (SharesBy ds R) [] (items_of items) → AreLocals layout mark (declared_among (items_of items)) → AllFit layout mark R [] os
-  body_fits items os h text ds R privates table share all = items_fitted [] None items os h text ds R [] (record { round = λ x is. absurd cc; table = table; privates = privates }) share all
+  pub body_fits : (items : List Item) (os : List OutlineItem) → AreMade layout mark loops [] None items os → (text : List ℕ) (ds : List Tree.Declaration) (R : LineData) (P : LinePhases) → ArePrivateLocals (length layout) R → AreOfText text R loops
+      → ItemsHaveBy text (SharesBy ds R P) [] (items_of items) → AreLocals layout mark (declared_among (items_of items)) → AllFit layout mark R [] os
+  body_fits items os h text ds R P privates table share all = items_fitted [] None items os h text ds R P [] (record { round = λ x is. absurd cc; table = table; privates = privates }) share all

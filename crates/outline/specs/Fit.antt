@@ -1,5 +1,5 @@
 -- Outlines whose code does what their statements do. (C11 6.8)
-use Rattle.std.specs.Prelude.{ℕ, ◌≡◌, ◌≤◌, true, false, List, [], ◌∷◌, ◌++◌, length, map, Contains, Some}
+use Rattle.std.specs.Prelude.{ℕ, ◌≡◌, ◌≤◌, true, false, List, [], ◌∷◌, ◌++◌, length, map, Contains, Option, Some}
 use Rattle.semantics.specs.Tree
 use Rattle.semantics.specs.Tree.{Variable, Stmt, Declaration}
 use Rattle.semantics.specs.Meaning.Agrees.{is_among, declared_in}
@@ -10,6 +10,7 @@ use Rattle.ktree.specs.declared.statement.Head.{Head}
 use Rattle.affine.specs.declared.interval.Side.{Side}
 use Rattle.affine_expr.specs.Forms.{is_counter}
 use Rattle.nest.specs.Heads.{head_of}
+use Rattle.flow.specs.Phases.{PhasesSaid}
 use Rattle.flow.specs.Roles.{LineData}
 use Rattle.law_independence.specs.OrderLaws.{SharesAsNest}
 use Rattle.lower_code.specs.declared.term.Laid.{Laid}
@@ -49,7 +50,8 @@ pub record TeamFits (layout : List Laid) (mark : ℕ) (R : LineData) (serial : L
   pub privates : (x : Variable) → is_among (roles_in R l).privates x ≡ true → length layout ≤ x
   pub declarations : List Declaration
   pub carries : l.carries ≡ false → (R l.line).carried ≡ []
-  pub nested : SharesAsNest declarations (R l.line).carried (roles_in R l) serial l.depth (stmt_of l.statement.now)
+  pub said : Option PhasesSaid
+  pub nested : SharesAsNest declarations (R l.line) said serial l.depth (stmt_of l.statement.now)
 
 abbrev mutual
   -- so does all code of an outline inside serial loops

@@ -1,5 +1,5 @@
 -- Which statements are handed to a team, and as what. (OpenMP 5.2, 4.4.3 and 11.5)
-use Rattle.std.specs.Prelude.{ℕ, ◌≡◌, ◌<◌, true, false, List, [], ◌++◌, map, All, Contains, Some}
+use Rattle.std.specs.Prelude.{ℕ, ◌≡◌, ◌<◌, true, false, List, [], ◌++◌, map, filter, not, All, Contains, Some}
 use Rattle.semantics.specs.Tree.{Variable, Stmt}
 use Rattle.semantics.specs.Source.Text.{line_at}
 use Rattle.semantics.specs.Meaning.Runs.{run}
@@ -16,7 +16,7 @@ use Rattle.pragma.specs.Parallel.{associated}
 use Rattle.pragma.specs.Views.{scheduled}
 use Rattle.nest.specs.Perfect.{AreRectangular}
 use Rattle.flow_reduction.specs.Reduced.{reduced}
-use Rattle.flow.specs.Roles.{LineData}
+use Rattle.flow.specs.Roles.{LineData, takes_operands}
 use Rattle.flow.specs.Parallel.{numbers, AreRolesOf}
 use Rattle.flow.specs.declared.environment.LoopRoles.{LoopRoles}
 use Rattle.flow.specs.declared.environment.ParallelLoop.{ParallelLoop}
@@ -60,15 +60,15 @@ pub record IsBodyCode (layout : List Laid) (mark : ℕ) (n : ℕ) (s : Stmt) (co
   pub is : IsBodyOf n s body
   pub performs : AreLocals layout mark (declared_in body) → Performs layout mark (run body) code
 
--- the roles that are kept of a loop, where a carried variable is left as a lastprivate one
+-- the roles by which a loop leaves its scalars, of those that are kept: a carried variable is left as a reduction variable, and by an operator that may leave operands out as a lastprivate one
 abbrev pub roles_of : LoopRoles → Roles
 roles_of l =
     record {
       privates = [];
       firsts = [];
-      lasts = numbers l.lasts.items ++ map (λ r. r.0) (reduced l.carried.items);
+      lasts = numbers l.lasts.items ++ map (λ r. r.0) (filter (λ r. not (takes_operands r)) (reduced l.carried.items));
       conditionals = [];
-      reductions = reduced l.reductions.items;
+      reductions = reduced l.reductions.items ++ filter takes_operands (reduced l.carried.items);
     }
 
 -- a lowered loop is this nest inside the loops of a box: its loops in their canonical form, its body as code, and where those of its variables stand that it assigns from outside and that leave something behind it

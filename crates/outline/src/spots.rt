@@ -6,7 +6,8 @@ ghost use Rattle.semantics.specs.Meaning.Places.{size};
 ghost use Rattle.law_commute.specs.Targets.{targets_outside};
 ghost use Rattle.ktree.specs.View.{stmt_of};
 ghost use Rattle.ktree.specs.declared.refusal.Refusal.TheVariants.{OutOfMemory};
-ghost use Rattle.flow_reduction.specs.Reduced.{reduced};
+ghost use Rattle.flow_reduction.specs.Reduced.{reduced, reduction_of};
+ghost use Rattle.flow.specs.Roles.{takes_operands};
 ghost use Rattle.flow.specs.Parallel.{numbers};
 ghost use Rattle.law_independence.specs.OrderLaws.{used_roles};
 ghost use Rattle.lower_code.specs.Layout as cells;
@@ -18,7 +19,7 @@ use crate::compiling::Target;
 use crate::targets::assigns_outside;
 use flow::LoopRoles;
 use flow_reduction::Reduction;
-use ktree::{Refusal, Stmt, VarId};
+use ktree::{ReductionOperator, Refusal, Stmt, VarId};
 use lower::{LoweredReduction, LoweredRoles, Spot};
 use lower_code::Laid;
 use std::alloc::{AllocError, Global};
@@ -127,13 +128,39 @@ fn lower_lasts(
     Ok(spots)
 }
 
-// The variables in which a loop leaves what its last iteration does: the lastprivate ones, and that of a scan (OpenMP 5.2, 5.4.5 and 5.6).
+// Whether an operator takes each operand: neither && nor || does (C11 6.5.13 and 6.5.14).
+fn takes_operands(reduction: Reduction) -> bool
+    ensures { result ≡ takes_operands (reduction_of reduction) }
+{
+    match reduction.operator {
+        ReductionOperator::LogicalAnd | ReductionOperator::LogicalOr => false,
+        _ => true,
+    }
+}
+
+// The variables in which a loop leaves what its last iteration does: the lastprivate ones, and that of a scan by an operator that may leave
+// operands out (OpenMP 5.2, 5.4.5 and 5.6).
 fn left_variables(alloc: Global, kept: &LoopRoles) -> Result<Vec<VarId>, AllocError>
     ensures { IfOk result (λ left. numbers left.items ≡ (roles_of kept.now).lasts) }
 {
     let mut left = Vec::from_slice(alloc, kept.lasts.as_slice())?;
     for reduction in &kept.carried {
-        left.push(reduction.variable)?;
+        if !takes_operands(*reduction) {
+            left.push(reduction.variable)?;
+        }
+    }
+    Ok(left)
+}
+
+// The variables that a loop reduces: those of `reduction`, and that of a scan by any other operator (OpenMP 5.2, 5.5.8 and 5.6).
+fn left_reductions(alloc: Global, kept: &LoopRoles) -> Result<Vec<Reduction>, AllocError>
+    ensures { IfOk result (λ left. reduced left.items ≡ (roles_of kept.now).reductions) }
+{
+    let mut left = Vec::from_slice(alloc, kept.reductions.as_slice())?;
+    for reduction in &kept.carried {
+        if takes_operands(*reduction) {
+            left.push(*reduction)?;
+        }
     }
     Ok(left)
 }
@@ -150,7 +177,8 @@ pub(crate) fn lower_roles(
         (used_roles (stmt_of stmt.now) (roles_of kept.now))) }
     ensures refusal { IfErr result (λ refusal. refusal ≡ OutOfMemory) }
 {
-    let reductions = lower_reductions(alloc, &kept.reductions, stmt, target)?;
+    let reduced = left_reductions(alloc, kept)?;
+    let reductions = lower_reductions(alloc, &reduced, stmt, target)?;
     let left = left_variables(alloc, kept)?;
     let lasts = lower_lasts(alloc, &left, stmt, target)?;
     Ok(LoweredRoles { reductions, lasts })

@@ -1,4 +1,4 @@
-use Rattle.std.specs.Prelude.{ℕ, List, is_none, IfErr}
+use Rattle.std.specs.Prelude.{ℕ, List, IfErr}
 use Rattle.std.proofs.Common.{inl, inr, subst, length, rules}
 use Rattle.std.proofs.lemmas.Result.{IfErr-weaker}
 use Rattle.ktree.specs.View.{kernel_of}
@@ -7,6 +7,7 @@ use Rattle.flow.specs.Roles.{data_known}
 use Rattle.flow.specs.Parallel.{AreParallelLoops}
 use Rattle.deptest.specs.Accepted.{HasPassed}
 use Rattle.deptest.specs.Refused.{RefusesLoops}
+use Rattle.ompk.specs.Judged.{whole_of}
 use Rattle.ompk.specs.Refused.{IsJudged, RefusesPasses, RefusesAlone}
 use Rattle.ompk.proofs.Judging.{has_passed, has_loops}
 use Rattle.ompk.proofs.accepting.accept_alone.Goals as goal
@@ -17,24 +18,24 @@ accept-requires-clause-passed c =
     let known = kept c.args.lines.now in
     let R = data_known known (length k.variables) in
     let loops = c.in_ok-table.field-0.loops.items in
-    let in_order = is_none c.args.disorder in
-    has_loops c.args.text.now k known in_order loops c.requires.stands (subst (λ (text : List ℕ). IsJudged text k R (lines_known known) in_order) c.requires.lines c.in_ok-table.ensures.judged)
-    (subst (λ (text : List ℕ). AreParallelLoops text R k loops) c.requires.lines c.in_ok-table.ensures.listed)
+    let whole = whole_of c.args.faults in
+    has_loops c.args.text.now k known whole loops c.args.scans.items c.requires.stands.stands (subst (λ (text : List ℕ). IsJudged text k R (lines_known known) whole) c.requires.lines c.in_ok-table.ensures.judged)
+    (subst (λ (text : List ℕ). AreParallelLoops text R k loops) c.requires.lines c.in_ok-table.ensures.listed) c.requires.stands.scans_are
 
 pub returns-clause-refusal : goal.returns-clause-refusal
 returns-clause-refusal c =
     let k = kernel_of c.args.kernel in
     let known = kept c.args.lines.now in
-    let in_order = is_none c.args.disorder in
-    let passed : HasPassed c.args.text.now k = has_passed c.args.text.now k known in_order c.requires.stands (subst (λ (text : List ℕ). IsJudged text k (data_known known (length k.variables)) (lines_known known) in_order) c.requires.lines c.in_ok-table.ensures.judged) in
-    IfErr-weaker c.accept.result (RefusesLoops c.args.text.now k) (RefusesAlone c.args.text.now k (data_known known (length k.variables)) (lines_known known) in_order) (λ r h. inr (passed, h)) c.accept.ensures.err
+    let whole = whole_of c.args.faults in
+    let passed : HasPassed c.args.text.now k = has_passed c.args.text.now k known whole c.requires.stands.stands (subst (λ (text : List ℕ). IsJudged text k (data_known known (length k.variables)) (lines_known known) whole) c.requires.lines c.in_ok-table.ensures.judged) in
+    IfErr-weaker c.accept.result (RefusesLoops c.args.text.now k) (RefusesAlone c.args.text.now k (data_known known (length k.variables)) (lines_known known) whole) (λ r h. inr (passed, h)) c.accept.ensures.err
 
 pub returns-in_err-table-clause-refusal : goal.returns-in_err-table-clause-refusal
 returns-in_err-table-clause-refusal c =
     let k = kernel_of c.args.kernel in
     let known = kept c.args.lines.now in
     let R = data_known known (length k.variables) in
-    let in_order = is_none c.args.disorder in
-    let refused : IfErr c.from_residual.result (RefusesPasses c.args.directives.now k R (lines_known known) in_order) = search rules in
-    IfErr-weaker c.from_residual.result (RefusesPasses c.args.directives.now k R (lines_known known) in_order) (RefusesAlone c.args.text.now k R (lines_known known) in_order)
-    (λ r h. inl (subst (λ (text : List ℕ). RefusesPasses text k R (lines_known known) in_order r) c.requires.lines h)) refused
+    let whole = whole_of c.args.faults in
+    let refused : IfErr c.from_residual.result (RefusesPasses c.args.directives.now k R (lines_known known) whole) = search rules in
+    IfErr-weaker c.from_residual.result (RefusesPasses c.args.directives.now k R (lines_known known) whole) (RefusesAlone c.args.text.now k R (lines_known known) whole)
+    (λ r h. inl (subst (λ (text : List ℕ). RefusesPasses text k R (lines_known known) whole r) c.requires.lines h)) refused
