@@ -28,3 +28,4 @@ pub mod PrivateNests
 pub mod RoleNests
 pub mod Taking
 pub mod Hiding
+pub mod ScanNests

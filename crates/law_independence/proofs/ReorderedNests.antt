@@ -48,11 +48,11 @@ use Rattle.law_independence.proofs.Targeted.{no_target, is_outside_target, outsi
 
 -- ---- at a turn of the loops round a nest
 
-record IsReady (loops : List Loop) (body : Stmt) (outer : State) (us : List Vector) : Type 0 where
-  differ : AllPairs (λ u v. u ≢ v) us
-  turn : (u : Vector) → Contains us u → InnerLoopsTurn loops body outer u
+pub record IsReady (loops : List Loop) (body : Stmt) (outer : State) (us : List Vector) : Type 0 where
+  pub differ : AllPairs (λ u v. u ≢ v) us
+  pub turn : (u : Vector) → Contains us u → InnerLoopsTurn loops body outer u
 
-nest_ready : (ds : List Declaration) (round : Nesting) (outer : ℕ) (serial : List ℕ) (n : ℕ) (s : Stmt) (nest : IsNestThere ds round outer serial n s) (steps : ℕ → ℤ) (state : State) (us : List Vector)
+pub nest_ready : (ds : List Declaration) (round : Nesting) (outer : ℕ) (serial : List ℕ) (n : ℕ) (s : Stmt) (nest : IsNestThere ds round outer serial n s) (steps : ℕ → ℤ) (state : State) (us : List Vector)
     → AtTurn round.box (values_at round.levels steps) state → iterations nest.loops state ≡ Some us → IsReady nest.loops nest.body state us
 nest_ready ds round outer serial n s nest steps state us at are =
     record {
@@ -72,7 +72,7 @@ steps_read before (h ∷ hs) after (s, v, head, level, rest) =
 -- a nest and its body assign of scalars from outside those alone that have a role, each as its role allows
 module _ (ds : List Declaration) (short : HaveShort ds) (round : Nesting) (outer : ℕ) (serial : List ℕ) (n : ℕ) (s : Stmt) (found : IsNestRead ds round outer serial n s) (stmt : IsStmtRead ds round.box s) (stays : Has (StaysInside ds) round.box s)
     (roles : Roles) (private : is_private_body (role_variables roles) found.nest.body ≡ true) (different : are_different (map (λ r. r.0) roles.reductions) ≡ true) (apart : list_all (is_plain roles.reductions) (assigned_first roles) ≡ true) (first : IsSome (definite no_privates s (λ x. not (is_among (assigned_first roles) x))))
-    (last : (roles.lasts ≡ [] → ⊥) → AssignsAll (assigned_first roles) roles.lasts found.nest.body) (updates : reduces roles.reductions s ≡ true) where
+    (last : (roles.lasts ≡ [] → ⊥) → AssignsAll (assigned_first roles) roles.lasts found.nest.body) where
   abbrev body : Stmt
   body = found.nest.body
 
@@ -95,7 +95,7 @@ module _ (ds : List Declaration) (short : HaveShort ds) (round : Nesting) (outer
   assigned_used : (x : Variable) → is_among (targets_outside s) x ≡ true → is_among xs x ≡ true
   assigned_used x t = used_variables s roles x ∙ and_from (is_among (targets_outside s) x) (is_among ps x) t (private_target ps s whole x t)
 
-  used_assigned : (x : Variable) → is_among xs x ≡ true → is_among (targets_outside s) x ≡ true
+  pub used_assigned : (x : Variable) → is_among xs x ≡ true → is_among (targets_outside s) x ≡ true
   used_assigned x h = first_of (is_among (targets_outside s) x) (is_among ps x) (sym (used_variables s roles x) ∙ h)
 
   assigned : (x : Variable) → is_among (targets_outside s) x ≡ is_among xs x
@@ -124,7 +124,7 @@ module _ (ds : List Declaration) (short : HaveShort ds) (round : Nesting) (outer
   none_spared : (y : Variable) → is_among (targets s) y ≡ false → is_among xs y ≡ false
   none_spared y none = sym (assigned y) ∙ no_outside_target s y none
 
-  nest_keeps_apart : KeepsApart xs s
+  pub nest_keeps_apart : KeepsApart xs s
   nest_keeps_apart =
       body_keeps ds round.box s xs stmt stays
       (record { all = λ y t v. assigned_used y (is_outside_target s y v t); arrays = no_array; counters = λ y c. none_spared y (no_target y s (stmt.kept y c)) })
@@ -132,8 +132,11 @@ module _ (ds : List Declaration) (short : HaveShort ds) (round : Nesting) (outer
   body_keeps_apart : (zs : List Variable) → AreItsOwn ds found.nest.inner.box body zs → KeepsApart zs body
   body_keeps_apart zs its = body_keeps ds found.nest.inner.box body zs found.inner found.nest.there.stays its
 
+  pub inside_keeps_apart : KeepsApart xs body
+  inside_keeps_apart = body_keeps_apart xs (record { all = inside_used; arrays = no_array; counters = λ y c. none_spared y (same y ∙ no_target y body (found.inner.kept y c)) })
+
   -- private and lastprivate variables are assigned before they are read
-  first_used : (x : Variable) → is_among (assigned_first used) x ≡ true → is_among (assigned_first roles) x ≡ true
+  pub first_used : (x : Variable) → is_among (assigned_first used) x ≡ true → is_among (assigned_first roles) x ≡ true
   first_used x h = second_of (is_among (targets_outside s) x) (is_among (assigned_first roles) x) (sym (used_first s roles x) ∙ h)
 
   -- more is known from the start, and so in the end
@@ -156,20 +159,20 @@ module _ (ds : List Declaration) (short : HaveShort ds) (round : Nesting) (outer
       let left = some_there (definite no_privates body (λ x. not (is_among (assigned_first used) x))) found_first in
       record { known = left.0; is = left.1; each = λ x h. absurd (true≢false (sym (used_last s roles x h) ∙ ap (λ xs. is_among xs x) none)) }
 
-  last_assigned : AssignsAll (assigned_first used) used.lasts body
+  pub last_assigned : AssignsAll (assigned_first used) used.lasts body
   last_assigned = at roles.lasts refl
     where
       at : (xs : List Variable) → roles.lasts ≡ xs → AssignsAll (assigned_first used) used.lasts body
       at [] e = none_assigned e
       at (x ∷ xs) e = more_assigned (last (λ none. absurd (cc (e, none))))
 
-  keeps_roles : (outside : State) → AreAtHand used s outside → KeepsRoles used s body outside
-  keeps_roles outside at =
+  keeps_roles : reduces roles.reductions s ≡ true → (outside : State) → AreAtHand used s outside → KeepsRoles used s body outside
+  keeps_roles updates outside at =
       record {
         no_firsts = refl;
         no_conditionals = refl;
         whole = nest_keeps_apart;
-        inside = body_keeps_apart xs (record { all = inside_used; arrays = no_array; counters = λ y c. none_spared y (same y ∙ no_target y body (found.inner.kept y c)) });
+        inside = inside_keeps_apart;
         declares_none = λ x h. outside_visible s x (used_assigned x h);
         scalars = at.scalars;
         apart = used_apart s roles apart;
@@ -206,23 +209,38 @@ module _ (ds : List Declaration) (short : HaveShort ds) (round : Nesting) (outer
           let used_there = inside_used x (outside_target body x t) (outside_visible body x t) in
           (first_used x (there x used_there), outside_visible s x (used_assigned x used_there))
 
+  -- ---- at turns of the loops round it
+
+  pub same_nest : (Q : List Loop → Stmt → Type 0) (loops : List Loop) (inside : Stmt) → nest_of n s ≡ Some (loops, inside) → Q found.nest.loops body → Q loops inside
+  same_nest Q loops inside is q = subst (λ (p : List Loop × Stmt). Q p.0 p.1) (same_Some (found.nest.loops, body) (loops, inside) (sym found.nest.is ∙ is)) q
+
+  pub at_turn : (around : List Loop) → AreEntered no_loops around round → (outside : State) → IsTurn around outside → (steps : ℕ → ℤ) × AtTurn round.box (values_at round.levels steps) outside
+  at_turn around entered outside turn =
+      let it = iterations_are_turns no_loops round around (λ j. pos 0) outside turn.turns turn.turn entered (outside_is_a_turn (λ j. pos 0) outside) turn.are turn.among in
+      (it.0, subst (AtTurn round.box (values_at round.levels it.0)) (sym turn.is) it.1.at)
+
+  pub ready : (around : List Loop) → AreEntered no_loops around round → (loops : List Loop) (inside : Stmt) (outside : State) (us : List Vector) → nest_of n s ≡ Some (loops, inside) → IsTurn around outside → iterations loops outside ≡ Some us → IsReady loops inside outside us
+  ready around entered loops inside outside us is turn are =
+      let at = at_turn around entered outside turn in
+      same_nest (λ ls b. iterations ls outside ≡ Some us → IsReady ls b outside us) loops inside is (λ are'. nest_ready ds round outer serial n s found.nest at.0 outside us at.1 are') are
+
   -- so it commutes, where its iterations are independent
-  commutes : (around : List Loop) → AreEntered no_loops around round → IsIndependentNest around n s → SharesAsNest ds used around n s
-  commutes around entered independent =
+  commutes : reduces roles.reductions s ≡ true → (around : List Loop) → AreEntered no_loops around round → IsIndependentNest around n s → SharesAsNest ds used around n s
+  commutes updates around entered independent =
       record {
         nest = independent.0;
         round = λ t. iterations_are_there no_loops round around (λ j. pos 0) t entered (outside_is_a_turn (λ j. pos 0) t);
         steps = λ loops inside is. same_nest (λ ls b. AreStepsRead ls) loops inside is (steps_read round found.nest.loops found.nest.inner found.nest.entered);
         assigned = assigned;
         order = λ plain loop outside us is none turn locals are.
-            let r = ready loop.loops loop.body outside us is turn are in
+            let r = ready around entered loop.loops loop.body outside us is turn are in
             private_commute loop outside us none (same_nest (λ ls b. KeepsApart (targets_outside b) b) loop.loops loop.body is plain_keeps)
             (same_nest (λ ls b. AssignsFirst (targets_outside b) b) loop.loops loop.body is (plain_first plain)) locals r.differ r.turn (λ u v in_u in_v. independent.1 loop is outside us u v turn are in_u in_v);
         there = λ loops inside outside is turn.
-            let at = at_turn outside turn in
+            let at = at_turn around entered outside turn in
             same_nest (λ ls b. IsSome (iterations ls outside)) loops inside is (iterations_are_there round found.nest.inner found.nest.loops at.0 outside found.nest.entered at.1);
         takes = λ scope order next next' tokens known outside reads turn met determined.
-            let at = at_turn outside turn in
+            let at = at_turn around entered outside turn in
             operands_taken ds round around used.reductions s (at.0) short entered stays stmt.kept (used_updates s roles updates) scope order next next' tokens known outside reads at.1 met determined;
         leaves = λ outside e ran x seen other.
             sym (steady_keeps (λ y. visible_behind s y && not (is_among xs y)) s nest_keeps_apart.steady outside e ran x
@@ -230,11 +248,11 @@ module _ (ds : List Declaration) (short : HaveShort ds) (round : Nesting) (outer
         different = used_different s roles different;
         apart = used_apart s roles apart;
         chunks = λ loops inside outside start us chunks e is turn alone at may are all ran.
-            let r = ready loops inside outside us is turn are in
+            let r = ready around entered loops inside outside us is turn are in
             join_in_place used n s loops inside outside start chunks e
             (record {
               nest = is;
-              keeps = same_nest (λ ls b. KeepsRoles used s b outside) loops inside is (keeps_roles outside at);
+              keeps = same_nest (λ ls b. KeepsRoles used s b outside) loops inside is (keeps_roles updates outside at);
               declares = alone;
               vectors = us;
               are = are;
@@ -246,19 +264,6 @@ module _ (ds : List Declaration) (short : HaveShort ds) (round : Nesting) (outer
             })
             may;
       }
-    where
-      same_nest : (Q : List Loop → Stmt → Type 0) (loops : List Loop) (inside : Stmt) → nest_of n s ≡ Some (loops, inside) → Q found.nest.loops body → Q loops inside
-      same_nest Q loops inside is q = subst (λ (p : List Loop × Stmt). Q p.0 p.1) (same_Some (found.nest.loops, body) (loops, inside) (sym found.nest.is ∙ is)) q
-
-      at_turn : (outside : State) → IsTurn around outside → (steps : ℕ → ℤ) × AtTurn round.box (values_at round.levels steps) outside
-      at_turn outside turn =
-          let it = iterations_are_turns no_loops round around (λ j. pos 0) outside turn.turns turn.turn entered (outside_is_a_turn (λ j. pos 0) outside) turn.are turn.among in
-          (it.0, subst (AtTurn round.box (values_at round.levels it.0)) (sym turn.is) it.1.at)
-
-      ready : (loops : List Loop) (inside : Stmt) (outside : State) (us : List Vector) → nest_of n s ≡ Some (loops, inside) → IsTurn around outside → iterations loops outside ≡ Some us → IsReady loops inside outside us
-      ready loops inside outside us is turn are =
-          let at = at_turn outside turn in
-          same_nest (λ ls b. iterations ls outside ≡ Some us → IsReady ls b outside us) loops inside is (λ are'. nest_ready ds round outer serial n s found.nest at.0 outside us at.1 are') are
 
 pub loop_commutes : (ds : List Declaration) (serial : List Loop) (round : Nesting) (n : ℕ) (s : Stmt) → HaveShort ds → AreEntered no_loops serial round → LoopsAreRead round.box s → Has (StaysInside ds) round.box s
     → IsStmtRead ds round.box s → (roles : Roles) → KeepsItsRoles roles n s → IsShownLoop round n s → SharesAsNest ds (used_roles s roles) serial n s
