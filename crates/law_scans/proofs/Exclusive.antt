@@ -3,17 +3,16 @@ use Rattle.std.specs.Prelude.{ℕ, Bool, true, false, not, ◌≡◌, ◌==◌, 
 use Rattle.std.specs.List.{list_all}
 use Rattle.std.proofs.Common.{refl, sym, ap, ◌∙◌, subst, cond, inl, inr}
 use Rattle.std.proofs.lemmas.Bool.{true≢false, eqb-true, eq-eqb, and_from, or_left, or_right, or_cases, or_parts}
-use Rattle.std.proofs.lemmas.List.{append-nil}
 use Rattle.std.proofs.lemmas.List.Folds.{list_any-append}
 use Rattle.std.proofs.lemmas.List.Elements.{Contains-append_right}
 use Rattle.std.proofs.lemmas.Option.{same_Some, none-some}
 use Rattle.semantics.specs.Tree.{Variable, Source, Stmt, Block, Items, no_items, mark, local, stmt}
-use Rattle.semantics.specs.Meaning.State.{State, Slot, Outside, Empty, Holds, Write, Declared, slot_of, with_local, overwritten, is_there}
+use Rattle.semantics.specs.Meaning.State.{State, Empty, Holds, Write, Declared, slot_of, with_local, overwritten}
 use Rattle.semantics.specs.Meaning.Value.{map_option, source_value}
-use Rattle.semantics.specs.Meaning.Runs.{Effect, nothing, one_write, joined, then_from, declares, declared, run, run_items}
+use Rattle.semantics.specs.Meaning.Runs.{Effect, one_write, joined, then_from, declares, declared, run, run_items}
 use Rattle.semantics.specs.Meaning.Definite.{DefinitelyAssigned, definite_items, no_privates}
 use Rattle.semantics.specs.Meaning.Agrees.{also, is_among, declared_in, declared_among, names_only, names_items, names_start, visible_behind}
-use Rattle.semantics.specs.Loops.Access.{Access, accesses, items_accesses}
+use Rattle.semantics.specs.Loops.Access.{Access, items_accesses}
 use Rattle.semantics.specs.Loops.Operator.{ReduceOp}
 use Rattle.semantics.specs.Loops.Piece.{is_outside}
 use Rattle.law_commute.specs.Steady.{AreSteady}
@@ -26,12 +25,12 @@ use Rattle.law_private.proofs.Chunks.{not_true}
 use Rattle.law_private.proofs.Names.{names_more}
 use Rattle.law_private.proofs.Near.{all_inside}
 use Rattle.law_private.proofs.Own.{others, DeclaresNone}
-use Rattle.law_roles.specs.Updates.{operator_of, is_plain, reduces, all_reduce}
+use Rattle.law_roles.specs.Updates.{is_plain, reduces, all_reduce}
 use Rattle.law_roles.proofs.Seen.{apart_back}
 use Rattle.law_scans.specs.Phases.{joined_items, bare, read_among, written_in, written_among, spares}
 use Rattle.law_scans.proofs.Phased.{runs_joined, declared_joined, accesses_joined, steady_front}
-use Rattle.law_scans.proofs.Spared.{met, items_spare, spared_cells, spared_local, spared_empty, kept_kinds, there_stays}
-use Rattle.law_scans.proofs.Reading.{Read, Meets, items_same}
+use Rattle.law_scans.proofs.Spared.{items_spare, spared_cells, spared_local, spared_empty, kept_kinds, there_stays}
+use Rattle.law_scans.proofs.Reading.{Meets, items_same}
 use Rattle.law_scans.proofs.Determined.{Knows, bare_knows}
 use Rattle.law_scans.proofs.Steps.{same_slot}
 use Rattle.law_scans.proofs.Inputs.{IsInput}
