@@ -29,3 +29,4 @@ pub mod RoleNests
 pub mod Taking
 pub mod Hiding
 pub mod ScanNests
+pub mod ScanParts

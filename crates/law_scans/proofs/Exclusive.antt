@@ -41,7 +41,7 @@ use Rattle.law_scans.proofs.Inputs.{IsInput}
 abbrev pub tops : Items → List Variable
 tops front = declared_among (bare front)
 
-tops_declared : (front : Items) (y : Variable) → is_among (tops front) y ≡ true → is_among (declared_among front) y ≡ true
+pub tops_declared : (front : Items) (y : Variable) → is_among (tops front) y ≡ true → is_among (declared_among front) y ≡ true
 tops_declared no_items y h = h
 tops_declared (mark line rest) y h = tops_declared rest y h
 tops_declared (local x name start rest) y h = at (or_cases (x == y) (is_among (tops rest) y) h) (tops_declared rest y)
@@ -51,13 +51,13 @@ tops_declared (local x name start rest) y h = at (or_cases (x == y) (is_among (t
     at (inr k) go = or_right (x == y) (is_among (declared_among rest) y) (go k)
 tops_declared (stmt a rest) y h = list_any-append (λ z. z == y) (declared_in a) (declared_among rest) ∙ or_right (is_among (declared_in a) y) (is_among (declared_among rest) y) (tops_declared rest y h)
 
-bare_names : (front back : Items) (V : Variable → Bool) → names_items V (joined_items front back) ≡ true → names_items V (joined_items (bare front) back) ≡ true
+pub bare_names : (front back : Items) (V : Variable → Bool) → names_items V (joined_items front back) ≡ true → names_items V (joined_items (bare front) back) ≡ true
 bare_names no_items back V h = h
 bare_names (mark line rest) back V h = bare_names rest back V h
 bare_names (local x name start rest) back V h = bare_names rest back (also V x) (second_of (names_start V start) (names_items (also V x) (joined_items rest back)) h)
 bare_names (stmt a rest) back V h = bare_names rest back V (second_of (names_only V a) (names_items V (joined_items rest back)) h)
 
-bare_steady : (front back : Items) (F : Variable → Bool) → AreSteady F (joined_items front back) → AreSteady F (joined_items (bare front) back)
+pub bare_steady : (front back : Items) (F : Variable → Bool) → AreSteady F (joined_items front back) → AreSteady F (joined_items (bare front) back)
 bare_steady no_items back F h = h
 bare_steady (mark line rest) back F h = bare_steady rest back F h
 bare_steady (local x name start rest) back F h = (h.0, tt, bare_steady rest back F h.2)
