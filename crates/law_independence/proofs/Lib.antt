@@ -30,3 +30,4 @@ pub mod Taking
 pub mod Hiding
 pub mod ScanNests
 pub mod ScanParts
+pub mod ScanInputs

@@ -32,7 +32,7 @@ pub record IsPart (body own : Stmt) : Type 0 where
 
 -- ---- the first pass of a scan
 
-front_kept : (front back : Items) (y : Variable) → assigns_among y (joined_items front back) ≡ false → assigns_among y front ≡ false
+pub front_kept : (front back : Items) (y : Variable) → assigns_among y (joined_items front back) ≡ false → assigns_among y front ≡ false
 front_kept no_items back y h = refl
 front_kept (mark line rest) back y h = front_kept rest back y h
 front_kept (local x name start rest) back y h = front_kept rest back y h

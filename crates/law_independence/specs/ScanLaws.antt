@@ -1,7 +1,10 @@
 -- Scans that are accepted run in two passes at each turn of the loops round them. (OpenMP 5.2, 5.6, 11.5 and 15.10.2)
 use Rattle.std.specs.Prelude.{ℕ, Bool, true, ◌≡◌, List, [], ◌∷◌, map, flat_map, Some, IsSome}
 use Rattle.std.specs.List.{list_all}
-use Rattle.semantics.specs.Tree.{Variable, Stmt, Items}
+use Rattle.semantics.specs.Tree.{Variable, Stmt, Items, Declaration}
+use Rattle.semantics.specs.Source.Token.{Token}
+use Rattle.semantics.specs.Source.Scope.{Scope}
+use Rattle.semantics.specs.Source.Statements.{ReadsStmt}
 use Rattle.semantics.specs.Meaning.State.{State}
 use Rattle.semantics.specs.Meaning.Runs.{Effect, run}
 use Rattle.semantics.specs.Meaning.Agrees.{is_among}
@@ -16,6 +19,7 @@ use Rattle.law_roles.specs.Sharing.{assigned_first, role_variables, are_differen
 use Rattle.law_scans.specs.Phases.{keeps_phases}
 use Rattle.law_scans.specs.Scanning.{whole_of, first_of, TakesInputs, ScansFrom}
 use Rattle.flow.specs.Private.{is_private_body, all_but}
+use Rattle.law_independence.specs.OrderLaws.{IsMet}
 
 -- a nest of so many loops that keeps the roles of the scalars that its body assigns, but for how it uses reduction variables, of which phases say it (OpenMP 5.2, 5.4.3, 5.4.5 and 5.6)
 pub record KeepsItsScalars (roles : Roles) (n : ℕ) (s : Stmt) : Type 0 where
@@ -42,3 +46,11 @@ ScansAtTurns roles serial n s =
     → IsTurn serial outer → DeclaresLocals s outer → ScanAtHand roles x op loops (first_of inclusive front back) us outer
     → iterations loops outer ≡ Some us → flat_map (λ vs. vs) chunks ≡ us → run s outer ≡ Some e
     → ScansFrom roles x op s loops (first_of inclusive front back) (whole_of front back) chunks outer e
+
+-- where a scan is met so at a turn of the serial loops round it, and reads what is known, the operands of its input phases have values
+abbrev pub TakesInputsAtTurns : List Declaration → Roles → List Loop → ℕ → Stmt → Type 0
+TakesInputsAtTurns ds roles serial n s =
+    (x : Variable) (op : ReduceOp) (inclusive : Bool) (front back : Items) (loops : List Loop) (scope : Scope) (order next next' : ℕ) (tokens : List Token) (known : Variable → Bool) (outer : State) (us : List Vector)
+    → roles.reductions ≡ (x, op) ∷ [] → nest_of n s ≡ Some (loops, whole_of front back) → keeps_phases x op inclusive front back ≡ true
+    → ReadsStmt scope order next tokens s next' → IsTurn serial outer → IsMet ds scope next known serial outer
+    → IsSome (definite no_privates s known) → iterations loops outer ≡ Some us → TakesInputs x op loops (first_of inclusive front back) us outer

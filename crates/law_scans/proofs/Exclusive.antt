@@ -203,6 +203,29 @@ tops_inside (stmt a rest) F steady q e y top ran =
     ap (λ (g : Effect). is_outside ((overwritten q g.writes).locals y)) (sym p.is) ∙ ap (λ (t : State). is_outside (t.locals y)) (overwritten-append q p.one.writes p.two.writes)
     ∙ tops_inside rest F steady.1 (overwritten q p.one.writes) p.two y top p.two_is
 
+-- what a part does not write the other may read
+pub spared_reads : (x : Variable) (front back : Items) → is_among (written_among front) x ≡ false → spares x front back ≡ true → (y : Variable) → is_among (read_among back) y ≡ true → is_among (written_among front) y ≡ false
+spared_reads x front back only_read apart y r = at (is_among (written_among front) y) refl
+  where
+    R : Variable → Bool
+    R = is_among (read_among back)
+
+    of : (xs : List Variable) → list_all (λ z. (z == x) || not (is_among (read_among back) z)) xs ≡ true → is_among xs y ≡ true → ((y == x) || not (R y)) ≡ true
+    of [] h k = absurd (true≢false (sym k))
+    of (z ∷ zs) h k = one (or_cases (z == y) (is_among zs y) k) (of zs (second_of ((z == x) || not (R z)) (list_all (λ w. (w == x) || not (is_among (read_among back) w)) zs) h))
+      where
+        one : ((z == y) ≡ true) ⊎ (is_among zs y ≡ true) → (is_among zs y ≡ true → ((y == x) || not (R y)) ≡ true) → ((y == x) || not (R y)) ≡ true
+        one (inl e) go = ap (λ w. (w == x) || not (R w)) (sym (eqb-true z y e)) ∙ first_of ((z == x) || not (R z)) (list_all (λ w. (w == x) || not (is_among (read_among back) w)) zs) h
+        one (inr j) go = go j
+
+    at : (b : Bool) → is_among (written_among front) y ≡ b → is_among (written_among front) y ≡ false
+    at false e = e
+    at true e = absurd (end (or_cases (y == x) (not (R y)) (of (written_among front) apart e)))
+      where
+        end : ((y == x) ≡ true) ⊎ (not (R y) ≡ true) → ⊥
+        end (inl k) = true≢false (sym e ∙ ap (is_among (written_among front)) (eqb-true y x k) ∙ only_read)
+        end (inr k) = true≢false (sym r ∙ not_true (R y) k)
+
 -- ---- the part
 
 module _ (x : Variable) (op : ReduceOp) (ps : List Variable) (front back : Items) (keeps : KeepsApart (x ∷ ps) (Block (joined_items front back))) (none : DeclaresNone (x ∷ ps) (Block (joined_items front back)))
@@ -242,23 +265,7 @@ module _ (x : Variable) (op : ReduceOp) (ps : List Variable) (front back : Items
 
   -- the scan phase writes nothing that is read
   free : (y : Variable) → R y ≡ true → is_among (written_among front) y ≡ false
-  free y r = at (is_among (written_among front) y) refl
-    where
-      of : (xs : List Variable) → list_all (λ z. (z == x) || not (is_among (read_among back) z)) xs ≡ true → is_among xs y ≡ true → ((y == x) || not (R y)) ≡ true
-      of [] h k = absurd (true≢false (sym k))
-      of (z ∷ zs) h k = one (or_cases (z == y) (is_among zs y) k) (of zs (second_of ((z == x) || not (R z)) (list_all (λ w. (w == x) || not (is_among (read_among back) w)) zs) h))
-        where
-          one : ((z == y) ≡ true) ⊎ (is_among zs y ≡ true) → (is_among zs y ≡ true → ((y == x) || not (R y)) ≡ true) → ((y == x) || not (R y)) ≡ true
-          one (inl e) go = ap (λ w. (w == x) || not (R w)) (sym (eqb-true z y e)) ∙ first_of ((z == x) || not (R z)) (list_all (λ w. (w == x) || not (is_among (read_among back) w)) zs) h
-          one (inr j) go = go j
-
-      at : (b : Bool) → is_among (written_among front) y ≡ b → is_among (written_among front) y ≡ false
-      at false e = e
-      at true e = absurd (end (or_cases (y == x) (not (R y)) (of (written_among front) apart e)))
-        where
-          end : ((y == x) ≡ true) ⊎ (not (R y) ≡ true) → ⊥
-          end (inl k) = true≢false (sym e ∙ ap (is_among (written_among front)) (eqb-true y x k) ∙ only_read)
-          end (inr k) = true≢false (sym r ∙ not_true (R y) k)
+  free = spared_reads x front back only_read apart
 
   -- ---- both runs
 
