@@ -166,7 +166,7 @@ module _ (ds : List Declaration) (short : HaveShort ds) (round : Nesting) (outer
       at [] e = none_assigned e
       at (x ∷ xs) e = more_assigned (last (λ none. absurd (cc (e, none))))
 
-  keeps_roles : reduces roles.reductions s ≡ true → (outside : State) → AreAtHand used s outside → KeepsRoles used s body outside
+  keeps_roles : reduces used.reductions s ≡ true → (outside : State) → AreAtHand used s outside → KeepsRoles used s body outside
   keeps_roles updates outside at =
       record {
         no_firsts = refl;
@@ -178,7 +178,7 @@ module _ (ds : List Declaration) (short : HaveShort ds) (round : Nesting) (outer
         apart = used_apart s roles apart;
         first = nest_first (assigned_first roles) (assigned_first used) s first_used first;
         last = last_assigned;
-        updates = used_updates s roles updates;
+        updates = updates;
         different = used_different s roles different;
         taken = at.taken;
         numbers = at.numbers;
@@ -225,7 +225,7 @@ module _ (ds : List Declaration) (short : HaveShort ds) (round : Nesting) (outer
       same_nest (λ ls b. iterations ls outside ≡ Some us → IsReady ls b outside us) loops inside is (λ are'. nest_ready ds round outer serial n s found.nest at.0 outside us at.1 are') are
 
   -- so it commutes, where its iterations are independent
-  commutes : reduces roles.reductions s ≡ true → (around : List Loop) → AreEntered no_loops around round → IsIndependentNest around n s → SharesAsNest ds used around n s
+  pub commutes : reduces used.reductions s ≡ true → (around : List Loop) → AreEntered no_loops around round → IsIndependentNest around n s → SharesAsNest ds used around n s
   commutes updates around entered independent =
       record {
         nest = independent.0;
@@ -241,7 +241,7 @@ module _ (ds : List Declaration) (short : HaveShort ds) (round : Nesting) (outer
             same_nest (λ ls b. IsSome (iterations ls outside)) loops inside is (iterations_are_there round found.nest.inner found.nest.loops at.0 outside found.nest.entered at.1);
         takes = λ scope order next next' tokens known outside reads turn met determined.
             let at = at_turn around entered outside turn in
-            operands_taken ds round around used.reductions s (at.0) short entered stays stmt.kept (used_updates s roles updates) scope order next next' tokens known outside reads at.1 met determined;
+            operands_taken ds round around used.reductions s (at.0) short entered stays stmt.kept updates scope order next next' tokens known outside reads at.1 met determined;
         leaves = λ outside e ran x seen other.
             sym (steady_keeps (λ y. visible_behind s y && not (is_among xs y)) s nest_keeps_apart.steady outside e ran x
             (and_from (visible_behind s x) (not (is_among xs x)) seen (ap not (sym (assigned x) ∙ other)))).locals;
@@ -271,4 +271,4 @@ loop_commutes ds serial round n s short entered read stays stmt roles kept shown
     let found = nest_read n ds round (length round.levels) (map (λ v. v.most) (inner_loops 0 round.levels)) s shown (record { read = read; stays = stays }) stmt in
     let body_is : kept.body ≡ found.nest.body = ap (λ (p : List Loop × Stmt). p.1) (same_Some (kept.loops, kept.body) (found.nest.loops, found.nest.body) (sym kept.nest ∙ found.nest.is)) in
     commutes ds short round (length round.levels) (map (λ v. v.most) (inner_loops 0 round.levels)) n s found stmt stays roles (subst (λ b. is_private_body (role_variables roles) b ≡ true) body_is kept.keeps) kept.different kept.apart kept.first
-    (λ some. subst (λ b. AssignsAll (assigned_first roles) roles.lasts b) body_is (kept.last some)) kept.updates serial entered (shown_loops_are_independent ds serial round n s short entered read stays shown)
+    (λ some. subst (λ b. AssignsAll (assigned_first roles) roles.lasts b) body_is (kept.last some)) (used_updates s roles kept.updates) serial entered (shown_loops_are_independent ds serial round n s short entered read stays shown)

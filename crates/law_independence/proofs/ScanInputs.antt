@@ -1,20 +1,19 @@
 -- The operands of a scan's input phase have values at each iteration, wherever the scan is met at a turn of the loops round it. (C11 6.5.13 and 6.5.14; OpenMP 5.2, 5.6)
-use Rattle.std.specs.Prelude.{ℕ, zero, suc, Bool, true, false, ◌≡◌, ◌==◌, ◌<◌, ◌≤◌, ℤ, List, [], ◌∷◌, ◌++◌, length, Option, Some, None, IsSome, option_and_then}
+use Rattle.std.specs.Prelude.{ℕ, zero, suc, Bool, true, false, ◌≡◌, ◌==◌, ◌<◌, ℤ, List, [], ◌∷◌, Option, Some, None, IsSome}
 use Rattle.std.proofs.Common.{refl, sym, ap, ◌∙◌, subst, cond, arith}
-use Rattle.std.proofs.lemmas.Bool.{true≢false, eqb-true, ne_eqb, or_parts}
-use Rattle.semantics.specs.Tree.{Name, Variable, Stmt, For, Block, Items, no_items, mark, local, stmt, Declaration}
+use Rattle.std.proofs.lemmas.Bool.{true≢false, ne_eqb, or_parts}
+use Rattle.semantics.specs.Tree.{Name, Variable, Stmt, Block, Items, no_items, mark, local, stmt, Declaration}
 use Rattle.semantics.specs.Source.Token.{Token}
 use Rattle.semantics.specs.Source.Scope.{Scope, AVariable}
 use Rattle.semantics.specs.Source.Statements.{ReadsStmt, assign, update, if_only, if_else, for_loop, block, print, ReadsItems, no_more, line, empty_local, first_local, statement}
-use Rattle.semantics.specs.Meaning.State.{State, Slot, Empty, Declared, with_local}
-use Rattle.semantics.specs.Meaning.Runs.{Effect, nothing, declared, then_from, run, run_items}
+use Rattle.semantics.specs.Meaning.State.{State, Empty, Declared}
+use Rattle.semantics.specs.Meaning.Runs.{Effect, declared, then_from, run, run_items}
 use Rattle.semantics.specs.Meaning.Definite.{DefinitelyAssigned, known_with, no_privates, definite, definite_items}
 use Rattle.semantics.specs.Meaning.Agrees.{is_among}
 use Rattle.semantics.specs.Loops.Nest.{Loop}
 use Rattle.semantics.specs.Loops.Operator.{ReduceOp}
 use Rattle.semantics.proofs.NestLaw.{local_same}
 use Rattle.affine.specs.declared.interval.Side.{Side}
-use Rattle.affine_expr.specs.Forms.{is_counter}
 use Rattle.nest_loop.specs.Canonical.{stepped, assigns, assigns_among}
 use Rattle.nest_loop.specs.Constants.{Each}
 use Rattle.nest_loop.specs.Loops.{inside, IsLoop}
@@ -23,7 +22,7 @@ use Rattle.nest.specs.Nests.{Has, Have, StaysInside}
 use Rattle.law_private.proofs.Own.{Replaced, innermost, braces}
 use Rattle.law_private.proofs.Own as own
 use Rattle.law_roles.specs.Updates.{reduces, all_reduce, operands, all_operands}
-use Rattle.law_runs.proofs.Going.{stands, Ran, later_self, ran_nothing, ran_weaker, ran_then, ran_write, known_less, known_with_less, local_later, local_known}
+use Rattle.law_runs.proofs.Going.{stands, Ran, later_self, ran_nothing, ran_weaker, ran_then, ran_write, known_less, local_later, local_known}
 use Rattle.law_runs.proofs.Growing.{loop_known_is, grows, visible_behind, visible_later}
 use Rattle.law_runs.proofs.Loops.{loop_ran}
 use Rattle.law_runs.proofs.Nested.{some_there}
@@ -31,12 +30,11 @@ use Rattle.law_runs.proofs.Operands.{operand_loop}
 use Rattle.law_runs.proofs.Points.{rises, IsBelow, IsBehind, IsPoint, point_later, point_behind, turn_declared, and_then}
 use Rattle.law_runs.proofs.StatementsRun.{Keeps, AllKeep, keeps_inside, stmt_goes}
 use Rattle.law_runs.proofs.Values.{HaveShort}
-use Rattle.law_scans.specs.Phases.{joined_items, bare, read_among, written_among, input_of, spares}
+use Rattle.law_scans.specs.Phases.{joined_items, bare, read_among, written_among, input_of}
 use Rattle.law_scans.specs.Scanning as law
 use Rattle.law_scans.specs.Scanning.{whole_of}
 use Rattle.law_scans.proofs.Phased.{definite_front}
 use Rattle.law_scans.proofs.Determined.{Knows, bare_knows}
-use Rattle.law_scans.proofs.Exclusive.{spared_reads}
 use Rattle.law_independence.proofs.ScanParts.{front_kept, first_part, nest_kept}
 
 -- ---- the items of the first part

@@ -14,6 +14,7 @@ use Rattle.pairtest_counter.specs.Levels.{Nesting, values_at}
 use Rattle.nest.specs.Nests.{Has, StaysInside}
 use Rattle.pairtest_access.specs.Found.{inner_loops}
 use Rattle.flow.specs.Private.{is_private_body}
+use Rattle.flow.specs.Roles.{KeepsItsRoles}
 use Rattle.deptest_verdict.specs.Shown.{IsShownLoop, no_loops}
 use Rattle.law_turns.specs.Turns.{AreEntered}
 use Rattle.law_commute.specs.Targets.{KeepsApart}
@@ -151,3 +152,7 @@ loop_scans ds serial round n s short entered read stays stmt roles kept shown =
       scans ds short round (length round.levels) levels n s found stmt stays roles keeps kept.different kept.apart kept.first last serial entered (shown_loops_are_independent ds serial round n s short entered read stays shown),
       inputs_taken ds short round (length round.levels) levels n s found stmt stays roles keeps kept.different kept.apart kept.first last serial entered,
     )
+
+-- a nest that keeps its roles keeps its scalars
+pub scalars_kept : (roles : Roles) (n : ℕ) (s : Stmt) → KeepsItsRoles roles n s → KeepsItsScalars roles n s
+scalars_kept roles n s kept = record { loops = kept.loops; body = kept.body; nest = kept.nest; keeps = kept.keeps; different = kept.different; apart = kept.apart; first = kept.first; last = kept.last }

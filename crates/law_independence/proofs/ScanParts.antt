@@ -1,12 +1,12 @@
 -- A nest with a part of its body in place of the whole.
-use Rattle.std.specs.Prelude.{ℕ, zero, suc, Bool, true, false, not, ◌≡◌, ◌==◌, ◌&&◌, ◌||◌, ◌⊎◌, List, [], ◌∷◌, ◌++◌}
+use Rattle.std.specs.Prelude.{ℕ, zero, suc, Bool, true, false, not, ◌≡◌, ◌==◌, ◌&&◌, ◌||◌, ◌⊎◌, List, ◌++◌}
 use Rattle.std.proofs.Common.{refl, sym, ap, ◌∙◌, subst, inl, inr}
 use Rattle.std.proofs.Math.Path.{fun_ext}
 use Rattle.std.proofs.lemmas.Bool.{true≢false, and_from, or_left, or_right, or_cases, or_parts}
 use Rattle.std.proofs.lemmas.List.{append-nil}
 use Rattle.std.proofs.lemmas.List.Folds.{list_any-append}
-use Rattle.semantics.specs.Tree.{Variable, Stmt, For, Block, Items, no_items, mark, local, stmt}
-use Rattle.semantics.specs.Meaning.Agrees.{also, is_among, declared_in, declared_among, visible_behind, names_only, names_items, names_source, names_cond, names_step}
+use Rattle.semantics.specs.Tree.{Variable, Stmt, Items, no_items, mark, local, stmt}
+use Rattle.semantics.specs.Meaning.Agrees.{also, is_among, declared_in, declared_among, visible_behind, names_only, names_source, names_cond, names_step}
 use Rattle.semantics.specs.Loops.Nest.{Loop}
 use Rattle.semantics.specs.Loops.Operator.{ReduceOp}
 use Rattle.nest_loop.specs.Canonical.{stepped, assigns, assigns_among}
