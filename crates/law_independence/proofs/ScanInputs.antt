@@ -31,7 +31,8 @@ use Rattle.law_runs.proofs.Points.{rises, IsBelow, IsBehind, IsPoint, point_late
 use Rattle.law_runs.proofs.StatementsRun.{Keeps, AllKeep, keeps_inside, stmt_goes}
 use Rattle.law_runs.proofs.Values.{HaveShort}
 use Rattle.law_scans.specs.Phases.{joined_items, bare, read_among, written_among, input_of}
-use Rattle.law_scans.specs.Scanning.{whole_body, first_body}
+use Rattle.law_scans.specs.Scanning as law
+use Rattle.law_scans.specs.Scanning.{whole_of}
 use Rattle.law_scans.proofs.Phased.{definite_front}
 use Rattle.law_scans.proofs.Determined.{Knows, bare_knows}
 use Rattle.law_independence.proofs.ScanParts.{front_kept, first_part, nest_kept}
@@ -119,8 +120,8 @@ module _ (ds : List Declaration) (short : HaveShort ds) (rs : List (Variable × 
   is_there : (o : Option DefinitelyAssigned) (k : DefinitelyAssigned) → o ≡ Some k → IsSome o
   is_there o k d = subst (λ q. IsSome q) (sym d) refl
 
-  front_goes : (front back : Items) → all_reduce rs front ≡ true → {scope : Scope} {o next next' : ℕ} {ts : List Token} → ReadsStmt scope o next ts (whole_body front back) next' → (box : List Side) (w : Variable → ℤ) (k k' : DefinitelyAssigned) (s : State)
-      → Has (StaysInside ds) box (whole_body front back) → Keeps box (whole_body front back) → IsPoint ds box w scope next k s → definite no_privates (whole_body front back) k ≡ Some k' → Goes box w k s (run (operands rs (Block front)) s)
+  front_goes : (front back : Items) → all_reduce rs front ≡ true → {scope : Scope} {o next next' : ℕ} {ts : List Token} → ReadsStmt scope o next ts (whole_of front back) next' → (box : List Side) (w : Variable → ℤ) (k k' : DefinitelyAssigned) (s : State)
+      → Has (StaysInside ds) box (whole_of front back) → Keeps box (whole_of front back) → IsPoint ds box w scope next k s → definite no_privates (whole_of front back) k ≡ Some k' → Goes box w k s (run (operands rs (Block front)) s)
   front_goes front back red (block less r) box w k k' s h kept at d =
       let p = prefix front back r in
       let j = some_there (definite_items no_privates [] front k) (definite_front no_privates [] front back k (is_there (definite_items no_privates [] (joined_items front back) k) k' d)) in
@@ -128,8 +129,8 @@ module _ (ds : List Declaration) (short : HaveShort ds) (rs : List (Variable × 
       (stmt_goes ds short rs box w (block less p.reads) k j.0 s (have_front ds box front back h) (λ y q. front_kept front back y (kept y q)) red at j.1)
 
   back_goes : (front back : Items) → all_reduce rs back ≡ true → ((y : Variable) → is_among (read_among back) y ≡ true → is_among (written_among front) y ≡ false) → {scope : Scope} {o next next' : ℕ} {ts : List Token}
-      → ReadsStmt scope o next ts (whole_body front back) next' → (box : List Side) (w : Variable → ℤ) (k k' : DefinitelyAssigned) (s : State)
-      → Has (StaysInside ds) box (whole_body front back) → Keeps box (whole_body front back) → IsPoint ds box w scope next k s → definite no_privates (whole_body front back) k ≡ Some k' → Goes box w k s (run (operands rs (first_body false front back)) s)
+      → ReadsStmt scope o next ts (whole_of front back) next' → (box : List Side) (w : Variable → ℤ) (k k' : DefinitelyAssigned) (s : State)
+      → Has (StaysInside ds) box (whole_of front back) → Keeps box (whole_of front back) → IsPoint ds box w scope next k s → definite no_privates (whole_of front back) k ≡ Some k' → Goes box w k s (run (operands rs (law.first_of false front back)) s)
   back_goes front back red free {o = o} (block less r) box w k k' s h kept at d =
       let j = some_there (definite_items no_privates [] (joined_items (bare front) back) k) (both (definite_items no_privates [] (joined_items front back) k) (definite_items no_privates [] (joined_items (bare front) back) k)
       (bare_knows (is_among (read_among back)) front back (λ y q. q) free k k (λ y q m. m)) (is_there (definite_items no_privates [] (joined_items front back) k) k' d)) in
@@ -142,8 +143,8 @@ module _ (ds : List Declaration) (short : HaveShort ds) (rs : List (Variable × 
 
   part_goes : (inclusive : Bool) (front back : Items) → reduces rs (Block (input_of inclusive front back)) ≡ true → ((y : Variable) → inclusive ≡ false → is_among (read_among back) y ≡ true → is_among (written_among front) y ≡ false)
       → {scope : Scope} {o next next' : ℕ} {ts : List Token}
-      → ReadsStmt scope o next ts (whole_body front back) next' → (box : List Side) (w : Variable → ℤ) (k k' : DefinitelyAssigned) (s : State)
-      → Has (StaysInside ds) box (whole_body front back) → Keeps box (whole_body front back) → IsPoint ds box w scope next k s → definite no_privates (whole_body front back) k ≡ Some k' → Goes box w k s (run (operands rs (first_body inclusive front back)) s)
+      → ReadsStmt scope o next ts (whole_of front back) next' → (box : List Side) (w : Variable → ℤ) (k k' : DefinitelyAssigned) (s : State)
+      → Has (StaysInside ds) box (whole_of front back) → Keeps box (whole_of front back) → IsPoint ds box w scope next k s → definite no_privates (whole_of front back) k ≡ Some k' → Goes box w k s (run (operands rs (law.first_of inclusive front back)) s)
   part_goes true front back red free r box w k k' s h kept at d = front_goes front back red r box w k k' s h kept at d
   part_goes false front back red free r box w k k' s h kept at d = back_goes front back red (λ y q. free y refl q) r box w k k' s h kept at d
 
@@ -151,10 +152,10 @@ module _ (ds : List Declaration) (short : HaveShort ds) (rs : List (Variable × 
 
   module _ (inclusive : Bool) (front back : Items) (red : reduces rs (Block (input_of inclusive front back)) ≡ true) (free : (y : Variable) → inclusive ≡ false → is_among (read_among back) y ≡ true → is_among (written_among front) y ≡ false) where
     abbrev body : Stmt
-    body = whole_body front back
+    body = whole_of front back
 
     abbrev first : Stmt
-    first = first_body inclusive front back
+    first = law.first_of inclusive front back
 
     pub nest_goes : (n : ℕ) {scope : Scope} {o next next' : ℕ} {ts : List Token} {s : Stmt} → ReadsStmt scope o next ts s next' → (s' : Stmt) (ls : List Loop) → Replaced body first n s s' ls → (box : List Side) (w : Variable → ℤ) (k k' : DefinitelyAssigned) (t : State)
         → Has (StaysInside ds) box s → Keeps box s → IsPoint ds box w scope next k t → definite no_privates s k ≡ Some k' → Goes box w k t (run (operands rs s') t)

@@ -28,7 +28,8 @@ use Rattle.law_roles.specs.Sharing.{assigned_first, role_variables, are_differen
 use Rattle.law_roles.proofs.Followed.{walked}
 use Rattle.law_roles.proofs.Operands.{nest_operands}
 use Rattle.law_scans.specs.Phases.{read_among, written_among, spares, input_of, scan_of, keeps_phases}
-use Rattle.law_scans.specs.Scanning.{whole_body, first_body}
+use Rattle.law_scans.specs.Scanning as law
+use Rattle.law_scans.specs.Scanning.{whole_of}
 use Rattle.law_scans.proofs.Exclusive.{spared_reads}
 use Rattle.law_scans.proofs.Scanning.{join}
 use Rattle.law_independence.specs.Inside.{LoopsAreRead, HaveShort}
@@ -92,7 +93,7 @@ module _ (ds : List Declaration) (short : HaveShort ds) (round : Nesting) (outer
 
   pub scans : (around : List Loop) → AreEntered no_loops around round → IsIndependentNest around n s → ScansAtTurns used around n s
   scans around entered independent = λ x op inclusive front back loops outside us chunks e only is phases turn alone at are all ran.
-      let r = ready ds short round outer serial n s found stmt stays roles private different apart first last around entered loops (whole_body front back) outside us is turn are in
+      let r = ready ds short round outer serial n s found stmt stays roles private different apart first last around entered loops (whole_of front back) outside us is turn are in
       join used x op inclusive n s loops front back outside chunks e
       (record {
         nest = is;
@@ -101,13 +102,13 @@ module _ (ds : List Declaration) (short : HaveShort ds) (round : Nesting) (outer
           no_conditionals = refl;
           only = only;
           whole = nest_keeps_apart ds short round outer serial n s found stmt stays roles private different apart first last;
-          inside = same_nest ds short round outer serial n s found stmt stays roles private different apart first last (λ ls b. KeepsApart xs b) loops (whole_body front back) is
+          inside = same_nest ds short round outer serial n s found stmt stays roles private different apart first last (λ ls b. KeepsApart xs b) loops (whole_of front back) is
               (inside_keeps_apart ds short round outer serial n s found stmt stays roles private different apart first last);
           declares_none = λ y h. outside_visible s y (used_assigned ds short round outer serial n s found stmt stays roles private different apart first last y h);
           scalars = at.scalars;
           apart = apart_of used.reductions x op (assigned_first used) (ap (λ rs. operator_of rs x) only ∙ ap (λ b. cond b (Some op) None) (eq-eqb x x refl)) (used_apart s roles apart);
           first = nest_first (assigned_first roles) (assigned_first used) s (first_used ds short round outer serial n s found stmt stays roles private different apart first last) first;
-          last = same_nest ds short round outer serial n s found stmt stays roles private different apart first last (λ ls b. AssignsAll (assigned_first used) used.lasts b) loops (whole_body front back) is
+          last = same_nest ds short round outer serial n s found stmt stays roles private different apart first last (λ ls b. AssignsAll (assigned_first used) used.lasts b) loops (whole_of front back) is
               (last_assigned ds short round outer serial n s found stmt stays roles private different apart first last);
           phases = phases;
           number = at.number;
@@ -118,7 +119,7 @@ module _ (ds : List Declaration) (short : HaveShort ds) (round : Nesting) (outer
         taken = at.taken;
         different = r.differ;
         turning = r.turn;
-        independent = λ u v in_u in_v. independent.1 (plain_loop loops (whole_body front back)) is outside us u v turn are in_u in_v;
+        independent = λ u v in_u in_v. independent.1 (plain_loop loops (whole_of front back)) is outside us u v turn are in_u in_v;
         whole = all;
         ran = ran;
       })
@@ -127,8 +128,8 @@ module _ (ds : List Declaration) (short : HaveShort ds) (round : Nesting) (outer
   pub inputs_taken : (around : List Loop) → AreEntered no_loops around round → TakesInputsAtTurns ds used around n s
   inputs_taken around entered = λ x op inclusive front back loops scope order next next' tokens known outside us only is phases reads turn met determined are.
       let rs : List (Variable × ReduceOp) = (x, op) ∷ [] in
-      let body : Stmt = whole_body front back in
-      let input : Stmt = first_body inclusive front back in
+      let body : Stmt = whole_of front back in
+      let input : Stmt = law.first_of inclusive front back in
       let has : HasReplaced body input n s loops = replaced body input n s loops is in
       let at = at_turn ds short round outer serial n s found stmt stays roles private different apart first last around entered outside turn in
       let point = point_met ds round around at.0 entered scope next known outside at.1 met in

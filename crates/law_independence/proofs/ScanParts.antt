@@ -18,7 +18,8 @@ use Rattle.law_private.proofs.Own.{Replaced, innermost, inside, braces}
 use Rattle.law_roles.specs.Updates.{operands}
 use Rattle.law_roles.proofs.Operands.{declared_operands, names_operands, steady_operands}
 use Rattle.law_scans.specs.Phases.{joined_items, bare}
-use Rattle.law_scans.specs.Scanning.{whole_body, first_body}
+use Rattle.law_scans.specs.Scanning as law
+use Rattle.law_scans.specs.Scanning.{whole_of}
 use Rattle.law_scans.proofs.Phased.{declared_joined, names_front, steady_front}
 use Rattle.law_scans.proofs.Exclusive.{tops, tops_declared, bare_names, bare_steady}
 
@@ -48,7 +49,7 @@ bare_kept (stmt a rest) back y h = bare_kept rest back y (or_parts (assigns y a)
 among_joined : (front back : Items) (y : Variable) → is_among (declared_among (joined_items front back)) y ≡ (is_among (declared_among front) y || is_among (declared_among back) y)
 among_joined front back y = ap (λ ds. is_among ds y) (declared_joined front back) ∙ list_any-append (λ z. z == y) (declared_among front) (declared_among back)
 
-pub first_part : (inclusive : Bool) (front back : Items) → IsPart (whole_body front back) (first_body inclusive front back)
+pub first_part : (inclusive : Bool) (front back : Items) → IsPart (whole_of front back) (law.first_of inclusive front back)
 first_part true front back = record {
   declared = λ y h. among_joined front back y ∙ or_left (is_among (declared_among front) y) (is_among (declared_among back) y) h;
   names = λ V h. names_front front back V h;

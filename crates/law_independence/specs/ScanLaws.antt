@@ -17,7 +17,7 @@ use Rattle.law_commute.specs.Joining.{DeclaresLocals}
 use Rattle.law_roles.specs.Updates.{is_plain}
 use Rattle.law_roles.specs.Sharing.{assigned_first, role_variables, are_different, IsScalar, HoldsNumber, AssignsAll}
 use Rattle.law_scans.specs.Phases.{keeps_phases}
-use Rattle.law_scans.specs.Scanning.{whole_body, first_body, TakesInputs, ScansFrom}
+use Rattle.law_scans.specs.Scanning.{whole_of, first_of, TakesInputs, ScansFrom}
 use Rattle.flow.specs.Private.{is_private_body, all_but}
 use Rattle.law_independence.specs.OrderLaws.{IsMet}
 
@@ -42,15 +42,15 @@ pub record ScanAtHand (roles : Roles) (x : Variable) (op : ReduceOp) (loops : Li
 abbrev pub ScansAtTurns : Roles → List Loop → ℕ → Stmt → Type 0
 ScansAtTurns roles serial n s =
     (x : Variable) (op : ReduceOp) (inclusive : Bool) (front back : Items) (loops : List Loop) (outer : State) (us : List Vector) (chunks : List (List Vector)) (e : Effect)
-    → roles.reductions ≡ (x, op) ∷ [] → nest_of n s ≡ Some (loops, whole_body front back) → keeps_phases x op inclusive front back ≡ true
-    → IsTurn serial outer → DeclaresLocals s outer → ScanAtHand roles x op loops (first_body inclusive front back) us outer
+    → roles.reductions ≡ (x, op) ∷ [] → nest_of n s ≡ Some (loops, whole_of front back) → keeps_phases x op inclusive front back ≡ true
+    → IsTurn serial outer → DeclaresLocals s outer → ScanAtHand roles x op loops (first_of inclusive front back) us outer
     → iterations loops outer ≡ Some us → flat_map (λ vs. vs) chunks ≡ us → run s outer ≡ Some e
-    → ScansFrom roles x op s loops (first_body inclusive front back) (whole_body front back) chunks outer e
+    → ScansFrom roles x op s loops (first_of inclusive front back) (whole_of front back) chunks outer e
 
 -- where a scan is met so at a turn of the serial loops round it, and reads what is known, the operands of its input phases have values
 abbrev pub TakesInputsAtTurns : List Declaration → Roles → List Loop → ℕ → Stmt → Type 0
 TakesInputsAtTurns ds roles serial n s =
     (x : Variable) (op : ReduceOp) (inclusive : Bool) (front back : Items) (loops : List Loop) (scope : Scope) (order next next' : ℕ) (tokens : List Token) (known : Variable → Bool) (outer : State) (us : List Vector)
-    → roles.reductions ≡ (x, op) ∷ [] → nest_of n s ≡ Some (loops, whole_body front back) → keeps_phases x op inclusive front back ≡ true
+    → roles.reductions ≡ (x, op) ∷ [] → nest_of n s ≡ Some (loops, whole_of front back) → keeps_phases x op inclusive front back ≡ true
     → ReadsStmt scope order next tokens s next' → IsTurn serial outer → IsMet ds scope next known serial outer
-    → IsSome (definite no_privates s known) → iterations loops outer ≡ Some us → TakesInputs x op loops (first_body inclusive front back) us outer
+    → IsSome (definite no_privates s known) → iterations loops outer ≡ Some us → TakesInputs x op loops (first_of inclusive front back) us outer

@@ -27,7 +27,8 @@ use Rattle.law_roles.proofs.Joining.{localized, localized_inside, localized_move
 use Rattle.law_roles.proofs.Chunked.{nest_variables}
 use Rattle.law_roles.proofs.Starts.{roles_with}
 use Rattle.law_scans.specs.Phases.{joined_items, written_among, input_of, scan_of, spares}
-use Rattle.law_scans.specs.Scanning.{whole_body, first_body, ScanChunksJoin, IsScanned, ScansFrom, TakesInputs}
+use Rattle.law_scans.specs.Scanning as law
+use Rattle.law_scans.specs.Scanning.{whole_of, IsScanned, ScansFrom, TakesInputs}
 use Rattle.law_scans.proofs.Phased.{declared_joined, steady_back}
 use Rattle.law_scans.proofs.Spared.{items_spare, spared_local}
 use Rattle.law_scans.proofs.Inputs.{IsInput, front_input}
@@ -70,10 +71,10 @@ module _ (privates lasts : List Variable) (x : Variable) (op : ReduceOp) (inclus
   ps = privates ++ lasts
 
   abbrev body : Stmt
-  body = whole_body front back
+  body = whole_of front back
 
   abbrev input : Stmt
-  input = first_body inclusive front back
+  input = law.first_of inclusive front back
 
   same : (y : Variable) → is_among vars y ≡ is_among (x ∷ ps) y
   same y = same_variables privates lasts x op y
@@ -184,11 +185,11 @@ module _ (privates lasts : List Variable) (x : Variable) (op : ReduceOp) (n : �
   stays m t f ran h =
       let k = keeps privates lasts x op true n s loops front back outer chunks e is in
       spared_local x f.writes t
-      (items_spare true true refl x back (λ y. visible_behind (whole_body front back) y && not (is_among (x ∷ (privates ++ lasts)) y)) (steady_back front back (λ y. visible_behind (whole_body front back) y && not (is_among (x ∷ (privates ++ lasts)) y)) k.steady)
+      (items_spare true true refl x back (λ y. visible_behind (whole_of front back) y && not (is_among (x ∷ (privates ++ lasts)) y)) (steady_back front back (λ y. visible_behind (whole_of front back) y && not (is_among (x ∷ (privates ++ lasts)) y)) k.steady)
       (only_read privates lasts x op true n s loops front back outer chunks e is) (declared_apart privates lasts x op true n s loops front back outer chunks e is).1 t f ran)
       ∙ h
 
-  pub inclusive_part : IsInput x op (privates ++ lasts) (whole_body front back) (Block front)
+  pub inclusive_part : IsInput x op (privates ++ lasts) (whole_of front back) (Block front)
   inclusive_part =
       front_input x op (privates ++ lasts) front back (keeps privates lasts x op true n s loops front back outer chunks e is) (none privates lasts x op true n s loops front back outer chunks e is)
       (first privates lasts x op true n s loops front back outer chunks e is) is.keeps.apart (updates privates lasts x op true n s loops front back outer chunks e is) stays
@@ -197,7 +198,7 @@ module _ (privates lasts : List Variable) (x : Variable) (op : ReduceOp) (n : �
 
 module _ (privates lasts : List Variable) (x : Variable) (op : ReduceOp) (n : ℕ) (s : Stmt) (loops : List Loop) (front back : Items) (outer : State) (chunks : List (List Vector)) (e : Effect)
     (is : IsScanned (roles_with privates lasts ((x, op) ∷ [])) x op false n s loops front back outer chunks e) where
-  pub exclusive_part : IsInput x op (privates ++ lasts) (whole_body front back) (first_body false front back)
+  pub exclusive_part : IsInput x op (privates ++ lasts) (whole_of front back) (law.first_of false front back)
   exclusive_part =
       back_input x op (privates ++ lasts) front back (keeps privates lasts x op false n s loops front back outer chunks e is) (none privates lasts x op false n s loops front back outer chunks e is)
       (first privates lasts x op false n s loops front back outer chunks e is) (only_read privates lasts x op false n s loops front back outer chunks e is)
@@ -208,12 +209,12 @@ same_roles : (roles : Roles) (x : Variable) (op : ReduceOp) → roles.firsts ≡
 same_roles roles x op firsts conditionals only =
     λ i. record { privates = roles.privates; firsts = sym firsts i; lasts = roles.lasts; conditionals = sym conditionals i; reductions = sym only i }
 
-pub join : ScanChunksJoin
+pub join : law.ScanChunksJoin
 join roles x op inclusive n s loops front back outer chunks e is =
-    subst (λ r. IsScanned r x op inclusive n s loops front back outer chunks e → ScansFrom r x op s loops (first_body inclusive front back) (whole_body front back) chunks outer e)
+    subst (λ r. IsScanned r x op inclusive n s loops front back outer chunks e → ScansFrom r x op s loops (law.first_of inclusive front back) (whole_of front back) chunks outer e)
     (same_roles roles x op is.keeps.no_firsts is.keeps.no_conditionals is.keeps.only) (by_phases inclusive) is
   where
     by_phases : (inclusive : Bool) → IsScanned (roles_with roles.privates roles.lasts ((x, op) ∷ [])) x op inclusive n s loops front back outer chunks e
-        → ScansFrom (roles_with roles.privates roles.lasts ((x, op) ∷ [])) x op s loops (first_body inclusive front back) (whole_body front back) chunks outer e
+        → ScansFrom (roles_with roles.privates roles.lasts ((x, op) ∷ [])) x op s loops (law.first_of inclusive front back) (whole_of front back) chunks outer e
     by_phases true scanned = by_part roles.privates roles.lasts x op true n s loops front back outer chunks e scanned (inclusive_part roles.privates roles.lasts x op n s loops front back outer chunks e scanned)
     by_phases false scanned = by_part roles.privates roles.lasts x op false n s loops front back outer chunks e scanned (exclusive_part roles.privates roles.lasts x op n s loops front back outer chunks e scanned)

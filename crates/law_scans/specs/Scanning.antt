@@ -27,11 +27,11 @@ use Rattle.law_scans.specs.Passes.{walks_from}
 -- ---- the loop
 
 -- what each iteration runs, and what the first pass runs of it
-abbrev pub whole_body : Items → Items → Stmt
-whole_body front back = Block (joined_items front back)
+abbrev pub whole_of : Items → Items → Stmt
+whole_of front back = Block (joined_items front back)
 
-abbrev pub first_body : Bool → Items → Items → Stmt
-first_body inclusive front back = Block (first_items inclusive front back)
+abbrev pub first_of : Bool → Items → Items → Stmt
+first_of inclusive front back = Block (first_items inclusive front back)
 
 -- no variable is firstprivate or conditional, the scan variable alone is reduced, and a nest whose body has two phases assigns no scalar from outside but variables with a role, each as its role allows
 pub record KeepsScan (roles : Roles) (x : Variable) (op : ReduceOp) (inclusive : Bool) (s : Stmt) (front back : Items) (outer : State) : Type 0 where
@@ -39,12 +39,12 @@ pub record KeepsScan (roles : Roles) (x : Variable) (op : ReduceOp) (inclusive :
   pub no_conditionals : roles.conditionals ≡ []
   pub only : roles.reductions ≡ (x, op) ∷ []
   pub whole : KeepsApart (role_variables roles) s
-  pub inside : KeepsApart (role_variables roles) (whole_body front back)
+  pub inside : KeepsApart (role_variables roles) (whole_of front back)
   pub declares_none : (y : Variable) → is_among (role_variables roles) y ≡ true → visible_behind s y ≡ true
   pub scalars : (y : Variable) → is_among (role_variables roles) y ≡ true → IsScalar outer y
   pub apart : is_among (assigned_first roles) x ≡ false
   pub first : AssignsFirst (assigned_first roles) s
-  pub last : AssignsAll (assigned_first roles) roles.lasts (whole_body front back)
+  pub last : AssignsAll (assigned_first roles) roles.lasts (whole_of front back)
   pub phases : keeps_phases x op inclusive front back ≡ true
   pub number : HoldsNumber outer x
 
@@ -54,15 +54,15 @@ TakesInputs x op loops first us outer = (takes_all ((x, op) ∷ []) ≡ true) �
 
 -- what is known of such a nest before it, and of the chunks of its iterations, which are all different and of which no two conflict
 pub record IsScanned (roles : Roles) (x : Variable) (op : ReduceOp) (inclusive : Bool) (n : ℕ) (s : Stmt) (loops : List Loop) (front back : Items) (outer : State) (chunks : List (List Vector)) (e : Effect) : Type 0 where
-  pub nest : nest_of n s ≡ Some (loops, whole_body front back)
+  pub nest : nest_of n s ≡ Some (loops, whole_of front back)
   pub keeps : KeepsScan roles x op inclusive s front back outer
   pub declares : DeclaresLocals s outer
   pub vectors : List Vector
   pub are : iterations loops outer ≡ Some vectors
-  pub taken : TakesInputs x op loops (first_body inclusive front back) vectors outer
+  pub taken : TakesInputs x op loops (first_of inclusive front back) vectors outer
   pub different : AllPairs (λ u v. u ≢ v) vectors
-  pub turning : (u : Vector) → Contains vectors u → InnerLoopsTurn loops (whole_body front back) outer u
-  pub independent : (u v : Vector) → Contains vectors u → Contains vectors v → Conflict loops (whole_body front back) outer u v → ⊥
+  pub turning : (u : Vector) → Contains vectors u → InnerLoopsTurn loops (whole_of front back) outer u
+  pub independent : (u v : Vector) → Contains vectors u → Contains vectors v → Conflict loops (whole_of front back) outer u v → ⊥
   pub whole : flat_map (λ vs. vs) chunks ≡ vectors
   pub ran : run s outer ≡ Some e
 
@@ -100,4 +100,4 @@ abbrev pub ScanChunksJoin : Type 0
 ScanChunksJoin =
     (roles : Roles) (x : Variable) (op : ReduceOp) (inclusive : Bool) (n : ℕ) (s : Stmt) (loops : List Loop) (front back : Items) (outer : State) (chunks : List (List Vector)) (e : Effect)
     → IsScanned roles x op inclusive n s loops front back outer chunks e
-    → ScansFrom roles x op s loops (first_body inclusive front back) (whole_body front back) chunks outer e
+    → ScansFrom roles x op s loops (first_of inclusive front back) (whole_of front back) chunks outer e
