@@ -9,7 +9,7 @@ use Rattle.semantics.specs.Directives.Annotated.{Directives}
 use Rattle.semantics.specs.Directives.Clauses.{private_of}
 use Rattle.law_private.proofs.More.{more_known}
 use Rattle.flow_definite.specs.Judged.{is_local}
-use Rattle.deptest.specs.Accepted.{HasPassed, clauses_counted, roles_counted, roles_passed}
+use Rattle.deptest.specs.Accepted.{HasPassed, clauses_counted, data_counted, data_passed}
 
 -- of those that a test leaves each passes it
 passes : (n : ℕ) (xs : List Variable) (x : Variable) → is_among (filter (is_local n) xs) x ≡ true → n ≤ x
@@ -27,11 +27,11 @@ passes n (y ∷ xs) x h = go (nat_lt y n) refl h (λ k. passes n xs x k)
     go true is h later = later h
     go false is h later = here (y == x) refl (ltb-false y n is) h later
 
-whole_locals : (text : List ℕ) (k : Kernel) (ds : Directives) (line : ℕ) (x : Variable) → is_among (roles_counted text k ds line).privates x ≡ true → length k.variables ≤ x
+whole_locals : (text : List ℕ) (k : Kernel) (ds : Directives) (line : ℕ) (x : Variable) → is_among (data_counted text k ds line).roles.privates x ≡ true → length k.variables ≤ x
 whole_locals text k ds line x h = passes (length k.variables) (flat_map private_of (clauses_counted text k ds line)) x h
 
 -- the private variables of a kernel that has passed have numbers behind those at file scope
-pub private_locals : (text : List ℕ) (k : Kernel) (p : HasPassed text k) (line : ℕ) (x : Variable) → is_among (roles_passed p line).privates x ≡ true → length k.variables ≤ x
+pub private_locals : (text : List ℕ) (k : Kernel) (p : HasPassed text k) (line : ℕ) (x : Variable) → is_among (data_passed p line).roles.privates x ≡ true → length k.variables ≤ x
 private_locals text k p line x h = subst (λ (j : Kernel). length j.variables ≤ x) (sym p.reads.is) (whole_locals text p.reads.whole p.directives line x h)
 
 -- with private locals that are unassigned behind their constructs no local is read unassigned, nor is one without them

@@ -1,5 +1,5 @@
 -- Kernels whose parallel loops are shown to be independent, and what is kept of an accepted text. (OpenMP 5.2, 1.4.1 and 11.5; C11 5.1.2.4)
-use Rattle.std.specs.Prelude.{ℕ, ◌≡◌, true, List, [], map, length, Some}
+use Rattle.std.specs.Prelude.{ℕ, ◌≡◌, true, List, [], map, length, Some, ◌==◌, ◌∷◌, None, if◌then◌else◌}
 use Rattle.semantics.specs.Tree.{Kernel, strip}
 use Rattle.semantics.specs.Source.Grammar.{ReadsText}
 use Rattle.law_lines.specs.Without.{IsTreeOf}
@@ -17,10 +17,15 @@ use Rattle.pragma_region.specs.Regions.{alone}
 use Rattle.pragma_region.specs.Counted.{counted_in}
 use Rattle.pragma_region.specs.Listed.{regions_of, parts_of, part_said}
 use Rattle.pragma_region.specs.declared.listing.RegionPart.{RegionPart}
-use Rattle.flow.specs.Roles.{LineRoles, line_roles, privates_by, ItemsHaveBy, ItemsKeepRoles}
+use Rattle.flow.specs.Roles.{LineData, line_data, privates_by, ItemsHaveBy, ItemsKeepRoles}
 use Rattle.flow_clauses.specs.Fitting.{fit_clauses}
 use Rattle.flow_ordered.specs.Ordered.{prints_in_order}
+use Rattle.flow_scan.specs.Scans.{ScanPart, scans_rightly, scans_of}
+use Rattle.flow_scan.specs.Views.{scan_part}
+use Rattle.flow_scan.specs.declared.listing.ScanLoop.{ScanLoop}
+use Rattle.law_roles.specs.Sharing.{are_different}
 use Rattle.flow.specs.Parallel.{AreParallelLoops}
+use Rattle.flow.specs.Phases.{LinePhases}
 use Rattle.flow.specs.declared.environment.ParallelLoop.{ParallelLoop}
 use Rattle.law_independence.specs.IndependenceLaws.{IsIndependentNest}
 use Rattle.law_independence.specs.OrderLaws.{SharesBy}
@@ -43,10 +48,19 @@ abbrev pub clauses_counted : List ℕ → Kernel → Directives → Lines
 clauses_counted text k ds = counted_in text k (clauses_said k ds)
 
 -- what they say of the scalars that the loop assigns (OpenMP 5.2, 5.4.3, 5.4.5 and 5.5.8)
-abbrev pub roles_counted : List ℕ → Kernel → Directives → LineRoles
-roles_counted text k ds line = line_roles (length k.variables) (clauses_counted text k ds line)
+abbrev pub data_counted : List ℕ → Kernel → Directives → LineData
+data_counted text k ds line = line_data (length k.variables) (clauses_counted text k ds line)
 
--- what is known before the dependence test: the tree is one of the text, whose directives are attached to the whole of it; its loops are canonical and never wrap, no subscript leaves its array, each directive line left in it is that of a loop directly behind it that holds no other, with a right nest, that writes no scalar but its own and those with a role, and keeps their roles, and no local is read before it is assigned; the roles are those of the clauses that count for a loop, and these name what they may; parallel loops print in ordered regions alone
+-- whether its input phase comes first, and how many items its first phase has, of the first of some loops of scans behind the line of this number
+abbrev pub phases_at : List ScanPart → LinePhases
+phases_at [] line = None
+phases_at (p ∷ ps) line = if p.line == line then Some (p.inclusive, p.front) else phases_at ps line
+
+-- so of those of a kernel, by the clauses that count for each line (OpenMP 5.2, 5.6)
+abbrev pub scans_counted : List ℕ → Kernel → Directives → List ScanPart
+scans_counted text k ds = scans_of text (clauses_counted text k ds) k
+
+-- what is known before the dependence test: the tree is one of the text, whose directives are attached to the whole of it; its loops are canonical and never wrap, no subscript leaves its array, each directive line left in it is that of a loop directly behind it that holds no other, with a right nest, that writes no scalar but its own and those with a role, and keeps their roles, and no local is read before it is assigned; the roles are those of the clauses that count for a loop, and these name what they may; parallel loops print in ordered regions alone, and scans have their two phases
 pub record HasPassed (text : List ℕ) (k : Kernel) : Type 0 where
   pub reads : IsTreeOf text k
   pub directives : Directives
@@ -54,19 +68,26 @@ pub record HasPassed (text : List ℕ) (k : Kernel) : Type 0 where
   pub in_range : IsInRange k
   pub directed : IsDirected text k
   pub nested : AreRightNests text k
-  pub definite : IsDefinite (privates_by (roles_counted text reads.whole directives)) k
-  pub roles : ItemsKeepRoles text (roles_counted text reads.whole directives) [] k.body
+  pub definite : IsDefinite (privates_by (data_counted text reads.whole directives)) k
+  pub roles : ItemsKeepRoles text (data_counted text reads.whole directives) [] k.body
   pub fit : fit_clauses (clauses_counted text reads.whole directives) k ≡ true
   pub ordered : prints_in_order text reads.whole ≡ true
+  pub dissolved : k ≡ alone text reads.whole
+  pub scans : scans_rightly text (clauses_counted text reads.whole directives) reads.whole ≡ true
+  pub numbered : are_different (map (λ (p : ScanPart). p.line) (scans_counted text reads.whole directives)) ≡ true
 
 -- the roles of a kernel that has passed
-abbrev pub roles_passed : {text : List ℕ} {k : Kernel} → HasPassed text k → LineRoles
-roles_passed {text} passed = roles_counted text passed.reads.whole passed.directives
+abbrev pub data_passed : {text : List ℕ} {k : Kernel} → HasPassed text k → LineData
+data_passed {text} passed = data_counted text passed.reads.whole passed.directives
+
+-- and the phases of its scans
+abbrev pub phases_passed : {text : List ℕ} {k : Kernel} → HasPassed text k → LinePhases
+phases_passed {text} passed = phases_at (scans_counted text passed.reads.whole passed.directives)
 
 -- at each turn of the serial loops round a parallel loop no two of its iterations conflict, and chunks of them, with the roles of what it assigns, leave together what it leaves, without reductions in any order
 pub record AreIndependent (text : List ℕ) (k : Kernel) : Type 0 where
   pub apart : ItemsHave text IsIndependentNest [] k.body
-  pub share : (passed : HasPassed text k) → ItemsHaveBy text (SharesBy k.variables (roles_passed passed)) [] k.body
+  pub share : (passed : HasPassed text k) → ItemsHaveBy text (SharesBy k.variables (data_passed passed) (phases_passed passed)) [] k.body
 
 -- what holds of each accepted text
 pub record IsAccepted (p : Program) : Type 0 where
@@ -80,17 +101,23 @@ pub record AreRegions (text : List ℕ) (k : Kernel) (parts : List RegionPart) :
   pub dissolved : k ≡ alone text whole
   pub are : map part_said parts ≡ parts_of (regions_of text whole)
 
--- a kernel has passed, and these are its parallel loops, in the order of the text
-pub record HasLoops (text : List ℕ) (k : Kernel) (loops : List ParallelLoop) : Type 0 where
+-- a kernel has passed, and these are its parallel loops and those of its scans, in the order of the text
+pub record HasLoops (text : List ℕ) (k : Kernel) (loops : List ParallelLoop) (scans : List ScanLoop) : Type 0 where
   pub passed : HasPassed text k
-  pub listed : AreParallelLoops text (roles_passed passed) k loops
+  pub listed : AreParallelLoops text (data_passed passed) k loops
+  pub scans_are : map scan_part scans ≡ scans_counted text passed.reads.whole passed.directives
 
 -- so it is of an accepted text
 pub record KeepsLoops (p : Program) (loops : List ParallelLoop) : Type 0 where
   pub accepted : IsAccepted p
-  pub listed : AreParallelLoops p.text (roles_passed accepted.passed) (kernel_of p.kernel) loops
+  pub listed : AreParallelLoops p.text (data_passed accepted.passed) (kernel_of p.kernel) loops
 
--- and what is kept of it: its parallel loops and the parts of its parallel regions, in the order of the text
-pub record IsKept (p : Program) (loops : List ParallelLoop) (parts : List RegionPart) : Type 0 where
+-- these are the loops of its scans, in the order of the text
+abbrev pub AreScansOf : (p : Program) → IsAccepted p → List ScanLoop → Type 0
+AreScansOf p accepted scans = map scan_part scans ≡ scans_counted p.text accepted.passed.reads.whole accepted.passed.directives
+
+-- and what is kept of it: its parallel loops, those of its scans and the parts of its parallel regions, in the order of the text
+pub record IsKept (p : Program) (loops : List ParallelLoop) (scans : List ScanLoop) (parts : List RegionPart) : Type 0 where
   pub keeps : KeepsLoops p loops
+  pub scans_are : AreScansOf p keeps.accepted scans
   pub regions : AreRegions p.text (kernel_of p.kernel) parts

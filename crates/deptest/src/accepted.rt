@@ -3,11 +3,12 @@
 ghost use Rattle.std.specs.Prelude.{◌≡◌, map, IfOk, IfErr};
 ghost use Rattle.ktree.specs.View.{declaration_of, kernel_of};
 ghost use Rattle.nest.specs.Judged.{IsTableOf};
-ghost use Rattle.deptest.specs.Accepted.{tree_of, HasPassed, HasLoops, KeepsLoops, AreIndependent, AreRegions, IsAccepted};
+ghost use Rattle.deptest.specs.Accepted.{tree_of, HasPassed, HasLoops, KeepsLoops, AreIndependent, AreRegions, IsKept, IsAccepted};
 ghost use Rattle.deptest.specs.Refused.{RefusesLoops};
 
 use crate::independent::check;
 use flow::ParallelLoop;
+use flow_scan::ScanLoop;
 use ktree::{Declaration, Item, Kernel, Refusal};
 use nest::LoopTable;
 use pragma::Directives;
@@ -15,10 +16,12 @@ use pragma_region::RegionPart;
 use std::alloc::Global;
 use std::marker::Model;
 
-/// The parallel loops of a kernel, and the parts of the regions that they stand in, both in the order of the text.
+/// The parallel loops of a kernel, those of its scans with their phases, and the parts of the regions that they stand in, all in the
+/// order of the text.
 #[derive(Drop)]
 pub struct Parallel {
     pub loops: Vec<ParallelLoop>,
+    pub scans: Vec<ScanLoop>,
     pub regions: Vec<RegionPart>,
 }
 
@@ -43,6 +46,7 @@ impl Model for Checked {
 
     ghost invariant = { λ c. IsKept (record { text = c.text.items; kernel = c.kernel })
         c.parallel.loops.items
+        c.parallel.scans.items
         c.parallel.regions.items };
 }
 
@@ -67,6 +71,14 @@ impl Checked {
         ensures { KeepsLoops self.now result.now }
     {
         self.parallel.loops.as_slice()
+    }
+
+    /// All that is kept of its parallel loops.
+    pub fn parallel(&self) -> &Parallel
+        ensures { IsKept self.now result.now.loops.items result.now.scans.items
+            result.now.regions.items }
+    {
+        &self.parallel
     }
 
     /// The parts of its parallel regions, in the order of the text.
@@ -116,7 +128,8 @@ pub fn accept(
     parallel: Parallel,
 ) -> Result<Checked, Refusal>
     requires lines { directives.now ≡ text.now }
-    requires passed { HasLoops text.now (kernel_of kernel) parallel.loops.items }
+    requires passed { HasLoops text.now (kernel_of kernel) parallel.loops.items
+        parallel.scans.items }
     requires table { IsTableOf (kernel_of kernel) table.now }
     requires regions { AreRegions text.now (kernel_of kernel) parallel.regions.items }
     ensures is { IfOk result (λ checked. checked ≡ record { text = text.now; kernel = kernel }) }

@@ -14,13 +14,13 @@ use Rattle.pragma.specs.Parallel.{associated}
 use Rattle.ktree.proofs.Trees.{next_item}
 use Rattle.pragma.proofs.PlainLaw.{all_behind}
 use Rattle.flow.specs.Private.{nest_body_of, first_stmt_of}
-use Rattle.flow.specs.Roles.{LineRoles}
+use Rattle.flow.specs.Roles.{LineData}
 use Rattle.flow.specs.Told.{TellsOfAny, TellsOfRoles, TellsOfNest, TellsOfLine, TellsOfLoops, TellsOfItems, TellsOfFirstLine, TellsOfFirstLoops}
 use Rattle.flow.specs.declared.fault.DataFault.{DataFault}
 use Rattle.flow.proofs.PrivateLemmas.{first_is, nest_with, loop_of}
 
 -- a directive with a nest behind it
-pub nest_told : (text : List ℕ) (R : LineRoles) (line : ℕ) (rest : Tree.Items) (k : Option Schedule) (c : Option ℕ) → ReadsLoop (line_at text line) k c → (s : Tree.Stmt) → Some s ≡ first_stmt_of rest
+pub nest_told : (text : List ℕ) (R : LineData) (line : ℕ) (rest : Tree.Items) (k : Option Schedule) (c : Option ℕ) → ReadsLoop (line_at text line) k c → (s : Tree.Stmt) → Some s ≡ first_stmt_of rest
     → (o : Option DataFault) (b : Tree.Stmt) → Some b ≡ nest_body_of (associated c) s → IfSome o (λ e. TellsOfRoles e (R line) s b) → IfSome o (λ e. TellsOfLine e text R line rest)
 nest_told text R line rest k c reads s first None b nest told = tt
 nest_told text R line rest k c reads s first (Some e) b nest told =
@@ -28,7 +28,7 @@ nest_told text R line rest k c reads s first (Some e) b nest told =
     inl (k, c, reads, (first_is (TellsOfNest e (R line)) (associated c) rest s first).1 (found.0, b, found.1, told))
 
 -- a loop, of whose body it tells
-pub loop_told : (o : Option DataFault) (text : List ℕ) (R : LineRoles) (s : Stmt) (head : Head) (body : Box Stmt Global) (inner : Stmt) → s ≡ For head body → inner ≡ body.value
+pub loop_told : (o : Option DataFault) (text : List ℕ) (R : LineData) (s : Stmt) (head : Head) (body : Box Stmt Global) (inner : Stmt) → s ≡ For head body → inner ≡ body.value
     → IfSome o (λ f. TellsOfLoops f text R (stmt_of inner)) → IfSome o (λ f. TellsOfLoops f text R (stmt_of s))
 loop_told o text R s head body inner e f h =
     let is : loop_of head (stmt_of inner) ≡ stmt_of s = ap (λ b. loop_of head (stmt_of b)) f ∙ sym (ap stmt_of e) in
@@ -58,7 +58,7 @@ module _ (f : DataFault) (own : Variable → Bool) where
       told_behind i is (subst (TellsOfAny f own) (sym (next_item is i e lt at)) (told_before e rest h))
 
 -- and so with the directive lines among the items of a text
-module _ (f : DataFault) (text : List ℕ) (R : LineRoles) where
+module _ (f : DataFault) (text : List ℕ) (R : LineData) where
   line_before : (i : Item) (rest : Tree.Items) → TellsOfFirstLine f text R (with_item i Tree.no_items) rest → TellsOfItems f text R (with_item i rest)
   line_before (Directive place) rest h = inl h
   line_before (Local l) rest h = absurd h

@@ -13,8 +13,8 @@ use Rattle.law_roles.specs.Sharing.{assigned_first, role_variables, are_differen
 use Rattle.flow.specs.declared.fault.DataFault.{DataFault}
 use Rattle.flow.specs.declared.fault.DataFault.TheVariants.{OutOfMemory}
 use Rattle.flow.specs.Private.{is_private_body, all_but, nest_body_of}
-use Rattle.flow.specs.Roles.{KeepsItsRoles, ReadsAssigned, AssignsLasts, HaveOneRole}
-use Rattle.flow.specs.Told.{Finds, TellsOfBody, TellsOfRead, TellsOfLast, TellsOfSecond, TellsOfMisuse, TellsOfRoles}
+use Rattle.flow.specs.Roles.{LoopData, left_roles, KeepsItsRoles, ReadsAssigned, AssignsLasts, HaveOneRole, CarriesOthers}
+use Rattle.flow.specs.Told.{Finds, TellsOfBody, TellsOfRead, TellsOfLast, TellsOfSecond, TellsOfCarried, TellsOfMisuse, TellsOfRoles}
 use Rattle.flow.proofs.ListLemmas.{all_known, known_all, apart_same}
 use Rattle.flow.proofs.PrivateLemmas.{nest_with, body_of_nest, finds_same}
 
@@ -59,11 +59,13 @@ finds_true (Some e) b is = inr (λ h. true≢false (sym h ∙ sym is))
 
 -- ---- a nest
 
-abbrev pub Parts : Roles → Stmt → Stmt → Type 0
-Parts roles s body = (is_private_body (role_variables roles) body ≡ true) × (ReadsAssigned roles s × (AssignsLasts roles body × (HaveOneRole roles × (reduces roles.reductions s ≡ true))))
+abbrev pub Parts : LoopData → Stmt → Stmt → Type 0
+Parts d s body =
+    (is_private_body (role_variables (left_roles d)) body ≡ true)
+    × (ReadsAssigned d.roles s × (AssignsLasts d.roles body × (HaveOneRole d.roles × (CarriesOthers d × (reduces d.roles.reductions s ≡ true)))))
 
-module _ (roles : Roles) (n : ℕ) (s body : Stmt) (nest : Some body ≡ nest_body_of n s) where
-  of_parts : Parts roles s body → KeepsItsRoles roles n s
+module _ (d : LoopData) (n : ℕ) (s body : Stmt) (nest : Some body ≡ nest_body_of n s) where
+  of_parts : Parts d s body → KeepsItsRoles d n s
   of_parts h =
       let found = nest_with n s body nest in
       record {
@@ -75,28 +77,30 @@ module _ (roles : Roles) (n : ℕ) (s body : Stmt) (nest : Some body ≡ nest_bo
         apart = h.1.1.1.0.1;
         first = h.1.0;
         last = h.1.1.0;
-        updates = h.1.1.1.1;
+        once = h.1.1.1.1.0;
+        updates = h.1.1.1.1.1;
       }
 
-  parts_of : KeepsItsRoles roles n s → Parts roles s body
+  parts_of : KeepsItsRoles d n s → Parts d s body
   parts_of its =
       let same : its.body ≡ body = cc (nest, body_of_nest n s its.body its.loops its.nest) in (
-        subst (λ b. is_private_body (role_variables roles) b ≡ true) same its.keeps,
-        (its.first, (subst (AssignsLasts roles) same its.last, ((its.different, its.apart), its.updates))),
+        subst (λ b. is_private_body (role_variables (left_roles d)) b ≡ true) same its.keeps,
+        (its.first, (subst (AssignsLasts d.roles) same its.last, ((its.different, its.apart), (its.once, its.updates)))),
       )
 
-  pub nest_found : (o q l d m a b c f : Option DataFault) → is_none o ≡ is_private_body (role_variables roles) body → Finds q (ReadsAssigned roles s) → Finds l (AssignsLasts roles body) → Finds d (HaveOneRole roles)
-      → Finds m (reduces roles.reductions s ≡ true) → OneOf d m a → OneOf l a b → OneOf q b c → OneOf o c f → Finds f (KeepsItsRoles roles n s)
-  nest_found o q l d m a b c f keeps read last one misuse first second third fourth =
-      finds_same f of_parts parts_of (finds_both _ _ o c f fourth (finds_true o _ keeps) (finds_both _ _ q b c third read (finds_both _ _ l a b second last (finds_both _ _ d m a first one misuse))))
+  pub nest_found : (o q l one t m z a b c f : Option DataFault) → is_none o ≡ is_private_body (role_variables (left_roles d)) body → Finds q (ReadsAssigned d.roles s) → Finds l (AssignsLasts d.roles body) → Finds one (HaveOneRole d.roles) → Finds t (CarriesOthers d)
+      → Finds m (reduces d.roles.reductions s ≡ true) → OneOf t m z → OneOf one z a → OneOf l a b → OneOf q b c → OneOf o c f → Finds f (KeepsItsRoles d n s)
+  nest_found o q l one t m z a b c f keeps read last single other misuse start first second third fourth =
+      finds_same f of_parts parts_of (finds_both _ _ o c f fourth (finds_true o _ keeps) (finds_both _ _ q b c third read (finds_both _ _ l a b second last (finds_both _ _ one z a first single (finds_both _ _ t m z start other misuse)))))
 
 -- what is told of it
-pub nest_tells : (roles : Roles) (s body : Stmt) (o q l d m a b c f : Option DataFault) → IfSome o (λ e. TellsOfBody e roles body) → IfSome q (λ e. TellsOfRead e roles s) → IfSome l (λ e. TellsOfLast e roles body)
-    → IfSome d (λ e. TellsOfSecond e roles) → IfSome m (λ e. TellsOfMisuse e roles s) → OneOf d m a → OneOf l a b → OneOf q b c → OneOf o c f → IfSome f (λ e. TellsOfRoles e roles s body)
-nest_tells roles s body o q l d m a b c f keeps read last one misuse first second third fourth =
-    told_both (λ e. TellsOfBody e roles body) (λ e. TellsOfRead e roles s ⊎ TellsOfLast e roles body ⊎ TellsOfSecond e roles ⊎ TellsOfMisuse e roles s) o c f fourth keeps
-    (told_both (λ e. TellsOfRead e roles s) (λ e. TellsOfLast e roles body ⊎ TellsOfSecond e roles ⊎ TellsOfMisuse e roles s) q b c third read
-    (told_both (λ e. TellsOfLast e roles body) (λ e. TellsOfSecond e roles ⊎ TellsOfMisuse e roles s) l a b second last (told_both (λ e. TellsOfSecond e roles) (λ e. TellsOfMisuse e roles s) d m a first one misuse)))
+pub nest_tells : (d : LoopData) (s body : Stmt) (o q l one t m z a b c f : Option DataFault) → IfSome o (λ e. TellsOfBody e (left_roles d) body) → IfSome q (λ e. TellsOfRead e d.roles s) → IfSome l (λ e. TellsOfLast e d.roles body)
+    → IfSome one (λ e. TellsOfSecond e d.roles) → IfSome t (λ e. TellsOfCarried e d) → IfSome m (λ e. TellsOfMisuse e d.roles s) → OneOf t m z → OneOf one z a → OneOf l a b → OneOf q b c → OneOf o c f → IfSome f (λ e. TellsOfRoles e d s body)
+nest_tells d s body o q l one t m z a b c f keeps read last single other misuse start first second third fourth =
+    told_both (λ e. TellsOfBody e (left_roles d) body) (λ e. TellsOfRead e d.roles s ⊎ TellsOfLast e d.roles body ⊎ TellsOfSecond e d.roles ⊎ TellsOfCarried e d ⊎ TellsOfMisuse e d.roles s) o c f fourth keeps
+    (told_both (λ e. TellsOfRead e d.roles s) (λ e. TellsOfLast e d.roles body ⊎ TellsOfSecond e d.roles ⊎ TellsOfCarried e d ⊎ TellsOfMisuse e d.roles s) q b c third read
+    (told_both (λ e. TellsOfLast e d.roles body) (λ e. TellsOfSecond e d.roles ⊎ TellsOfCarried e d ⊎ TellsOfMisuse e d.roles s) l a b second last
+    (told_both (λ e. TellsOfSecond e d.roles) (λ e. TellsOfCarried e d ⊎ TellsOfMisuse e d.roles s) one z a first single (told_both (λ e. TellsOfCarried e d) (λ e. TellsOfMisuse e d.roles s) t m z start other misuse))))
 
 -- ---- lastprivate variables
 

@@ -21,7 +21,7 @@ use Rattle.pragma.specs.declared.combined.ParallelFor.{ParallelFor}
 use Rattle.ktree.proofs.Trees.{next_item}
 use Rattle.pragma.proofs.PlainLaw.{all_behind}
 use Rattle.flow.specs.Private.{first_stmt_of}
-use Rattle.flow.specs.Roles.{LineRoles, KeepsRolesThere, LoopsKeepRoles, ItemsKeepRoles, FirstLineKeepsRoles, FirstLoopsKeepRoles}
+use Rattle.flow.specs.Roles.{LineData, KeepsRolesThere, LoopsKeepRoles, ItemsKeepRoles, FirstLineKeepsRoles, FirstLoopsKeepRoles}
 use Rattle.flow.specs.Parallel.{numbers, AreRolesOf, IsParallelLoop, Joined, LoopsAre, ItemsAre, FirstLineIs, FirstLoopsAre, Adds}
 use Rattle.flow.specs.declared.environment.LoopRoles.{LoopRoles}
 use Rattle.flow.specs.declared.environment.ParallelLoop.{ParallelLoop}
@@ -93,7 +93,7 @@ nest_declares (suc n) s loops body f = go (as_loop s) refl f (nest_declares n)
 
 -- the parallel loop of a line
 pub loop_listed : (text : List ℕ) (place : Place) (rest : Tree.Items) (said : ParallelFor) → ReadsLoop (line_at text place.line) (scheduled said) said.collapse
-    → (s : Tree.Stmt) → Some s ≡ first_stmt_of rest → (private : Vec VarId Global) → numbers private.items ≡ declared_in s → (R : LineRoles) (roles : LoopRoles) → AreRolesOf (R place.line) roles
+    → (s : Tree.Stmt) → Some s ≡ first_stmt_of rest → (private : Vec VarId Global) → numbers private.items ≡ declared_in s → (R : LineData) (roles : LoopRoles) → AreRolesOf (R place.line) roles
     → LineHas text (KeepsRolesThere (R place.line)) [] place.line rest → IsParallelLoop text R place.line rest (record { line = place; directive = said; private = private; roles = roles })
 loop_listed text place rest said reads s first private declares R roles are h =
     let found = asked text place.line rest (scheduled said) said.collapse reads s first (KeepsRolesThere (R place.line)) h in
@@ -110,7 +110,7 @@ loop_listed text place rest said reads s first private declares R roles are h =
     }
 
 -- a loop's are those of its body
-pub body_listed : (text : List ℕ) (R : LineRoles) (before after : List ParallelLoop) (s : Stmt) (head : Head) (body : Box Stmt Global) (inner : Stmt) → s ≡ For head body → inner ≡ body.value
+pub body_listed : (text : List ℕ) (R : LineData) (before after : List ParallelLoop) (s : Stmt) (head : Head) (body : Box Stmt Global) (inner : Stmt) → s ≡ For head body → inner ≡ body.value
     → (LoopsKeepRoles text R [] (stmt_of inner) → Adds (LoopsAre text R (stmt_of inner)) before after) → LoopsKeepRoles text R [] (stmt_of s) → Adds (LoopsAre text R (stmt_of s)) before after
 body_listed text R before after s head body inner e f listed =
     let is : loop_of head (stmt_of inner) ≡ stmt_of s = ap (λ b. loop_of head (stmt_of b)) f ∙ sym (ap stmt_of e) in
@@ -118,7 +118,7 @@ body_listed text R before after s head body inner e f listed =
     subst (λ t. LoopsKeepRoles text R [] t → Adds (LoopsAre text R t) before after) is here
 
 -- those of both branches
-pub both_listed : (text : List ℕ) (R : LineRoles) (a b : Tree.Stmt) (before mid after : List ParallelLoop) → (LoopsKeepRoles text R [] a → Adds (LoopsAre text R a) before mid)
+pub both_listed : (text : List ℕ) (R : LineData) (a b : Tree.Stmt) (before mid after : List ParallelLoop) → (LoopsKeepRoles text R [] a → Adds (LoopsAre text R a) before mid)
     → (LoopsKeepRoles text R [] b → Adds (LoopsAre text R b) mid after) → LoopsKeepRoles text R [] a × LoopsKeepRoles text R [] b → Adds (Joined (LoopsAre text R a) (LoopsAre text R b)) before after
 both_listed text R a b before mid after one other h =
     let p = one h.0 in
@@ -126,21 +126,21 @@ both_listed text R a b before mid after one other h =
     (p.0 ++ q.0, q.1 ∙ ap (λ xs. xs ++ q.0) p.1 ∙ append_assoc before p.0 q.0, (p.0, q.0, refl, p.2, q.2))
 
 -- an item's, and those of the others
-joined_item : (text : List ℕ) (R : LineRoles) (i : Item) (rest : Tree.Items) (a b c : List ParallelLoop) → FirstLineIs text R (with_item i Tree.no_items) rest a
+joined_item : (text : List ℕ) (R : LineData) (i : Item) (rest : Tree.Items) (a b c : List ParallelLoop) → FirstLineIs text R (with_item i Tree.no_items) rest a
     → FirstLoopsAre text R (with_item i Tree.no_items) b → ItemsAre text R rest c → ItemsAre text R (with_item i rest) (a ++ (b ++ c))
 joined_item text R (Directive place) rest a b c p q r = (p.0, c, ap (λ xs. xs ++ (b ++ c)) p.1 ∙ ap (λ xs. p.0 ∷ (xs ++ c)) q, p.2, r)
 joined_item text R (Local l) rest a b c p q r = subst (ItemsAre text R rest) (sym (ap (λ xs. xs ++ (b ++ c)) p ∙ ap (λ xs. xs ++ c) q)) r
 joined_item text R (Statement' at s) rest a b c p q r = (b, c, ap (λ xs. xs ++ (b ++ c)) p, q, r)
 
 -- those of the first items are listed; with those that are left they are all
-abbrev pub Listed : List ℕ → LineRoles → List Item → ℕ → List ParallelLoop → List ParallelLoop → Type 0
+abbrev pub Listed : List ℕ → LineData → List Item → ℕ → List ParallelLoop → List ParallelLoop → Type 0
 Listed text R is i before now =
     ItemsKeepRoles text R [] (items_of is)
     → ItemsKeepRoles text R [] (items_of (drop i is))
     × Adds (λ added. (rest : List ParallelLoop) → ItemsAre text R (items_of (drop i is)) rest → ItemsAre text R (items_of is) (added ++ rest)) before now
 
 -- all in the end
-pub all_listed : (text : List ℕ) (R : LineRoles) (is : List Item) (i : ℕ) (before now : List ParallelLoop) → length is ≤ i → Listed text R is i before now
+pub all_listed : (text : List ℕ) (R : LineData) (is : List Item) (i : ℕ) (before now : List ParallelLoop) → length is ≤ i → Listed text R is i before now
     → ItemsKeepRoles text R [] (items_of is) → Adds (ItemsAre text R (items_of is)) before now
 all_listed text R is i before now far left h =
     let found = (left h).1 in
@@ -148,7 +148,7 @@ all_listed text R is i before now far left h =
     (found.0, found.1, subst (ItemsAre text R (items_of is)) (append-nil found.0) (found.2 [] none))
 
 -- one item more
-pub item_listed : (text : List ℕ) (R : LineRoles) (is : List Item) (i : ℕ) (e : Item) → i < length is → e ≡ get_or is i e → (before now mid after : List ParallelLoop) → Listed text R is i before now
+pub item_listed : (text : List ℕ) (R : LineData) (is : List Item) (i : ℕ) (e : Item) → i < length is → e ≡ get_or is i e → (before now mid after : List ParallelLoop) → Listed text R is i before now
     → (FirstLineKeepsRoles text R (with_item e Tree.no_items) (items_of (take (length is - (i + 1)) (drop (i + 1) is)))
     → Adds (FirstLineIs text R (with_item e Tree.no_items) (items_of (take (length is - (i + 1)) (drop (i + 1) is)))) now mid)
     → (FirstLoopsKeepRoles text R (with_item e Tree.no_items) → Adds (FirstLoopsAre text R (with_item e Tree.no_items)) mid after)

@@ -6,7 +6,6 @@ use Rattle.semantics.specs.Tree
 use Rattle.semantics.specs.Tree.{Variable}
 use Rattle.semantics.specs.Source.Text.{line_at}
 use Rattle.semantics.specs.Meaning.Agrees.{is_among, declared_in, declared_among}
-use Rattle.semantics.specs.Loops.Piece.{Roles}
 use Rattle.semantics.specs.Meaning.Value.{map_option}
 use Rattle.semantics.specs.Loops.Nest.{Loop, as_loop, holds_none, nest_of}
 use Rattle.ktree.specs.View.{exprs_of, source_of, cond_of, increment_of, stmt_of, items_of, with_item}
@@ -23,7 +22,7 @@ use Rattle.pragma.proofs.PlainLaw.{all_behind}
 use Rattle.flow.specs.declared.fault.DataFault.{DataFault}
 use Rattle.flow.specs.declared.fault.DataFault.TheVariants.{OutOfMemory}
 use Rattle.flow.specs.Private.{is_own, keeps, keeps_all, loop_body_of, nest_body_of, only_body_of, first_stmt_of}
-use Rattle.flow.specs.Roles.{LineRoles, KeepsItsRoles, KeepsRolesThere, LoopsKeepRoles, ItemsKeepRoles, FirstLineKeepsRoles, FirstLoopsKeepRoles}
+use Rattle.flow.specs.Roles.{LoopData, LineData, KeepsItsRoles, KeepsRolesThere, LoopsKeepRoles, ItemsKeepRoles, FirstLineKeepsRoles, FirstLoopsKeepRoles}
 use Rattle.flow.specs.Told.{Finds, IsNest}
 
 or_false : (b : Bool) → (b || false) ≡ b
@@ -168,18 +167,18 @@ module _ (text : List ℕ) (line : ℕ) (rest : Tree.Items) (k : Option Schedule
   pub not_nested : None ≡ nest_body_of (associated c) s → LineHas text IsNest [] line rest → ⊥
   not_nested none h = no_nest none (asked IsNest h)
 
-  pub not_kept : (roles : Roles) → None ≡ nest_body_of (associated c) s → LineHas text (KeepsRolesThere roles) [] line rest → ⊥
-  not_kept roles none h =
-      let its = asked (KeepsRolesThere roles) h in
+  pub not_kept : (d : LoopData) → None ≡ nest_body_of (associated c) s → LineHas text (KeepsRolesThere d) [] line rest → ⊥
+  not_kept d none h =
+      let its = asked (KeepsRolesThere d) h in
       no_nest none (its.loops, its.body, its.nest)
 
   -- and a nest
-  pub nest_judged : (roles : Roles) (o : Option DataFault) → Finds o (KeepsItsRoles roles (associated c) s) → Finds o (LineHas text (KeepsRolesThere roles) [] line rest)
-  nest_judged roles o h = finds_same o (λ its. (k, c, reads, (first_is (KeepsRolesThere roles) (associated c) rest s first).1 its)) (asked (KeepsRolesThere roles)) h
+  pub nest_judged : (d : LoopData) (o : Option DataFault) → Finds o (KeepsItsRoles d (associated c) s) → Finds o (LineHas text (KeepsRolesThere d) [] line rest)
+  nest_judged d o h = finds_same o (λ its. (k, c, reads, (first_is (KeepsRolesThere d) (associated c) rest s first).1 its)) (asked (KeepsRolesThere d)) h
 
 abbrev mutual
   -- whatever stands round a statement, the same is asked of the loops in it
-  pub same_round : (text : List ℕ) (R : LineRoles) (a b : List Loop) (s : Tree.Stmt) → LoopsKeepRoles text R a s → LoopsKeepRoles text R b s
+  pub same_round : (text : List ℕ) (R : LineData) (a b : List Loop) (s : Tree.Stmt) → LoopsKeepRoles text R a s → LoopsKeepRoles text R b s
   same_round text R a b (Tree.Assign x is e) h = h
   same_round text R a b (Tree.Update x is op e) h = h
   same_round text R a b (Tree.If c s) h = same_round text R a b s h
@@ -188,13 +187,13 @@ abbrev mutual
   same_round text R a b (Tree.Block items) h = same_items text R a b items h
   same_round text R a b (Tree.Print parts) h = h
 
-  same_items : (text : List ℕ) (R : LineRoles) (a b : List Loop) (items : Tree.Items) → ItemsKeepRoles text R a items → ItemsKeepRoles text R b items
+  same_items : (text : List ℕ) (R : LineData) (a b : List Loop) (items : Tree.Items) → ItemsKeepRoles text R a items → ItemsKeepRoles text R b items
   same_items text R a b Tree.no_items h = h
   same_items text R a b (Tree.mark line rest) h = (same_line text R a b line rest h.0, same_items text R a b rest h.1)
   same_items text R a b (Tree.local x name start rest) h = same_items text R a b rest h
   same_items text R a b (Tree.stmt s rest) h = (same_round text R a b s h.0, same_items text R a b rest h.1)
 
-  same_line : (text : List ℕ) (R : LineRoles) (a b : List Loop) (line : ℕ) (rest : Tree.Items) → LineHas text (KeepsRolesThere (R line)) a line rest → LineHas text (KeepsRolesThere (R line)) b line rest
+  same_line : (text : List ℕ) (R : LineData) (a b : List Loop) (line : ℕ) (rest : Tree.Items) → LineHas text (KeepsRolesThere (R line)) a line rest → LineHas text (KeepsRolesThere (R line)) b line rest
   same_line text R a b line Tree.no_items h = h
   same_line text R a b line (Tree.mark other rest) h = h
   same_line text R a b line (Tree.local x name start rest) h = h
@@ -205,24 +204,24 @@ abbrev pub loop_of : Head → Tree.Stmt → Tree.Stmt
 loop_of head body = Tree.For head.variable.0 (string_bytes head.name) (source_of head.start) (cond_of head.test) (increment_of head.step) body
 
 -- a loop is judged by its body
-pub loop_judged : (o : Option DataFault) (text : List ℕ) (R : LineRoles) (s : Stmt) (head : Head) (body : Box Stmt Global) (inner : Stmt) → s ≡ For head body → inner ≡ body.value
+pub loop_judged : (o : Option DataFault) (text : List ℕ) (R : LineData) (s : Stmt) (head : Head) (body : Box Stmt Global) (inner : Stmt) → s ≡ For head body → inner ≡ body.value
     → Finds o (LoopsKeepRoles text R [] (stmt_of inner)) → Finds o (LoopsKeepRoles text R [] (stmt_of s))
 loop_judged o text R s head body inner e f h =
     let is : loop_of head (stmt_of inner) ≡ stmt_of s = ap (λ b. loop_of head (stmt_of b)) f ∙ sym (ap stmt_of e) in
     subst (λ t. Finds o (LoopsKeepRoles text R [] t)) is (finds_same o (same_round text R [] _ (stmt_of inner)) (same_round text R _ [] (stmt_of inner)) h)
 
 -- an item, and the others
-pub item_cut : (text : List ℕ) (R : LineRoles) (i : Item) (rest : Tree.Items)
+pub item_cut : (text : List ℕ) (R : LineData) (i : Item) (rest : Tree.Items)
     → ItemsKeepRoles text R [] (with_item i rest) ↔ FirstLineKeepsRoles text R (with_item i Tree.no_items) rest × FirstLoopsKeepRoles text R (with_item i Tree.no_items) × ItemsKeepRoles text R [] rest
 item_cut text R (Directive place) rest = (λ h. (h.0, tt, h.1), λ h. (h.0, h.2))
 item_cut text R (Local l) rest = (λ h. (tt, tt, h), λ h. h.2)
 item_cut text R (Statement' p s) rest = (λ h. (tt, h.0, h.1), λ h. (h.1, h.2))
 
 -- the items that are left decide
-abbrev pub Left : List ℕ → LineRoles → List Item → ℕ → Type 0
+abbrev pub Left : List ℕ → LineData → List Item → ℕ → Type 0
 Left text R is i = ItemsKeepRoles text R [] (items_of (drop i is)) ↔ ItemsKeepRoles text R [] (items_of is)
 
-module _ (text : List ℕ) (R : LineRoles) (is : List Item) (i : ℕ) (e : Item) (lt : i < length is) (at : e ≡ get_or is i e) (left : Left text R is i) where
+module _ (text : List ℕ) (R : LineData) (is : List Item) (i : ℕ) (e : Item) (lt : i < length is) (at : e ≡ get_or is i e) (left : Left text R is i) where
   -- an item that is so
   pub item_more : FirstLineKeepsRoles text R (with_item e Tree.no_items) (items_of (take (length is - (i + 1)) (drop (i + 1) is))) → FirstLoopsKeepRoles text R (with_item e Tree.no_items) → Left text R is (i + 1)
   item_more line loops =

@@ -3,3 +3,4 @@ pub mod Lists
 pub mod Parallel
 pub mod Roles
 pub mod Told
+pub mod Phases

@@ -8,10 +8,9 @@ use Rattle.ktree.specs.declared.place.VarId.{VarId}
 use Rattle.pragma.specs.Clauses.{ReadsLoop}
 use Rattle.pragma.specs.Parallel.{associated}
 use Rattle.pragma.specs.Views.{scheduled}
-use Rattle.semantics.specs.Loops.Piece.{Roles}
 use Rattle.flow_reduction.specs.Reduced.{reduced}
 use Rattle.flow.specs.Private.{first_stmt_of}
-use Rattle.flow.specs.Roles.{LineRoles}
+use Rattle.flow.specs.Roles.{LoopData, LineData}
 use Rattle.flow.specs.declared.environment.LoopRoles.{LoopRoles}
 use Rattle.flow.specs.declared.environment.ParallelLoop.{ParallelLoop}
 
@@ -19,13 +18,14 @@ use Rattle.flow.specs.declared.environment.ParallelLoop.{ParallelLoop}
 abbrev pub numbers : List VarId → List Variable
 numbers vs = map (λ v. v.0) vs
 
--- these are the reduction variables and the lastprivate ones of some roles, in their order
-pub record AreRolesOf (roles : Roles) (l : LoopRoles) : Type 0 where
-  pub reductions : reduced l.reductions.items ≡ roles.reductions
-  pub lasts : numbers l.lasts.items ≡ roles.lasts
+-- these are the reduction variables, the lastprivate ones and those that are carried, in their order
+pub record AreRolesOf (d : LoopData) (l : LoopRoles) : Type 0 where
+  pub reductions : reduced l.reductions.items ≡ d.roles.reductions
+  pub lasts : numbers l.lasts.items ≡ d.roles.lasts
+  pub carried : reduced l.carried.items ≡ d.carried
 
 -- a `parallel for` on a line, before these items: private are the variables of its loops, and what their body declares (OpenMP 5.2, 5.1.1); of those with a role by its line the ones are kept that leave something behind it
-pub record IsParallelLoop (text : List ℕ) (R : LineRoles) (line : ℕ) (rest : Items) (l : ParallelLoop) : Type 0 where
+pub record IsParallelLoop (text : List ℕ) (R : LineData) (line : ℕ) (rest : Items) (l : ParallelLoop) : Type 0 where
   pub at_line : l.line.line ≡ line
   pub reads : ReadsLoop (line_at text line) (scheduled l.directive) l.directive.collapse
   pub statement : Stmt
@@ -46,7 +46,7 @@ Joined P Q ls = (first : List ParallelLoop) × (others : List ParallelLoop) × (
 
 abbrev mutual
   -- these are the parallel loops in a statement, in the order of the text
-  pub LoopsAre : List ℕ → LineRoles → Stmt → OfLoops
+  pub LoopsAre : List ℕ → LineData → Stmt → OfLoops
   LoopsAre text R (Assign x is e) ls = ls ≡ []
   LoopsAre text R (Update x is op e) ls = ls ≡ []
   LoopsAre text R (If c a) ls = LoopsAre text R a ls
@@ -56,7 +56,7 @@ abbrev mutual
   LoopsAre text R (Print parts) ls = ls ≡ []
 
   -- among a block's items: one for each directive line
-  pub ItemsAre : List ℕ → LineRoles → Items → OfLoops
+  pub ItemsAre : List ℕ → LineData → Items → OfLoops
   ItemsAre text R no_items ls = ls ≡ []
   ItemsAre text R (mark line rest) ls =
       (l : ParallelLoop) × (others : List ParallelLoop) × (ls ≡ l ∷ others) × IsParallelLoop text R line rest l × ItemsAre text R rest others
@@ -64,20 +64,20 @@ abbrev mutual
   ItemsAre text R (stmt s rest) ls = Joined (LoopsAre text R s) (ItemsAre text R rest) ls
 
 -- they are those of a whole text
-abbrev pub AreParallelLoops : List ℕ → LineRoles → Kernel → OfLoops
+abbrev pub AreParallelLoops : List ℕ → LineData → Kernel → OfLoops
 AreParallelLoops text R k ls = ItemsAre text R k.body ls
 
 -- the one of a line
-abbrev pub IsOfLine : List ℕ → LineRoles → ℕ → Items → OfLoops
+abbrev pub IsOfLine : List ℕ → LineData → ℕ → Items → OfLoops
 IsOfLine text R line rest ls = (l : ParallelLoop) × (ls ≡ l ∷ []) × IsParallelLoop text R line rest l
 
 -- what the first of these items has, as a directive line before others
-abbrev pub FirstLineIs : List ℕ → LineRoles → Items → Items → OfLoops
+abbrev pub FirstLineIs : List ℕ → LineData → Items → Items → OfLoops
 FirstLineIs text R (mark line items) rest ls = IsOfLine text R line rest ls
 FirstLineIs text R _ rest ls = ls ≡ []
 
 -- and as a statement
-abbrev pub FirstLoopsAre : List ℕ → LineRoles → Items → OfLoops
+abbrev pub FirstLoopsAre : List ℕ → LineData → Items → OfLoops
 FirstLoopsAre text R (stmt s items) ls = LoopsAre text R s ls
 FirstLoopsAre text R _ ls = ls ≡ []
 

@@ -13,7 +13,7 @@ use Rattle.pragma.specs.Parallel.{AskedOfLoop, LineHas}
 use Rattle.flow.specs.declared.fault.DataFault.{DataFault}
 use Rattle.flow.specs.declared.fault.DataFault.TheVariants.{Written, Copied, Unassigned, LastUnassigned, Reduced, Directive, OutOfMemory}
 use Rattle.flow.specs.Private.{is_own}
-use Rattle.flow.specs.Roles.{LineRoles, ReadsAssigned}
+use Rattle.flow.specs.Roles.{LoopData, LineData, left_roles, ReadsAssigned, CarriesOthers}
 
 -- no fault where it is so, and where it is not so, or memory is refused, a fault
 abbrev pub Finds : Option DataFault → Type 0 → Type 0
@@ -65,6 +65,12 @@ TellsOfSecond (Reduced place) roles = (are_different (map (λ r. r.0) roles.redu
 TellsOfSecond OutOfMemory roles = Unit {0}
 TellsOfSecond _ roles = ⊥
 
+-- a fault tells of a scan's variable with a second role, or memory was refused where that was looked for (OpenMP 5.2, 5.4)
+abbrev pub TellsOfCarried : DataFault → LoopData → Type 0
+TellsOfCarried (Reduced place) d = CarriesOthers d → ⊥
+TellsOfCarried OutOfMemory d = Unit {0}
+TellsOfCarried _ d = ⊥
+
 -- a fault tells of a reduction variable that a nest names outside its updates, or memory was refused where that was looked for (OpenMP 5.2, 5.5.8)
 abbrev pub TellsOfMisuse : DataFault → Roles → Stmt → Type 0
 TellsOfMisuse (Reduced place) roles s = reduces roles.reductions s ≡ false
@@ -72,16 +78,16 @@ TellsOfMisuse OutOfMemory roles s = Unit {0}
 TellsOfMisuse _ roles s = ⊥
 
 -- a fault tells of a nest with this body, by the roles of its line
-abbrev pub TellsOfRoles : DataFault → Roles → Stmt → Stmt → Type 0
-TellsOfRoles f roles s body = TellsOfBody f roles body ⊎ TellsOfRead f roles s ⊎ TellsOfLast f roles body ⊎ TellsOfSecond f roles ⊎ TellsOfMisuse f roles s
+abbrev pub TellsOfRoles : DataFault → LoopData → Stmt → Stmt → Type 0
+TellsOfRoles f d s body = TellsOfBody f (left_roles d) body ⊎ TellsOfRead f d.roles s ⊎ TellsOfLast f d.roles body ⊎ TellsOfSecond f d.roles ⊎ TellsOfCarried f d ⊎ TellsOfMisuse f d.roles s
 
 -- behind the directive stands a nest of so many loops
 abbrev pub IsNest : AskedOfLoop
 IsNest serial n s = (loops : List Loop) × (body : Stmt) × (nest_of n s ≡ Some (loops, body))
 
 -- behind the directive stands such a nest, and a fault tells of it
-abbrev pub TellsOfNest : DataFault → Roles → AskedOfLoop
-TellsOfNest f roles serial n s = (loops : List Loop) × (body : Stmt) × (nest_of n s ≡ Some (loops, body)) × TellsOfRoles f roles s body
+abbrev pub TellsOfNest : DataFault → LoopData → AskedOfLoop
+TellsOfNest f d serial n s = (loops : List Loop) × (body : Stmt) × (nest_of n s ≡ Some (loops, body)) × TellsOfRoles f d s body
 
 -- a fault tells of a directive line that it is no `parallel for` before such a nest (OpenMP 5.2, 4.4.1 and 11.5)
 abbrev pub TellsOfNoNest : DataFault → List ℕ → ℕ → Items → Type 0
@@ -89,12 +95,12 @@ TellsOfNoNest (Directive place) text line rest = LineHas text IsNest [] line res
 TellsOfNoNest _ text line rest = ⊥
 
 -- a fault tells of a directive line: of its nest, or that it has no nest
-abbrev pub TellsOfLine : DataFault → List ℕ → LineRoles → ℕ → Items → Type 0
+abbrev pub TellsOfLine : DataFault → List ℕ → LineData → ℕ → Items → Type 0
 TellsOfLine f text R line rest = LineHas text (TellsOfNest f (R line)) [] line rest ⊎ TellsOfNoNest f text line rest
 
 abbrev mutual
   -- a fault tells of a directive line in a statement
-  pub TellsOfLoops : DataFault → List ℕ → LineRoles → Stmt → Type 0
+  pub TellsOfLoops : DataFault → List ℕ → LineData → Stmt → Type 0
   TellsOfLoops f text R (Assign x is e) = ⊥
   TellsOfLoops f text R (Update x is op e) = ⊥
   TellsOfLoops f text R (If c a) = TellsOfLoops f text R a
@@ -104,19 +110,19 @@ abbrev mutual
   TellsOfLoops f text R (Print parts) = ⊥
 
   -- or among a block's items
-  pub TellsOfItems : DataFault → List ℕ → LineRoles → Items → Type 0
+  pub TellsOfItems : DataFault → List ℕ → LineData → Items → Type 0
   TellsOfItems f text R no_items = ⊥
   TellsOfItems f text R (mark line rest) = TellsOfLine f text R line rest ⊎ TellsOfItems f text R rest
   TellsOfItems f text R (local x name start rest) = TellsOfItems f text R rest
   TellsOfItems f text R (stmt s rest) = TellsOfLoops f text R s ⊎ TellsOfItems f text R rest
 
 -- a fault tells of the first of these items as a directive line before others
-abbrev pub TellsOfFirstLine : DataFault → List ℕ → LineRoles → Items → Items → Type 0
+abbrev pub TellsOfFirstLine : DataFault → List ℕ → LineData → Items → Items → Type 0
 TellsOfFirstLine f text R (mark line items) rest = TellsOfLine f text R line rest
 TellsOfFirstLine f text R _ rest = ⊥
 
 -- and as a statement
-abbrev pub TellsOfFirstLoops : DataFault → List ℕ → LineRoles → Items → Type 0
+abbrev pub TellsOfFirstLoops : DataFault → List ℕ → LineData → Items → Type 0
 TellsOfFirstLoops f text R (stmt s items) = TellsOfLoops f text R s
 TellsOfFirstLoops f text R _ = ⊥
 

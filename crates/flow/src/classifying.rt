@@ -5,7 +5,7 @@ ghost use Rattle.semantics.specs.Tree.{no_items};
 ghost use Rattle.ktree.specs.View.{stmt_of, with_item, items_of, kernel_of};
 ghost use Rattle.pragma.specs.Parallel.{LineHas};
 ghost use Rattle.pragma_named.specs.Known.{kept};
-ghost use Rattle.flow.specs.Roles.{roles_known, KeepsRolesThere, LoopsKeepRoles, ItemsKeepRoles, FirstLineKeepsRoles, FirstLoopsKeepRoles};
+ghost use Rattle.flow.specs.Roles.{data_known, KeepsRolesThere, LoopsKeepRoles, ItemsKeepRoles, FirstLineKeepsRoles, FirstLoopsKeepRoles};
 ghost use Rattle.flow.specs.Told.{Finds, TellsOfLine, TellsOfLoops, TellsOfItems, TellsOfFirstLine, TellsOfFirstLoops};
 ghost use Rattle.flow.specs.Parallel.{AreParallelLoops};
 ghost use Rattle.flow.specs.declared.fault.DataFault.TheVariants.{OutOfMemory};
@@ -30,10 +30,10 @@ fn loop_fault(
     rest: &[Item],
 ) -> Option<DataFault>
     ensures judged { Finds result
-        (LineHas directives.now (KeepsRolesThere (roles_known (kept lines.now) files place.line))
+        (LineHas directives.now (KeepsRolesThere (data_known (kept lines.now) files place.line))
         [] place.line (items_of rest.now)) }
     ensures cause { IfSome result
-        (λ f. TellsOfLine f directives.now (roles_known (kept lines.now) files) place.line
+        (λ f. TellsOfLine f directives.now (data_known (kept lines.now) files) place.line
         (items_of rest.now)) }
 {
     let Ok(said) = directives.at(place) else {
@@ -58,10 +58,10 @@ fn line_fault(
     rest: &[Item],
 ) -> Option<DataFault>
     ensures judged { Finds result
-        (FirstLineKeepsRoles directives.now (roles_known (kept lines.now) files)
+        (FirstLineKeepsRoles directives.now (data_known (kept lines.now) files)
         (with_item item.now no_items) (items_of rest.now)) }
     ensures cause { IfSome result
-        (λ f. TellsOfFirstLine f directives.now (roles_known (kept lines.now) files)
+        (λ f. TellsOfFirstLine f directives.now (data_known (kept lines.now) files)
         (with_item item.now no_items) (items_of rest.now)) }
 {
     match item {
@@ -81,10 +81,10 @@ fn statement_fault(
     statement: &Stmt,
 ) -> Option<DataFault>
     ensures judged { Finds result
-        (LoopsKeepRoles directives.now (roles_known (kept lines.now) files) []
+        (LoopsKeepRoles directives.now (data_known (kept lines.now) files) []
         (stmt_of statement.now)) }
     ensures cause { IfSome result
-        (λ f. TellsOfLoops f directives.now (roles_known (kept lines.now) files)
+        (λ f. TellsOfLoops f directives.now (data_known (kept lines.now) files)
         (stmt_of statement.now)) }
 {
     match statement {
@@ -115,10 +115,10 @@ fn items_fault(
     items: &[Item],
 ) -> Option<DataFault>
     ensures judged { Finds result
-        (ItemsKeepRoles directives.now (roles_known (kept lines.now) files) []
+        (ItemsKeepRoles directives.now (data_known (kept lines.now) files) []
         (items_of items.now)) }
     ensures cause { IfSome result
-        (λ f. TellsOfItems f directives.now (roles_known (kept lines.now) files)
+        (λ f. TellsOfItems f directives.now (data_known (kept lines.now) files)
         (items_of items.now)) }
 {
     for (i, item) in items.iter().enumerate() {
@@ -142,10 +142,10 @@ fn item_fault(
     item: &Item,
 ) -> Option<DataFault>
     ensures judged { Finds result
-        (FirstLoopsKeepRoles directives.now (roles_known (kept lines.now) files)
+        (FirstLoopsKeepRoles directives.now (data_known (kept lines.now) files)
         (with_item item.now no_items)) }
     ensures cause { IfSome result
-        (λ f. TellsOfFirstLoops f directives.now (roles_known (kept lines.now) files)
+        (λ f. TellsOfFirstLoops f directives.now (data_known (kept lines.now) files)
         (with_item item.now no_items)) }
 {
     match item {
@@ -169,15 +169,15 @@ pub fn classify(
     directives: &Directives,
     lines: &LineClauses,
 ) -> Result<Vec<ParallelLoop>, DataFault>
-    ensures ok { IfOk result (λ loops. AreParallelLoops directives.now (roles_known (kept lines.now)
+    ensures ok { IfOk result (λ loops. AreParallelLoops directives.now (data_known (kept lines.now)
         (length (kernel_of kernel.now).variables)) (kernel_of kernel.now) loops.items) }
-    ensures roles { OnOk result (ItemsKeepRoles directives.now (roles_known (kept lines.now)
+    ensures roles { OnOk result (ItemsKeepRoles directives.now (data_known (kept lines.now)
         (length (kernel_of kernel.now).variables)) [] (kernel_of kernel.now).body) }
     ensures err { IfErr result (λ f. (f ≡ OutOfMemory)
-        ⊎ (ItemsKeepRoles directives.now (roles_known (kept lines.now)
+        ⊎ (ItemsKeepRoles directives.now (data_known (kept lines.now)
         (length (kernel_of kernel.now).variables)) [] (kernel_of kernel.now).body → ⊥)) }
     ensures cause { IfErr result (λ f. (f ≡ OutOfMemory)
-        ⊎ TellsOfItems f directives.now (roles_known (kept lines.now)
+        ⊎ TellsOfItems f directives.now (data_known (kept lines.now)
         (length (kernel_of kernel.now).variables)) (kernel_of kernel.now).body) }
 {
     let files = kernel.variables.len();

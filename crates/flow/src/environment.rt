@@ -11,13 +11,15 @@ use ktree::{Item, Place, Stmt, VarId};
 use pragma::ParallelFor;
 use std::alloc::{AllocError, Global};
 
-/// The variables that clauses of a loop name and that leave something behind it, in the order of the clauses (OpenMP 5.2, 5.4.5 and
-/// 5.5.8).
+/// The variables that clauses of a loop name and that leave something behind it, in the order of the clauses (OpenMP 5.2, 5.4.5, 5.5.8
+/// and 5.6).
 #[derive(Drop)]
 pub struct LoopRoles {
     pub reductions: Vec<Reduction>,
     /// Those of `lastprivate`.
     pub lasts: Vec<VarId>,
+    /// That of a scan, which is carried from one iteration to the next.
+    pub carried: Vec<Reduction>,
 }
 
 /// A parallel loop of a kernel: where its directive line stands, what that says of its iterations, the variables that are

@@ -5,7 +5,7 @@ ghost use Rattle.semantics.specs.Tree.{no_items};
 ghost use Rattle.ktree.specs.View.{stmt_of, with_item, items_of};
 ghost use Rattle.pragma.specs.Parallel.{LineHas};
 ghost use Rattle.pragma_named.specs.Known.{kept};
-ghost use Rattle.flow.specs.Roles.{roles_known, KeepsRolesThere, LoopsKeepRoles, ItemsKeepRoles, FirstLineKeepsRoles, FirstLoopsKeepRoles};
+ghost use Rattle.flow.specs.Roles.{data_known, KeepsRolesThere, LoopsKeepRoles, ItemsKeepRoles, FirstLineKeepsRoles, FirstLoopsKeepRoles};
 ghost use Rattle.flow.specs.Parallel.{Adds, IsOfLine, LoopsAre, ItemsAre, FirstLineIs, FirstLoopsAre};
 
 use crate::bodies::first_statement;
@@ -32,9 +32,9 @@ fn add_loop(
     loops: &mut Vec<ParallelLoop>,
 ) -> Result<(), AllocError>
     ensures { OnOk result (LineHas directives.now
-        (KeepsRolesThere (roles_known (kept lines.now) files place.line)) [] place.line
+        (KeepsRolesThere (data_known (kept lines.now) files place.line)) [] place.line
         (items_of rest.now)
-        → Adds (IsOfLine directives.now (roles_known (kept lines.now) files) place.line
+        → Adds (IsOfLine directives.now (data_known (kept lines.now) files) place.line
         (items_of rest.now)) loops.old.items loops.new.items) }
 {
     let Ok(directive) = directives.at(place) else {
@@ -65,8 +65,8 @@ fn add_line(
     loops: &mut Vec<ParallelLoop>,
 ) -> Result<(), AllocError>
     ensures { OnOk result (FirstLineKeepsRoles directives.now
-        (roles_known (kept lines.now) files) (with_item item.now no_items) (items_of rest.now)
-        → Adds (FirstLineIs directives.now (roles_known (kept lines.now) files)
+        (data_known (kept lines.now) files) (with_item item.now no_items) (items_of rest.now)
+        → Adds (FirstLineIs directives.now (data_known (kept lines.now) files)
         (with_item item.now no_items) (items_of rest.now)) loops.old.items loops.new.items) }
 {
     match item {
@@ -86,9 +86,9 @@ fn add_statement(
     statement: &Stmt,
     loops: &mut Vec<ParallelLoop>,
 ) -> Result<(), AllocError>
-    ensures { OnOk result (LoopsKeepRoles directives.now (roles_known (kept lines.now) files) []
+    ensures { OnOk result (LoopsKeepRoles directives.now (data_known (kept lines.now) files) []
         (stmt_of statement.now)
-        → Adds (LoopsAre directives.now (roles_known (kept lines.now) files)
+        → Adds (LoopsAre directives.now (data_known (kept lines.now) files)
         (stmt_of statement.now)) loops.old.items loops.new.items) }
 {
     match statement {
@@ -117,9 +117,9 @@ pub(crate) fn add_items(
     items: &[Item],
     loops: &mut Vec<ParallelLoop>,
 ) -> Result<(), AllocError>
-    ensures { OnOk result (ItemsKeepRoles directives.now (roles_known (kept lines.now) files) []
+    ensures { OnOk result (ItemsKeepRoles directives.now (data_known (kept lines.now) files) []
         (items_of items.now)
-        → Adds (ItemsAre directives.now (roles_known (kept lines.now) files)
+        → Adds (ItemsAre directives.now (data_known (kept lines.now) files)
         (items_of items.now)) loops.old.items loops.new.items) }
 {
     for (i, item) in items.iter().enumerate() {
@@ -148,8 +148,8 @@ fn add_item(
     loops: &mut Vec<ParallelLoop>,
 ) -> Result<(), AllocError>
     ensures { OnOk result (FirstLoopsKeepRoles directives.now
-        (roles_known (kept lines.now) files) (with_item item.now no_items)
-        → Adds (FirstLoopsAre directives.now (roles_known (kept lines.now) files)
+        (data_known (kept lines.now) files) (with_item item.now no_items)
+        → Adds (FirstLoopsAre directives.now (data_known (kept lines.now) files)
         (with_item item.now no_items)) loops.old.items loops.new.items) }
 {
     match item {

@@ -1,26 +1,29 @@
 //! The names in the lists of a directive line's clauses, and the roles that these give to variables.
 
 ghost use Rattle.std.specs.Prelude.{◌≡◌, ◌++◌, map, flat_map, OnOk, IfOk};
-ghost use Rattle.semantics.specs.Directives.Clauses.{private_of, first_of, last_of, reduction_of};
+ghost use Rattle.semantics.specs.Directives.Clauses.{private_of, first_of, last_of, reduction_of, inscan_of};
 ghost use Rattle.semantics.specs.Meaning.Agrees.{is_among};
 ghost use Rattle.law_roles.specs.Sharing.{assigned_first, role_variables};
 ghost use Rattle.pragma_named.specs.Views.{variable_named, resolved_clause};
 ghost use Rattle.pragma_named.specs.Known.{kept, lines_known};
 ghost use Rattle.flow_definite.specs.Judged.{private_locals};
 ghost use Rattle.flow.specs.Lists.{listed};
-ghost use Rattle.flow.specs.Roles.{roles_known};
+ghost use Rattle.flow.specs.Roles.{left_roles, roles_known, data_known};
 
 use ktree::{Clause, VarId};
 use pragma_named::{LineClauses, Named, clauses_known};
 use std::alloc::{AllocError, Global};
+use std::slice;
 
-/// The lists of names that give roles to variables (OpenMP 5.2, 5.4.3, 5.4.4, 5.4.5 and 5.5.8).
+/// The lists of names that give roles to variables (OpenMP 5.2, 5.4.3, 5.4.4, 5.4.5, 5.5.8 and 5.6).
 #[derive(Clone, Copy)]
 pub(crate) enum ListKind {
     Private,
     Firstprivate,
     Lastprivate,
     Reduction,
+    /// The one name of `reduction(inscan, ..)` (OpenMP 5.2, 5.6).
+    Inscan,
 }
 
 /// The names of a private list.
@@ -64,6 +67,17 @@ fn reduced_in(clause: &Clause<Named>) -> &[Named]
     }
 }
 
+/// The name of a scan's reduction, as a list.
+fn scanned_in(clause: &Clause<Named>) -> &[Named]
+    ensures { map variable_named result.now
+        ≡ map (λ r. r.0) (inscan_of (resolved_clause clause.now)) }
+{
+    match clause {
+        Clause::Inscan(_, name) => slice::from_ref(name),
+        _ => &[],
+    }
+}
+
 /// The names that a clause lists in this way.
 fn names_in(kind: ListKind, clause: &Clause<Named>) -> &[Named]
     ensures { map variable_named result.now ≡ listed kind (resolved_clause clause.now) }
@@ -73,6 +87,7 @@ fn names_in(kind: ListKind, clause: &Clause<Named>) -> &[Named]
         ListKind::Firstprivate => copies_in(clause),
         ListKind::Lastprivate => lasts_in(clause),
         ListKind::Reduction => reduced_in(clause),
+        ListKind::Inscan => scanned_in(clause),
     }
 }
 
@@ -134,12 +149,20 @@ pub(crate) fn is_assigned_first(
 }
 
 /// Whether a variable is private, lastprivate or reduced by a directive line.
-pub(crate) fn has_role(variable: VarId, line: u32, lines: &LineClauses, files: usize) -> bool
+fn is_role(variable: VarId, line: u32, lines: &LineClauses, files: usize) -> bool
     ensures { result
         ≡ is_among (role_variables (roles_known (kept lines.now) files line)) variable.0 }
 {
     is_assigned_first(variable, line, lines, files)
         || is_listed(ListKind::Reduction, variable, line, lines)
+}
+
+/// Whether it is so, or is the variable of a scan.
+pub(crate) fn has_role(variable: VarId, line: u32, lines: &LineClauses, files: usize) -> bool
+    ensures { result ≡ is_among (role_variables (left_roles (data_known (kept lines.now) files line)))
+        variable.0 }
+{
+    is_role(variable, line, lines, files) || is_listed(ListKind::Inscan, variable, line, lines)
 }
 
 /// Puts names behind others.

@@ -8,8 +8,8 @@ ghost use Rattle.ktree.specs.View.{stmt_of};
 ghost use Rattle.pragma_named.specs.Views.{variable_named};
 ghost use Rattle.pragma_named.specs.Known.{kept};
 ghost use Rattle.flow.specs.Private.{all_but};
-ghost use Rattle.flow.specs.Roles.{roles_known, HaveOneRole};
-ghost use Rattle.flow.specs.Told.{Finds, TellsOfSecond, TellsOfMisuse};
+ghost use Rattle.flow.specs.Roles.{roles_known, data_known, HaveOneRole, CarriesOthers};
+ghost use Rattle.flow.specs.Told.{Finds, TellsOfSecond, TellsOfCarried, TellsOfMisuse};
 
 use crate::fault::DataFault;
 use crate::name_lists::{ListKind, has_name, is_assigned_first, listed_names};
@@ -51,6 +51,45 @@ pub(crate) fn second_fault(
         return Some(DataFault::OutOfMemory);
     };
     match second_role(&names, line, lines, files) {
+        None => None,
+        Some(place) => Some(DataFault::Reduced(place)),
+    }
+}
+
+/// The first of some names whose variable is private or lastprivate by a directive line.
+fn first_assigned(
+    names: &[Named],
+    line: u32,
+    lines: &LineClauses,
+    files: usize,
+) -> Option<Place>
+    ensures { is_none result ≡ list_all
+        (all_but (assigned_first (roles_known (kept lines.now) files line)))
+        (map variable_named names.now) }
+{
+    for name in names {
+        if is_assigned_first(name.variable, line, lines, files) {
+            return Some(name.place);
+        }
+    }
+    None
+}
+
+/// What tells of the variable of a directive line's scan that has a second role (OpenMP 5.2, 5.4).
+pub(crate) fn carried_fault(
+    alloc: Global,
+    line: u32,
+    lines: &LineClauses,
+    files: usize,
+) -> Option<DataFault>
+    ensures judged { Finds result (CarriesOthers (data_known (kept lines.now) files line)) }
+    ensures cause { IfSome result
+        (λ f. TellsOfCarried f (data_known (kept lines.now) files line)) }
+{
+    let Ok(names) = listed_names(alloc, ListKind::Inscan, line, lines) else {
+        return Some(DataFault::OutOfMemory);
+    };
+    match first_assigned(&names, line, lines, files) {
         None => None,
         Some(place) => Some(DataFault::Reduced(place)),
     }

@@ -1,13 +1,13 @@
 //! The reductions and the lastprivate variables of a directive line.
 
 ghost use Rattle.std.specs.Prelude.{◌≡◌, ◌++◌, ℕ, map, flat_map, OnOk, IfOk};
-ghost use Rattle.semantics.specs.Directives.Clauses.{last_of, reduction_of};
+ghost use Rattle.semantics.specs.Directives.Clauses.{last_of, reduction_of, inscan_of};
 ghost use Rattle.ktree.specs.DirectiveView.{operator_of};
 ghost use Rattle.pragma_named.specs.Views.{variable_named, resolved_clause};
 ghost use Rattle.pragma_named.specs.Known.{kept, lines_known};
 ghost use Rattle.flow_reduction.specs.Reduced.{reduced};
 ghost use Rattle.flow.specs.Parallel.{numbers, AreRolesOf};
-ghost use Rattle.flow.specs.Roles.{roles_known};
+ghost use Rattle.flow.specs.Roles.{data_known};
 
 use crate::environment::LoopRoles;
 use crate::name_lists::{ListKind, listed_names};
@@ -85,6 +85,39 @@ fn line_lasts(alloc: Global, line: u32, lines: &LineClauses) -> Result<Vec<VarId
     variables_of(alloc, &names)
 }
 
+/// Puts that of a scan there, where a clause has one.
+fn add_scanned(clause: &Clause<Named>, carried: &mut Vec<Reduction>) -> Result<(), AllocError>
+    ensures { OnOk result (reduced carried.new.items
+        ≡ reduced carried.old.items ++ inscan_of (resolved_clause clause.now)) }
+{
+    match clause {
+        Clause::Inscan(operator, name) => {
+            carried.push(Reduction {
+                variable: name.variable,
+                operator: *operator,
+            })?;
+            Ok(())
+        }
+        _ => Ok(()),
+    }
+}
+
+/// The variable of a directive line's scan with its operator, if it is one (OpenMP 5.2, 5.6).
+fn line_carried(
+    alloc: Global,
+    line: u32,
+    lines: &LineClauses,
+) -> Result<Vec<Reduction>, AllocError>
+    ensures { IfOk result (λ found. reduced found.items
+        ≡ flat_map inscan_of (lines_known (kept lines.now) line)) }
+{
+    let mut found = Vec::new(alloc);
+    for clause in clauses_known(lines, line) {
+        add_scanned(clause, &mut found)?;
+    }
+    Ok(found)
+}
+
 /// What a directive line says of the variables that leave something behind its loop.
 pub(crate) fn loop_roles(
     alloc: Global,
@@ -92,9 +125,14 @@ pub(crate) fn loop_roles(
     lines: &LineClauses,
 ) -> Result<LoopRoles, AllocError>
     ensures { IfOk result (λ roles. (files : ℕ)
-        → AreRolesOf (roles_known (kept lines.now) files line) roles) }
+        → AreRolesOf (data_known (kept lines.now) files line) roles) }
 {
     let reductions = line_reductions(alloc, line, lines)?;
     let lasts = line_lasts(alloc, line, lines)?;
-    Ok(LoopRoles { reductions, lasts })
+    let carried = line_carried(alloc, line, lines)?;
+    Ok(LoopRoles {
+        reductions,
+        lasts,
+        carried,
+    })
 }

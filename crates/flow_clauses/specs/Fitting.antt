@@ -3,7 +3,7 @@ use Rattle.std.specs.Prelude.{ℕ, Bool, true, not, ◌&&◌, List, [], ◌∷�
 use Rattle.std.specs.List.{list_all}
 use Rattle.semantics.specs.Tree.{Variable, Declaration, Stmt, Assign, Update, If, IfElse, For, Block, Print, Items, no_items, mark, local, stmt, Kernel}
 use Rattle.semantics.specs.Meaning.Agrees.{is_among}
-use Rattle.semantics.specs.Directives.Directive.{Clause, Private, Firstprivate, Lastprivate, Reduction}
+use Rattle.semantics.specs.Directives.Directive.{Clause, Private, Firstprivate, Lastprivate, Reduction, Inscan}
 use Rattle.pragma_named.specs.Known.{Lines}
 use Rattle.pragma_named.specs.Lines.{Question, each_among}
 use Rattle.flow_clauses.specs.declared.judging.Misuse.{Misuse}
@@ -44,12 +44,13 @@ is_private_local ds loops x = not (nat_lt x (length ds)) && not (loops x)
 abbrev pub is_result : List Declaration → (Variable → Bool) → Variable → Bool
 is_result ds loops x = is_scalar ds x && not (loops x)
 
--- a private list names such locals alone (OpenMP 5.2, 5.4.3), a `firstprivate` list scalars alone (5.4.4), a `lastprivate` or `reduction` list scalars that are no loop's variables (5.4.5, 5.5.8)
+-- a private list names such locals alone (OpenMP 5.2, 5.4.3), a `firstprivate` list scalars alone (5.4.4), a `lastprivate` or `reduction` list scalars that are no loop's variables (5.4.5, 5.5.8), also that of a scan (5.6)
 abbrev pub fits : List Declaration → (Variable → Bool) → Clause Variable → Bool
 fits ds loops (Private xs) = list_all (is_private_local ds loops) xs
 fits ds loops (Firstprivate xs) = list_all (is_scalar ds) xs
 fits ds loops (Lastprivate xs) = list_all (is_result ds loops) xs
 fits ds loops (Reduction op xs) = list_all (is_result ds loops) xs
+fits ds loops (Inscan op x) = is_result ds loops x
 fits ds loops _ = true
 
 -- each clause of a line fits, whatever statement is behind it

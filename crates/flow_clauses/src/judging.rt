@@ -106,6 +106,18 @@ fn result_fault(files: &[Declaration], loops: &HashSet<u32>, names: &[Named]) ->
     None
 }
 
+/// Where the reduction of a scan does (OpenMP 5.2, 5.6).
+fn scan_fault(files: &[Declaration], loops: &HashSet<u32>, named: &Named) -> Option<Place>
+    ensures { is_none result ≡ is_result (map declaration_of files.now) (holds loops.now)
+        (variable_named named.now) }
+{
+    if is_result(files, loops, named) {
+        None
+    } else {
+        Some(named.place)
+    }
+}
+
 /// A place in a list of private variables.
 fn privatised(place: Option<Place>) -> Option<Misuse>
     ensures { is_none result ≡ is_none place }
@@ -140,6 +152,7 @@ fn clause_fault(
         Clause::Firstprivate(names) => privatised(copied_fault(files, names)),
         Clause::Lastprivate(names) => privatised(result_fault(files, loops, names)),
         Clause::Reduction(_, names) => reduced(result_fault(files, loops, names)),
+        Clause::Inscan(_, named) => reduced(scan_fault(files, loops, named)),
         _ => None,
     }
 }

@@ -9,7 +9,7 @@ mod same;
 mod updates;
 
 pub use choices::is_choice;
-pub use misuse::first_misuse;
+pub use misuse::{first_misuse, first_misuse_among};
 pub use naming::{named_in_condition, named_in_expression, named_in_source};
 pub use reduction::Reduction;
 pub use same::same_expression;

@@ -205,14 +205,14 @@ pub fn first_misuse(statement: &Stmt, reductions: &[Reduction]) -> Option<Place>
             before.or(first_misuse(other, reductions))
         }
         Stmt::For(head, body) => in_head(head, reductions).or(first_misuse(body, reductions)),
-        Stmt::Block(items) => in_items(items, reductions),
+        Stmt::Block(items) => first_misuse_among(items, reductions),
         Stmt::Print(parts, _) => named_in_parts(parts, reductions),
     }
 }
 
-/// The first misuse in a block's items.
+/// The same of a block's items.
 #[cycle(misusing)]
-fn in_items(items: &[Item], reductions: &[Reduction]) -> Option<Place>
+pub fn first_misuse_among(items: &[Item], reductions: &[Reduction]) -> Option<Place>
     ensures { is_none result ≡ all_reduce (reduced reductions.now) (items_of items.now) }
 {
     for item in items {

@@ -1,8 +1,9 @@
 -- The parallel loops of accepted kernels leave what is visible round them as it was but for private scalars, and nothing assigns the variables of serial loops inside these.
-use Rattle.std.specs.Prelude.{ℕ, suc, Bool, true, false, ◌≡◌, ◌<◌, ◌≤◌, ◌==◌, ◌&&◌, ◌||◌, nat_lt, List, [], ◌∷◌, ◌++◌, length, map, is_some, Option, Some, IsSome}
+use Rattle.std.specs.Prelude.{ℕ, suc, Bool, true, false, not, filter, if◌then◌else◌, ◌⊎◌, ◌≡◌, ◌<◌, ◌≤◌, ◌==◌, ◌&&◌, ◌||◌, nat_lt, List, [], ◌∷◌, ◌++◌, length, map, is_some, Option, Some, IsSome}
 use Rattle.std.specs.List.{AllByRecursion}
-use Rattle.std.proofs.Common.{refl, sym, ap, ◌∙◌, subst, arith}
-use Rattle.std.proofs.lemmas.Bool.{eqb-true, eq-eqb, ltb-true, lt-ltb, or_right, or_parts, not_from_false}
+use Rattle.std.proofs.Common.{refl, sym, ap, ◌∙◌, subst, arith, inl, inr}
+use Rattle.std.proofs.lemmas.Bool.{true≢false, eqb-true, eq-eqb, ltb-true, lt-ltb, or_cases, or_right, or_parts, not_from_false}
+use Rattle.std.proofs.lemmas.List.{map-append}
 use Rattle.std.proofs.lemmas.Option.{same_Some}
 use Rattle.semantics.specs.Tree.{Name, Variable, Stmt, Items, Declaration}
 use Rattle.semantics.specs.Source.Token.{Token}
@@ -14,6 +15,7 @@ use Rattle.semantics.specs.Meaning.Runs.{Effect}
 use Rattle.semantics.specs.Meaning.Definite.{Privates, DefinitelyAssigned, known_with, without, may_take, may_test, no_privates, privates_in, after_both, declared_known, definite, definite_items, known_at_start}
 use Rattle.semantics.specs.Meaning.Agrees.{also, is_among, declared_in, visible_behind}
 use Rattle.semantics.specs.Loops.Nest.{Loop, nest_of}
+use Rattle.semantics.specs.Loops.Operator.{ReduceOp}
 use Rattle.law_lines.proofs.Kept.{kept_lines_are_read}
 use Rattle.affine.specs.declared.interval.Side.{Side}
 use Rattle.nest_loop.specs.Canonical.{stepped, assigns, assigns_among}
@@ -23,13 +25,15 @@ use Rattle.nest_loop.proofs.Visible.{each_weaker}
 use Rattle.nest_loop.proofs.Heads.{head_of}
 use Rattle.pragma.specs.Parallel.{associated, LineHas}
 use Rattle.nest.specs.Nests.{Has, Have, StaysInside}
-use Rattle.flow.specs.Roles.{LineRoles, privates_by, KeepsItsRoles, KeepsRolesThere, LoopsHaveBy, ItemsHaveBy, LoopsKeepRoles, ItemsKeepRoles}
+use Rattle.flow.proofs.PrivateLemmas.{among_both}
+use Rattle.flow.specs.Phases.{LinePhases, HasPhases}
+use Rattle.flow.specs.Roles.{takes_operands, left_roles, LineData, privates_by, KeepsItsRoles, KeepsRolesThere, LoopsHaveBy, ItemsHaveBy, LoopsKeepRoles, ItemsKeepRoles}
 use Rattle.law_runs.proofs.Going.{known_with_less}
 use Rattle.law_runs.proofs.Growing.{grows, known_below, visible_behind as also_visible, visible_later}
 use Rattle.law_runs.proofs.Points.{rises, IsBelow, allowed, tested_known, branches, and_then}
 use Rattle.law_runs.proofs.Nested.{decls_below, some_there}
 use Rattle.law_commute.specs.Steady.{IsFixedSource, IsFixedCond}
-use Rattle.law_commute.specs.Targets.{targets_outside}
+use Rattle.law_commute.specs.Targets.{targets, targets_outside}
 use Rattle.law_commute.proofs.Framed.{true_not_false}
 use Rattle.law_commute.proofs.Values.{first_of, second_of}
 use Rattle.law_nests.proofs.Joined.{IsFirst, first_loop}
@@ -43,7 +47,7 @@ use Rattle.law_commute.proofs.Framed.{also_itself}
 use Rattle.law_commute.proofs.Same.{also_more}
 use Rattle.law_scopes.proofs.Turning.{at_turns}
 use Rattle.law_independence.proofs.RoleNests.{among_some, among_reduced, scalar_assigned}
-use Rattle.law_independence.proofs.Targeted.{no_target, outside_target, no_outside_target}
+use Rattle.law_independence.proofs.Targeted.{no_target, outside_visible, outside_target, no_outside_target}
 use Rattle.law_independence.proofs.Fixed.{form_fixed, own_fixed, step_fixed}
 use Rattle.law_independence.proofs.Numbering.{undeclared}
 use Rattle.law_independence.proofs.Naming.{IsNamed, NamesCounters, counters_inside, stmt_named}
@@ -53,6 +57,7 @@ use Rattle.law_apart.specs.Laws.{LeavesTheSame, AcceptedKernelsRunApart}
 use Rattle.law_scopes.proofs.Associated.{at_least_one}
 use Rattle.law_scopes.proofs.Spots.{some_of, no_spot, Spot, spot_turn}
 use Rattle.law_scopes.proofs.Staying.{loop_is_known, loop_knows, stays}
+use Rattle.law_apart.proofs.Phased.{known_before_scan}
 use Rattle.law_apart.proofs.Unread.{known_before}
 use Rattle.law_apart.proofs.Kept.{Like, IsHanded, LoopsLeave, ItemsLeave, BehindLeave, items_like}
 
@@ -93,7 +98,7 @@ left_within a b k e y h = first_of (a y) (b y) (ap (λ (j : DefinitelyAssigned).
 right_within : (a b k : DefinitelyAssigned) → (λ y. a y && b y) ≡ k → IsWithin k b
 right_within a b k e y h = second_of (a y) (b y) (ap (λ (j : DefinitelyAssigned). j y) e ∙ h)
 
-module _ (text : List ℕ) (ds : List Declaration) (R : LineRoles) where
+module _ (text : List ℕ) (ds : List Declaration) (R : LineData) (S : LinePhases) where
   abbrev P : Privates
   P = privates_by R
 
@@ -105,8 +110,8 @@ module _ (text : List ℕ) (ds : List Declaration) (R : LineRoles) where
 
   -- a parallel loop with the roles of its line
   handed_here : {scope : Scope} {o next next' : ℕ} {ts : List Token} {a : Stmt} → ReadsStmt scope o next ts a next' → length ds ≤ next → Each (IsBelow next) scope → Each IsSmall scope → (F V k k' : Variable → Bool) → Each (IsNamed V) scope → AreBelow F next → AreBelow V next → AreBelow k next → definite P a k ≡ Some k'
-      → (box : List Side) → Has (StaysInside ds) box a → Spares F a → (serial : List Loop) (depth m : ℕ) → depth ≡ suc m → (at : ℕ) (number : ℕ) → SharesBy ds R at serial depth a
-      → KeepsItsRoles (R at) number a → IsHanded ds P R F V k (without k' (P at)) (used_roles a (R at)) serial a
+      → (box : List Side) → Has (StaysInside ds) box a → Spares F a → (serial : List Loop) (depth m : ℕ) → depth ≡ suc m → (at : ℕ) (number : ℕ) → SharesBy ds R S at serial depth a
+      → KeepsItsRoles (R at) number a → IsHanded ds P R F V k (without k' (P at)) (used_roles a (left_roles (R at))) serial a
   handed_here {scope} {o} {next = next} {next' = next'} {ts = ts} {a = a} r room v small F V k k' sees fixed below known d box has spared serial depth m one at number nest kept =
       record {
         round = nest.round;
@@ -118,7 +123,7 @@ module _ (text : List ℕ) (ds : List Declaration) (R : LineRoles) where
         seen = λ x v. shown x (below x v);
         still = λ x q. let before = without_within (P at) k' x q in let known_there = loop_knows P a loop.loop loop.inside k k' loop.is d x before in (before, known_there, shown x (known x known_there), private x (without_gone (P at) k' x q));
         scalars = λ x t. scalar_assigned ds x box a has (outside_target a x t);
-        reduced = λ x h. reduced x (sym (among_reduced (is_among (targets_outside a)) (R at).reductions x) ∙ h);
+        reduced = λ x h. reduced x (sym (among_reduced (is_among (targets_outside a)) (left_roles (R at)).reductions x) ∙ h);
         free = λ x f. no_outside_target a x (no_target x a (spared x f));
       }
     where
@@ -158,18 +163,46 @@ module _ (text : List ℕ) (ds : List Declaration) (R : LineRoles) where
       shown : (x : Variable) → x < next → visible_behind a x ≡ true
       shown x lt = not_from_false (is_among (declared_in a) x) (undeclared r x lt)
 
-      private : (x : Variable) → is_among (P at) x ≡ false → is_among (used_roles a (R at)).privates x ≡ false
+      private : (x : Variable) → is_among (P at) x ≡ false → is_among (used_roles a (left_roles (R at))).privates x ≡ false
       private x none = among_some (is_among (targets_outside a)) (P at) x ∙ ap (λ b. is_among (targets_outside a) x && b) none ∙ nothing (is_among (targets_outside a) x)
         where
           nothing : (b : Bool) → (b && false) ≡ false
           nothing true = refl
           nothing false = refl
 
-      reduced : (x : Variable) → (is_among (targets_outside a) x && is_among (map (λ r. r.0) (R at).reductions) x) ≡ true → k x ≡ true
+      reduced : (x : Variable) → (is_among (targets_outside a) x && is_among (map (λ r. r.0) (left_roles (R at)).reductions) x) ≡ true → k x ≡ true
       reduced x h =
-          let t = first_of (is_among (targets_outside a) x) (is_among (map (λ r. r.0) (R at).reductions) x) h in
-          let op = reduced_of (R at).reductions x (second_of (is_among (targets_outside a) x) (is_among (map (λ r. r.0) (R at).reductions) x) h) in
-          known_before P (R at).reductions x op.0 op.1 a k k' kept.updates d (outside_target a x t)
+          let t = first_of (is_among (targets_outside a) x) (is_among (map (λ r. r.0) (left_roles (R at)).reductions) x) h in
+          let among = second_of (is_among (targets_outside a) x) (is_among (map (λ r. r.0) (left_roles (R at)).reductions) x) h in
+          at_either x t nest.phases (or_cases (is_among (map (λ r. r.0) (R at).roles.reductions) x) (is_among (map (λ r. r.0) (filter takes_operands (R at).carried)) x)
+          (sym (ap (λ ys. is_among ys x) (map-append (λ r. r.0) (R at).roles.reductions (filter takes_operands (R at).carried)) ∙ among_both (map (λ r. r.0) (R at).roles.reductions) (map (λ r. r.0) (filter takes_operands (R at).carried)) x) ∙ among))
+        where
+          sole_kept : (r : Variable × ReduceOp) (x : Variable) → is_among (map (λ q. q.0) (filter takes_operands (r ∷ []))) x ≡ true → r.0 ≡ x
+          sole_kept r x q = go (takes_operands r) q
+            where
+              go : (b : Bool) → is_among (map (λ (q : Variable × ReduceOp). q.0) (if b then r ∷ [] else [])) x ≡ true → r.0 ≡ x
+              go true h = eqb-true r.0 x (either_false (r.0 == x) h)
+                where
+                  either_false : (c : Bool) → (c || false) ≡ true → c ≡ true
+                  either_false true g = refl
+                  either_false false g = absurd (true≢false (sym g))
+              go false h = absurd (true≢false (sym h))
+
+          not_from : (b : Bool) → not b ≡ true → b ≡ false
+          not_from true h = absurd (true≢false (sym h))
+          not_from false h = refl
+
+          at_either : (x : Variable) → is_among (targets_outside a) x ≡ true → ((R at).carried ≡ []) ⊎ HasPhases (R at) (S at) depth a
+              → (is_among (map (λ r. r.0) (R at).roles.reductions) x ≡ true) ⊎ (is_among (map (λ r. r.0) (filter takes_operands (R at).carried)) x ≡ true) → k x ≡ true
+          at_either x t phases (inl q) =
+              let op = reduced_of (R at).roles.reductions x q in
+              known_before P (R at).roles.reductions x op.0 op.1 a k k' kept.updates d (outside_target a x t)
+          at_either x t (inl none) (inr q) = absurd (true≢false (sym q ∙ ap (λ (cs : List (Variable × ReduceOp)). is_among (map (λ r. r.0) (filter takes_operands cs)) x) none))
+          at_either x t (inr its) (inr q) =
+              let same : its.variable ≡ x = sole_kept (its.variable, its.operator) x (sym (ap (λ (cs : List (Variable × ReduceOp)). is_among (map (λ r. r.0) (filter takes_operands cs)) x) its.sole) ∙ q) in
+              subst (λ y. k y ≡ true) same
+              (known_before_scan P (R at) (S at) depth a its k k' (not_from (is_among (declared_in a) its.variable) (subst (λ y. visible_behind a y ≡ true) (sym same) (outside_visible a x t))) d
+              (subst (λ y. is_among (targets a) y ≡ true) (sym same) (outside_target a x t)))
 
   -- what is visible behind a declaration
   also_named : (V : Variable → Bool) (scope : Scope) (name : Name) (next : ℕ) → Each (IsNamed V) scope → Each (IsNamed (also V next)) ((name, AVariable next 0) ∷ scope)
@@ -182,7 +215,7 @@ module _ (text : List ℕ) (ds : List Declaration) (R : LineRoles) where
   module _ where
     mutual
       loops_leave : {scope : Scope} {o next next' : ℕ} {ts : List Token} {a : Stmt} → ReadsStmt scope o next ts a next' → length ds ≤ next → Each (IsBelow next) scope → Each IsSmall scope → (F V k k' : Variable → Bool) → Each (IsNamed V) scope → AreBelow F next → AreBelow V next → AreBelow k next
-          → (box : List Side) → NamesCounters F box → Has (StaysInside ds) box a → Spares F a → definite P a k ≡ Some k' → (serial : List Loop) → LoopsKeepRoles text R serial a → LoopsHaveBy text (SharesBy ds R) serial a → LoopsLeave ds P R F V k k' serial a
+          → (box : List Side) → NamesCounters F box → Has (StaysInside ds) box a → Spares F a → definite P a k ≡ Some k' → (serial : List Loop) → LoopsKeepRoles text R serial a → LoopsHaveBy text (SharesBy ds R S) serial a → LoopsLeave ds P R F V k k' serial a
       loops_leave (assign {x = x} t e) room v small F V k k' sees fixed below known box counters has spared d serial q h = (assigned_free F x spared, d)
       loops_leave (update {x = x} t u e) room v small F V k k' sees fixed below known box counters has spared d serial q h = (assigned_free F x spared, d)
       loops_leave (if_only {c = c} {a = a} less rc ra) room v small F V k k' sees fixed below known box counters has spared d serial q h =
@@ -237,7 +270,7 @@ module _ (text : List ℕ) (ds : List Declaration) (R : LineRoles) where
       loops_leave (print less f r fill) room v small F V k k' sees fixed below known box counters has spared d serial q h = d
 
       items_leave : {scope : Scope} {o next next' : ℕ} {ts : List Token} {items : Items} → ReadsItems scope o next ts items next' → length ds ≤ next → Each (IsBelow next) scope → Each IsSmall scope → (F V k k' : Variable → Bool) → Each (IsNamed V) scope → AreBelow F next → AreBelow V next → AreBelow k next
-          → (box : List Side) → NamesCounters F box → Have (StaysInside ds) box items → AllSpare F items → definite_items P [] items k ≡ Some k' → (serial : List Loop) → ItemsKeepRoles text R serial items → ItemsHaveBy text (SharesBy ds R) serial items → ItemsLeave ds P R F V k k' serial items
+          → (box : List Side) → NamesCounters F box → Have (StaysInside ds) box items → AllSpare F items → definite_items P [] items k ≡ Some k' → (serial : List Loop) → ItemsKeepRoles text R serial items → ItemsHaveBy text (SharesBy ds R S) serial items → ItemsLeave ds P R F V k k' serial items
       items_leave no_more room v small F V k k' sees fixed below known box counters has spared d serial q h = λ y w. ap (λ (j : DefinitelyAssigned). j y) (same_Some k k' d) ∙ w
       items_leave (line {n = at} r) room v small F V k k' sees fixed below known box counters has spared d serial q h = behind_leave r room v small F V k k' sees fixed below known box counters has spared serial at d q.0 q.1 h.0 h.1
       items_leave {scope} (empty_local {next = next} {name = name} free r) room v small F V k k' sees fixed below known box counters has spared d serial q h = (
@@ -268,7 +301,7 @@ module _ (text : List ℕ) (ds : List Declaration) (R : LineRoles) where
 
       behind_leave : {scope : Scope} {o next next' : ℕ} {ts : List Token} {items : Items} → ReadsItems scope o next ts items next' → length ds ≤ next → Each (IsBelow next) scope → Each IsSmall scope → (F V k k' : Variable → Bool) → Each (IsNamed V) scope → AreBelow F next → AreBelow V next → AreBelow k next
           → (box : List Side) → NamesCounters F box → Have (StaysInside ds) box items → AllSpare F items → (serial : List Loop) (at : ℕ) → definite_items P (P at) items k ≡ Some k' → LineHas text (KeepsRolesThere (R at)) serial at items → ItemsKeepRoles text R serial items
-          → LineHas text (SharesBy ds R at) serial at items → ItemsHaveBy text (SharesBy ds R) serial items → BehindLeave ds P R F V k k' at serial items
+          → LineHas text (SharesBy ds R S at) serial at items → ItemsHaveBy text (SharesBy ds R S) serial items → BehindLeave ds P R F V k k' at serial items
       behind_leave no_more room v small F V k k' sees fixed below known box counters has spared serial at d q others h all = absurd h.3
       behind_leave (line r) room v small F V k k' sees fixed below known box counters has spared serial at d q others h all = absurd h.3
       behind_leave (empty_local free r) room v small F V k k' sees fixed below known box counters has spared serial at d q others h all = absurd h.3
@@ -289,7 +322,7 @@ leaves_same : (ds : List Declaration) (F V k : Variable → Bool) (s : State) (e
 leaves_same ds F V k s e o like = record { effect = like.effect; is = like.is; text = like.text; cells = λ x is. sym (like.same.agrees.cells x is) }
 
 pub accepted_apart : AcceptedKernelsRunApart
-accepted_apart text k R s e reads in_range determined kept commute starts ran =
+accepted_apart text k R S s e reads in_range determined kept commute starts ran =
     let ds = k.variables in
     let n = length ds in
     let read = (kept_lines_are_read text k reads).reads in
@@ -299,7 +332,7 @@ accepted_apart text k R s e reads in_range determined kept commute starts ran =
     let visible = decls_below n read.declared (omega arith) tt in
     let names = stmt_named (StaysInside ds) (block (let small : 0 < 64 = omega arith in small) read.items) known [] (each_weaker (IsBelow n) (IsNamed known) (named n) read.scope visible) (λ y c. absurd cc) in_range
     (all_start read.items known plain.known visible (λ y q. ltb-true y n q) plain.is) in
-    let leave = items_leave text ds R read.items (omega arith) visible (decls_small read.declared tt) (λ x. false) known known left.0 (each_weaker (IsBelow n) (IsNamed known) (named n) read.scope visible) (λ x q. absurd cc) (λ x q. ltb-true x n q) (λ x q. ltb-true x n q) [] (λ y c. absurd cc) in_range (λ y q. absurd cc)
+    let leave = items_leave text ds R S read.items (omega arith) visible (decls_small read.declared tt) (λ x. false) known known left.0 (each_weaker (IsBelow n) (IsNamed known) (named n) read.scope visible) (λ x q. absurd cc) (λ x q. ltb-true x n q) (λ x q. ltb-true x n q) [] (λ y c. absurd cc) in_range (λ y q. absurd cc)
     left.1 [] kept commute in
     leaves_same ds (λ x. false) known left.0 s e (apart_items R [] k.body s)
     (items_like ds (privates_by R) R k.body (λ x. false) known known left.0 [] s s e names leave (no_spot s)

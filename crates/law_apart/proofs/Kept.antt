@@ -17,7 +17,7 @@ use Rattle.semantics.specs.Loops.Piece.{Roles, is_outside}
 use Rattle.semantics.specs.Theorems.{is_declared}
 use Rattle.semantics.proofs.NestLaw.{local_same}
 use Rattle.nest.specs.Nests.{lengths_of}
-use Rattle.flow.specs.Roles.{LineRoles}
+use Rattle.flow.specs.Roles.{LineData, left_roles}
 use Rattle.flow.proofs.PrivateLemmas.{among_both}
 use Rattle.law_runs.proofs.Points.{allowed}
 use Rattle.law_runs.proofs.Going.{stands, is_held, HoldsKnown, IsUsable, Later, known_with_less, local_later, local_known, assigned_later, assigned_known}
@@ -208,7 +208,7 @@ module _ (ds : List Declaration) where
 
   -- ---- parallel loops
 
-  module _ (P : Privates) (R : LineRoles) where
+  module _ (P : Privates) (R : LineData) where
     -- a parallel loop with roles of what it assigns, none of which is fixed; what is known behind it was so before, and is private in none
     pub record IsHanded (F V k j : Variable → Bool) (roles : Roles) (serial : List Loop) (a : Stmt) : Type 0 where
       pub round : HaveTurns serial
@@ -260,7 +260,7 @@ module _ (ds : List Declaration) where
 
       -- behind a directive line
       pub BehindLeave : (Variable → Bool) → (Variable → Bool) → (Variable → Bool) → (Variable → Bool) → ℕ → List Loop → Items → Type 0
-      BehindLeave F V k k' line serial (stmt a rest) = (j : Variable → Bool) × IsHanded F V k j (used_roles a (R line)) serial a × ItemsLeave F V j k' serial rest
+      BehindLeave F V k k' line serial (stmt a rest) = (j : Variable → Bool) × IsHanded F V k j (used_roles a (left_roles (R line))) serial a × ItemsLeave F V j k' serial rest
       BehindLeave F V k k' line serial no_items = ⊥
       BehindLeave F V k k' line serial (mark other rest) = ⊥
       BehindLeave F V k k' line serial (local x name start rest) = ⊥
@@ -605,6 +605,6 @@ module _ (ds : List Declaration) where
       behind_like (local x name start rest) F V k k' line serial s t e named l spot h stands ran = absurd l
       behind_like (stmt a rest) F V k k' line serial s t e named (j, its, l) spot h stands ran =
           let parts = parts_of s (run a s) (run_items rest) e ran in
-          like_then F F V V j k' s t parts.one parts.two e (handed (used_roles a (R line)) serial a t) (apart_items R serial rest) (λ y f. f) parts.is
-          (handed_like a F V k j (used_roles a (R line)) serial its (first_of (names_only V a) (names_items V rest) named) s t parts.one spot h stands parts.one_is)
+          like_then F F V V j k' s t parts.one parts.two e (handed (used_roles a (left_roles (R line))) serial a t) (apart_items R serial rest) (λ y f. f) parts.is
+          (handed_like a F V k j (used_roles a (left_roles (R line))) serial its (first_of (names_only V a) (names_items V rest) named) s t parts.one spot h stands parts.one_is)
           (λ u g kept up d d_is is. items_like rest F V j k' serial (overwritten s parts.one.writes) u parts.two (second_of (names_only V a) (names_items V rest) named) l (spot_kept F serial t u spot kept) g up parts.two_is)

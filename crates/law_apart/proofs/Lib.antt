@@ -3,3 +3,4 @@ pub mod Undeclared
 pub mod Unread
 pub mod Kept
 pub mod Accepted
+pub mod Phased

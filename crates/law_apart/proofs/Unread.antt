@@ -22,7 +22,7 @@ module _ (P : Privates) (rs : List (Variable × ReduceOp)) (x : Variable) (op : 
   Unknown k ts = (k x ≡ false) × (is_among ts x ≡ false)
 
   -- a plain variable is another one
-  other : (y : Variable) → is_plain rs y ≡ true → (y == x) ≡ false
+  pub other : (y : Variable) → is_plain rs y ≡ true → (y == x) ≡ false
   other y h = false_from_ne_true (y == x) (λ e. absurd (true≢false (sym h ∙ ap (λ z. is_none (operator_of rs z)) (eqb-true y x e) ∙ ap is_none is)))
 
   -- what is known of another one, once more
@@ -98,7 +98,7 @@ module _ (P : Privates) (rs : List (Variable × ReduceOp)) (x : Variable) (op : 
   left_unknown a b k' e u = sym (ap (λ (j : DefinitelyAssigned). j x) e) ∙ ap (λ c. c && b x) u
 
   mutual
-    unread : (a : Stmt) (k k' : DefinitelyAssigned) → reduces rs a ≡ true → definite P a k ≡ Some k' → k x ≡ false → Unknown k' (targets a)
+    pub unread : (a : Stmt) (k k' : DefinitelyAssigned) → reduces rs a ≡ true → definite P a k ≡ Some k' → k x ≡ false → Unknown k' (targets a)
     unread (Assign y no_exprs e) k k' h q u = at (y == x) refl
       where
         ok : ((may_read_all k no_exprs && may_take k e) ≡ true) × (known_with k y true ≡ k')

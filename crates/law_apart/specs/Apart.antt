@@ -8,7 +8,7 @@ use Rattle.semantics.specs.Meaning.Value.{holds, by_test, map_option}
 use Rattle.semantics.specs.Meaning.Runs.{Effect, nothing, then_from, declared, incremented, turns, greatest_trip_count, run}
 use Rattle.semantics.specs.Loops.Nest.{Loop}
 use Rattle.semantics.specs.Loops.Piece.{Roles, is_outside}
-use Rattle.flow.specs.Roles.{LineRoles}
+use Rattle.flow.specs.Roles.{LineData, left_roles}
 use Rattle.law_roles.specs.Updates.{operands}
 use Rattle.law_roles.specs.Reducing.{takes_all}
 use Rattle.law_roles.specs.Sharing.{role_variables}
@@ -60,7 +60,7 @@ handed roles serial a s =
 
 abbrev mutual
   -- a statement inside serial loops, with the parallel loops in it run so, each by the roles of its line
-  pub apart : LineRoles → List Loop → Stmt → State → Option Effect
+  pub apart : LineData → List Loop → Stmt → State → Option Effect
   apart R serial (If c a) s = by_test (holds s c) (apart R serial a s) (Some nothing)
   apart R serial (IfElse c a b) s = by_test (holds s c) (apart R serial a s) (apart R serial b s)
   apart R serial (For x name start test step body) s =
@@ -70,14 +70,14 @@ abbrev mutual
   apart R serial a s = run a s
 
   -- the items of a block: behind a directive line stands a parallel loop
-  pub apart_items : LineRoles → List Loop → Items → State → Option Effect
+  pub apart_items : LineData → List Loop → Items → State → Option Effect
   apart_items R serial no_items s = Some nothing
   apart_items R serial (mark line rest) s = apart_behind R line serial rest s
   apart_items R serial (local x name start rest) s = then_from s (declared s x start) (apart_items R serial rest)
   apart_items R serial (stmt a rest) s = then_from s (apart R serial a s) (apart_items R serial rest)
 
-  pub apart_behind : LineRoles → ℕ → List Loop → Items → State → Option Effect
+  pub apart_behind : LineData → ℕ → List Loop → Items → State → Option Effect
   apart_behind R line serial no_items s = Some nothing
   apart_behind R line serial (mark other rest) s = apart_behind R other serial rest s
   apart_behind R line serial (local x name start rest) s = then_from s (declared s x start) (apart_items R serial rest)
-  apart_behind R line serial (stmt a rest) s = then_from s (handed (used_roles a (R line)) serial a s) (apart_items R serial rest)
+  apart_behind R line serial (stmt a rest) s = then_from s (handed (used_roles a (left_roles (R line))) serial a s) (apart_items R serial rest)

@@ -29,5 +29,7 @@ pub mod RoleNests
 pub mod Taking
 pub mod Hiding
 pub mod ScanNests
+pub mod JudgedNests
 pub mod ScanParts
 pub mod ScanInputs
+pub mod ScanTaken

@@ -27,80 +27,82 @@ use Rattle.law_independence.proofs.Links.{one_entered}
 use Rattle.law_independence.proofs.IndependentNests.{body_there}
 use Rattle.law_independence.proofs.Grammar.{decls_small, decls_short, items_read}
 use Rattle.law_private.proofs.More.{more_known}
-use Rattle.flow.specs.Roles.{LineRoles, privates_by, KeepsRolesThere, LoopsHaveBy, ItemsHaveBy, LoopsKeepRoles, ItemsKeepRoles}
+use Rattle.flow.specs.Phases.{LinePhases, PhasesBy}
+use Rattle.flow.specs.Roles.{LineData, privates_by, KeepsRolesThere, LoopsHaveBy, ItemsHaveBy, LoopsKeepRoles, ItemsKeepRoles}
 use Rattle.law_independence.specs.OrderLaws.{SharesBy, AcceptedLoopsShare}
 use Rattle.law_independence.proofs.Numbering.{IsPlace, place_later, place_behind, place_inside}
 use Rattle.law_independence.proofs.Starts.{StartsNameOthers, AllNameOthers, all_start}
-use Rattle.law_independence.proofs.ReorderedNests.{loop_commutes}
+use Rattle.law_independence.proofs.JudgedNests.{loop_shares}
 
 -- ---- the walk
 
-module _ (text : List ℕ) (ds : List Declaration) (short : HaveShort ds) (R : LineRoles) where
+module _ (text : List ℕ) (ds : List Declaration) (short : HaveShort ds) (R : LineData) (P : LinePhases) where
   first_commutes : {scope : Scope} {o next next' : ℕ} {ts : List Token} {items : Items} → ReadsItems scope o next ts items next' → (round : Nesting) (serial : List Loop) (n : ℕ) → AreEntered no_loops serial round
-      → IsPlace ds round.box scope next → AllNameOthers items → AllKeep round.box items → (line : ℕ) → ShownFirst round n items → FirstHas (KeepsRolesThere (R line)) serial n items → ItemsAreRead round.box items → Have (StaysInside ds) round.box items
-      → FirstHas (SharesBy ds R line) serial n items
-  first_commutes no_more round serial n entered at starts kept line' shown private read has = shown
-  first_commutes (line r) round serial n entered at starts kept line' shown private read has = shown
-  first_commutes (empty_local free r) round serial n entered at starts kept line' shown private read has = shown
-  first_commutes (first_local free e r) round serial n entered at starts kept line' shown private read has = shown
-  first_commutes {scope} (statement {open' = open'} {next = next} {next' = middle} {s = s} {items = rest} {ts = ts} ra r) round serial n entered at starts kept line' shown private read has =
-      loop_commutes ds serial round n s short entered read.0 has.0
-      (record { scope = scope; order = open'; next = next; after = middle; tokens = ts; reads = ra; place = at; starts = starts.0; kept = λ y q. (or_parts (assigns y s) (assigns_among y rest) (kept y q)).0 }) (R line') private shown
+      → IsPlace ds round.box scope next → AllNameOthers items → AllKeep round.box items → (line : ℕ) → ShownFirst round n items → FirstHas (KeepsRolesThere (R line)) serial n items → FirstHas (PhasesBy R P line) serial n items → ItemsAreRead round.box items → Have (StaysInside ds) round.box items
+      → FirstHas (SharesBy ds R P line) serial n items
+  first_commutes no_more round serial n entered at starts kept line' shown private phased read has = shown
+  first_commutes (line r) round serial n entered at starts kept line' shown private phased read has = shown
+  first_commutes (empty_local free r) round serial n entered at starts kept line' shown private phased read has = shown
+  first_commutes (first_local free e r) round serial n entered at starts kept line' shown private phased read has = shown
+  first_commutes {scope} (statement {open' = open'} {next = next} {next' = middle} {s = s} {items = rest} {ts = ts} ra r) round serial n entered at starts kept line' shown private phased read has =
+      loop_shares ds serial round n s short entered read.0 has.0
+      (record { scope = scope; order = open'; next = next; after = middle; tokens = ts; reads = ra; place = at; starts = starts.0; kept = λ y q. (or_parts (assigns y s) (assigns_among y rest) (kept y q)).0 }) (R line') private shown (P line') phased
 
   line_commutes : {scope : Scope} {o next next' : ℕ} {ts : List Token} {items : Items} → ReadsItems scope o next ts items next' → (round : Nesting) (serial : List Loop) (n : ℕ) → AreEntered no_loops serial round
-      → IsPlace ds round.box scope next → AllNameOthers items → AllKeep round.box items → LineShown text round n items → LineHas text (KeepsRolesThere (R n)) serial n items → ItemsAreRead round.box items → Have (StaysInside ds) round.box items
-      → LineHas text (SharesBy ds R n) serial n items
-  line_commutes {items = items} r round serial n entered at starts kept (k, c, reads, first) (k', c', reads', private) read has =
+      → IsPlace ds round.box scope next → AllNameOthers items → AllKeep round.box items → LineShown text round n items → LineHas text (KeepsRolesThere (R n)) serial n items → LineHas text (PhasesBy R P n) serial n items → ItemsAreRead round.box items → Have (StaysInside ds) round.box items
+      → LineHas text (SharesBy ds R P n) serial n items
+  line_commutes {items = items} r round serial n entered at starts kept (k, c, reads, first) (k', c', reads', private) (l, e, reads'', phased) read has =
       let same = (read_once (line_at text n) k' c' k c reads' reads).1 in
-      (k, c, reads, first_commutes r round serial (associated c) entered at starts kept n first (subst (λ d. FirstHas (KeepsRolesThere (R n)) serial (associated d) items) same private) read has)
+      let also = (read_once (line_at text n) l e k c reads'' reads).1 in
+      (k, c, reads, first_commutes r round serial (associated c) entered at starts kept n first (subst (λ d. FirstHas (KeepsRolesThere (R n)) serial (associated d) items) same private) (subst (λ d. FirstHas (PhasesBy R P n) serial (associated d) items) also phased) read has)
 
   mutual
     stmt_commutes : {scope : Scope} {o next next' : ℕ} {ts : List Token} {s : Stmt} → ReadsStmt scope o next ts s next' → (round : Nesting) (serial : List Loop) → AreEntered no_loops serial round
-        → IsPlace ds round.box scope next → StartsNameOthers s → Keeps round.box s → LoopsShown text round s → LoopsKeepRoles text R serial s → LoopsAreRead round.box s → Has (StaysInside ds) round.box s
-        → LoopsHaveBy text (SharesBy ds R) serial s
-    stmt_commutes (assign t e) round serial entered at starts kept shown private read has = tt
-    stmt_commutes (update t u e) round serial entered at starts kept shown private read has = tt
-    stmt_commutes (if_only less rc ra) round serial entered at starts kept shown private read has = stmt_commutes ra round serial entered at starts kept shown private read has.1
-    stmt_commutes {scope} (if_else {next = next} {next' = middle} {a = a} {b = b} less rc closed ra rb) round serial entered at starts kept shown private read has = (
-      stmt_commutes ra round serial entered at starts.0 (λ y q. (or_parts (assigns y a) (assigns y b) (kept y q)).0) shown.0 private.0 read.0 has.1,
-      stmt_commutes rb round serial entered (place_later ds round.box scope next middle (rises ra) at) starts.1 (λ y q. (or_parts (assigns y a) (assigns y b) (kept y q)).1) shown.1 private.1 read.1 has.2,
+        → IsPlace ds round.box scope next → StartsNameOthers s → Keeps round.box s → LoopsShown text round s → LoopsKeepRoles text R serial s → LoopsHaveBy text (PhasesBy R P) serial s → LoopsAreRead round.box s → Has (StaysInside ds) round.box s
+        → LoopsHaveBy text (SharesBy ds R P) serial s
+    stmt_commutes (assign t e) round serial entered at starts kept shown private phased read has = tt
+    stmt_commutes (update t u e) round serial entered at starts kept shown private phased read has = tt
+    stmt_commutes (if_only less rc ra) round serial entered at starts kept shown private phased read has = stmt_commutes ra round serial entered at starts kept shown private phased read has.1
+    stmt_commutes {scope} (if_else {next = next} {next' = middle} {a = a} {b = b} less rc closed ra rb) round serial entered at starts kept shown private phased read has = (
+      stmt_commutes ra round serial entered at starts.0 (λ y q. (or_parts (assigns y a) (assigns y b) (kept y q)).0) shown.0 private.0 phased.0 read.0 has.1,
+      stmt_commutes rb round serial entered (place_later ds round.box scope next middle (rises ra) at) starts.1 (λ y q. (or_parts (assigns y a) (assigns y b) (kept y q)).1) shown.1 private.1 phased.1 read.1 has.2,
     )
-    stmt_commutes {scope} (for_loop {next = next} {name = name} {start = start} {test = test} {step = step} {body = body} less free rs rt ru r) round serial entered at starts kept (inner, into, shown) private read has =
+    stmt_commutes {scope} (for_loop {next = next} {name = name} {start = start} {test = test} {step = step} {body = body} less free rs rt ru r) round serial entered at starts kept (inner, into, shown) private phased read has =
         let h : Loop = record { variable = next; start = start; test = test; step = step } in
         let there = body_there ds round inner h body into (record { read = read.0; each = read.1; loop = has.0; numbers = has.1; is = has.2; stays = has.3 }) in
         let box : inside round.box next into.numbers ≡ inner.box = ap (λ (m : Nesting). m.box) (sym into.now) in
         stmt_commutes r inner (serial ++ (h ∷ []))
         (entered_join no_loops round inner serial (h ∷ []) entered (one_entered round inner next start test step body into read.0))
         (subst (λ b. IsPlace ds b ((name, AVariable next 0) ∷ scope) (suc next)) box (place_inside ds round.box scope name next into.numbers at))
-        starts (subst (λ b. Keeps b body) box (keeps_inside round.box next into.numbers body (λ y q. (or_parts (stepped step == y) (assigns y body) (kept y q)).1) has.2.kept)) shown private there.read there.stays
-    stmt_commutes (block less items) round serial entered at starts kept shown private read has = items_commute items round serial entered at starts kept shown private read has
-    stmt_commutes (print less f r fill) round serial entered at starts kept shown private read has = tt
+        starts (subst (λ b. Keeps b body) box (keeps_inside round.box next into.numbers body (λ y q. (or_parts (stepped step == y) (assigns y body) (kept y q)).1) has.2.kept)) shown private phased there.read there.stays
+    stmt_commutes (block less items) round serial entered at starts kept shown private phased read has = items_commute items round serial entered at starts kept shown private phased read has
+    stmt_commutes (print less f r fill) round serial entered at starts kept shown private phased read has = tt
 
     items_commute : {scope : Scope} {o next next' : ℕ} {ts : List Token} {items : Items} → ReadsItems scope o next ts items next' → (round : Nesting) (serial : List Loop) → AreEntered no_loops serial round
-        → IsPlace ds round.box scope next → AllNameOthers items → AllKeep round.box items → ItemsShown text round items → ItemsKeepRoles text R serial items → ItemsAreRead round.box items → Have (StaysInside ds) round.box items
-        → ItemsHaveBy text (SharesBy ds R) serial items
-    items_commute no_more round serial entered at starts kept shown private read has = tt
-    items_commute (line {n = n} r) round serial entered at starts kept shown private read has =
-        (line_commutes r round serial n entered at starts kept shown.0 private.0 read has, items_commute r round serial entered at starts kept shown.1 private.1 read has)
-    items_commute {scope} (empty_local {next = next} {name = name} free r) round serial entered at starts kept shown private read has =
-        items_commute r round serial entered (place_behind ds round.box scope name next at) starts.1 kept shown private read has.1
-    items_commute {scope} (first_local {next = next} {name = name} free e r) round serial entered at starts kept shown private read has =
-        items_commute r round serial entered (place_behind ds round.box scope name next at) starts.1 kept shown private read has.1
-    items_commute {scope} (statement {next = next} {next' = middle} {s = a} {items = items} ra r) round serial entered at starts kept shown private read has = (
-      stmt_commutes ra round serial entered at starts.0 (λ y q. (or_parts (assigns y a) (assigns_among y items) (kept y q)).0) shown.0 private.0 read.0 has.0,
-      items_commute r round serial entered (place_later ds round.box scope next middle (rises ra) at) starts.1 (λ y q. (or_parts (assigns y a) (assigns_among y items) (kept y q)).1) shown.1 private.1 read.1 has.1,
+        → IsPlace ds round.box scope next → AllNameOthers items → AllKeep round.box items → ItemsShown text round items → ItemsKeepRoles text R serial items → ItemsHaveBy text (PhasesBy R P) serial items → ItemsAreRead round.box items → Have (StaysInside ds) round.box items
+        → ItemsHaveBy text (SharesBy ds R P) serial items
+    items_commute no_more round serial entered at starts kept shown private phased read has = tt
+    items_commute (line {n = n} r) round serial entered at starts kept shown private phased read has =
+        (line_commutes r round serial n entered at starts kept shown.0 private.0 phased.0 read has, items_commute r round serial entered at starts kept shown.1 private.1 phased.1 read has)
+    items_commute {scope} (empty_local {next = next} {name = name} free r) round serial entered at starts kept shown private phased read has =
+        items_commute r round serial entered (place_behind ds round.box scope name next at) starts.1 kept shown private phased read has.1
+    items_commute {scope} (first_local {next = next} {name = name} free e r) round serial entered at starts kept shown private phased read has =
+        items_commute r round serial entered (place_behind ds round.box scope name next at) starts.1 kept shown private phased read has.1
+    items_commute {scope} (statement {next = next} {next' = middle} {s = a} {items = items} ra r) round serial entered at starts kept shown private phased read has = (
+      stmt_commutes ra round serial entered at starts.0 (λ y q. (or_parts (assigns y a) (assigns_among y items) (kept y q)).0) shown.0 private.0 phased.0 read.0 has.0,
+      items_commute r round serial entered (place_later ds round.box scope next middle (rises ra) at) starts.1 (λ y q. (or_parts (assigns y a) (assigns_among y items) (kept y q)).1) shown.1 private.1 phased.1 read.1 has.1,
     )
 
 -- ---- a kernel
 
 pub accepted_loops_share : AcceptedLoopsShare
-accepted_loops_share text k R reads in_range definite private shown =
+accepted_loops_share text k R P reads in_range definite private phased shown =
     let ds = k.variables in
     let read = (kept_lines_are_read text k reads).reads in
     let left = some_there (definite_items (privates_by R) [] k.body (known_at_start ds)) definite in
     let plain = more_known.items (privates_by R) no_privates [] [] k.body (known_at_start ds) left.0 (known_at_start ds) (λ line x h. absurd (cc h)) (λ x h. h) (λ x h. h) left.1 in
     let below = decls_below (length ds) read.declared (omega arith) tt in
-    items_commute text ds (decls_short read.declared tt) R read.items no_loops [] refl
+    items_commute text ds (decls_short read.declared tt) R P read.items no_loops [] refl
     (record { visible = below; counters = λ y c. absurd cc; room = omega arith })
-    (all_start read.items (known_at_start ds) plain.known below (λ y e. ltb-true y (length ds) e) plain.is) (λ y c. absurd (cc c)) shown private
+    (all_start read.items (known_at_start ds) plain.known below (λ y e. ltb-true y (length ds) e) plain.is) (λ y c. absurd (cc c)) shown private phased
     (items_read [] read.items (decls_small read.declared tt) (λ y c. absurd cc)) in_range

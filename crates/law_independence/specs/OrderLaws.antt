@@ -1,7 +1,7 @@
 -- The iterations of parallel loops that are accepted leave the same elements in any order, and chunks of them leave and print together what the loop does. (OpenMP 5.2, 1.4.1, 11.5 and 15.10.2)
-use Rattle.std.specs.Prelude.{ℕ, Bool, true, false, ◌≡◌, ◌≤◌, ◌<◌, List, [], ◌∷◌, length, map, filter, flat_map, Some, IsSome, slice_get}
+use Rattle.std.specs.Prelude.{ℕ, Bool, true, false, ◌≡◌, ◌≤◌, ◌<◌, List, [], ◌∷◌, length, map, filter, flat_map, Some, IsSome, slice_get, Option, ◌⊎◌}
 use Rattle.std.specs.List.{list_all, AllByRecursion}
-use Rattle.semantics.specs.Tree.{Variable, Stmt, Declaration, Kernel}
+use Rattle.semantics.specs.Tree.{Variable, Stmt, Items, Declaration, Kernel}
 use Rattle.semantics.specs.Source.Token.{Token}
 use Rattle.semantics.specs.Source.Scope.{Scope, Entity, AVariable, AConstant}
 use Rattle.semantics.specs.Source.Statements.{ReadsIncrement, ReadsStmt}
@@ -21,7 +21,9 @@ use Rattle.law_roles.specs.Sharing.{assigned_first, role_variables, are_differen
 use Rattle.nest_loop.specs.Constants.{Each, IsSmall}
 use Rattle.nest.specs.Nests.{IsInRange}
 use Rattle.deptest_verdict.specs.Shown.{AreShownLoops}
-use Rattle.flow.specs.Roles.{LineRoles, privates_by, AskedByLine, ItemsHaveBy, ItemsKeepRoles}
+use Rattle.flow.specs.Phases.{PhasesSaid, LinePhases, item_count, HasPhases, PhasesBy}
+use Rattle.law_scans.specs.Scanning.{whole_of, first_of, ScansFrom}
+use Rattle.flow.specs.Roles.{LoopData, LineData, takes_operands, left_roles, privates_by, AskedByLine, ItemsHaveBy, ItemsKeepRoles}
 
 -- at each turn of the serial loops round a nest of so many loops at which the scalars that its body assigns from outside are locals, its iterations leave the same elements in any order
 abbrev pub CommutesAtTurns : List Loop → ℕ → Stmt → Type 0
@@ -112,26 +114,52 @@ TakesAtTurns ds roles serial s =
     → ReadsStmt scope order next tokens s next' → IsTurn serial outer → IsMet ds scope next known serial outer
     → IsSome (definite no_privates s known) → TakesOperands roles.reductions s outer
 
--- a statement is a nest of so many loops, whose iterations leave the same elements in any order and may be run in chunks, with these roles of what it assigns, of which no variable has two
-pub record SharesAsNest (ds : List Declaration) (roles : Roles) (serial : List Loop) (n : ℕ) (s : Stmt) : Type 0 where
-  pub nest : IsSome (nest_of n s)
-  pub round : HaveTurns serial
-  pub steps : HasStepsRead n s
-  pub assigned : (x : Variable) → is_among (targets_outside s) x ≡ is_among (role_variables roles) x
+-- iterations leave the same elements in any order and may be run in chunks, with these roles of what they assign, of which no variable has two
+pub record SharesInChunks (roles : Roles) (serial : List Loop) (n : ℕ) (s : Stmt) : Type 0 where
   pub order : roles.reductions ≡ [] → CommutesAtTurns serial n s
-  pub there : IterateAtTurns serial n s
-  pub leaves : LeavesOthers s
-  pub takes : TakesAtTurns ds roles serial s
   pub chunks : SharesAtTurns roles serial n s
   pub different : are_different (map (λ r. r.0) roles.reductions) ≡ true
   pub apart : list_all (is_plain roles.reductions) (assigned_first roles) ≡ true
 
--- so the loop behind each directive line, with the roles that the line gives
-abbrev pub SharesBy : List Declaration → LineRoles → AskedByLine
-SharesBy ds R line serial n s = SharesAsNest ds (used_roles s (R line)) serial n s
+-- wherever a nest of two phases has a run at a turn, and its variables are at hand, chunks of its iterations have a run each in both passes, and what those of the second leave, put together, is what it leaves, and what they print, one after another in their order, is what it prints (OpenMP 5.2, 5.6)
+abbrev pub ScansAtTurns : Roles → Variable → ReduceOp → List Loop → List Loop → Stmt → Stmt → Stmt → Type 0
+ScansAtTurns roles x op serial loops first whole s =
+    (outer : State) (us : List Vector) (chunks : List (List Vector)) (e : Effect)
+    → IsTurn serial outer → DeclaresLocals s outer → AreAtHand roles s outer → iterations loops outer ≡ Some us → flat_map (λ vs. vs) chunks ≡ us → run s outer ≡ Some e
+    → ScansFrom roles x op s loops first whole chunks outer e
+
+-- its line's phases are those of its body, and it may be run in two passes
+pub record ScansInChunks (said : Option PhasesSaid) (x : Variable) (op : ReduceOp) (roles : Roles) (serial : List Loop) (n : ℕ) (s : Stmt) : Type 0 where
+  pub only : roles.reductions ≡ (x, op) ∷ []
+  pub apart : list_all (is_plain roles.reductions) (assigned_first roles) ≡ true
+  pub inclusive : Bool
+  pub front : Items
+  pub back : Items
+  pub told : said ≡ Some (inclusive, item_count front)
+  pub loops : List Loop
+  pub nest : nest_of n s ≡ Some (loops, whole_of front back)
+  pub passes : ScansAtTurns roles x op serial loops (first_of inclusive front back) (whole_of front back) s
+
+-- a statement is a nest of so many loops that assigns of scalars those alone that have the roles of its line; where its iterations carry nothing from one to the next, they may be run in chunks, and as a scan where they carry one variable that they assign, by an operator that takes its operands
+pub record SharesAsNest (ds : List Declaration) (d : LoopData) (said : Option PhasesSaid) (serial : List Loop) (n : ℕ) (s : Stmt) : Type 0 where
+  pub nest : IsSome (nest_of n s)
+  pub round : HaveTurns serial
+  pub steps : HasStepsRead n s
+  pub assigned : (x : Variable) → is_among (targets_outside s) x ≡ is_among (role_variables (used_roles s (left_roles d))) x
+  pub there : IterateAtTurns serial n s
+  pub leaves : LeavesOthers s
+  pub takes : TakesAtTurns ds (used_roles s (left_roles d)) serial s
+  pub phases : (d.carried ≡ []) ⊎ HasPhases d said n s
+  pub shares : d.carried ≡ [] → SharesInChunks (used_roles s (left_roles d)) serial n s
+  pub scans : (x : Variable) (op : ReduceOp) → d.carried ≡ (x, op) ∷ [] → takes_operands (x, op) ≡ true → is_among (targets_outside s) x ≡ true
+      → ScansInChunks said x op (used_roles s (left_roles d)) serial n s
+
+-- so the loop behind each directive line, with the roles and the phases that are said of it
+abbrev pub SharesBy : List Declaration → LineData → LinePhases → AskedByLine
+SharesBy ds R P line serial n s = SharesAsNest ds (R line) (P line) serial n s
 
 -- so each parallel loop of a kernel of the grammar, where no subscript leaves its dimension, no local is read before it is assigned, parallel loops keep the roles of the scalars that they assign, and the test of pairs shows all of them to be independent
 abbrev pub AcceptedLoopsShare : Type 0
 AcceptedLoopsShare =
-    (text : List ℕ) (k : Kernel) (R : LineRoles) → IsTreeOf text k → IsInRange k → IsDefinite (privates_by R) k → ItemsKeepRoles text R [] k.body
-    → AreShownLoops text k → ItemsHaveBy text (SharesBy k.variables R) [] k.body
+    (text : List ℕ) (k : Kernel) (R : LineData) (P : LinePhases) → IsTreeOf text k → IsInRange k → IsDefinite (privates_by R) k → ItemsKeepRoles text R [] k.body
+    → ItemsHaveBy text (PhasesBy R P) [] k.body → AreShownLoops text k → ItemsHaveBy text (SharesBy k.variables R P) [] k.body

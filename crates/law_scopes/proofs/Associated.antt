@@ -5,7 +5,7 @@ use Rattle.std.proofs.Common.{refl, subst}
 use Rattle.std.proofs.lemmas.Option.{same_Some, none-some}
 use Rattle.semantics.specs.Tree.{Name}
 use Rattle.semantics.specs.Source.Token.{Token}
-use Rattle.semantics.specs.Directives.Directive.{Schedule, Clause, DefaultShared, DefaultNone, Nowait, Ordered, Shared, Private, Firstprivate, Lastprivate, Reduction, ScheduledBy, Collapse, Directive, ParallelFor, Parallel, Worksharing, ScanInclusive, ScanExclusive, OrderedRegion, DoacrossSource, DoacrossSink}
+use Rattle.semantics.specs.Directives.Directive.{Schedule, Clause, DefaultShared, DefaultNone, Nowait, Ordered, Shared, Private, Firstprivate, Lastprivate, Reduction, Inscan, ScheduledBy, Collapse, Directive, ParallelFor, Parallel, Worksharing, ScanInclusive, ScanExclusive, OrderedRegion, DoacrossSource, DoacrossSink}
 use Rattle.semantics.specs.Directives.DirectiveGrammar as grammar
 use Rattle.semantics.specs.Directives.DirectiveGrammar.{ReadsNumber, ReadsClause, ReadsFurther, ReadsClauses, ReadsDirective}
 use Rattle.cparse_grammar.specs.Reading.{◌>>=◌}
@@ -75,6 +75,7 @@ with_counts (Private xs) s s' h g e = subst (λ (t : Said). AtLeastOne t.1) (sam
 with_counts (Firstprivate xs) s s' h g e = subst (λ (t : Said). AtLeastOne t.1) (same_Some s s' e) g
 with_counts (Lastprivate xs) s s' h g e = subst (λ (t : Said). AtLeastOne t.1) (same_Some s s' e) g
 with_counts (Reduction op xs) s s' h g e = subst (λ (t : Said). AtLeastOne t.1) (same_Some s s' e) g
+with_counts (Inscan op x) s s' h g e = subst (λ (t : Said). AtLeastOne t.1) (same_Some s s' e) g
 with_counts Ordered s s' h g e = subst (λ (t : Said). AtLeastOne t.1) (same_Some s s' e) g
 with_counts Nowait s s' h g e = subst (λ (t : Said). AtLeastOne t.1) (same_Some s s' e) g
 with_counts c s s' h g e = absurd (cc e)

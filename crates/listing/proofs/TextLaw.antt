@@ -10,7 +10,7 @@ use Rattle.semantics.specs.Source.Scope.{Scope, AVariable}
 use Rattle.semantics.specs.Meaning.Value.{map_option}
 use Rattle.semantics.specs.Loops.Nest.{Loop, as_loop, only_loop, holds_none, nest_of}
 use Rattle.semantics.specs.Source.Grammar.{ReadsText}
-use Rattle.semantics.specs.Directives.Directive.{Schedule, StaticPlain, Clause, DefaultShared, DefaultNone, Nowait, Ordered, Shared, Private, Firstprivate, Lastprivate, Reduction, ScheduledBy, Collapse, Directive, ParallelFor, Parallel, Worksharing, ScanInclusive, ScanExclusive, OrderedRegion, DoacrossSource, DoacrossSink}
+use Rattle.semantics.specs.Directives.Directive.{Schedule, StaticPlain, Clause, DefaultShared, DefaultNone, Nowait, Ordered, Shared, Private, Firstprivate, Lastprivate, Reduction, Inscan, ScheduledBy, Collapse, Directive, ParallelFor, Parallel, Worksharing, ScanInclusive, ScanExclusive, OrderedRegion, DoacrossSource, DoacrossSink}
 use Rattle.semantics.specs.Directives.Annotated.{Directives, directive_at, file_scope, lines_in, lines_among, lines_of, ReadsDirectives}
 use Rattle.semantics.specs.Directives.Clauses.{depth_of, schedule_of, doacross_of, reduction_of, is_scan}
 use Rattle.semantics.specs.Directives.Regions as meant
@@ -26,7 +26,7 @@ use Rattle.pragma.specs.Plain.{has_line, has_line_among, IsPlainFor, IsPlainLoop
 use Rattle.pragma_attach.specs.Standing.{directive_on}
 use Rattle.pragma_attach.specs.Attached.{directives_of}
 use Rattle.pragma_attach.proofs.LinesLaw.{Read, AllRead, both_read, Found, AllFound, found_first, found_second, all_found, are_read}
-use Rattle.pragma_region.specs.Regions.{is_ordered, is_left_out, alone}
+use Rattle.pragma_region.specs.Regions.{is_ordered, is_scan as is_scan_said, is_left_out, alone}
 use Rattle.pragma_region.specs.Listed.{one_loop, line_loop, shared_line, shared_behind, shared_among, shared_in, region_line, region_behind, regions_in, regions_among, regions_of, part_said}
 use Rattle.pragma_region.specs.declared.listing.RegionPart.{RegionPart}
 use Rattle.deptest.specs.Accepted.{AreRegions}
@@ -38,7 +38,6 @@ use Rattle.listing.proofs.Printed.{printed_regions}
 record IsPlain (cs : List (Clause Name)) (k : Option Schedule) : Type 0 where
   schedule : schedule_of cs ≡ unwrap_or k StaticPlain
   doacross : doacross_of cs ≡ None
-  scan : is_scan cs ≡ false
 
 first_said : {s t : Said} → Some s ≡ Some t → s.0 ≡ t.0
 first_said e = ap (λ (s : Said). s.0) (same e)
@@ -50,64 +49,57 @@ one_more : (c : Clause Name) (cs : List (Clause Name)) (j : Option Schedule) (d 
 one_more (ScheduledBy s) cs None d k e p f = record {
   schedule = ap (λ o. unwrap_or o StaticPlain) (first_said f);
   doacross = p.doacross;
-  scan = p.scan;
 }
 one_more (ScheduledBy s) cs (Some t) d k e p f = absurd (cc f)
 one_more (Collapse n) cs j None k e p f = record {
   schedule = p.schedule ∙ ap (λ o. unwrap_or o StaticPlain) (first_said f);
   doacross = p.doacross;
-  scan = p.scan;
 }
 one_more (Collapse n) cs j (Some m) k e p f = absurd (cc f)
 one_more DefaultShared cs j d k e p f = record {
   schedule = p.schedule ∙ ap (λ o. unwrap_or o StaticPlain) (first_said f);
   doacross = p.doacross;
-  scan = p.scan;
 }
 one_more DefaultNone cs j d k e p f = record {
   schedule = p.schedule ∙ ap (λ o. unwrap_or o StaticPlain) (first_said f);
   doacross = p.doacross;
-  scan = p.scan;
 }
 one_more (Shared xs) cs j d k e p f = record {
   schedule = p.schedule ∙ ap (λ o. unwrap_or o StaticPlain) (first_said f);
   doacross = p.doacross;
-  scan = p.scan;
 }
 one_more (Private xs) cs j d k e p f = record {
   schedule = p.schedule ∙ ap (λ o. unwrap_or o StaticPlain) (first_said f);
   doacross = p.doacross;
-  scan = p.scan;
 }
 one_more (Firstprivate xs) cs j d k e p f = record {
   schedule = p.schedule ∙ ap (λ o. unwrap_or o StaticPlain) (first_said f);
   doacross = p.doacross;
-  scan = p.scan;
 }
 one_more (Lastprivate xs) cs j d k e p f = record {
   schedule = p.schedule ∙ ap (λ o. unwrap_or o StaticPlain) (first_said f);
   doacross = p.doacross;
-  scan = p.scan;
 }
 one_more (Reduction op xs) cs j d k e p f = record {
   schedule = p.schedule ∙ ap (λ o. unwrap_or o StaticPlain) (first_said f);
   doacross = p.doacross;
-  scan = p.scan;
+}
+one_more (Inscan op x) cs j d k e p f = record {
+  schedule = p.schedule ∙ ap (λ o. unwrap_or o StaticPlain) (first_said f);
+  doacross = p.doacross;
 }
 one_more Ordered cs j d k e p f = record {
   schedule = p.schedule ∙ ap (λ o. unwrap_or o StaticPlain) (first_said f);
   doacross = p.doacross;
-  scan = p.scan;
 }
 one_more Nowait cs j d k e p f = record {
   schedule = p.schedule ∙ ap (λ o. unwrap_or o StaticPlain) (first_said f);
   doacross = p.doacross;
-  scan = p.scan;
 }
 one_more c cs j d k e p f = absurd (cc f)
 
 are_plain : (cs : List (Clause Name)) (k : Option Schedule) (c : Option ℕ) → said_by cs ≡ Some (k, c) → IsPlain cs k
-are_plain [] k c e = record { schedule = ap (λ o. unwrap_or o StaticPlain) (first_said e); doacross = refl; scan = refl }
+are_plain [] k c e = record { schedule = ap (λ o. unwrap_or o StaticPlain) (first_said e); doacross = refl }
 are_plain (x ∷ cs) k c e = go (said_by cs) refl (are_plain cs) e
   where
     go : (o : Option Said) → said_by cs ≡ o → ((j : Option Schedule) (d : Option ℕ) → said_by cs ≡ Some (j, d) → IsPlain cs j)
@@ -218,7 +210,7 @@ module _ (text : List ℕ) (ds : Directives) where
 
   -- whether the line of such a directive is left out
   abbrev is_out : Option (Directive Name) → Bool
-  is_out o = is_team o || is_ordered o
+  is_out o = is_team o || is_ordered o || is_scan_said o
 
   -- one that is has no offsets
   region_quiet : (n : ℕ) (o : Option (Directive Name)) → directive_on text n ≡ o → directive_at ds n ≡ o → out n ≡ true → offsets_of (directive_at ds n) ≡ []
@@ -226,8 +218,8 @@ module _ (text : List ℕ) (ds : Directives) where
   region_quiet n None e f t = absurd (cc (sym (ap is_out e) ∙ t))
   region_quiet n (Some (ParallelFor cs)) e f t = absurd (cc (sym (ap is_out e) ∙ t))
   region_quiet n (Some (Worksharing cs)) e f t = absurd (cc (sym (ap is_out e) ∙ t))
-  region_quiet n (Some (ScanInclusive x)) e f t = absurd (cc (sym (ap is_out e) ∙ t))
-  region_quiet n (Some (ScanExclusive x)) e f t = absurd (cc (sym (ap is_out e) ∙ t))
+  region_quiet n (Some (ScanInclusive x)) e f t = ap offsets_of f
+  region_quiet n (Some (ScanExclusive x)) e f t = ap offsets_of f
   region_quiet n (Some OrderedRegion) e f t = ap offsets_of f
   region_quiet n (Some DoacrossSource) e f t = absurd (cc (sym (ap is_out e) ∙ t))
   region_quiet n (Some (DoacrossSink es)) e f t = absurd (cc (sym (ap is_out e) ∙ t))
@@ -279,8 +271,8 @@ module _ (text : List ℕ) (ds : Directives) where
       let plain = are_plain cs k c says in
       let quiet = quiet_in scope s found (plain_for (without_in out s) first) in
       let sinks : sinks_in ds (nest_of (depth_of cs) s) ≡ [] = alone (nest_of (depth_of cs) s) ∙ no_sinks_of ds (depth_of cs) (λ ls. ls) s quiet in
-      ap (λ o. map listed_loop (one_loop o (flat_map reduction_of cs))) says
-      ∙ (λ i. record { schedule = sym plain.schedule i; doacross = sym plain.doacross i; sinks = sym sinks i; reductions = flat_map reduction_of cs; scan = sym plain.scan i } ∷ [])
+      ap (λ o. map listed_loop (one_loop o (flat_map reduction_of cs) (is_scan cs))) says
+      ∙ (λ i. record { schedule = sym plain.schedule i; doacross = sym plain.doacross i; sinks = sym sinks i; reductions = flat_map reduction_of cs; scan = is_scan cs } ∷ [])
     where
       alone : (o : Option (List Loop × Stmt)) → sinks_in ds o ≡ sinks_in ds (map_option (λ (inner : List Loop × Stmt). (inner.0, inner.1)) o)
       alone None = refl
@@ -399,7 +391,7 @@ module _ (text : List ℕ) (ds : Directives) where
 module _ (text : List ℕ) where
   -- that of a region
   region_is_read : (n : ℕ) (o : Option (Directive Name)) → directive_on text n ≡ o → is_left_out text n ≡ true → Read text n
-  region_is_read n None e t = absurd (cc (sym (ap (λ o. is_team o || is_ordered o) e) ∙ t))
+  region_is_read n None e t = absurd (cc (sym (ap (λ o. is_team o || is_ordered o || is_scan_said o) e) ∙ t))
   region_is_read n (Some d) e t = (d, e)
 
   mutual

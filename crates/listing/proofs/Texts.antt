@@ -1,10 +1,10 @@
 -- The texts of lines and regions, taken apart.
-use Rattle.std.specs.Prelude.{ℕ, Bool, true, ◌≡◌, if◌then◌else◌, ◌⊎◌, List, [], ◌∷◌, ◌++◌, length, flat_map, codes, Result, Ok, Err, OnOk}
+use Rattle.std.specs.Prelude.{ℕ, Bool, true, false, ◌≡◌, if◌then◌else◌, ◌⊎◌, List, [], ◌∷◌, ◌++◌, length, flat_map, codes, Result, Ok, Err, OnOk}
 use Rattle.std.specs.Fmt.{decimal}
 use Rattle.std.proofs.Common.{refl, sym, ap, ◌∙◌, subst, append_assoc, append-nil, inl, inr}
 use Rattle.std.proofs.lemmas.Grind.{flat_map-append}
 use Rattle.semantics.specs.Directives.Directive.{Schedule, StaticPlain, StaticSize, DynamicSize, GuidedSize, Auto, Runtime}
-use Rattle.semantics.specs.Directives.Listing.{Lines, is_static, begin_lines, end_lines, reduce_lines, loop_lines, numbered}
+use Rattle.semantics.specs.Directives.Listing.{Lines, is_static, begin_lines, end_lines, reduce_lines, pass_lines, loop_lines, numbered}
 use Rattle.ktree.specs.declared.directive.Schedule as code
 use Rattle.ktree.specs.declared.directive.Schedule.TheVariants as kind
 use Rattle.ktree.specs.DirectiveView.{schedule_of}
@@ -57,7 +57,7 @@ reduced_ok q r l a b c d e (x ∷ xs) some f g h o =
     both_added_ok q r l a d e ((codes "__kmpc_reduce" ++ words) ∷ []) (codes "__kmpc_end_reduce" ∷ []) first o
 
 -- begin, end, reductions and barrier are its lines
-loop_parts : (s : Schedule) (rs : List (Name × ReduceOp)) → ((begin_lines s ++ end_lines s) ++ reduce_lines rs) ++ codes "__kmpc_barrier" ∷ [] ≡ loop_lines (listed_with s rs)
+loop_parts : (s : Schedule) (rs : List (Name × ReduceOp)) → ((begin_lines s ++ end_lines s) ++ reduce_lines rs) ++ codes "__kmpc_barrier" ∷ [] ≡ loop_lines (listed_with s rs false)
 loop_parts StaticPlain rs = refl
 loop_parts (StaticSize k) rs = refl
 loop_parts (DynamicSize k) rs = refl
@@ -65,8 +65,23 @@ loop_parts (GuidedSize k) rs = refl
 loop_parts Auto rs = refl
 loop_parts Runtime rs = refl
 
+-- one pass over a scan's loop
+pass_parts : (s : Schedule) → (begin_lines s ++ end_lines s) ++ codes "__kmpc_barrier" ∷ [] ≡ pass_lines (listed_with s [] true)
+pass_parts StaticPlain = refl
+pass_parts (StaticSize k) = refl
+pass_parts (DynamicSize k) = refl
+pass_parts (GuidedSize k) = refl
+pass_parts Auto = refl
+pass_parts Runtime = refl
+
+pub pass_ok : {T E : Type 0} (q : Result T E) (r l : ℕ) (a b c d : List ℕ) (s : Schedule) → b ≡ a ++ numbered r l (begin_lines s) → c ≡ b ++ numbered r l (end_lines s)
+    → OnOk q (d ≡ c ++ numbered r l (codes "__kmpc_barrier" ∷ [])) → OnOk q (d ≡ a ++ numbered r l (pass_lines (listed_with s [] true)))
+pass_ok q r l a b c d s f g o =
+    subst (λ (xs : Lines). OnOk q (d ≡ a ++ numbered r l xs)) (pass_parts s)
+    (both_added_ok q r l a c d (begin_lines s ++ end_lines s) (codes "__kmpc_barrier" ∷ []) (both_added r l a b c (begin_lines s) (end_lines s) f g) o)
+
 pub loop_ok : {T E : Type 0} (q : Result T E) (r l : ℕ) (a b c d e : List ℕ) (s : Schedule) (rs : List (Name × ReduceOp)) → b ≡ a ++ numbered r l (begin_lines s) → c ≡ b ++ numbered r l (end_lines s)
-    → d ≡ c ++ numbered r l (reduce_lines rs) → OnOk q (e ≡ d ++ numbered r l (codes "__kmpc_barrier" ∷ [])) → OnOk q (e ≡ a ++ numbered r l (loop_lines (listed_with s rs)))
+    → d ≡ c ++ numbered r l (reduce_lines rs) → OnOk q (e ≡ d ++ numbered r l (codes "__kmpc_barrier" ∷ [])) → OnOk q (e ≡ a ++ numbered r l (loop_lines (listed_with s rs false)))
 loop_ok q r l a b c d e s rs f g h o =
     let ended = both_added r l a b c (begin_lines s) (end_lines s) f g in
     let reduced = both_added r l a c d (begin_lines s ++ end_lines s) (reduce_lines rs) ended h in

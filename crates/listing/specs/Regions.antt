@@ -1,5 +1,5 @@
 -- The regions of a kernel as they are listed, part by part. (OpenMP 5.2, 10.1, 11.5 and 17)
-use Rattle.std.specs.Prelude.{ℕ, suc, ◌≡◌, ◌≤◌, ◌+◌, List, [], ◌∷◌, ◌++◌, Option, Some, None, false, codes}
+use Rattle.std.specs.Prelude.{ℕ, suc, Bool, ◌≡◌, ◌≤◌, ◌+◌, List, [], ◌∷◌, ◌++◌, Option, Some, None, codes}
 use Rattle.std.specs.Option.{unwrap_or}
 use Rattle.std.specs.Fmt.{decimal}
 use Rattle.semantics.specs.Tree.{Name, Kernel}
@@ -19,9 +19,9 @@ use Rattle.listing.specs.declared.regions.Listed.{Listed}
 abbrev pub schedule_listed : ParallelFor → Schedule
 schedule_listed d = unwrap_or (scheduled d) StaticPlain
 
--- a loop with a schedule and these reductions
-abbrev pub listed_with : Schedule → List (Name × ReduceOp) → ListedLoop
-listed_with s rs = record { schedule = s; doacross = None; sinks = []; reductions = rs; scan = false }
+-- a loop with a schedule and these reductions, of a scan or of none
+abbrev pub listed_with : Schedule → List (Name × ReduceOp) → Bool → ListedLoop
+listed_with s rs scan = record { schedule = s; doacross = None; sinks = []; reductions = rs; scan = scan }
 
 -- the front of a line: `R.L ` and words
 abbrev pub fronted : ℕ → ℕ → List ℕ → List ℕ
@@ -29,7 +29,7 @@ fronted r l words = decimal r ++ 46 ∷ (decimal l ++ 32 ∷ words)
 
 -- by what its line says
 abbrev pub listed_loop : LoopSaid → ListedLoop
-listed_loop s = listed_with (unwrap_or s.0.0 StaticPlain) s.1
+listed_loop s = listed_with (unwrap_or s.0.0 StaticPlain) s.1 s.2
 
 -- a variable and its operator, as a line tells them behind a blank
 abbrev pub reduction_words : Name × ReduceOp → List ℕ

@@ -1,8 +1,8 @@
 //! The calls that stand for a loop, by its schedule.
 
-ghost use Rattle.std.specs.Prelude.{◌≡◌, ◌++◌, ◌∷◌, [], codes, map, flat_map, OnOk};
+ghost use Rattle.std.specs.Prelude.{◌≡◌, true, false, ◌++◌, ◌∷◌, [], codes, map, flat_map, OnOk};
 ghost use Rattle.semantics.specs.Theorems.{Begins};
-ghost use Rattle.semantics.specs.Directives.Listing.{is_static as are_static, begin_lines, end_lines, reduce_lines, loop_lines, numbered};
+ghost use Rattle.semantics.specs.Directives.Listing.{is_static as are_static, begin_lines, end_lines, reduce_lines, pass_lines, loop_lines, numbered};
 ghost use Rattle.semantics.specs.Directives.Directive.{op_text};
 ghost use Rattle.ktree.specs.DirectiveView.{schedule_of, operator_of};
 ghost use Rattle.pragma_region.specs.Listed.{reduction_named};
@@ -184,14 +184,18 @@ fn add_reductions(
     add_line(text, region, number, b"__kmpc_end_reduce", b"")
 }
 
-/// Adds the lines of a loop with this schedule (OpenMP 5.2, 11.5.3) and these reductions (5.5.8): its begin and end, the calls that put
-/// reductions together, and the barrier behind it (`__kmpc_barrier`; 11.5).
-///
-/// # Errors
-///
-/// Where memory runs out.
+// The barrier behind a loop (`__kmpc_barrier`; OpenMP 5.2, 11.5).
+fn add_barrier(text: &mut Vec<u8>, region: usize, number: usize) -> Result<(), AllocError>
+    ensures added { OnOk result (text.new.items
+        ≡ text.old.items ++ numbered region number (codes "__kmpc_barrier" ∷ [])) }
+    ensures front { Begins text.old.items text.new.items }
+{
+    add_line(text, region, number, b"__kmpc_barrier", b"")
+}
+
+// The lines of a loop that is no scan's: its begin and end, the calls that put reductions together, and the barrier behind it.
 #[tactic(auto, using(crate::proofs::Texts::loop_ok))]
-pub(crate) fn add_loop(
+fn add_plain(
     text: &mut Vec<u8>,
     region: usize,
     number: usize,
@@ -201,11 +205,71 @@ pub(crate) fn add_loop(
     ensures added { OnOk result (text.new.items
         ≡ text.old.items ++ numbered region number
         (loop_lines (listed_with (schedule_of schedule.now)
-        (map reduction_named reductions.now)))) }
+        (map reduction_named reductions.now) false))) }
     ensures front { Begins text.old.items text.new.items }
 {
     add_begin(text, region, number, schedule)?;
     add_end(text, region, number, schedule)?;
     add_reductions(text, region, number, reductions)?;
-    add_line(text, region, number, b"__kmpc_barrier", b"")
+    add_barrier(text, region, number)
+}
+
+// One pass over a scan's loop: its begin and end, and the barrier behind it.
+fn add_pass(
+    text: &mut Vec<u8>,
+    region: usize,
+    number: usize,
+    schedule: &Schedule,
+) -> Result<(), AllocError>
+    ensures added { OnOk result (text.new.items
+        ≡ text.old.items ++ numbered region number
+        (pass_lines (listed_with (schedule_of schedule.now) [] true))) }
+    ensures front { Begins text.old.items text.new.items }
+{
+    add_begin(text, region, number, schedule)?;
+    add_end(text, region, number, schedule)?;
+    add_barrier(text, region, number)
+}
+
+// Both passes.
+fn add_passes(
+    text: &mut Vec<u8>,
+    region: usize,
+    number: usize,
+    schedule: &Schedule,
+) -> Result<(), AllocError>
+    ensures added { OnOk result (text.new.items
+        ≡ text.old.items ++ numbered region number
+        (loop_lines (listed_with (schedule_of schedule.now) [] true))) }
+    ensures front { Begins text.old.items text.new.items }
+{
+    add_pass(text, region, number, schedule)?;
+    add_pass(text, region, number, schedule)
+}
+
+/// Adds the lines of a loop with this schedule (OpenMP 5.2, 11.5.3) and these reductions (5.5.8): its begin and end, the calls that put
+/// reductions together, and the barrier behind it (`__kmpc_barrier`; 11.5); of a scan's loop (5.6) two passes, each with its barrier.
+///
+/// # Errors
+///
+/// Where memory runs out.
+pub(crate) fn add_loop(
+    text: &mut Vec<u8>,
+    region: usize,
+    number: usize,
+    schedule: &Schedule,
+    reductions: &[NamedReduction],
+    scan: bool,
+) -> Result<(), AllocError>
+    ensures added { OnOk result (text.new.items
+        ≡ text.old.items ++ numbered region number
+        (loop_lines (listed_with (schedule_of schedule.now)
+        (map reduction_named reductions.now) scan))) }
+    ensures front { Begins text.old.items text.new.items }
+{
+    if scan {
+        add_passes(text, region, number, schedule)
+    } else {
+        add_plain(text, region, number, schedule, reductions)
+    }
 }

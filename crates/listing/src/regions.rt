@@ -61,6 +61,7 @@ fn add_next_loop(
         loops,
         &schedule,
         &region_loop.reductions,
+        region_loop.scan,
     )?;
     Ok(Listed {
         regions: before.regions,

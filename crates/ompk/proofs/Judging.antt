@@ -15,12 +15,12 @@ use Rattle.ktree.specs.declared.refusal.Refusal.{Refusal}
 use Rattle.pragma_named.specs.Known.{Known, Lines, known_clauses, lines_known}
 use Rattle.pragma_region.specs.Regions.{is_left_out, alone}
 use Rattle.pragma_region.specs.Counted.{counted_in}
-use Rattle.flow.specs.Roles.{LineRoles, line_roles, roles_known, privates_by, ItemsKeepRoles}
+use Rattle.flow.specs.Roles.{LineData, line_data, data_known, privates_by, ItemsKeepRoles}
 use Rattle.flow.specs.Parallel.{AreParallelLoops}
 use Rattle.flow.specs.declared.environment.ParallelLoop.{ParallelLoop}
 use Rattle.flow_clauses.specs.Fitting.{fit_clauses}
 use Rattle.flow_ordered.specs.Ordered.{prints_in_order}
-use Rattle.deptest.specs.Accepted.{Program, tree_of, clauses_said, clauses_counted, roles_counted, HasPassed, HasLoops}
+use Rattle.deptest.specs.Accepted.{Program, tree_of, clauses_said, clauses_counted, data_counted, HasPassed, HasLoops}
 use Rattle.ompk.specs.Judged.{IsLineKernel, IsOfKernel}
 use Rattle.ompk.specs.Refused.{IsJudged, RefusesScalars, RefusesClauses, RefusesData, RefusesAlone, RefusesKernel}
 
@@ -33,13 +33,13 @@ pub counted_are : (text : List ℕ) (k : Kernel) (ds : Directives) (before after
     → lines_known after ≡ counted_in text k (lines_known before) → clauses_counted text k ds ≡ lines_known after
 counted_are text k ds before after each is = ap (counted_in text k) (clauses_are k ds before each) ∙ sym is
 
-pub roles_are : (text : List ℕ) (k : Kernel) (ds : Directives) (known : Known) → clauses_counted text k ds ≡ lines_known known → roles_counted text k ds ≡ roles_known known (length k.variables)
+pub roles_are : (text : List ℕ) (k : Kernel) (ds : Directives) (known : Known) → clauses_counted text k ds ≡ lines_known known → data_counted text k ds ≡ data_known known (length k.variables)
 roles_are text k ds known is =
-    let roles : Lines → LineRoles = λ lines n. line_roles (length k.variables) (lines n) in
+    let roles : Lines → LineData = λ lines n. line_data (length k.variables) (lines n) in
     ap roles is
 
 -- a kernel that is judged has passed
-pub has_passed : (text : List ℕ) (k : Kernel) (known : Known) (in_order : Bool) → IsLineKernel text k known in_order → IsJudged text k (roles_known known (length k.variables)) (lines_known known) in_order → HasPassed text k
+pub has_passed : (text : List ℕ) (k : Kernel) (known : Known) (in_order : Bool) → IsLineKernel text k known in_order → IsJudged text k (data_known known (length k.variables)) (lines_known known) in_order → HasPassed text k
 has_passed text k known in_order stands judged =
     record {
       reads = stands.reads;
@@ -48,44 +48,44 @@ has_passed text k known in_order stands judged =
       in_range = judged.in_range;
       directed = judged.right.0;
       nested = judged.right.1;
-      definite = subst (λ (R : LineRoles). IsDefinite (privates_by R) k) (sym stands.roles) judged.environment.0;
-      roles = subst (λ (R : LineRoles). ItemsKeepRoles text R [] k.body) (sym stands.roles) judged.environment.1;
+      definite = subst (λ (R : LineData). IsDefinite (privates_by R) k) (sym stands.roles) judged.environment.0;
+      roles = subst (λ (R : LineData). ItemsKeepRoles text R [] k.body) (sym stands.roles) judged.environment.1;
       fit = ap (λ (lines : Lines). fit_clauses lines k) stands.clauses ∙ judged.environment.2;
       ordered = stands.ordered ∙ judged.environment.3;
     }
 
 -- and has these loops
-pub has_loops : (text : List ℕ) (k : Kernel) (known : Known) (in_order : Bool) (loops : List ParallelLoop) → IsLineKernel text k known in_order → IsJudged text k (roles_known known (length k.variables)) (lines_known known) in_order
-    → AreParallelLoops text (roles_known known (length k.variables)) k loops → HasLoops text k loops
+pub has_loops : (text : List ℕ) (k : Kernel) (known : Known) (in_order : Bool) (loops : List ParallelLoop) → IsLineKernel text k known in_order → IsJudged text k (data_known known (length k.variables)) (lines_known known) in_order
+    → AreParallelLoops text (data_known known (length k.variables)) k loops → HasLoops text k loops
 unfolding has_passed
 has_loops text k known in_order loops stands judged listed =
-    record { passed = has_passed text k known in_order stands judged; listed = subst (λ (R : LineRoles). AreParallelLoops text R k loops) (sym stands.roles) listed }
+    record { passed = has_passed text k known in_order stands judged; listed = subst (λ (R : LineData). AreParallelLoops text R k loops) (sym stands.roles) listed }
 
 -- a kernel whose directives are attached, with its regions dissolved
 pub line_kernel : (text : List ℕ) (tree k : Kernel) (ds : Directives) (known : Known) (in_order : Bool) → ReadsText text tree → IsAttached text tree ds → clauses_counted text tree ds ≡ lines_known known
-    → roles_counted text tree ds ≡ roles_known known (length tree.variables) → k ≡ alone text tree → in_order ≡ prints_in_order text tree → IsLineKernel text k known in_order
+    → data_counted text tree ds ≡ data_known known (length tree.variables) → k ≡ alone text tree → in_order ≡ prints_in_order text tree → IsLineKernel text k known in_order
 line_kernel text tree k ds known in_order reads attached clauses roles is ordered =
     record {
       reads = record { whole = tree; reads = reads; left_out = is_left_out text; is = is };
       directives = ds;
       attached = attached;
       clauses = clauses;
-      roles = roles ∙ ap (λ (j : Kernel). roles_known known (length j.variables)) (sym is);
+      roles = roles ∙ ap (λ (j : Kernel). data_known known (length j.variables)) (sym is);
       ordered = sym ordered;
     }
 
 -- it is refused
 pub alone_refused : (text : List ℕ) (tree k : Kernel) (ds : Directives) (known : Known) (in_order : Bool) (r : Refusal) → IsAttached text tree ds → clauses_counted text tree ds ≡ lines_known known
-    → roles_counted text tree ds ≡ roles_known known (length tree.variables) → k ≡ alone text tree → in_order ≡ prints_in_order text tree
-    → RefusesAlone text k (roles_known known (length k.variables)) (lines_known known) in_order r → RefusesKernel text tree r
+    → data_counted text tree ds ≡ data_known known (length tree.variables) → k ≡ alone text tree → in_order ≡ prints_in_order text tree
+    → RefusesAlone text k (data_known known (length k.variables)) (lines_known known) in_order r → RefusesKernel text tree r
 alone_refused text tree k ds known in_order r attached clauses roles is ordered refused =
-    let there = subst (λ (j : Kernel). RefusesAlone text j (roles_known known (length j.variables)) (lines_known known) in_order r) is refused in
-    let by_lines = subst (λ (lines : Lines). RefusesAlone text (alone text tree) (roles_known known (length tree.variables)) lines in_order r) (sym clauses) there in
-    let by_roles = subst (λ (R : LineRoles). RefusesAlone text (alone text tree) R (clauses_counted text tree ds) in_order r) (sym roles) by_lines in
-    inr (ds, attached, subst (λ (b : Bool). RefusesAlone text (alone text tree) (roles_counted text tree ds) (clauses_counted text tree ds) b r) ordered by_roles)
+    let there = subst (λ (j : Kernel). RefusesAlone text j (data_known known (length j.variables)) (lines_known known) in_order r) is refused in
+    let by_lines = subst (λ (lines : Lines). RefusesAlone text (alone text tree) (data_known known (length tree.variables)) lines in_order r) (sym clauses) there in
+    let by_roles = subst (λ (R : LineData). RefusesAlone text (alone text tree) R (clauses_counted text tree ds) in_order r) (sym roles) by_lines in
+    inr (ds, attached, subst (λ (b : Bool). RefusesAlone text (alone text tree) (data_counted text tree ds) (clauses_counted text tree ds) b r) ordered by_roles)
 
 -- data that are wrong, or what is printed out of order, whichever is told
-pub either_refused : (text : List ℕ) (tree : Kernel) (R : LineRoles) (lines : Lines) (in_order : Bool) (one other r : Refusal) → in_order ≡ false → number_of one ≡ 18
+pub either_refused : (text : List ℕ) (tree : Kernel) (R : LineData) (lines : Lines) (in_order : Bool) (one other r : Refusal) → in_order ≡ false → number_of one ≡ 18
     → RefusesScalars text tree R other ⊎ RefusesClauses lines tree other → (r ≡ one) ⊎ (r ≡ other) → RefusesData text tree R lines in_order r
 either_refused text tree R lines in_order one other r wrong told refused (inl e) = inr (inr (wrong, ap number_of e ∙ told))
 either_refused text tree R lines in_order one other r wrong told (inl scalars) (inr e) = subst (λ (q : Refusal). RefusesData text tree R lines in_order q) (sym e) (inl scalars)

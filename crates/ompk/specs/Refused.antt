@@ -21,14 +21,14 @@ use Rattle.pragma_region.specs.NotKnown.{unknown_among}
 use Rattle.nest.specs.Nests.{IsNested, IsInRange}
 use Rattle.nest.specs.Leaves.{LeavesSomewhere}
 use Rattle.nest.specs.Perfect.{AreRightNests}
-use Rattle.flow.specs.Roles.{LineRoles, privates_by, ItemsKeepRoles}
+use Rattle.flow.specs.Roles.{LineData, privates_by, ItemsKeepRoles}
 use Rattle.flow.specs.Told.{TellsOfItems, data_refusal_of}
 use Rattle.flow.specs.declared.fault.DataFault.{DataFault}
 use Rattle.pragma_named.specs.Known.{Lines}
 use Rattle.flow_clauses.specs.Fitting.{fit_clauses, number_told}
 use Rattle.flow_clauses.specs.declared.judging.Misuse.{Misuse}
 use Rattle.flow_ordered.specs.Ordered.{prints_in_order}
-use Rattle.deptest.specs.Accepted.{clauses_counted, roles_counted, HasPassed}
+use Rattle.deptest.specs.Accepted.{clauses_counted, data_counted, HasPassed}
 use Rattle.deptest.specs.Refused.{RefusesLoops}
 
 -- memory was refused, or a loop is not canonical or may wrap, or a subscript is not affine, or a parallel loop has no right nest
@@ -60,7 +60,7 @@ abbrev pub RefusesPlaces : List ℕ → Kernel → Refusal → Type 0
 RefusesPlaces text tree r = (IsDirected text tree → ⊥) × (RefusesUnknown text tree r ⊎ RefusesPlaced text tree r)
 
 -- memory was refused, or a local may be read before it is assigned; or a parallel loop writes a shared scalar, or does not keep the roles of its scalars, or a line has no nest, whichever is told
-abbrev pub RefusesScalars : List ℕ → Kernel → LineRoles → Refusal → Type 0
+abbrev pub RefusesScalars : List ℕ → Kernel → LineData → Refusal → Type 0
 RefusesScalars text tree R r =
     (r ≡ OutOfMemory) ⊎ (((number_of r ≡ 10) × (IsDefinite (privates_by R) tree → ⊥)) ⊎ ((f : DataFault) × (r ≡ data_refusal_of f) × TellsOfItems f text R tree.body))
 
@@ -73,22 +73,22 @@ abbrev pub RefusesOrder : Bool → Refusal → Type 0
 RefusesOrder in_order r = (in_order ≡ false) × (number_of r ≡ 18)
 
 -- one of these; in_order: whether parallel loops print in order
-abbrev pub RefusesData : List ℕ → Kernel → LineRoles → Lines → Bool → Refusal → Type 0
+abbrev pub RefusesData : List ℕ → Kernel → LineData → Lines → Bool → Refusal → Type 0
 RefusesData text tree R lines in_order r = RefusesScalars text tree R r ⊎ (RefusesClauses lines tree r ⊎ RefusesOrder in_order r)
 
 -- the passes before that of the data find nothing wrong, nor does that of the data
 abbrev pub IsNestedRightly : List ℕ → Kernel → Type 0
 IsNestedRightly text tree = IsDirected text tree × AreRightNests text tree
 
-abbrev pub HasRightData : List ℕ → Kernel → LineRoles → Lines → Bool → Type 0
+abbrev pub HasRightData : List ℕ → Kernel → LineData → Lines → Bool → Type 0
 HasRightData text tree R lines in_order = IsDefinite (privates_by R) tree × ItemsKeepRoles text R [] tree.body × (fit_clauses lines tree ≡ true) × (in_order ≡ true)
 
 -- the data are wrong, or they are right and a subscript leaves its array
-abbrev pub RefusesDataOrRanges : List ℕ → Kernel → LineRoles → Lines → Bool → Refusal → Type 0
+abbrev pub RefusesDataOrRanges : List ℕ → Kernel → LineData → Lines → Bool → Refusal → Type 0
 RefusesDataOrRanges text tree R lines in_order r = RefusesData text tree R lines in_order r ⊎ (HasRightData text tree R lines in_order × RefusesRanges tree r)
 
 -- memory was refused, or the first pass that finds something wrong tells it: places of lines, then nests, then data, then ranges
-abbrev pub RefusesPasses : List ℕ → Kernel → LineRoles → Lines → Bool → Refusal → Type 0
+abbrev pub RefusesPasses : List ℕ → Kernel → LineData → Lines → Bool → Refusal → Type 0
 RefusesPasses text tree R lines in_order r =
     (r ≡ OutOfMemory)
     ⊎ (RefusesPlaces text tree r
@@ -96,7 +96,7 @@ RefusesPasses text tree R lines in_order r =
     ⊎ (IsNestedRightly text tree × RefusesDataOrRanges text tree R lines in_order r)))
 
 -- none of them finds anything, by the clauses that are known of each line
-pub record IsJudged (text : List ℕ) (tree : Kernel) (R : LineRoles) (lines : Lines) (in_order : Bool) : Type 0 where
+pub record IsJudged (text : List ℕ) (tree : Kernel) (R : LineData) (lines : Lines) (in_order : Bool) : Type 0 where
   pub right : IsNestedRightly text tree
   pub environment : HasRightData text tree R lines in_order
   pub in_range : IsInRange tree
@@ -106,12 +106,12 @@ abbrev pub RefusesPairs : List ℕ → Kernel → Refusal → Type 0
 RefusesPairs text tree r = HasPassed text tree × RefusesLoops text tree r
 
 -- a tree whose regions are dissolved is refused by one of these passes or by that test
-abbrev pub RefusesAlone : List ℕ → Kernel → LineRoles → Lines → Bool → Refusal → Type 0
+abbrev pub RefusesAlone : List ℕ → Kernel → LineData → Lines → Bool → Refusal → Type 0
 RefusesAlone text tree R lines in_order r = RefusesPasses text tree R lines in_order r ⊎ RefusesPairs text tree r
 
 -- the directives are attached, and the tree with its regions dissolved is refused, by the clauses that count for its lines
 abbrev pub RefusesAttached : List ℕ → Kernel → Refusal → Type 0
-RefusesAttached text tree r = (ds : Directives) × IsAttached text tree ds × RefusesAlone text (alone text tree) (roles_counted text tree ds) (clauses_counted text tree ds) (prints_in_order text tree) r
+RefusesAttached text tree r = (ds : Directives) × IsAttached text tree ds × RefusesAlone text (alone text tree) (data_counted text tree ds) (clauses_counted text tree ds) (prints_in_order text tree) r
 
 -- the tree is none that is run
 abbrev pub RefusesKernel : List ℕ → Kernel → Refusal → Type 0

@@ -2,7 +2,7 @@
 
 ghost use Rattle.std.specs.Prelude.{◌≡◌, ◌⊎◌, [], true, is_none, length, OnOk, IfOk, IfErr};
 ghost use Rattle.flow_clauses.specs.Fitting.{fit_clauses};
-ghost use Rattle.flow.specs.Roles.{roles_known, privates_by, ItemsKeepRoles};
+ghost use Rattle.flow.specs.Roles.{data_known, privates_by, ItemsKeepRoles};
 ghost use Rattle.pragma_named.specs.Known.{kept, lines_known};
 ghost use Rattle.pragma_attach.specs.Attached.{directives_of};
 ghost use Rattle.semantics.specs.Directives.Naming.{IsAttached};
@@ -15,7 +15,7 @@ ghost use Rattle.pragma.specs.Plain.{IsDirected};
 ghost use Rattle.nest.specs.Nests.{IsInRange};
 ghost use Rattle.nest.specs.Perfect.{AreRightNests};
 ghost use Rattle.nest.specs.Judged.{IsTableOf};
-ghost use Rattle.deptest.specs.Accepted.{tree_of, clauses_counted, roles_counted, AreRegions, IsAccepted};
+ghost use Rattle.deptest.specs.Accepted.{tree_of, clauses_counted, data_counted, AreRegions, IsAccepted};
 ghost use Rattle.ompk.specs.Judged.{IsLineKernel, IsOfKernel};
 ghost use Rattle.ompk.specs.Refused.{IsJudged, RefusesLines, RefusesPlaces, RefusesNests, RefusesRanges, RefusesScalars, RefusesClauses, HasRightData, RefusesData, RefusesPasses, RefusesAlone, RefusesKernel, RefusesText};
 
@@ -44,9 +44,9 @@ fn judge_lines(
         (directives_of directives.now (kernel_of kernel.now))) }
     ensures clauses { IfOk result (λ lines. clauses_counted directives.now (kernel_of kernel.now)
         (directives_of directives.now (kernel_of kernel.now)) ≡ lines_known (kept lines)) }
-    ensures roles { IfOk result (λ lines. roles_counted directives.now (kernel_of kernel.now)
+    ensures roles { IfOk result (λ lines. data_counted directives.now (kernel_of kernel.now)
         (directives_of directives.now (kernel_of kernel.now))
-        ≡ roles_known (kept lines) (length (kernel_of kernel.now).variables)) }
+        ≡ data_known (kept lines) (length (kernel_of kernel.now).variables)) }
     ensures refusal { IfErr result (RefusesLines directives.now (kernel_of kernel.now)) }
 {
     let mut lines = attach(alloc, kernel, directives)?;
@@ -110,15 +110,15 @@ fn judge_scalars(
     lines: &LineClauses,
 ) -> Result<Vec<ParallelLoop>, Refusal>
     ensures listed { IfOk result (λ loops. AreParallelLoops directives.now
-        (roles_known (kept lines.now) (length (kernel_of kernel.now).variables))
+        (data_known (kept lines.now) (length (kernel_of kernel.now).variables))
         (kernel_of kernel.now) loops.items) }
-    ensures definite { IfOk result (λ _. IsDefinite (privates_by (roles_known (kept lines.now)
+    ensures definite { IfOk result (λ _. IsDefinite (privates_by (data_known (kept lines.now)
         (length (kernel_of kernel.now).variables))) (kernel_of kernel.now)) }
     ensures roles { IfOk result (λ _. ItemsKeepRoles directives.now
-        (roles_known (kept lines.now) (length (kernel_of kernel.now).variables)) []
+        (data_known (kept lines.now) (length (kernel_of kernel.now).variables)) []
         (kernel_of kernel.now).body) }
     ensures refusal { IfErr result (RefusesScalars directives.now (kernel_of kernel.now)
-        (roles_known (kept lines.now) (length (kernel_of kernel.now).variables))) }
+        (data_known (kept lines.now) (length (kernel_of kernel.now).variables))) }
 {
     match (
         definite(alloc, kernel, lines),
@@ -180,17 +180,17 @@ fn judge_values(
     lines: &LineClauses,
 ) -> Result<Vec<ParallelLoop>, Refusal>
     ensures listed { IfOk result (λ loops. AreParallelLoops directives.now
-        (roles_known (kept lines.now) (length (kernel_of kernel.now).variables))
+        (data_known (kept lines.now) (length (kernel_of kernel.now).variables))
         (kernel_of kernel.now) loops.items) }
-    ensures definite { IfOk result (λ _. IsDefinite (privates_by (roles_known (kept lines.now)
+    ensures definite { IfOk result (λ _. IsDefinite (privates_by (data_known (kept lines.now)
         (length (kernel_of kernel.now).variables))) (kernel_of kernel.now)) }
     ensures roles { IfOk result (λ _. ItemsKeepRoles directives.now
-        (roles_known (kept lines.now) (length (kernel_of kernel.now).variables)) []
+        (data_known (kept lines.now) (length (kernel_of kernel.now).variables)) []
         (kernel_of kernel.now).body) }
     ensures fit { IfOk result (λ _. fit_clauses (lines_known (kept lines.now))
         (kernel_of kernel.now) ≡ true) }
     ensures refusal { IfErr result (λ r. RefusesScalars directives.now (kernel_of kernel.now)
-        (roles_known (kept lines.now) (length (kernel_of kernel.now).variables)) r
+        (data_known (kept lines.now) (length (kernel_of kernel.now).variables)) r
         ⊎ RefusesClauses (lines_known (kept lines.now)) (kernel_of kernel.now) r) }
 {
     match (
@@ -213,13 +213,13 @@ fn judge_data(
     disorder: Option<Disorder>,
 ) -> Result<Vec<ParallelLoop>, Refusal>
     ensures listed { IfOk result (λ loops. AreParallelLoops directives.now
-        (roles_known (kept lines.now) (length (kernel_of kernel.now).variables))
+        (data_known (kept lines.now) (length (kernel_of kernel.now).variables))
         (kernel_of kernel.now) loops.items) }
     ensures right { IfOk result (λ _. HasRightData directives.now (kernel_of kernel.now)
-        (roles_known (kept lines.now) (length (kernel_of kernel.now).variables))
+        (data_known (kept lines.now) (length (kernel_of kernel.now).variables))
         (lines_known (kept lines.now)) (is_none disorder)) }
     ensures refusal { IfErr result (RefusesData directives.now (kernel_of kernel.now)
-        (roles_known (kept lines.now) (length (kernel_of kernel.now).variables))
+        (data_known (kept lines.now) (length (kernel_of kernel.now).variables))
         (lines_known (kept lines.now)) (is_none disorder)) }
 {
     match (judge_values(alloc, kernel, directives, lines), disorder) {
@@ -246,14 +246,14 @@ fn judge(
     disorder: Option<Disorder>,
 ) -> Result<KnownLoops, Refusal>
     ensures judged { IfOk result (λ _. IsJudged directives.now (kernel_of kernel.now)
-        (roles_known (kept lines.now) (length (kernel_of kernel.now).variables))
+        (data_known (kept lines.now) (length (kernel_of kernel.now).variables))
         (lines_known (kept lines.now)) (is_none disorder)) }
     ensures table { IfOk result (λ known. IsTableOf (kernel_of kernel.now) known.table) }
     ensures listed { IfOk result (λ known. AreParallelLoops directives.now
-        (roles_known (kept lines.now) (length (kernel_of kernel.now).variables))
+        (data_known (kept lines.now) (length (kernel_of kernel.now).variables))
         (kernel_of kernel.now) known.loops.items) }
     ensures refusal { IfErr result (RefusesPasses directives.now (kernel_of kernel.now)
-        (roles_known (kept lines.now) (length (kernel_of kernel.now).variables))
+        (data_known (kept lines.now) (length (kernel_of kernel.now).variables))
         (lines_known (kept lines.now)) (is_none disorder)) }
 {
     judge_places(kernel, directives)?;
@@ -278,7 +278,7 @@ fn accept_alone(
     requires regions { AreRegions text.now (kernel_of kernel) regions.items }
     ensures is { IfOk result (λ checked. checked ≡ record { text = text.now; kernel = kernel }) }
     ensures refusal { IfErr result (RefusesAlone text.now (kernel_of kernel)
-        (roles_known (kept lines.now) (length (kernel_of kernel).variables))
+        (data_known (kept lines.now) (length (kernel_of kernel).variables))
         (lines_known (kept lines.now)) (is_none disorder)) }
 {
     let KnownLoops { table, loops } = judge(alloc, &kernel, directives, lines, disorder)?;

@@ -11,7 +11,7 @@ use Rattle.semantics.specs.Meaning.Runs.{Effect, run}
 use Rattle.semantics.specs.Loops.Nest.{Loop}
 use Rattle.semantics.specs.Loops.Piece.{Roles, is_outside}
 use Rattle.ktree.specs.View.{stmt_of}
-use Rattle.flow.specs.Roles.{LineRoles}
+use Rattle.flow.specs.Roles.{LineData}
 use Rattle.law_roles.specs.Sharing.{role_variables}
 use Rattle.law_runs.proofs.Going.{is_held}
 use Rattle.law_starts.specs.Begun.{told_apart}
@@ -44,7 +44,7 @@ told_role roles x h = go (is_among (role_variables roles) x) refl
     go true e = refl
     go false e = absurd (true≢false (sym h ∙ none_told roles x e))
 
-module _ (layout : List Laid) (mark : ℕ) (s : State) (rs : List ℕ) (ks : List Kept) (stand : StandFor layout mark s rs ks) (R : LineRoles) (serial : List Loop) (l : TeamLoop) (fits : TeamFits layout mark R serial l) where
+module _ (layout : List Laid) (mark : ℕ) (s : State) (rs : List ℕ) (ks : List Kept) (stand : StandFor layout mark s rs ks) (R : LineData) (serial : List Loop) (l : TeamLoop) (fits : TeamFits layout mark R serial l) where
   abbrev roles : Roles
   roles = roles_in R l
 
@@ -66,7 +66,7 @@ module _ (layout : List Laid) (mark : ℕ) (s : State) (rs : List ℕ) (ks : Lis
 
   -- no local with a role is declared in the loop
   free : (x : Variable) → is_among (told_apart roles) x ≡ true → is_among (declared_in loop) x ≡ false
-  free x h = undeclared (is_among (declared_in loop) x) (outside_visible loop x (fits.shares.assigned x ∙ told_role roles x h))
+  free x h = undeclared (is_among (declared_in loop) x) (outside_visible loop x (fits.nested.assigned x ∙ told_role roles x h))
 
   module _ (e : Effect) (ran : run loop s ≡ Some e) (own : List ℕ) (ks' : List Kept) (there : StandFor layout mark (overwritten s e.writes) own ks') where
     abbrev after : State
@@ -145,7 +145,7 @@ module _ (layout : List Laid) (mark : ℕ) (s : State) (rs : List ℕ) (ks : Lis
       shape = there.shape;
     }
 
-module _ (R : LineRoles) (serial : List Loop) (l : TeamLoop) (layout : List Laid) (mark : ℕ) (fits : TeamFits layout mark R serial l) (rs : List ℕ) (ks : List Kept) (text text' : List ℕ) where
+module _ (R : LineData) (serial : List Loop) (l : TeamLoop) (layout : List Laid) (mark : ℕ) (fits : TeamFits layout mark R serial l) (rs : List ℕ) (ks : List Kept) (text text' : List ℕ) where
   abbrev loop' : Stmt
   loop' = stmt_of l.statement.now
 

@@ -5,7 +5,7 @@ use Rattle.semantics.specs.Meaning.State.{State}
 use Rattle.semantics.specs.Meaning.Runs.{Effect}
 use Rattle.semantics.specs.Theorems.{WritesABeginning}
 use Rattle.ktree.specs.View.{items_of}
-use Rattle.flow.specs.Roles.{LineRoles}
+use Rattle.flow.specs.Roles.{LineData}
 use Rattle.law_apart.specs.Apart.{apart_items}
 use Rattle.store.specs.Kept.{Kept, state_of}
 use Rattle.store.specs.Flat.{AreFilled}
@@ -16,15 +16,15 @@ use Rattle.lower_run.specs.Walk.{stage}
 use Rattle.outline.specs.declared.shape.OutlineItem.{OutlineItem}
 use Rattle.outline.specs.Fit.{AllFit}
 use Rattle.outline.specs.View.{items_performed}
-use Rattle.deptest.specs.Accepted.{Program, tree_of, roles_passed}
+use Rattle.deptest.specs.Accepted.{Program, tree_of, data_passed}
 use Rattle.ompk_run.specs.Led.{AreWalked, AreBegun}
 use Rattle.ompk_run.specs.Ready.{IsPrepared}
 use Rattle.ompk_run.proofs.Readied.{cells_of_end}
 use Rattle.ompk_run.proofs.Written.{runs_apart, apart_written, IsAsRun, as_run}
 
 module _ (a : Program) (input : List ℕ) (made items : List OutlineItem) (rs : List ℕ) (ks : List Kept) (ready : IsPrepared a made rs ks) (same : items ≡ made) (first : IsStart (tree_of a).variables input ks) where
-  abbrev roles : LineRoles
-  roles = roles_passed ready.accepted.passed
+  abbrev roles : LineData
+  roles = data_passed ready.accepted.passed
 
   body : items_performed roles [] items ≡ apart_items roles [] (items_of a.kernel.body.items)
   body = ap (items_performed roles []) same ∙ ready.is

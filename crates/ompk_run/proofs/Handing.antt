@@ -1,5 +1,5 @@
 -- A loop that a team ran leaves the locals as they were but for lastprivate and reduction variables, and the file-scope objects as the loop's run does.
-use Rattle.std.specs.Prelude.{ℕ, Bool, true, false, ◌≡◌, ◌<◌, ◌≤◌, ◌^◌, ◌&&◌, if◌then◌else◌, List, ◌++◌, length, Option, Some, None, IsSome}
+use Rattle.std.specs.Prelude.{ℕ, Bool, true, false, ◌≡◌, ◌<◌, ◌≤◌, ◌^◌, ◌&&◌, if◌then◌else◌, List, ◌++◌, length, Option, Some, None, IsSome, []}
 use Rattle.std.specs.List.{list_all}
 use Rattle.std.proofs.Common.{refl, sym, ap, ◌∙◌, subst}
 use Rattle.std.proofs.lemmas.List.Folds.{list_all-append}
@@ -19,7 +19,7 @@ use Rattle.law_roles.specs.Reducing.{AreHeld}
 use Rattle.law_roles.specs.Sharing.{role_variables, SharesFrom, changed_from}
 use Rattle.law_starts.specs.Begun.{told_apart, begun}
 use Rattle.law_starts.proofs.Beginning.{may_begin}
-use Rattle.law_independence.specs.OrderLaws.{AreAtHand}
+use Rattle.law_independence.specs.OrderLaws.{AreAtHand, SharesInChunks}
 use Rattle.law_independence.proofs.Targeted.{outside_visible}
 use Rattle.law_scopes.specs.Apart.{is_at_turn}
 use Rattle.law_scopes.proofs.Spots.{some_of}
@@ -33,7 +33,7 @@ use Rattle.lower_code.specs.declared.term.Laid.{Laid}
 use Rattle.lower_code.specs.Machine.{Fits, machine}
 use Rattle.lower.specs.Lowered.{IsReached}
 use Rattle.lower_run.specs.Walk.{StandFor, Arrives}
-use Rattle.flow.specs.Roles.{LineRoles}
+use Rattle.flow.specs.Roles.{LineData}
 use Rattle.outline.specs.declared.shape.TeamLoop.{TeamLoop}
 use Rattle.outline.specs.Fit.{TeamFits}
 use Rattle.outline.specs.View.{roles_in}
@@ -45,20 +45,24 @@ use Rattle.ompk_run.proofs.Chunks.{cover}
 use Rattle.ompk_run.proofs.Leaving.{keep_numbers}
 use Rattle.ompk_run.proofs.Numbered.{declares}
 
-module _ (layout : List Laid) (mark : ℕ) (s : State) (rs : List ℕ) (ks : List Kept) (stand : StandFor layout mark s rs ks) (R : LineRoles) (serial : List Loop) (l : TeamLoop) (fits : TeamFits layout mark R serial l) where
+module _ (layout : List Laid) (mark : ℕ) (s : State) (rs : List ℕ) (ks : List Kept) (stand : StandFor layout mark s rs ks) (R : LineData) (serial : List Loop) (l : TeamLoop) (fits : TeamFits layout mark R serial l) (plain : (R l.line).carried ≡ []) where
   abbrev roles : Roles
   roles = roles_in R l
 
   abbrev loop : Stmt
   loop = stmt_of l.statement.now
 
+  -- its iterations may be run in chunks
+  apart : SharesInChunks roles serial l.depth loop
+  apart = fits.nested.shares plain
+
   -- what has a role stands outside of it
   seen : (x : Variable) → is_among (role_variables roles) x ≡ true → visible_behind loop x ≡ true
-  seen x h = outside_visible loop x (fits.shares.assigned x ∙ h)
+  seen x h = outside_visible loop x (fits.nested.assigned x ∙ h)
 
   lasts_plain : list_all (is_plain roles.reductions) roles.lasts ≡ true
   lasts_plain =
-      second_of (list_all (is_plain roles.reductions) roles.privates) (list_all (is_plain roles.reductions) roles.lasts) (sym (list_all-append (is_plain roles.reductions) roles.privates roles.lasts) ∙ fits.shares.apart)
+      second_of (list_all (is_plain roles.reductions) roles.privates) (list_all (is_plain roles.reductions) roles.lasts) (sym (list_all-append (is_plain roles.reductions) roles.privates roles.lasts) ∙ apart.apart)
 
   -- where such a loop is reached, its chunks have a run each, and what they leave together is what the loop leaves
   record IsHanded (kind : Kind) (workers : ℕ) (e : Effect) : Type 0 where
@@ -75,14 +79,14 @@ module _ (layout : List Laid) (mark : ℕ) (s : State) (rs : List ℕ) (ks : Lis
       let turn = at_turns serial s here in
       let hand = at_hand layout mark s rs ks stand roles loop near in
       let numbers = held layout mark s rs ks stand roles loop near in
-      let us = some_of (iterations fits.loops s) (fits.shares.there fits.loops fits.body s fits.nest turn) in
+      let us = some_of (iterations fits.loops s) (fits.nested.there fits.loops fits.body s fits.nest turn) in
       let chunks = chunked us.0 (cut kind (length us.0) workers) in
       record {
         us = us.0;
         hand = hand;
         numbers = numbers;
-        reached = record { box = fits.box; lowered = fits.lowered; stand = stand; counters = λ x counter. at_turn s serial here x (fits.known x counter); are = us.1; different = fits.shares.different; apart = lasts_plain; held = numbers };
-        shares = fits.shares.chunks fits.loops fits.body s (begun roles s) us.0 chunks e fits.nest turn (declares layout mark s rs ks stand loop fits.locals) hand (may_begin roles s hand.scalars fits.shares.different) us.1 (cover us.0 kind workers sized some) ran;
+        reached = record { box = fits.box; lowered = fits.lowered; stand = stand; counters = λ x counter. at_turn s serial here x (fits.known x counter); are = us.1; different = apart.different; apart = lasts_plain; held = numbers };
+        shares = apart.chunks fits.loops fits.body s (begun roles s) us.0 chunks e fits.nest turn (declares layout mark s rs ks stand loop fits.locals) hand (may_begin roles s hand.scalars apart.different) us.1 (cover us.0 kind workers sized some) ran;
       }
 
   module _ (kind : Kind) (workers : ℕ) (sized : IsSized kind) (some : 0 < workers) (text text' : List ℕ) where
@@ -118,10 +122,10 @@ module _ (layout : List Laid) (mark : ℕ) (s : State) (rs : List ℕ) (ks : Lis
                 fits = words;
                 width = subst (λ n. mark ≤ n) (sym merged.long) stand.machine.width;
                 room = room;
-                local = λ x v q. local_left layout mark s rs ks stand rs' ks' roles l.depth loop fits.loops fits.body fits.nest seen h.hand fits.shares.apart fits.privates chunks e ran h.shares merged x v q;
-                file_scope = λ x lt. still_outside layout mark s rs ks stand rs' ks' roles l.depth loop fits.loops fits.body fits.nest seen h.hand fits.shares.apart fits.privates chunks e ran h.shares merged x (stand.machine.file_scope x lt);
-                unmarked = λ x le. still_outside layout mark s rs ks stand rs' ks' roles l.depth loop fits.loops fits.body fits.nest seen h.hand fits.shares.apart fits.privates chunks e ran h.shares merged x (stand.machine.unmarked x le);
-                cell = λ x is. cell_left layout mark s rs ks stand rs' ks' roles l.depth loop fits.loops fits.body fits.nest seen h.hand fits.shares.apart fits.privates chunks e ran h.shares merged x is;
+                local = λ x v q. local_left layout mark s rs ks stand rs' ks' roles l.depth loop fits.loops fits.body fits.nest seen h.hand apart.apart fits.privates chunks e ran h.shares merged x v q;
+                file_scope = λ x lt. still_outside layout mark s rs ks stand rs' ks' roles l.depth loop fits.loops fits.body fits.nest seen h.hand apart.apart fits.privates chunks e ran h.shares merged x (stand.machine.file_scope x lt);
+                unmarked = λ x le. still_outside layout mark s rs ks stand rs' ks' roles l.depth loop fits.loops fits.body fits.nest seen h.hand apart.apart fits.privates chunks e ran h.shares merged x (stand.machine.unmarked x le);
+                cell = λ x is. cell_left layout mark s rs ks stand rs' ks' roles l.depth loop fits.loops fits.body fits.nest seen h.hand apart.apart fits.privates chunks e ran h.shares merged x is;
               };
               shape = shape ∙ stand.shape;
             };

@@ -6,13 +6,13 @@ use Rattle.semantics.specs.Tree.{Stmt, Assign, Update, If, IfElse, For, Block, P
 use Rattle.semantics.specs.Source.Text.{line_at}
 use Rattle.pragma.specs.Clauses.{ReadsLoop}
 use Rattle.pragma.specs.Views.{scheduled}
-use Rattle.flow.specs.Roles.{LineRoles}
+use Rattle.flow.specs.Roles.{LineData}
 use Rattle.flow.specs.Parallel.{AreRolesOf, IsParallelLoop, Joined, LoopsAre, ItemsAre, AreParallelLoops, OfLoops}
 use Rattle.flow.specs.declared.environment.ParallelLoop.{ParallelLoop}
 use Rattle.law_commute.proofs.Lists.{each_join}
 use Rattle.outline.specs.Handed.{IsOfText, AreOfText}
 
-module _ (text : List ℕ) (R : LineRoles) where
+module _ (text : List ℕ) (R : LineData) where
   abbrev IsRead : ParallelLoop → Type 0
   IsRead l = IsOfText text R l
 

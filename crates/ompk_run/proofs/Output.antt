@@ -13,7 +13,7 @@ use Rattle.seqrun_io.specs.Reading.{AreVariables}
 use Rattle.flow.specs.Roles.{privates_by}
 use Rattle.law_runs.proofs.Nested.{nested_kernels_run}
 use Rattle.law_runs.proofs.StripRun.{strip_keeps_runs}
-use Rattle.deptest.specs.Accepted.{Program, tree_of, roles_passed, IsAccepted}
+use Rattle.deptest.specs.Accepted.{Program, tree_of, data_passed, IsAccepted}
 use Rattle.deptest.proofs.Locals.{plainly_definite}
 use Rattle.ompk_run.specs.Outcome.{RunsOfAccepted}
 use Rattle.ompk_run.proofs.Declared.{variables_of}
@@ -35,7 +35,7 @@ named a is = variables_of a.text (kernel_of a.kernel) is.passed.reads
 pub body_runs : (a : Program) (given : Given) → IsAccepted a → AreGiven (tree_of a).variables given → IsSome (body_run a (first_state a given))
 body_runs a given is g =
     nested_kernels_run a.text (kernel_of a.kernel) (first_state a given) is.passed.reads is.passed.in_range
-    (plainly_definite (privates_by (roles_passed is.passed)) (kernel_of a.kernel) is.passed.definite) (start_is_state (tree_of a).variables given g) (λ x. refl)
+    (plainly_definite (privates_by (data_passed is.passed)) (kernel_of a.kernel) is.passed.definite) (start_is_state (tree_of a).variables given g) (λ x. refl)
 
 abbrev shown_of : Program → Given → Effect → List ℕ
 shown_of a given e = e.text ++ dump (tree_of a).variables (overwritten (first_state a given) e.writes)

@@ -24,12 +24,12 @@ use Rattle.outline.specs.Fit.{AllFit, WithLocals}
 use Rattle.outline.specs.Handed.{AreOfText}
 use Rattle.outline.specs.Given.{ArePrivateLocals}
 use Rattle.outline.specs.View.{items_performed}
-use Rattle.flow.specs.Roles.{LineRoles, ItemsHaveBy}
+use Rattle.flow.specs.Roles.{LineData, ItemsHaveBy}
 use Rattle.law_apart.specs.Apart.{apart_items}
 use Rattle.flow.specs.declared.environment.ParallelLoop.{ParallelLoop}
 use Rattle.law_independence.specs.OrderLaws.{SharesBy}
 use Rattle.ktree.specs.declared.statement.Item.{Item}
-use Rattle.deptest.specs.Accepted.{Program, tree_of, roles_passed, IsAccepted}
+use Rattle.deptest.specs.Accepted.{Program, tree_of, data_passed, IsAccepted}
 use Rattle.deptest.proofs.Locals.{private_locals}
 use Rattle.ompk_run.specs.Ready.{IsPrepared}
 
@@ -56,24 +56,24 @@ locals_there a layout mark is shapes below =
     locals_between layout _ mark (declared_among (items_of a.kernel.body.items)) (as_many layout (tree_of a).variables shapes) (text_behind a.text (kernel_of a.kernel) is.passed.reads) below
 
 -- private variables are among them
-privates_there : (a : Program) (layout : List Laid) (is : IsAccepted a) → shapes_of layout ≡ shapes_in (tree_of a).variables → ArePrivateLocals (length layout) (roles_passed is.passed)
+privates_there : (a : Program) (layout : List Laid) (is : IsAccepted a) → shapes_of layout ≡ shapes_in (tree_of a).variables → ArePrivateLocals (length layout) (data_passed is.passed)
 privates_there a layout is shapes line x h = subst (λ n. n ≤ x) (sym (as_many layout (tree_of a).variables shapes)) (private_locals a.text (kernel_of a.kernel) is.passed line x h)
 
 -- their code fits, since its parallel loops may be shared out
 pub fitted : (a : Program) (items : List OutlineItem) (layout : List Laid) (mark : ℕ) (is : IsAccepted a) (body : List Item) (loops : List ParallelLoop) → body ≡ a.kernel.body.items → shapes_of layout ≡ shapes_in (tree_of a).variables
-    → AreOfText a.text (roles_passed is.passed) loops
-    → ((text : List ℕ) (ds : List Declaration) (R : LineRoles) → ArePrivateLocals (length layout) R → AreOfText text R loops → ItemsHaveBy text (SharesBy ds R) [] (items_of body)
+    → AreOfText a.text (data_passed is.passed) loops
+    → ((text : List ℕ) (ds : List Declaration) (R : LineData) → ArePrivateLocals (length layout) R → AreOfText text R loops → ItemsHaveBy text (SharesBy ds R) [] (items_of body)
     → WithLocals layout mark (declared_among (items_of body)) (AllFit layout mark R [] items))
-    → AreLocals layout mark (declared_among (items_of a.kernel.body.items)) → AllFit layout mark (roles_passed is.passed) [] items
+    → AreLocals layout mark (declared_among (items_of a.kernel.body.items)) → AllFit layout mark (data_passed is.passed) [] items
 fitted a items layout mark is body loops same shapes listed fits =
     let ds = (kernel_of a.kernel).variables in
-    let R = roles_passed is.passed in
+    let R = data_passed is.passed in
     subst (λ is. AreLocals layout mark (declared_among (items_of is)) → AllFit layout mark R [] items) same
     (fits a.text ds R (privates_there a layout is shapes) listed (subst (λ is. ItemsHaveBy a.text (SharesBy ds R) [] (items_of is)) (sym same) (is.independent.share is.passed)))
 
 pub prepared : (a : Program) (items : List OutlineItem) (registers : List ℕ) (ks : List Kept) (layout : List Laid) (mark : ℕ) (is : IsAccepted a)
-    → items_performed (roles_passed is.passed) [] items ≡ apart_items (roles_passed is.passed) [] (items_of a.kernel.body.items) → IsLaid layout → shapes_of layout ≡ shapes_in (tree_of a).variables → HasLengths (tree_of a).variables ks
-    → AreBelow mark (declared_among (items_of a.kernel.body.items)) → (AreLocals layout mark (declared_among (items_of a.kernel.body.items)) → AllFit layout mark (roles_passed is.passed) [] items)
+    → items_performed (data_passed is.passed) [] items ≡ apart_items (data_passed is.passed) [] (items_of a.kernel.body.items) → IsLaid layout → shapes_of layout ≡ shapes_in (tree_of a).variables → HasLengths (tree_of a).variables ks
+    → AreBelow mark (declared_among (items_of a.kernel.body.items)) → (AreLocals layout mark (declared_among (items_of a.kernel.body.items)) → AllFit layout mark (data_passed is.passed) [] items)
     → mark ≤ length registers → Fits (machine registers (values_of ks)) → length (values_of ks) < 2 ^ 64 → AreFilled ks → IsPrepared a items registers ks
 prepared a items registers ks layout mark is performs laid shapes lengths below fit wide fits room all = record {
   accepted = is;

@@ -5,7 +5,7 @@ use Rattle.semantics.specs.Meaning.State.{State}
 use Rattle.semantics.specs.Meaning.Value.{holds, by_test}
 use Rattle.semantics.specs.Meaning.Runs.{Effect, nothing, then_from, turns, greatest_trip_count}
 use Rattle.semantics.specs.Loops.Nest.{Loop}
-use Rattle.flow.specs.Roles.{LineRoles}
+use Rattle.flow.specs.Roles.{LineData}
 use Rattle.seqrun_io.specs.Told.{AddsBeginning}
 use Rattle.seqrun.specs.Ran.{text_of}
 use Rattle.seqrun.proofs.RunLemmas.{rest_some, test_some}
@@ -18,33 +18,33 @@ use Rattle.lower_run.specs.Walk.{StandFor, Arrives, Stage, Walks, Begins}
 use Rattle.lower_run.proofs.Coming.{Coming, coming_from, coming_on, next_some, coming_over, coming_stops, coming_begun}
 
 abbrev pub Fit : Type 1
-Fit = List Laid → ℕ → LineRoles → List Loop → Type 0
+Fit = List Laid → ℕ → LineData → List Loop → Type 0
 
 -- what is done by the roles of lines, inside serial loops
 abbrev pub Step : Type 0
-Step = LineRoles → List Loop → State → Option Effect
+Step = LineData → List Loop → State → Option Effect
 
 -- wherever the code fits, a step is walked from stage to stage, or a beginning of its text put
 abbrev pub AreWalked : Fit → Step → Stage → Stage → Type 0
-AreWalked fit f a b = (layout : List Laid) (mark : ℕ) (R : LineRoles) (serial : List Loop) → fit layout mark R serial → Walks layout mark (f R serial) a b
+AreWalked fit f a b = (layout : List Laid) (mark : ℕ) (R : LineData) (serial : List Loop) → fit layout mark R serial → Walks layout mark (f R serial) a b
 
 abbrev pub AreBegun : Fit → Step → Stage → List ℕ → Type 0
-AreBegun fit f a text = (layout : List Laid) (mark : ℕ) (R : LineRoles) (serial : List Loop) → fit layout mark R serial → Begins layout mark (f R serial) a text
+AreBegun fit f a text = (layout : List Laid) (mark : ℕ) (R : LineData) (serial : List Loop) → fit layout mark R serial → Begins layout mark (f R serial) a text
 
 -- and has come so far, with a rest
 abbrev pub AreComing : Fit → Step → Step → Stage → Stage → Type 0
 AreComing fit all rest a b =
-    (layout : List Laid) (mark : ℕ) (R : LineRoles) (serial : List Loop) → fit layout mark R serial → (s : State) → StandFor layout mark s a.registers a.store → IsSome (all R serial s)
+    (layout : List Laid) (mark : ℕ) (R : LineData) (serial : List Loop) → fit layout mark R serial → (s : State) → StandFor layout mark s a.registers a.store → IsSome (all R serial s)
     → Coming layout mark (all R serial s) (rest R serial) s b.registers b.store a.text b.text
 
 -- two steps are the same wherever registers and store stand for a state
 abbrev pub AreSameAt : Fit → Step → Step → Stage → Type 0
 AreSameAt fit f g b =
-    (layout : List Laid) (mark : ℕ) (R : LineRoles) (serial : List Loop) → fit layout mark R serial → (s : State) → StandFor layout mark s b.registers b.store → IsSome (f R serial s)
+    (layout : List Laid) (mark : ℕ) (R : LineData) (serial : List Loop) → fit layout mark R serial → (s : State) → StandFor layout mark s b.registers b.store → IsSome (f R serial s)
     → f R serial s ≡ g R serial s
 
 abbrev pub Gives : Fit → Fit → Type 0
-Gives fit fit' = (layout : List Laid) (mark : ℕ) (R : LineRoles) (serial : List Loop) → fit layout mark R serial → fit' layout mark R serial
+Gives fit fit' = (layout : List Laid) (mark : ℕ) (R : LineData) (serial : List Loop) → fit layout mark R serial → fit' layout mark R serial
 
 module _ (fit : Fit) (all : Step) where
   pub same_walked : (fit' : Fit) (f : Step) (a b : Stage) → Gives fit fit' → AreSameAt fit all f a → AreWalked fit' f a b → AreWalked fit all a b

@@ -8,7 +8,7 @@ use Rattle.semantics.specs.Loops.Nest.{Loop}
 use Rattle.ktree.specs.declared.expression.Cond.{Cond}
 use Rattle.ktree.specs.declared.statement.Head.{Head}
 use Rattle.ktree.specs.View.{source_of, cond_of, increment_of}
-use Rattle.flow.specs.Roles.{LineRoles}
+use Rattle.flow.specs.Roles.{LineData}
 use Rattle.nest.specs.Heads.{head_of}
 use Rattle.store.specs.Flat.{values_of}
 use Rattle.seqrun.proofs.RunLemmas.{turns_on, turns_over, turns_last}
@@ -57,7 +57,7 @@ module _ (items : Vec OutlineItem Global) (os : List OutlineItem) (is : os ≡ i
   abbrev block : Outline
   block = Block items
 
-  inside : (layout : List Laid) (mark : ℕ) (R : LineRoles) (serial : List Loop) → Fits layout mark R serial block → AllFit layout mark R serial os
+  inside : (layout : List Laid) (mark : ℕ) (R : LineData) (serial : List Loop) → Fits layout mark R serial block → AllFit layout mark R serial os
   inside layout mark R serial h = subst (AllFit layout mark R serial) (sym is) (items_fit layout mark R serial items h)
 
   same_items : AreSameAt (OfOutline block) (outline_step block) (items_step os) a
@@ -71,7 +71,7 @@ module _ (items : Vec OutlineItem Global) (os : List OutlineItem) (is : os ≡ i
 
 -- the items of one, in their order
 module _ (os : List OutlineItem) (i : ℕ) (o : OutlineItem) (lt : i < length os) (is : o ≡ get_or os i o) (a b : Stage) (coming : AreComing (OfItems os) (items_step os) (items_step (drop i os)) a b) where
-  item_of : (os : List OutlineItem) (i : ℕ) → i < length os → o ≡ get_or os i o → (layout : List Laid) (mark : ℕ) (R : LineRoles) (serial : List Loop) → AllFit layout mark R serial os → ItemFits layout mark R serial o
+  item_of : (os : List OutlineItem) (i : ℕ) → i < length os → o ≡ get_or os i o → (layout : List Laid) (mark : ℕ) (R : LineData) (serial : List Loop) → AllFit layout mark R serial os → ItemFits layout mark R serial o
   item_of [] i lt is layout mark R serial h = absurd (omega arith)
   item_of (x ∷ os) zero lt is layout mark R serial h = subst (ItemFits layout mark R serial) (sym is) h.0
   item_of (x ∷ os) (suc i) lt is layout mark R serial h = item_of os i (omega arith) is layout mark R serial h.1
@@ -196,7 +196,7 @@ module _ (z : Test) (c : Bor Cond) (first : Box Outline Global) (a : Stage) (t :
         go None h some = branch_is (cond_of c.now) z layout mark h.0 s a stand true (sym is ∙ e) (performed R serial first.value s) (Some nothing) some
         go (Some b) h some = branch_is (cond_of c.now) z layout mark h.0 s a stand true (sym is ∙ e) (performed R serial first.value s) (performed R serial b.value s) some
 
-    first_of : (layout : List Laid) (mark : ℕ) (R : LineRoles) (serial : List Loop) → Fits layout mark R serial either → Fits layout mark R serial first.value
+    first_of : (layout : List Laid) (mark : ℕ) (R : LineData) (serial : List Loop) → Fits layout mark R serial either → Fits layout mark R serial first.value
     first_of layout mark R serial h = h.1
 
     pub first_walked : t ≡ true → (b : Stage) → AreWalked (OfOutline first.value) (outline_step first.value) a b → AreWalked (OfOutline either) (outline_step either) a b
@@ -212,7 +212,7 @@ module _ (z : Test) (c : Bor Cond) (first : Box Outline Global) (a : Stage) (t :
     same_second : t ≡ false → AreSameAt (OfOutline both) (outline_step both) (outline_step second.value) a
     same_second e layout mark R serial h s stand some = branch_is (cond_of c.now) z layout mark h.0 s a stand false (sym is ∙ e) (performed R serial first.value s) (performed R serial second.value s) some
 
-    second_of : (layout : List Laid) (mark : ℕ) (R : LineRoles) (serial : List Loop) → Fits layout mark R serial both → Fits layout mark R serial second.value
+    second_of : (layout : List Laid) (mark : ℕ) (R : LineData) (serial : List Loop) → Fits layout mark R serial both → Fits layout mark R serial second.value
     second_of layout mark R serial h = h.2
 
     pub second_walked : t ≡ false → (b : Stage) → AreWalked (OfOutline second.value) (outline_step second.value) a b → AreWalked (OfOutline both) (outline_step both) a b

@@ -16,7 +16,7 @@ use Rattle.seqrun.specs.Ran.{Ran, text_of}
 use Rattle.seqrun_io.specs.Told.{AddsBeginning}
 use Rattle.seqrun_io.specs.Reading.{IsStart}
 use Rattle.seqrun_io.proofs.Beginnings.{of_front, of_rest}
-use Rattle.deptest.specs.Accepted.{Program, tree_of, roles_passed, IsAccepted}
+use Rattle.deptest.specs.Accepted.{Program, tree_of, data_passed, IsAccepted}
 use Rattle.ompk_run.proofs.Output.{body_run, first_state, named, body_runs, output_is, output_there, same_dump}
 use Rattle.ompk_run.proofs.Starting.{start_is_state}
 use Rattle.ompk_run.proofs.Unique.{one_given}
@@ -69,7 +69,7 @@ module _ (a : Program) (input : List ℕ) (ks : List Kept) (is : IsAccepted a) (
 
   -- a run of it in which a team runs each parallel loop
   abbrev pub apart : Option Effect
-  apart = apart_items (roles_passed is.passed) [] (items_of a.kernel.body.items) outset
+  apart = apart_items (data_passed is.passed) [] (items_of a.kernel.body.items) outset
 
   starts : StartsWith (kernel_of a.kernel).variables outset
   starts = subst (StartsWith (tree_of a).variables) (sym at_start) (record { there = (start_is_state (tree_of a).variables first.given first.read.each).there; outside = λ x. refl })
@@ -77,7 +77,7 @@ module _ (a : Program) (input : List ℕ) (ks : List Kept) (is : IsAccepted a) (
   -- it leaves what the run leaves
   same_apart : (e : Effect) → run_items (items_of a.kernel.body.items) outset ≡ Some e → LeavesTheSame outset e apart
   same_apart e q =
-      accepted_apart a.text (kernel_of a.kernel) (roles_passed is.passed) outset e is.passed.reads is.passed.in_range is.passed.definite is.passed.roles (is.independent.share is.passed) starts q
+      accepted_apart a.text (kernel_of a.kernel) (data_passed is.passed) outset e is.passed.reads is.passed.in_range is.passed.definite is.passed.roles (is.independent.share is.passed) starts q
 
   pub runs_apart : IsSome apart
   runs_apart = go (run_items (items_of a.kernel.body.items) outset) refl runs

@@ -2,7 +2,7 @@
 
 ghost use Rattle.std.specs.Prelude.{◌≡◌, ℕ, ◌+◌, ◌<◌, ◌^◌, List, OnOk, IfOk, IfErr};
 ghost use Rattle.semantics.specs.Loops.Nest.{Loop};
-ghost use Rattle.flow.specs.Roles.{LineRoles};
+ghost use Rattle.flow.specs.Roles.{LineData};
 ghost use Rattle.outline.specs.Fit.{Fits};
 ghost use Rattle.outline.specs.View.{performed};
 ghost use Rattle.outline.specs.declared.shape.Outline.TheVariants.{Team};
@@ -85,12 +85,12 @@ pub(crate) fn run_by_one<G: Gate, S: Sink>(
     sink: &mut S,
 ) -> Result<(), Refusal>
     requires room { S.failed sink.old + 1 < 2 ^ 64 }
-    ensures ran { OnOk result ((layout : List Laid) (mark : ℕ) (R : LineRoles) (serial : List Loop)
+    ensures ran { OnOk result ((layout : List Laid) (mark : ℕ) (R : LineData) (serial : List Loop)
         → Fits layout mark R serial (Team construct.now)
         → Walks layout mark (performed R serial (Team construct.now))
         (stage registers.old.items store.old (S.told sink.old))
         (stage registers.new.items store.new (S.told sink.new))) }
-    ensures beginning { (layout : List Laid) (mark : ℕ) (R : LineRoles) (serial : List Loop)
+    ensures beginning { (layout : List Laid) (mark : ℕ) (R : LineData) (serial : List Loop)
         → Fits layout mark R serial (Team construct.now)
         → Begins layout mark (performed R serial (Team construct.now))
         (stage registers.old.items store.old (S.told sink.old)) (S.told sink.new) }

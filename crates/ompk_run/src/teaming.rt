@@ -1,9 +1,9 @@
 //! The loops that a team runs.
 
-ghost use Rattle.std.specs.Prelude.{◌≡◌, ℕ, ◌+◌, ◌<◌, ◌^◌, List, OnOk, IfErr};
+ghost use Rattle.std.specs.Prelude.{◌≡◌, ℕ, ◌+◌, ◌<◌, ◌^◌, List, OnOk, IfErr, false};
 ghost use Rattle.semantics.specs.Loops.Chunk.{IsSized};
 ghost use Rattle.semantics.specs.Loops.Nest.{Loop};
-ghost use Rattle.flow.specs.Roles.{LineRoles};
+ghost use Rattle.flow.specs.Roles.{LineData};
 ghost use Rattle.schedule.specs.Sched.{kind_of, kind_said};
 ghost use Rattle.outline.specs.Fit.{Fits, ItemFits, AllFit};
 ghost use Rattle.outline.specs.View.{performed, item_performed, items_performed};
@@ -76,13 +76,14 @@ fn run_team_loop<'l, R: Threads + Wait + Sync, G: Gate, S: Sink>(
     store: &mut Store,
     sink: &mut S,
 ) -> Result<(), Refusal>
+    requires plain { construct.now.carries ≡ false }
     requires room { S.failed sink.old + 1 < 2 ^ 64 }
-    ensures ran { OnOk result ((layout : List Laid) (mark : ℕ) (R : LineRoles) (serial : List Loop)
+    ensures ran { OnOk result ((layout : List Laid) (mark : ℕ) (R : LineData) (serial : List Loop)
         → Fits layout mark R serial (Team construct.now)
         → Walks layout mark (performed R serial (Team construct.now))
         (stage registers.old.items store.old (S.told sink.old))
         (stage registers.new.items store.new (S.told sink.new))) }
-    ensures beginning { (layout : List Laid) (mark : ℕ) (R : LineRoles) (serial : List Loop)
+    ensures beginning { (layout : List Laid) (mark : ℕ) (R : LineData) (serial : List Loop)
         → Fits layout mark R serial (Team construct.now)
         → Begins layout mark (performed R serial (Team construct.now))
         (stage registers.old.items store.old (S.told sink.old)) (S.told sink.new) }
@@ -108,7 +109,8 @@ fn run_team_loop<'l, R: Threads + Wait + Sync, G: Gate, S: Sink>(
     Ok(())
 }
 
-// Runs a parallel loop: where there is one worker as any other statement, and else by the team.
+// Runs a parallel loop: where there is one worker, or something is carried from one iteration to the next, as any other statement, and
+// else by the team.
 fn run_parallel_loop<'l, R: Threads + Wait + Sync, G: Gate, S: Sink>(
     construct: &'l TeamLoop<'_>,
     team: &Teaming<'_, '_, '_, 'l, R, G>,
@@ -117,12 +119,12 @@ fn run_parallel_loop<'l, R: Threads + Wait + Sync, G: Gate, S: Sink>(
     sink: &mut S,
 ) -> Result<(), Refusal>
     requires room { S.failed sink.old + 1 < 2 ^ 64 }
-    ensures ran { OnOk result ((layout : List Laid) (mark : ℕ) (R : LineRoles) (serial : List Loop)
+    ensures ran { OnOk result ((layout : List Laid) (mark : ℕ) (R : LineData) (serial : List Loop)
         → Fits layout mark R serial (Team construct.now)
         → Walks layout mark (performed R serial (Team construct.now))
         (stage registers.old.items store.old (S.told sink.old))
         (stage registers.new.items store.new (S.told sink.new))) }
-    ensures beginning { (layout : List Laid) (mark : ℕ) (R : LineRoles) (serial : List Loop)
+    ensures beginning { (layout : List Laid) (mark : ℕ) (R : LineData) (serial : List Loop)
         → Fits layout mark R serial (Team construct.now)
         → Begins layout mark (performed R serial (Team construct.now))
         (stage registers.old.items store.old (S.told sink.old)) (S.told sink.new) }
@@ -130,7 +132,7 @@ fn run_parallel_loop<'l, R: Threads + Wait + Sync, G: Gate, S: Sink>(
     ensures refusal { IfErr result (Refuses (S.failed sink.old) (S.failed sink.new)) }
     ensures shape { lengths_of store.new ≡ lengths_of store.old }
 {
-    if team.workers.get() == 1 {
+    if construct.carries || team.workers.get() == 1 {
         return run_by_one(team.alloc, construct, team.gate, registers, store, sink);
     }
     run_team_loop(construct, team, registers, store, sink)
@@ -146,11 +148,11 @@ fn team_statement<'l, R: Threads + Wait + Sync, G: Gate, S: Sink>(
     sink: &mut S,
 ) -> Result<(), Refusal>
     requires room { S.failed sink.old + 1 < 2 ^ 64 }
-    ensures ran { OnOk result ((layout : List Laid) (mark : ℕ) (R : LineRoles) (serial : List Loop)
+    ensures ran { OnOk result ((layout : List Laid) (mark : ℕ) (R : LineData) (serial : List Loop)
         → Fits layout mark R serial outline.now → Walks layout mark (performed R serial outline.now)
         (stage registers.old.items store.old (S.told sink.old))
         (stage registers.new.items store.new (S.told sink.new))) }
-    ensures beginning { (layout : List Laid) (mark : ℕ) (R : LineRoles) (serial : List Loop)
+    ensures beginning { (layout : List Laid) (mark : ℕ) (R : LineData) (serial : List Loop)
         → Fits layout mark R serial outline.now → Begins layout mark (performed R serial outline.now)
         (stage registers.old.items store.old (S.told sink.old)) (S.told sink.new) }
     ensures sound { OnOk result (S.failed sink.new ≡ S.failed sink.old) }
@@ -194,12 +196,12 @@ pub(crate) fn team_block<'l, R: Threads + Wait + Sync, G: Gate, S: Sink>(
     sink: &mut S,
 ) -> Result<(), Refusal>
     requires room { S.failed sink.old + 1 < 2 ^ 64 }
-    ensures ran { OnOk result ((layout : List Laid) (mark : ℕ) (R : LineRoles) (serial : List Loop)
+    ensures ran { OnOk result ((layout : List Laid) (mark : ℕ) (R : LineData) (serial : List Loop)
         → AllFit layout mark R serial items.now
         → Walks layout mark (items_performed R serial items.now)
         (stage registers.old.items store.old (S.told sink.old))
         (stage registers.new.items store.new (S.told sink.new))) }
-    ensures beginning { (layout : List Laid) (mark : ℕ) (R : LineRoles) (serial : List Loop)
+    ensures beginning { (layout : List Laid) (mark : ℕ) (R : LineData) (serial : List Loop)
         → AllFit layout mark R serial items.now
         → Begins layout mark (items_performed R serial items.now)
         (stage registers.old.items store.old (S.told sink.old)) (S.told sink.new) }
@@ -223,12 +225,12 @@ fn team_item<'l, R: Threads + Wait + Sync, G: Gate, S: Sink>(
     sink: &mut S,
 ) -> Result<(), Refusal>
     requires room { S.failed sink.old + 1 < 2 ^ 64 }
-    ensures ran { OnOk result ((layout : List Laid) (mark : ℕ) (R : LineRoles) (serial : List Loop)
+    ensures ran { OnOk result ((layout : List Laid) (mark : ℕ) (R : LineData) (serial : List Loop)
         → ItemFits layout mark R serial item.now
         → Walks layout mark (item_performed R serial item.now)
         (stage registers.old.items store.old (S.told sink.old))
         (stage registers.new.items store.new (S.told sink.new))) }
-    ensures beginning { (layout : List Laid) (mark : ℕ) (R : LineRoles) (serial : List Loop)
+    ensures beginning { (layout : List Laid) (mark : ℕ) (R : LineData) (serial : List Loop)
         → ItemFits layout mark R serial item.now
         → Begins layout mark (item_performed R serial item.now)
         (stage registers.old.items store.old (S.told sink.old)) (S.told sink.new) }

@@ -3,7 +3,7 @@ use Rattle.std.proofs.Common.{◌≡◌, ℕ, List, Vec, Global, refl, sym, ap, 
 use mathlib.Core.Former.{Count}
 use Rattle.semantics.specs.Meaning.Runs.{then_from}
 use Rattle.semantics.specs.Loops.Nest.{Loop}
-use Rattle.flow.specs.Roles.{LineRoles}
+use Rattle.flow.specs.Roles.{LineData}
 use Rattle.lower_code.specs.declared.term.Laid.{Laid}
 use Rattle.outline.specs.declared.shape.Outline.{Outline, Block, Block', Row_of-OutlineItem, end_of-OutlineItem, more_of-OutlineItem, items-the_row-OutlineItem, items_hidden-the_row-OutlineItem-0}
 use Rattle.outline.specs.declared.shape.OutlineItem.{OutlineItem}
@@ -14,7 +14,7 @@ abbrev row_at : Outline → (n : Count) × Row_of-OutlineItem n
 row_at (Block' shape row) = (_, row)
 row_at _ = (_, end_of-OutlineItem)
 
-module _ (R : LineRoles) (serial : List Loop) where
+module _ (R : LineData) (serial : List Loop) where
   row_items : (n : _) (row : Row_of-OutlineItem n) → row_performed R serial row ≡ items_performed R serial (items-the_row-OutlineItem n row)
   row_items n end_of-OutlineItem = refl
   row_items n (more_of-OutlineItem i rest) =
@@ -27,7 +27,7 @@ module _ (R : LineRoles) (serial : List Loop) where
       let row = row_at (Block items) in
       row_items row.0 row.1 ∙ ap (items_performed R serial) (items_hidden-the_row-OutlineItem-0 items)
 
-module _ (layout : List Laid) (mark : ℕ) (R : LineRoles) (serial : List Loop) where
+module _ (layout : List Laid) (mark : ℕ) (R : LineData) (serial : List Loop) where
   row_fits : (n : _) (row : Row_of-OutlineItem n) → AllFit layout mark R serial (items-the_row-OutlineItem n row) → RowFits layout mark R serial row
   row_fits n end_of-OutlineItem h = tt
   row_fits n (more_of-OutlineItem i rest) h = (h.0, row_fits _ rest h.1)

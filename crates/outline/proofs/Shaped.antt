@@ -7,6 +7,7 @@ use Rattle.std.proofs.lemmas.List.Elements.{Contains-append_left, Contains-appen
 use Rattle.std.proofs.lemmas.Option.{same_Some, none-some}
 use Rattle.semantics.specs.Tree
 use Rattle.semantics.specs.Tree.{Variable, Stmt}
+use Rattle.semantics.specs.Loops.Operator.{ReduceOp}
 use Rattle.semantics.specs.Source.Text.{line_at}
 use Rattle.semantics.specs.Meaning.State.{State}
 use Rattle.semantics.specs.Meaning.Value.{holds, by_test, map_option}
@@ -30,8 +31,9 @@ use Rattle.pragma.specs.Clauses.{ReadsLoop}
 use Rattle.pragma.specs.Parallel.{associated, LineHas}
 use Rattle.pragma.specs.Views.{scheduled}
 use Rattle.pragma.proofs.LoopLaw.{read_once}
-use Rattle.flow.specs.Roles.{LineRoles, ItemsHaveBy}
-use Rattle.flow.specs.Parallel.{AreRolesOf}
+use Rattle.flow.specs.Roles.{LineData, left_roles, ItemsHaveBy}
+use Rattle.flow_reduction.specs.Reduced.{reduced}
+use Rattle.flow.specs.Parallel.{numbers, AreRolesOf}
 use Rattle.flow.specs.declared.environment.LoopRoles.{LoopRoles}
 use Rattle.flow.specs.declared.environment.ParallelLoop.{ParallelLoop}
 use Rattle.law_commute.specs.Targets.{targets_outside}
@@ -122,19 +124,22 @@ module _ (layout : List Laid) (mark : ℕ) (loops : List ParallelLoop) where
   -- ---- a loop for a team
 
   -- the variables with a role are those that the line gives
-  roles_by_line : (roles : LoopRoles) (R : LineRoles) (line : ℕ) (s : Stmt) (ls : LoweredRoles) → AreRolesOf (R line) roles → AreRolesAt layout mark (used_roles s (roles_of roles)) ls → AreRolesAt layout mark (used_roles s (R line)) ls
+  roles_by_line : (roles : LoopRoles) (R : LineData) (line : ℕ) (s : Stmt) (ls : LoweredRoles) → AreRolesOf (R line) roles → AreRolesAt layout mark (used_roles s (roles_of roles)) ls → AreRolesAt layout mark (used_roles s (left_roles (R line))) ls
   roles_by_line roles R line s ls e at = record {
     reductions = subst (λ rs. AreReduced layout mark (filter (λ r. is_among (targets_outside s) r.0) rs) ls.reductions.items) e.reductions at.reductions;
-    lasts = subst (λ xs. StandEach layout mark (filter (is_among (targets_outside s)) xs) ls.lasts.items) e.lasts at.lasts;
+    lasts = subst (λ xs. StandEach layout mark (filter (is_among (targets_outside s)) xs) ls.lasts.items) left at.lasts;
   }
+    where
+      left : (numbers roles.lasts.items ++ map (λ r. r.0) (reduced roles.carried.items)) ≡ (left_roles (R line)).lasts
+      left = ap (λ xs. xs ++ map (λ r. r.0) (reduced roles.carried.items)) e.lasts ∙ ap (λ (cs : List (Variable × ReduceOp)). (R line).roles.lasts ++ map (λ r. r.0) cs) e.carried
 
   pub team_made : (box : List Side) (line : Place) (s : Stmt) (l : TeamLoop) → IsHanded layout mark box loops line s l → IsMade layout mark loops box (Some line) s (Team l)
   team_made box line s l h = record {
-    performs = λ R serial. ap (λ a. handed (used_roles a (R l.line)) serial a) h.statement ∙ ap (λ m. handed (used_roles s (R m)) serial s) h.at;
+    performs = λ R serial. ap (λ a. handed (used_roles a (left_roles (R l.line))) serial a) h.statement ∙ ap (λ m. handed (used_roles s (left_roles (R m))) serial s) h.at;
     fits = λ text ds R serial given shares all. team_fits text ds R serial given shares all;
   }
     where
-      team_fits : (text : List ℕ) (ds : List Tree.Declaration) (R : LineRoles) (serial : List Loop) → IsGiven (length layout) mark text R loops serial box → SharesBehind text ds R serial (Some line) s → AreLocals layout mark (declared_in s)
+      team_fits : (text : List ℕ) (ds : List Tree.Declaration) (R : LineData) (serial : List Loop) → IsGiven (length layout) mark text R loops serial box → SharesBehind text ds R serial (Some line) s → AreLocals layout mark (declared_in s)
           → TeamFits layout mark R serial l
       team_fits text ds R serial given (k, c, reads, share) all =
           let own = of_all (IsOfText text R) loops h.parallel given.table h.stands.0 in
@@ -142,8 +147,10 @@ module _ (layout : List Laid) (mark : ℕ) (loops : List ParallelLoop) where
           let kept = subst (λ (p : Place). AreRolesOf (R p.line) h.parallel.roles) h.stands.1 own.roles in
           let same = (read_once (line_at text line.line) (scheduled h.parallel.directive) h.parallel.directive.collapse k c here reads).1 in
           let depth : associated c ≡ l.depth = ap associated (sym same) ∙ sym h.depth in
-          let roles : used_roles s (R line.line) ≡ roles_in R l = sym (ap (λ a. used_roles a (R l.line)) h.statement ∙ ap (λ m. used_roles s (R m)) h.at) in
-          let shares : SharesAsNest ds (roles_in R l) serial l.depth s = subst (λ rs. SharesAsNest ds rs serial l.depth s) roles (subst (λ d. SharesAsNest ds (used_roles s (R line.line)) serial d s) depth share) in
+          let roles : used_roles s (left_roles (R line.line)) ≡ roles_in R l = sym (ap (λ a. used_roles a (left_roles (R l.line))) h.statement ∙ ap (λ m. used_roles s (left_roles (R m))) h.at) in
+          let deep : SharesAsNest ds (R line.line).carried (used_roles s (left_roles (R line.line))) serial l.depth s = subst (λ d. SharesAsNest ds (R line.line).carried (used_roles s (left_roles (R line.line))) serial d s) depth share in
+          let there : SharesAsNest ds (R l.line).carried (used_roles s (left_roles (R line.line))) serial l.depth s = subst (λ m. SharesAsNest ds (R m).carried (used_roles s (left_roles (R line.line))) serial l.depth s) (sym h.at) deep in
+          let nested : SharesAsNest ds (R l.line).carried (roles_in R l) serial l.depth s = subst (λ rs. SharesAsNest ds (R l.line).carried rs serial l.depth s) roles there in
           let n = h.lowered in
           let parts = nest_locals l.depth s n.loops n.body n.nest in
           let both = subst (AreLocals layout mark) parts all in
@@ -155,7 +162,7 @@ module _ (layout : List Laid) (mark : ℕ) (loops : List ParallelLoop) where
             known = λ x is. (given.round x is).1;
             lowered = record {
               around = λ x is. n.around x (given.round x is).0 is;
-              heads = heads_of box n.loops l.lowered.loops.items n.heads (shares.steps n.loops n.body n.nest);
+              heads = heads_of box n.loops l.lowered.loops.items n.heads (nested.steps n.loops n.body n.nest);
               own = locals_left layout mark (map (λ q. q.variable) n.loops) (declared_in n.body) both;
               body = n.code (locals_right layout mark (map (λ q. q.variable) n.loops) (declared_in n.body) both);
               roles_at = subst (λ rs. AreRolesAt layout mark rs l.lowered.roles) roles (roles_by_line h.parallel.roles R line.line s l.lowered.roles kept n.roles);
@@ -164,9 +171,10 @@ module _ (layout : List Laid) (mark : ℕ) (loops : List ParallelLoop) where
             code = subst (λ a. Performs layout mark (run a) l.code) (sym h.statement) (h.code all);
             privates = λ x e.
                 let f = is_among (targets_outside (stmt_of l.statement.now)) in
-                given.privates l.line x (second_of (f x) (is_among (R l.line).privates x) (sym (among_left f (R l.line).privates x) ∙ e));
+                given.privates l.line x (second_of (f x) (is_among (R l.line).roles.privates x) (sym (among_left f (R l.line).roles.privates x) ∙ e));
             declarations = ds;
-            shares = subst (λ a. SharesAsNest ds (roles_in R l) serial l.depth a) (sym h.statement) shares;
+            carries = λ none. ap (λ m. (R m).carried) h.at ∙ sym kept.carried ∙ h.carries none;
+            nested = subst (λ a. SharesAsNest ds (R l.line).carried (roles_in R l) serial l.depth a) (sym h.statement) nested;
           }
 
   -- ---- a serial loop
@@ -230,7 +238,7 @@ module _ (layout : List Laid) (mark : ℕ) (loops : List ParallelLoop) where
   IsNoStatement (Local l) = Unit {0}
   IsNoStatement (Statement' p s) = ⊥
 
-  plain_performs : (d : Option Place) (item : Item) → IsNoStatement item → (R : LineRoles) (serial : List Loop) (rest : Tree.Items)
+  plain_performs : (d : Option Place) (item : Item) → IsNoStatement item → (R : LineData) (serial : List Loop) (rest : Tree.Items)
       → items_behind R d serial (with_item item rest) ≡ (λ s. then_from s (run_items (with_item item Tree.no_items) s) (items_behind R (line_of item) serial rest))
   plain_performs None (Directive place) h R serial rest = λ i s. sym (nothing_first s (apart_behind R place.line serial rest)) i
   plain_performs (Some line) (Directive place) h R serial rest = λ i s. sym (nothing_first s (apart_behind R place.line serial rest)) i
@@ -248,7 +256,7 @@ module _ (layout : List Laid) (mark : ℕ) (loops : List ParallelLoop) where
     fits = λ text ds R serial given shares all. made.fits text ds R serial given shares (subst (AreLocals layout mark) (append-nil (declared_in (stmt_of s))) all);
   }
     where
-      at : (R : LineRoles) (serial : List Loop) (e : Option Place) → performed R serial inner.value ≡ run_behind R e serial (stmt_of s) → (rest : Tree.Items)
+      at : (R : LineData) (serial : List Loop) (e : Option Place) → performed R serial inner.value ≡ run_behind R e serial (stmt_of s) → (rest : Tree.Items)
           → items_behind R e serial (Tree.stmt (stmt_of s) rest) ≡ (λ t. then_from t (performed R serial inner.value t) (apart_items R serial rest))
       at R serial None is rest = λ i t. then_from t (sym is i t) (apart_items R serial rest)
       at R serial (Some line) is rest = λ i t. then_from t (sym is i t) (apart_items R serial rest)
@@ -283,7 +291,7 @@ module _ (layout : List Laid) (mark : ℕ) (loops : List ParallelLoop) where
   pub all_so_far : (box : List Side) (items : List Item) (n : ℕ) (os : List OutlineItem) (d : Option Place) → length items ≤ n → SoFar box items n os d → AreMade layout mark loops box None items os
   all_so_far box items n os d le so_far = subst (λ l. AreMade layout mark loops box None l os) (take_all n items le) so_far.made
 
-  pub items_perform : (box : List Side) (d : Option Place) (is : List Item) (os : List OutlineItem) → AreMade layout mark loops box d is os → (R : LineRoles) (serial : List Loop) → items_performed R serial os ≡ items_behind R d serial (items_of is)
+  pub items_perform : (box : List Side) (d : Option Place) (is : List Item) (os : List OutlineItem) → AreMade layout mark loops box d is os → (R : LineData) (serial : List Loop) → items_performed R serial os ≡ items_behind R d serial (items_of is)
   items_perform box None [] [] h R serial = refl
   items_perform box (Some line) [] [] h R serial = refl
   items_perform box d [] (o ∷ os) h R serial = absurd h
@@ -292,11 +300,11 @@ module _ (layout : List Laid) (mark : ℕ) (loops : List ParallelLoop) where
       (λ j s. then_from s (item_performed R serial o s) (items_perform box (line_of i) is os h.1 R serial j)) ∙ sym (h.0.performs R serial (items_of is))
 
   -- what may be shared of some items, also of the first where it stands behind a line
-  abbrev ShareFrom : List ℕ → List Tree.Declaration → LineRoles → List Loop → Option Place → Tree.Items → Type 0
+  abbrev ShareFrom : List ℕ → List Tree.Declaration → LineData → List Loop → Option Place → Tree.Items → Type 0
   ShareFrom text ds R serial None items = ItemsHaveBy text (SharesBy ds R) serial items
   ShareFrom text ds R serial (Some line) items = LineHas text (SharesBy ds R line.line) serial line.line items × ItemsHaveBy text (SharesBy ds R) serial items
 
-  split : (text : List ℕ) (ds : List Tree.Declaration) (R : LineRoles) (serial : List Loop) (d : Option Place) (i : Item) (rest : Tree.Items)
+  split : (text : List ℕ) (ds : List Tree.Declaration) (R : LineData) (serial : List Loop) (d : Option Place) (i : Item) (rest : Tree.Items)
       → ShareFrom text ds R serial d (with_item i rest) → ItemShares text ds R serial d i × ShareFrom text ds R serial (line_of i) rest
   split text ds R serial None (Directive place) rest h = (tt, h)
   split text ds R serial None (Local l) rest h = (tt, h)
@@ -312,7 +320,7 @@ module _ (layout : List Laid) (mark : ℕ) (loops : List ParallelLoop) where
       let xs = declared_in (stmt_of s) in
       (subst (AreLocals layout mark) (sym (append-nil xs)) (locals_left layout mark xs (declared_among rest) all), locals_right layout mark xs (declared_among rest) all)
 
-  items_fitted : (box : List Side) (d : Option Place) (is : List Item) (os : List OutlineItem) → AreMade layout mark loops box d is os → (text : List ℕ) (ds : List Tree.Declaration) (R : LineRoles) (serial : List Loop)
+  items_fitted : (box : List Side) (d : Option Place) (is : List Item) (os : List OutlineItem) → AreMade layout mark loops box d is os → (text : List ℕ) (ds : List Tree.Declaration) (R : LineData) (serial : List Loop)
       → IsGiven (length layout) mark text R loops serial box → ShareFrom text ds R serial d (items_of is)
       → AreLocals layout mark (declared_among (items_of is)) → AllFit layout mark R serial os
   items_fitted box d [] [] h text ds R serial given share all = tt
@@ -331,6 +339,6 @@ module _ (layout : List Laid) (mark : ℕ) (loops : List ParallelLoop) where
 
   -- ---- a body
 
-  pub body_fits : (items : List Item) (os : List OutlineItem) → AreMade layout mark loops [] None items os → (text : List ℕ) (ds : List Tree.Declaration) (R : LineRoles) → ArePrivateLocals (length layout) R → AreOfText text R loops
+  pub body_fits : (items : List Item) (os : List OutlineItem) → AreMade layout mark loops [] None items os → (text : List ℕ) (ds : List Tree.Declaration) (R : LineData) → ArePrivateLocals (length layout) R → AreOfText text R loops
       → ItemsHaveBy text (SharesBy ds R) [] (items_of items) → AreLocals layout mark (declared_among (items_of items)) → AllFit layout mark R [] os
   body_fits items os h text ds R privates table share all = items_fitted [] None items os h text ds R [] (record { round = λ x is. absurd cc; table = table; privates = privates }) share all

@@ -5,7 +5,7 @@ use Rattle.semantics.specs.Tree.{Stmt, Assign, Update, If, IfElse, For, Block, P
 use Rattle.semantics.specs.Meaning.Value.{holds, by_test}
 use Rattle.semantics.specs.Meaning.Runs.{nothing, then_from, declared, incremented, turns, greatest_trip_count, run, run_items}
 use Rattle.semantics.specs.Loops.Nest.{Loop}
-use Rattle.flow.specs.Roles.{LineRoles}
+use Rattle.flow.specs.Roles.{LineData}
 use Rattle.law_apart.specs.Apart.{apart, apart_items}
 use Rattle.pragma.specs.Plain.{has_line, has_line_among}
 
@@ -18,7 +18,7 @@ right true b e = absurd cc
 right false b e = e
 
 mutual
-  pub whole : (a : Stmt) (R : LineRoles) (serial : List Loop) → has_line a ≡ false → apart R serial a ≡ run a
+  pub whole : (a : Stmt) (R : LineData) (serial : List Loop) → has_line a ≡ false → apart R serial a ≡ run a
   whole (Assign x is e) R serial h = refl
   whole (Update x is op e) R serial h = refl
   whole (If c a) R serial h = λ i s. by_test (holds s c) (whole a R serial h i s) (Some nothing)
@@ -29,7 +29,7 @@ mutual
   whole (Block items) R serial h = whole_items items R serial h
   whole (Print parts) R serial h = refl
 
-  pub whole_items : (items : Items) (R : LineRoles) (serial : List Loop) → has_line_among items ≡ false → apart_items R serial items ≡ run_items items
+  pub whole_items : (items : Items) (R : LineData) (serial : List Loop) → has_line_among items ≡ false → apart_items R serial items ≡ run_items items
   whole_items no_items R serial h = refl
   whole_items (mark line rest) R serial h = absurd cc
   whole_items (local x name start rest) R serial h = λ i s. then_from s (declared s x start) (whole_items rest R serial h i)

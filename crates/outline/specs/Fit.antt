@@ -1,5 +1,5 @@
 -- Outlines whose code does what their statements do. (C11 6.8)
-use Rattle.std.specs.Prelude.{ℕ, ◌≡◌, ◌≤◌, true, List, [], ◌∷◌, ◌++◌, length, map, Contains, Some}
+use Rattle.std.specs.Prelude.{ℕ, ◌≡◌, ◌≤◌, true, false, List, [], ◌∷◌, ◌++◌, length, map, Contains, Some}
 use Rattle.semantics.specs.Tree
 use Rattle.semantics.specs.Tree.{Variable, Stmt, Declaration}
 use Rattle.semantics.specs.Meaning.Agrees.{is_among, declared_in}
@@ -10,7 +10,7 @@ use Rattle.ktree.specs.declared.statement.Head.{Head}
 use Rattle.affine.specs.declared.interval.Side.{Side}
 use Rattle.affine_expr.specs.Forms.{is_counter}
 use Rattle.nest.specs.Heads.{head_of}
-use Rattle.flow.specs.Roles.{LineRoles}
+use Rattle.flow.specs.Roles.{LineData}
 use Rattle.law_independence.specs.OrderLaws.{SharesAsNest}
 use Rattle.lower_code.specs.declared.term.Laid.{Laid}
 use Rattle.lower_code.specs.Meaning.{MeansTest, AreLocals}
@@ -36,8 +36,8 @@ pub record HeadFits (layout : List Laid) (mark : ℕ) (h : Head) (l : LoweredHea
   pub test : MeansTest layout (cond_of h.test) l.test
   pub step : StepPerforms layout mark h l.step
 
--- a loop for a team is lowered from a nest inside serial loops with what its line says of the scalars that it assigns, the nest's chunks may be run apart, and its code does what the loop does
-pub record TeamFits (layout : List Laid) (mark : ℕ) (R : LineRoles) (serial : List Loop) (l : TeamLoop) : Type 0 where
+-- a loop for a team is lowered from a nest inside serial loops with what its line says of the scalars that it assigns, the nest's chunks may be run apart where it carries nothing, and its code does what the loop does
+pub record TeamFits (layout : List Laid) (mark : ℕ) (R : LineData) (serial : List Loop) (l : TeamLoop) : Type 0 where
   pub loops : List Loop
   pub body : Stmt
   pub nest : nest_of l.depth (stmt_of l.statement.now) ≡ Some (loops, body)
@@ -48,11 +48,12 @@ pub record TeamFits (layout : List Laid) (mark : ℕ) (R : LineRoles) (serial : 
   pub code : Performs layout mark (run (stmt_of l.statement.now)) l.code
   pub privates : (x : Variable) → is_among (roles_in R l).privates x ≡ true → length layout ≤ x
   pub declarations : List Declaration
-  pub shares : SharesAsNest declarations (roles_in R l) serial l.depth (stmt_of l.statement.now)
+  pub carries : l.carries ≡ false → (R l.line).carried ≡ []
+  pub nested : SharesAsNest declarations (R l.line).carried (roles_in R l) serial l.depth (stmt_of l.statement.now)
 
 abbrev mutual
   -- so does all code of an outline inside serial loops
-  pub Fits : List Laid → ℕ → LineRoles → List Loop → Outline → Type 0
+  pub Fits : List Laid → ℕ → LineData → List Loop → Outline → Type 0
   Fits layout mark R serial (Serial code s) = Performs layout mark (run (stmt_of s.now)) code
   Fits layout mark R serial (Team l) = TeamFits layout mark R serial l
   Fits layout mark R serial (If' test c p a b) = MeansTest layout (cond_of c.now) test × Fits layout mark R serial a × ElseFits layout mark R serial b
@@ -60,22 +61,22 @@ abbrev mutual
   Fits layout mark R serial (Block' _ items) = RowFits layout mark R serial items
 
   -- behind `else`
-  pub ElseFits : List Laid → ℕ → LineRoles → List Loop → Held-Outline-If-3 → Type 0
+  pub ElseFits : List Laid → ℕ → LineData → List Loop → Held-Outline-If-3 → Type 0
   ElseFits layout mark R serial None' = Unit {0}
   ElseFits layout mark R serial (Some' p b) = Fits layout mark R serial b
 
   -- in an item
-  pub ItemFits : List Laid → ℕ → LineRoles → List Loop → OutlineItem → Type 0
+  pub ItemFits : List Laid → ℕ → LineData → List Loop → OutlineItem → Type 0
   ItemFits layout mark R serial (Plain code i) = Performs layout mark (run_items (with_item i.now Tree.no_items)) code
   ItemFits layout mark R serial (Statement' p s) = Fits layout mark R serial s
 
   -- in a block
-  pub RowFits : List Laid → ℕ → LineRoles → List Loop → {m : _} → Row_of-OutlineItem m → Type 0
+  pub RowFits : List Laid → ℕ → LineData → List Loop → {m : _} → Row_of-OutlineItem m → Type 0
   RowFits layout mark R serial end_of-OutlineItem = Unit {0}
   RowFits layout mark R serial (more_of-OutlineItem i rest) = ItemFits layout mark R serial i × RowFits layout mark R serial rest
 
 -- in each item of a list
-abbrev pub AllFit : List Laid → ℕ → LineRoles → List Loop → List OutlineItem → Type 0
+abbrev pub AllFit : List Laid → ℕ → LineData → List Loop → List OutlineItem → Type 0
 AllFit layout mark R serial [] = Unit {0}
 AllFit layout mark R serial (i ∷ is) = ItemFits layout mark R serial i × AllFit layout mark R serial is
 

@@ -5,7 +5,7 @@ use Rattle.semantics.specs.Meaning.Agrees.{is_among}
 use Rattle.semantics.specs.Loops.Nest.{Loop}
 use Rattle.affine.specs.declared.interval.Side.{Side}
 use Rattle.affine_expr.specs.Forms.{is_counter}
-use Rattle.flow.specs.Roles.{LineRoles}
+use Rattle.flow.specs.Roles.{LineData}
 use Rattle.flow.specs.declared.environment.ParallelLoop.{ParallelLoop}
 use Rattle.outline.specs.Handed.{AreOfText}
 
@@ -14,11 +14,11 @@ abbrev pub IsRound : ℕ → List Loop → List Side → Type 0
 IsRound mark serial box = (x : Variable) → is_counter box x ≡ true → (x < mark) × Contains (map (λ l. l.variable) serial) x
 
 -- private variables of lines are locals: they have numbers behind those of so many file-scope variables (OpenMP 5.2, 5.4.3)
-abbrev pub ArePrivateLocals : ℕ → LineRoles → Type 0
-ArePrivateLocals files R = (line : ℕ) (x : Variable) → is_among (R line).privates x ≡ true → files ≤ x
+abbrev pub ArePrivateLocals : ℕ → LineData → Type 0
+ArePrivateLocals files R = (line : ℕ) (x : Variable) → is_among (R line).roles.privates x ≡ true → files ≤ x
 
 -- the loops round a place, and the table of what the text's directive lines say, over so many file-scope variables
-pub record IsGiven (files mark : ℕ) (text : List ℕ) (R : LineRoles) (loops : List ParallelLoop) (serial : List Loop) (box : List Side) : Type 0 where
+pub record IsGiven (files mark : ℕ) (text : List ℕ) (R : LineData) (loops : List ParallelLoop) (serial : List Loop) (box : List Side) : Type 0 where
   pub round : IsRound mark serial box
   pub table : AreOfText text R loops
   pub privates : ArePrivateLocals files R

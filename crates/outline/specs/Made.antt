@@ -17,7 +17,7 @@ use Rattle.affine.specs.declared.interval.Side.{Side}
 use Rattle.nest_loop.specs.Loops.{inside}
 use Rattle.pragma.specs.Clauses.{ReadsLoop}
 use Rattle.pragma.specs.Parallel.{associated}
-use Rattle.flow.specs.Roles.{LineRoles, LoopsHaveBy}
+use Rattle.flow.specs.Roles.{left_roles, LineData, LoopsHaveBy}
 use Rattle.flow.specs.declared.environment.ParallelLoop.{ParallelLoop}
 use Rattle.law_independence.specs.OrderLaws.{SharesBy}
 use Rattle.law_independence.specs.OrderLaws.{used_roles}
@@ -45,33 +45,33 @@ abbrev pub IsInside : Head → List Side → List Side → Type 0
 IsInside head box within = (i : Interval) × (within ≡ inside box head.variable.0 i)
 
 -- what a statement does behind such a line or behind none, and what items do
-abbrev pub run_behind : LineRoles → Option Place → List Loop → Stmt → State → Option Effect
+abbrev pub run_behind : LineData → Option Place → List Loop → Stmt → State → Option Effect
 run_behind R None serial a = apart R serial a
-run_behind R (Some line) serial a = handed (used_roles a (R line.line)) serial a
+run_behind R (Some line) serial a = handed (used_roles a (left_roles (R line.line))) serial a
 
-abbrev pub items_behind : LineRoles → Option Place → List Loop → Tree.Items → State → Option Effect
+abbrev pub items_behind : LineData → Option Place → List Loop → Tree.Items → State → Option Effect
 items_behind R None serial items = apart_items R serial items
 items_behind R (Some line) serial items = apart_behind R line.line serial items
 
 -- the parallel loops of a statement may be run in chunks, and behind a line that statement itself may, as many loops of it as the line associates
-abbrev pub SharesBehind : List ℕ → List Tree.Declaration → LineRoles → List Loop → Option Place → Stmt → Type 0
+abbrev pub SharesBehind : List ℕ → List Tree.Declaration → LineData → List Loop → Option Place → Stmt → Type 0
 SharesBehind text ds R serial None a = LoopsHaveBy text (SharesBy ds R) serial a
 SharesBehind text ds R serial (Some line) a = (k : Option Schedule) × (c : Option ℕ) × ReadsLoop (line_at text line.line) k c × SharesBy ds R line.line serial (associated c) a
 
-abbrev pub ItemShares : List ℕ → List Tree.Declaration → LineRoles → List Loop → Option Place → Item → Type 0
+abbrev pub ItemShares : List ℕ → List Tree.Declaration → LineData → List Loop → Option Place → Item → Type 0
 ItemShares text ds R serial d (Directive place) = Unit {0}
 ItemShares text ds R serial d (Local l) = Unit {0}
 ItemShares text ds R serial d (Statement' p s) = SharesBehind text ds R serial d (stmt_of s)
 
 -- an outline does what its statement does behind such a line or behind none, and its code fits where the statement is one of an accepted kernel
 pub record IsMade (layout : List Laid) (mark : ℕ) (loops : List ParallelLoop) (box : List Side) (d : Option Place) (a : Stmt) (o : Outline) : Type 0 where
-  pub performs : (R : LineRoles) (serial : List Loop) → performed R serial o ≡ run_behind R d serial a
-  pub fits : (text : List ℕ) (ds : List Tree.Declaration) (R : LineRoles) (serial : List Loop) → IsGiven (length layout) mark text R loops serial box → SharesBehind text ds R serial d a → AreLocals layout mark (declared_in a) → Fits layout mark R serial o
+  pub performs : (R : LineData) (serial : List Loop) → performed R serial o ≡ run_behind R d serial a
+  pub fits : (text : List ℕ) (ds : List Tree.Declaration) (R : LineData) (serial : List Loop) → IsGiven (length layout) mark text R loops serial box → SharesBehind text ds R serial d a → AreLocals layout mark (declared_in a) → Fits layout mark R serial o
 
 -- one of an item does what the item does before others
 pub record IsMadeItem (layout : List Laid) (mark : ℕ) (loops : List ParallelLoop) (box : List Side) (d : Option Place) (item : Item) (o : OutlineItem) : Type 0 where
-  pub performs : (R : LineRoles) (serial : List Loop) (rest : Tree.Items) → items_behind R d serial (with_item item rest) ≡ (λ s. then_from s (item_performed R serial o s) (items_behind R (line_of item) serial rest))
-  pub fits : (text : List ℕ) (ds : List Tree.Declaration) (R : LineRoles) (serial : List Loop) → IsGiven (length layout) mark text R loops serial box → ItemShares text ds R serial d item → AreLocals layout mark (declared_among (with_item item Tree.no_items)) → ItemFits layout mark R serial o
+  pub performs : (R : LineData) (serial : List Loop) (rest : Tree.Items) → items_behind R d serial (with_item item rest) ≡ (λ s. then_from s (item_performed R serial o s) (items_behind R (line_of item) serial rest))
+  pub fits : (text : List ℕ) (ds : List Tree.Declaration) (R : LineData) (serial : List Loop) → IsGiven (length layout) mark text R loops serial box → ItemShares text ds R serial d item → AreLocals layout mark (declared_among (with_item item Tree.no_items)) → ItemFits layout mark R serial o
 
 -- those of items, the first of which stands behind such a line or behind none
 abbrev pub AreMade : List Laid → ℕ → List ParallelLoop → List Side → Option Place → List Item → List OutlineItem → Type 0

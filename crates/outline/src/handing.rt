@@ -1,6 +1,7 @@
 //! Which statements are handed to a team.
 
-ghost use Rattle.std.specs.Prelude.{◌≡◌, IfOk, IfErr, IfSome, MatchOption};
+ghost use Rattle.flow_reduction.specs.Reduced.{reduced};
+ghost use Rattle.std.specs.Prelude.{◌≡◌, false, [], IfOk, IfErr, IfSome, MatchOption};
 ghost use Rattle.nest.specs.Perfect.{NestHas, AreRectangular};
 ghost use Rattle.ktree.specs.View.{stmt_of};
 ghost use Rattle.ktree.specs.declared.refusal.Refusal.TheVariants.{OutOfMemory};
@@ -10,7 +11,7 @@ use crate::compiling::{Target, compile_statement};
 use crate::shape::TeamLoop;
 use crate::spots::lower_roles;
 use affine::VarBox;
-use flow::ParallelLoop;
+use flow::{LoopRoles, ParallelLoop};
 use ktree::{Place, Refusal, Stmt, VarId};
 use lower::LoweredLoop;
 use lower_block::Compiled;
@@ -135,6 +136,16 @@ fn lower(
     })
 }
 
+// Whether a loop carries a variable from one iteration to the next (OpenMP 5.2, 5.6).
+fn carries(kept: &LoopRoles) -> bool
+    ensures { result ≡ false → reduced kept.now.carried.items ≡ [] }
+{
+    match kept.carried.as_slice() {
+        [] => false,
+        _ => true,
+    }
+}
+
 // The loop that a team runs for the statement behind the directive line at this place, inside the loops of a box.
 //
 // # Errors
@@ -158,12 +169,14 @@ pub(crate) fn loop_for_team<'k>(
         return Err(Refusal::OutOfMemory);
     };
     let depth = parallel.directive.associated_loops();
+    let carries = carries(&parallel.roles);
     let code = compile_statement(alloc, stmt, target)?;
     let lowered = lower(alloc, depth, stmt, parallel, target, bounds)?;
     Ok(TeamLoop {
         statement: stmt,
         line: directive.line,
         depth,
+        carries,
         lowered,
         code,
     })

@@ -8,7 +8,7 @@ ghost use Rattle.ktree.specs.declared.refusal.Refusal.TheVariants.{OutOfMemory};
 ghost use Rattle.affine.specs.declared.interval.Side.{Side};
 ghost use Rattle.flow.specs.declared.environment.ParallelLoop.{ParallelLoop};
 ghost use Rattle.semantics.specs.Tree.{Declaration};
-ghost use Rattle.flow.specs.Roles.{LineRoles, ItemsHaveBy};
+ghost use Rattle.flow.specs.Roles.{LineData, ItemsHaveBy};
 ghost use Rattle.law_independence.specs.OrderLaws.{SharesBy};
 ghost use Rattle.law_apart.specs.Apart.{apart_items};
 ghost use Rattle.outline.specs.Given.{ArePrivateLocals};
@@ -253,10 +253,10 @@ pub fn outline<'k>(
     loops: &[ParallelLoop],
     target: Target<'_>,
 ) -> Result<Vec<OutlineItem<'k>>, Refusal>
-    ensures is { IfOk result (λ os. (R : LineRoles)
+    ensures is { IfOk result (λ os. (R : LineData)
         → items_performed R [] os.items ≡ apart_items R [] (items_of items.now)) }
     ensures fits { IfOk result
-        (λ os. (text : List ℕ) (ds : List Declaration) (R : LineRoles)
+        (λ os. (text : List ℕ) (ds : List Declaration) (R : LineData)
         → ArePrivateLocals (length target.entry.layout.now) R → AreOfText text R loops.now
         → ItemsHaveBy text (SharesBy ds R) [] (items_of items.now)
         → WithLocals target.entry.layout.now target.entry.registers

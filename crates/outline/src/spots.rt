@@ -21,7 +21,7 @@ use flow_reduction::Reduction;
 use ktree::{Refusal, Stmt, VarId};
 use lower::{LoweredReduction, LoweredRoles, Spot};
 use lower_code::Laid;
-use std::alloc::Global;
+use std::alloc::{AllocError, Global};
 
 // The number of an array's elements.
 fn elements(lengths: &[u64]) -> Option<u64>
@@ -127,6 +127,17 @@ fn lower_lasts(
     Ok(spots)
 }
 
+// The variables in which a loop leaves what its last iteration does: the lastprivate ones, and that of a scan (OpenMP 5.2, 5.4.5 and 5.6).
+fn left_variables(alloc: Global, kept: &LoopRoles) -> Result<Vec<VarId>, AllocError>
+    ensures { IfOk result (λ left. numbers left.items ≡ (roles_of kept.now).lasts) }
+{
+    let mut left = Vec::from_slice(alloc, kept.lasts.as_slice())?;
+    for reduction in &kept.carried {
+        left.push(reduction.variable)?;
+    }
+    Ok(left)
+}
+
 // The variables with a role that a loop assigns from outside, of those that its line gives.
 pub(crate) fn lower_roles(
     alloc: Global,
@@ -140,6 +151,7 @@ pub(crate) fn lower_roles(
     ensures refusal { IfErr result (λ refusal. refusal ≡ OutOfMemory) }
 {
     let reductions = lower_reductions(alloc, &kept.reductions, stmt, target)?;
-    let lasts = lower_lasts(alloc, &kept.lasts, stmt, target)?;
+    let left = left_variables(alloc, kept)?;
+    let lasts = lower_lasts(alloc, &left, stmt, target)?;
     Ok(LoweredRoles { reductions, lasts })
 }

@@ -1,7 +1,7 @@
 -- What a `parallel for`, or a `for` inside a `parallel`, says, of the clauses that are known so far. (OpenMP 5.2, 4.4.3, 4.4.4, 11.5.1 and 11.5.3)
 use Rattle.std.specs.Prelude.{ℕ, ◌≡◌, List, [], ◌∷◌, Option, Some, None}
 use Rattle.semantics.specs.Tree.{Name}
-use Rattle.semantics.specs.Directives.Directive.{Schedule, Clause, DefaultShared, DefaultNone, Nowait, Ordered, Shared, Private, Firstprivate, Lastprivate, Reduction, ScheduledBy, Collapse, Directive, ParallelFor, Worksharing}
+use Rattle.semantics.specs.Directives.Directive.{Schedule, Clause, DefaultShared, DefaultNone, Nowait, Ordered, Shared, Private, Firstprivate, Lastprivate, Reduction, Inscan, ScheduledBy, Collapse, Directive, ParallelFor, Worksharing}
 use Rattle.semantics.specs.Directives.DirectiveGrammar.{ReadsLine}
 use Rattle.cparse_grammar.specs.Reading.{◌>>=◌}
 
@@ -20,6 +20,7 @@ with_clause (Private xs) said = Some said
 with_clause (Firstprivate xs) said = Some said
 with_clause (Lastprivate xs) said = Some said
 with_clause (Reduction op xs) said = Some said
+with_clause (Inscan op x) said = Some said
 with_clause Nowait said = Some said
 with_clause Ordered said = Some said
 with_clause _ said = None

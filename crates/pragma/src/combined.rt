@@ -49,6 +49,7 @@ fn with_clause(clause: &Clause<Written>, said: ParallelFor) -> Option<ParallelFo
         | Clause::Firstprivate(_)
         | Clause::Lastprivate(_)
         | Clause::Reduction(_, _)
+        | Clause::Inscan(_, _)
         | Clause::Nowait
         | Clause::Ordered => Some(said),
         _ => None,

@@ -14,7 +14,7 @@ use Rattle.pragma_clause.proofs.DirectiveComplete.{line_read}
 use Rattle.pragma_clause.proofs.DirectiveSound.{line_sound}
 use Rattle.pragma.specs.Reading.{ReadsNone}
 use Rattle.law_lines.specs.Without.{without_among}
-use Rattle.pragma_region.specs.Regions.{is_region_line, is_ordered, is_ordered_line}
+use Rattle.pragma_region.specs.Regions.{is_region_line, is_ordered, is_ordered_line, is_scan, is_scan_line}
 
 -- a line that is read as a directive
 pub line_on : (text : List ℕ) (n : ℕ) (d : Directive Name) → ReadsLine (line_at text n) d → directive_on text n ≡ Some d
@@ -39,6 +39,12 @@ ordered_read text n d b read is = is ∙ ap is_ordered (sym (line_on text n d re
 
 pub ordered_none : (text : List ℕ) (n : ℕ) → ReadsNone (line_at text n) → false ≡ is_ordered_line text n
 ordered_none text n none = ap is_ordered (sym (none_on text n none))
+
+pub scan_read : (text : List ℕ) (n : ℕ) (d : Directive Name) (b : Bool) → ReadsLine (line_at text n) d → b ≡ is_scan (Some d) → b ≡ is_scan_line text n
+scan_read text n d b read is = is ∙ ap is_scan (sym (line_on text n d read))
+
+pub scan_none : (text : List ℕ) (n : ℕ) → ReadsNone (line_at text n) → false ≡ is_scan_line text n
+scan_none text n none = ap is_scan (sym (none_on text n none))
 
 -- these items in front of others
 abbrev pub with_items : List Item → Items → Items

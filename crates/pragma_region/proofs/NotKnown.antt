@@ -46,7 +46,7 @@ known_clause (OrderedLoops n) (k, c) then e = absurd (cc e)
 known_clause (Lastprivate xs) said then e = record { ordering = refl; value = refl }
 known_clause (LastConditional xs) (k, c) then e = absurd (cc e)
 known_clause (Reduction op xs) said then e = record { ordering = refl; value = refl }
-known_clause (Inscan op x) (k, c) then e = absurd (cc e)
+known_clause (Inscan op x) said then e = record { ordering = refl; value = refl }
 
 -- all of a directive's
 record AreKnown (cs : List (Clause Name)) : Type 0 where

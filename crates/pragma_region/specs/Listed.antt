@@ -3,7 +3,7 @@ use Rattle.std.specs.Prelude.{ℕ, Bool, ◌≡◌, if◌then◌else◌, List, [
 use Rattle.semantics.specs.Tree.{Name, Stmt, Assign, Update, If, IfElse, For, Block, Print, Items, no_items, mark, local, stmt, Kernel}
 use Rattle.semantics.specs.Loops.Operator.{ReduceOp}
 use Rattle.semantics.specs.Directives.Directive.{Clause, Directive, ParallelFor, Parallel, Worksharing}
-use Rattle.semantics.specs.Directives.Clauses.{reduction_of}
+use Rattle.semantics.specs.Directives.Clauses.{reduction_of, is_scan}
 use Rattle.ktree.specs.DirectiveView.{operator_of, name_of, directive_of}
 use Rattle.ktree.specs.declared.place.Place.{Place}
 use Rattle.pragma.specs.Clauses.{Said, said_by}
@@ -15,17 +15,17 @@ use Rattle.pragma_region.specs.declared.listing.NamedReduction.{NamedReduction}
 use Rattle.pragma_region.specs.declared.listing.RegionLoop.{RegionLoop}
 use Rattle.pragma_region.specs.declared.listing.RegionPart.{RegionPart}
 
--- what the line of a loop says of its iterations, and its reductions in the order of its clauses, each by its name and its operator (OpenMP 5.2, 5.5.8)
+-- what the line of a loop says of its iterations, its reductions in the order of its clauses, each by its name and its operator (OpenMP 5.2, 5.5.8), and whether it is a scan's (5.6)
 abbrev pub LoopSaid : Type 0
-LoopSaid = Said × List (Name × ReduceOp)
+LoopSaid = Said × List (Name × ReduceOp) × Bool
 
 -- one loop, if its clauses are known
-abbrev pub one_loop : Option Said → List (Name × ReduceOp) → List LoopSaid
-one_loop None rs = []
-one_loop (Some s) rs = (s, rs) ∷ []
+abbrev pub one_loop : Option Said → List (Name × ReduceOp) → Bool → List LoopSaid
+one_loop None rs scan = []
+one_loop (Some s) rs scan = (s, rs, scan) ∷ []
 
 abbrev pub line_loop : List (Clause Name) → List LoopSaid
-line_loop cs = one_loop (said_by cs) (flat_map reduction_of cs)
+line_loop cs = one_loop (said_by cs) (flat_map reduction_of cs) (is_scan cs)
 
 -- the loop of a directive, where it is one's
 abbrev pub directive_loop : Directive Name → List LoopSaid
@@ -105,7 +105,7 @@ reduction_named r = (string_bytes r.name, operator_of r.operator)
 
 -- what a loop that is kept says
 abbrev pub loop_said : RegionLoop → LoopSaid
-loop_said l = (said_of l.said, map reduction_named l.reductions.items)
+loop_said l = (said_of l.said, map reduction_named l.reductions.items, l.scan)
 
 -- what a part says
 abbrev pub part_said : RegionPart → Option LoopSaid

@@ -1,7 +1,7 @@
--- Directives and clauses that the grammar has and that are not known so far, each by the number that refuses it. (OpenMP 5.2, 4.4.4, 5.4.5, 5.6 and 15.10)
+-- Directives and clauses that the grammar has and that are not known so far, each by the number that refuses it. (OpenMP 5.2, 4.4.4, 5.4.5 and 15.10)
 use Rattle.std.specs.Prelude.{ℕ, List, [], ◌∷◌, Option, Some, None}
 use Rattle.semantics.specs.Tree.{Name, Stmt, Assign, Update, If, IfElse, For, Block, Print, Items, no_items, mark, local, stmt}
-use Rattle.semantics.specs.Directives.Directive.{Clause, OrderedLoops, LastConditional, Inscan, Directive, ParallelFor, Parallel, Worksharing, ScanInclusive, ScanExclusive, OrderedRegion, DoacrossSource, DoacrossSink}
+use Rattle.semantics.specs.Directives.Directive.{Clause, OrderedLoops, LastConditional, Directive, ParallelFor, Parallel, Worksharing, ScanInclusive, ScanExclusive, OrderedRegion, DoacrossSource, DoacrossSink}
 use Rattle.pragma_attach.specs.Standing.{directive_on}
 use Rattle.pragma_region.specs.declared.unknown.Unknown.{Unknown}
 use Rattle.pragma_region.specs.declared.unknown.Unknown.TheVariants as unknown
@@ -16,10 +16,9 @@ abbrev pub ordering_number : Clause Name → Option ℕ
 ordering_number (OrderedLoops n) = Some 18
 ordering_number _ = None
 
--- a clause of variables: K15 for `lastprivate` of the last assignment (OpenMP 5.2, 5.4.5), K17 for the reduction of a scan (5.6)
+-- a clause of variables: K15 for `lastprivate` of the last assignment (OpenMP 5.2, 5.4.5)
 abbrev pub value_number : Clause Name → Option ℕ
 value_number (LastConditional xs) = Some 15
-value_number (Inscan op x) = Some 17
 value_number _ = None
 
 -- the first of a line's clauses that is one
@@ -31,13 +30,13 @@ first_number number (c ∷ cs) = first_told (number c) (first_number number cs)
 abbrev pub loop_number : List (Clause Name) → Option ℕ
 loop_number cs = first_told (first_number ordering_number cs) (first_number value_number cs)
 
--- of a directive: K17 for `scan` (OpenMP 5.2, 5.6), K18 for `ordered doacross` (15.10)
+-- of a directive: K18 for `ordered doacross` (OpenMP 5.2, 15.10)
 abbrev pub directive_number : Directive Name → Option ℕ
 directive_number (ParallelFor cs) = loop_number cs
 directive_number (Worksharing cs) = loop_number cs
 directive_number (Parallel cs) = None
-directive_number (ScanInclusive x) = Some 17
-directive_number (ScanExclusive x) = Some 17
+directive_number (ScanInclusive x) = None
+directive_number (ScanExclusive x) = None
 directive_number OrderedRegion = None
 directive_number DoacrossSource = Some 18
 directive_number (DoacrossSink es) = Some 18
@@ -68,5 +67,4 @@ abbrev mutual
 -- the number of what is told
 abbrev pub number_told : Unknown → ℕ
 number_told (unknown.Conditional place) = 15
-number_told (unknown.Scan place) = 17
 number_told (unknown.Doacross place) = 18

@@ -1,7 +1,7 @@
--- The directive lines of parallel regions and of ordered ones. (OpenMP 5.2, 10.1 and 15.10)
+-- The directive lines of parallel regions, of ordered ones and of scans. (OpenMP 5.2, 5.6, 10.1 and 15.10)
 use Rattle.std.specs.Prelude.{ℕ, Bool, true, false, ◌||◌, List, Option, Some}
 use Rattle.semantics.specs.Tree.{Name, Kernel}
-use Rattle.semantics.specs.Directives.Directive.{Directive, OrderedRegion}
+use Rattle.semantics.specs.Directives.Directive.{Directive, ScanInclusive, ScanExclusive, OrderedRegion}
 use Rattle.semantics.specs.Directives.Placed.{is_team}
 use Rattle.law_lines.specs.Without.{without_lines}
 use Rattle.pragma_attach.specs.Standing.{directive_on}
@@ -19,9 +19,19 @@ is_ordered _ = false
 abbrev pub is_ordered_line : List ℕ → ℕ → Bool
 is_ordered_line text n = is_ordered (directive_on text n)
 
+-- a `scan` directive (OpenMP 5.2, 5.6)
+abbrev pub is_scan : Option (Directive Name) → Bool
+is_scan (Some (ScanInclusive x)) = true
+is_scan (Some (ScanExclusive x)) = true
+is_scan _ = false
+
+-- it stands on the line of this number
+abbrev pub is_scan_line : List ℕ → ℕ → Bool
+is_scan_line text n = is_scan (directive_on text n)
+
 -- a line that no pass behind the directives asks for
 abbrev pub is_left_out : List ℕ → ℕ → Bool
-is_left_out text n = is_region_line text n || is_ordered_line text n
+is_left_out text n = is_region_line text n || is_ordered_line text n || is_scan_line text n
 
 -- a kernel with its regions dissolved: each loop stands behind its own line alone
 abbrev pub alone : List ℕ → Kernel → Kernel

@@ -1,9 +1,10 @@
 //! The parallel regions of a kernel, with their loops.
 
-ghost use Rattle.std.specs.Prelude.{◌≡◌, ◌++◌, List, [], ◌∷◌, None, Some, map, flat_map, option_map, OnOk, IfOk};
-ghost use Rattle.semantics.specs.Tree.{Stmt as Tree};
+ghost use Rattle.std.specs.Prelude.{◌≡◌, ◌||◌, ◌++◌, List, [], ◌∷◌, None, Some, map, flat_map, option_map, OnOk, IfOk};
+ghost use Rattle.semantics.specs.Tree.{Name, Stmt as Tree};
+ghost use Rattle.semantics.specs.Directives.Directive.{Clause as Over};
 ghost use Rattle.ktree.specs.View.{stmt_of, with_item, items_of, kernel_of};
-ghost use Rattle.semantics.specs.Directives.Clauses.{reduction_of};
+ghost use Rattle.semantics.specs.Directives.Clauses.{reduction_of, is_scan};
 ghost use Rattle.ktree.specs.DirectiveView.{name_of, operator_of, directive_of};
 ghost use Rattle.pragma_clause.specs.Views.{written_clause};
 ghost use Rattle.pragma.specs.Views.{said_of};
@@ -25,7 +26,10 @@ pub struct NamedReduction {
 #[derive(Drop)]
 pub struct RegionLoop {
     pub said: ParallelFor,
+    /// Those of reductions that are no scan's.
     pub reductions: Vec<NamedReduction>,
+    /// Whether it has the reduction of a scan (OpenMP 5.2, 5.6).
+    pub scan: bool,
 }
 
 /// A part of the parallel regions of a kernel, as they stand one behind another: the begin of a region, or a loop of the one that has
@@ -90,6 +94,29 @@ fn reductions_of(
     Ok(reductions)
 }
 
+/// Whether a clause is the reduction of a scan.
+fn is_scan_clause(clause: &Clause<Written>) -> bool
+    ensures { (rest : List (Over Name)) → is_scan (written_clause clause.now ∷ rest)
+        ≡ (result || is_scan rest) }
+{
+    match clause {
+        Clause::Inscan(_, _) => true,
+        _ => false,
+    }
+}
+
+/// Whether one of some clauses is (OpenMP 5.2, 5.6).
+fn has_scan(clauses: &[Clause<Written>]) -> bool
+    ensures { result ≡ is_scan (map written_clause clauses.now) }
+{
+    for clause in clauses {
+        if is_scan_clause(clause) {
+            return true;
+        }
+    }
+    false
+}
+
 /// Adds a loop that says this, with these clauses.
 fn add_loop(
     alloc: Global,
@@ -101,11 +128,16 @@ fn add_loop(
       said_of said,
       flat_map reduction_of
           (map written_clause clauses.now),
+      is_scan (map written_clause clauses.now),
     ) ∷ []) parts.old.items parts.new.items) }
 {
     let reductions = reductions_of(alloc, clauses)?;
     parts.push(RegionPart {
-        said: Some(RegionLoop { said, reductions }),
+        said: Some(RegionLoop {
+            said,
+            reductions,
+            scan: has_scan(clauses),
+        }),
     })?;
     Ok(())
 }

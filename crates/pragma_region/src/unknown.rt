@@ -18,8 +18,6 @@ use pragma::Directives;
 pub enum Unknown {
     /// A `lastprivate` clause of the last assignment: the place of its first name (OpenMP 5.2, 5.4.5).
     Conditional(Place),
-    /// A `scan` directive: the place of its `#`; or the reduction of a scan: the place of its name (OpenMP 5.2, 5.6).
-    Scan(Place),
     /// An `ordered(n)` clause, or a `doacross` directive: the place of the line's `#` (OpenMP 5.2, 4.4.4 and 15.10.2).
     Doacross(Place),
 }
@@ -31,7 +29,6 @@ impl Unknown {
     {
         match self {
             Unknown::Conditional(place) => Refusal::PrivateVariable(place),
-            Unknown::Scan(place) => Refusal::Scan(place),
             Unknown::Doacross(place) => Refusal::Ordered(place),
         }
     }
@@ -75,7 +72,6 @@ fn value(clause: &Clause<Written>, line: Place) -> Option<Unknown>
 {
     match clause {
         Clause::LastConditional(names) => Some(Unknown::Conditional(first_place(names, line))),
-        Clause::Inscan(_, name) => Some(Unknown::Scan(name.place)),
         _ => None,
     }
 }
@@ -114,8 +110,8 @@ fn directive_unknown(directive: &Directive<Written>, line: Place) -> Option<Unkn
         Directive::ParallelFor(clauses) => loop_unknown(clauses.as_slice(), line),
         Directive::For(clauses) => loop_unknown(clauses.as_slice(), line),
         Directive::Parallel(_) => None,
-        Directive::ScanInclusive(_) => Some(Unknown::Scan(line)),
-        Directive::ScanExclusive(_) => Some(Unknown::Scan(line)),
+        Directive::ScanInclusive(_) => None,
+        Directive::ScanExclusive(_) => None,
         Directive::Ordered => None,
         Directive::DoacrossSource => Some(Unknown::Doacross(line)),
         Directive::DoacrossSink(_) => Some(Unknown::Doacross(line)),
@@ -188,7 +184,7 @@ fn item_unknown(directives: &Directives, item: &Item) -> Option<Unknown>
 }
 
 /// What is told of the first directive line of a kernel that is not known so far, in the order of the text: a doacross nest where the line
-/// begins, `lastprivate(conditional: )` and the reduction of a scan where they name a variable (OpenMP 5.2, 4.4.4, 5.4.5, 5.6 and 15.10). Where one is
+/// begins, `lastprivate(conditional: )` where it names a variable (OpenMP 5.2, 4.4.4, 5.4.5 and 15.10). Where one is
 /// told, not every line of the kernel is that of a loop of known clauses.
 pub fn first_unknown(kernel: &Kernel, directives: &Directives) -> Option<Unknown>
     ensures number { option_map number_told result

@@ -10,6 +10,8 @@ mod flow_reduction_rows;
 #[cfg(test)]
 mod flow_rows;
 #[cfg(test)]
+mod flow_scan_rows;
+#[cfg(test)]
 mod nest_loop_rows;
 #[cfg(test)]
 mod nest_rows;

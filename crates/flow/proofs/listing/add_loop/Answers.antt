@@ -2,7 +2,7 @@ use Rattle.std.specs.Prelude.{[], ◌∷◌}
 use Rattle.std.proofs.Common.{refl}
 use Rattle.ktree.specs.View.{stmt_of, items_of}
 use Rattle.pragma_named.specs.Known.{kept}
-use Rattle.flow.specs.Roles.{roles_known}
+use Rattle.flow.specs.Roles.{data_known}
 use Rattle.flow.specs.declared.environment.ParallelLoop.{ParallelLoop}
 use Rattle.flow.proofs.ParallelLemmas.{loop_listed}
 use Rattle.flow.proofs.listing.add_loop.Goals as goal
@@ -22,6 +22,6 @@ returns c = λ h.
         loop,
         refl,
         loop_listed c.args.directives.now c.args.place (items_of c.args.rest.now) said c.in-Ok.ensures.ok (stmt_of c.in-Some.statement.now) c.in-Some.ensures private
-            c.in_ok-private.ensures (roles_known (kept c.args.lines.now) c.args.files) roles (c.in_ok-roles.ensures c.args.files) h,
+            c.in_ok-private.ensures (data_known (kept c.args.lines.now) c.args.files) roles (c.in_ok-roles.ensures c.args.files) h,
       ),
     )

@@ -5,7 +5,7 @@ use Rattle.semantics.specs.Meaning.Agrees.{is_among, declared_in}
 use Rattle.ktree.specs.View.{stmt_of}
 use Rattle.pragma_named.specs.Known.{kept}
 use Rattle.law_roles.specs.Sharing.{role_variables}
-use Rattle.flow.specs.Roles.{roles_known}
+use Rattle.flow.specs.Roles.{left_roles, data_known}
 use Rattle.flow.proofs.PrivateLemmas.{element}
 use Rattle.flow.proofs.sharing.target_fault.Goals as goal
 
@@ -14,4 +14,4 @@ returns-then-not-is_empty-clause-judged c =
     let subscripts = c.args.target.now.subscripts in
     let some : vec_len subscripts ≢ 0 = eqb-false (vec_len subscripts) 0 (sym c.is_empty.ensures ∙ c.if-not-is_empty.true) in
     let above : 0 < length subscripts.items = omega arith in
-    element (is_among (declared_in (stmt_of c.args.body.now) ++ role_variables (roles_known (kept c.args.lines.now) c.args.files c.args.line))) c.args.target.now.variable.0 subscripts.items above
+    element (is_among (declared_in (stmt_of c.args.body.now) ++ role_variables (left_roles (data_known (kept c.args.lines.now) c.args.files c.args.line)))) c.args.target.now.variable.0 subscripts.items above

@@ -6,5 +6,5 @@ use Rattle.flow_reduction.proofs.misuse.+misusing.Goals as goal
 
 pub first_misuse-returns-in-Block : goal.first_misuse-returns-in-Block
 first_misuse-returns-in-Block t c =
-    c.in_items.ensures
+    c.first_misuse_among.ensures
     ∙ sym (ap (reduces (reduced c.args.reductions.now)) (block_is c.args.statement.now c.in-Block.items c.deref-in-Block.result.now c.in-Block.is c.deref-in-Block.ensures.value))

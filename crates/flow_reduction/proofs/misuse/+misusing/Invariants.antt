@@ -5,6 +5,6 @@ use Rattle.flow_reduction.specs.Reduced.{reduced}
 use Rattle.flow_reduction.proofs.misuse.+misusing.Given as goal
 
 -- the items that are left decide
-abbrev pub invariant-in_items-loop-item : goal.invariant-in_items-loop-item
-invariant-in_items-loop-item l =
+abbrev pub invariant-first_misuse_among-loop-item : goal.invariant-first_misuse_among-loop-item
+invariant-first_misuse_among-loop-item l =
     all_reduce (reduced l.reductions) (items_of (drop l.item-index l.items)) ≡ all_reduce (reduced l.reductions) (items_of l.items)

@@ -15,5 +15,5 @@ returns-clause-added c =
     let number = c.args.before.loops + 1 in
     loop_added c.args.before number said c.args.text.now.items _ refl
     (c.in_ok-add_loop.ensures.added
-    ∙ ap (λ (rs : List NamedReduction). c.args.text.now.items ++ numbered c.args.before.regions number (loop_lines (listed_with (schedule_of c.schedule_for-schedule.result) (map reduction_named rs)))) c.deref.ensures.value
-    ∙ ap (λ (s : Schedule). c.args.text.now.items ++ numbered c.args.before.regions number (loop_lines (listed_with s said.1))) c.schedule_for-schedule.ensures)
+    ∙ ap (λ (rs : List NamedReduction). c.args.text.now.items ++ numbered c.args.before.regions number (loop_lines (listed_with (schedule_of c.schedule_for-schedule.result) (map reduction_named rs) said.2))) c.deref.ensures.value
+    ∙ ap (λ (s : Schedule). c.args.text.now.items ++ numbered c.args.before.regions number (loop_lines (listed_with s said.1 said.2))) c.schedule_for-schedule.ensures)

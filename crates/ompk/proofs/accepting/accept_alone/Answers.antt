@@ -3,7 +3,7 @@ use Rattle.std.proofs.Common.{inl, inr, subst, length, rules}
 use Rattle.std.proofs.lemmas.Result.{IfErr-weaker}
 use Rattle.ktree.specs.View.{kernel_of}
 use Rattle.pragma_named.specs.Known.{kept, lines_known}
-use Rattle.flow.specs.Roles.{roles_known}
+use Rattle.flow.specs.Roles.{data_known}
 use Rattle.flow.specs.Parallel.{AreParallelLoops}
 use Rattle.deptest.specs.Accepted.{HasPassed}
 use Rattle.deptest.specs.Refused.{RefusesLoops}
@@ -15,7 +15,7 @@ pub accept-requires-clause-passed : goal.accept-requires-clause-passed
 accept-requires-clause-passed c =
     let k = kernel_of c.args.kernel in
     let known = kept c.args.lines.now in
-    let R = roles_known known (length k.variables) in
+    let R = data_known known (length k.variables) in
     let loops = c.in_ok-table.field-0.loops.items in
     let in_order = is_none c.args.disorder in
     has_loops c.args.text.now k known in_order loops c.requires.stands (subst (λ (text : List ℕ). IsJudged text k R (lines_known known) in_order) c.requires.lines c.in_ok-table.ensures.judged)
@@ -26,14 +26,14 @@ returns-clause-refusal c =
     let k = kernel_of c.args.kernel in
     let known = kept c.args.lines.now in
     let in_order = is_none c.args.disorder in
-    let passed : HasPassed c.args.text.now k = has_passed c.args.text.now k known in_order c.requires.stands (subst (λ (text : List ℕ). IsJudged text k (roles_known known (length k.variables)) (lines_known known) in_order) c.requires.lines c.in_ok-table.ensures.judged) in
-    IfErr-weaker c.accept.result (RefusesLoops c.args.text.now k) (RefusesAlone c.args.text.now k (roles_known known (length k.variables)) (lines_known known) in_order) (λ r h. inr (passed, h)) c.accept.ensures.err
+    let passed : HasPassed c.args.text.now k = has_passed c.args.text.now k known in_order c.requires.stands (subst (λ (text : List ℕ). IsJudged text k (data_known known (length k.variables)) (lines_known known) in_order) c.requires.lines c.in_ok-table.ensures.judged) in
+    IfErr-weaker c.accept.result (RefusesLoops c.args.text.now k) (RefusesAlone c.args.text.now k (data_known known (length k.variables)) (lines_known known) in_order) (λ r h. inr (passed, h)) c.accept.ensures.err
 
 pub returns-in_err-table-clause-refusal : goal.returns-in_err-table-clause-refusal
 returns-in_err-table-clause-refusal c =
     let k = kernel_of c.args.kernel in
     let known = kept c.args.lines.now in
-    let R = roles_known known (length k.variables) in
+    let R = data_known known (length k.variables) in
     let in_order = is_none c.args.disorder in
     let refused : IfErr c.from_residual.result (RefusesPasses c.args.directives.now k R (lines_known known) in_order) = search rules in
     IfErr-weaker c.from_residual.result (RefusesPasses c.args.directives.now k R (lines_known known) in_order) (RefusesAlone c.args.text.now k R (lines_known known) in_order)

@@ -4,7 +4,7 @@ use Rattle.ktree.specs.View.{kernel_of, items_of}
 use Rattle.law_apart.specs.Apart.{apart_items}
 use Rattle.lower_code.specs.Layout.{shapes_of, shapes_in}
 use Rattle.lower_code.specs.Meaning.{AreBelow}
-use Rattle.deptest.specs.Accepted.{tree_of, roles_passed}
+use Rattle.deptest.specs.Accepted.{tree_of, data_passed}
 use Rattle.ompk_run.proofs.Listed.{are_of_text}
 use Rattle.ompk_run.proofs.Readied.{fitted, prepared}
 use Rattle.ompk_run.proofs.preparing.prepare.Goals as goal
@@ -15,7 +15,7 @@ returns-clause-prepared c =
     let layout = c.in_ok-layout.layout.items in
     let mark = c.mark_among-mark.result in
     let keeps = c.loops.ensures in
-    let R = roles_passed keeps.accepted.passed in
+    let R = data_passed keeps.accepted.passed in
     let shapes : shapes_of layout ≡ shapes_in (tree_of a).variables = c.in_ok-layout.ensures.shapes ∙ ap shapes_in c.declarations-declarations.ensures.variables in
     let fits = rw c.as_slice.ensures.value at c.in_ok-outline.ensures.fits in
     prepared a c.in_ok-outline.outline.items c.in_ok-registers.registers.items c.args.store.now layout mark keeps.accepted

@@ -4,7 +4,7 @@ use Rattle.std.specs.Prelude.{◌≡◌, ℕ, List, [], None, IfOk, length}
 use Rattle.semantics.specs.Meaning.Agrees.{declared_among}
 use Rattle.ktree.specs.View.{items_of}
 use Rattle.semantics.specs.Tree.{Declaration}
-use Rattle.flow.specs.Roles.{LineRoles, ItemsHaveBy}
+use Rattle.flow.specs.Roles.{LineData, ItemsHaveBy}
 use Rattle.law_independence.specs.OrderLaws.{SharesBy}
 use Rattle.law_apart.specs.Apart.{apart_items}
 use Rattle.outline.specs.Given.{ArePrivateLocals}
@@ -22,7 +22,7 @@ returns-clause-is c =
     let loops = c.args.loops.now in
     let items = c.args.items.now in
     let made = subst (λ b. IfOk c.outline_items.result (λ os. AreMade layout mark loops b None items os.items)) c.new-bounds.ensures c.outline_items.ensures.made in
-    IfOk-weaker c.outline_items.result (λ os. AreMade layout mark loops [] None items os.items) (λ os. (R : LineRoles) → items_performed R [] os.items ≡ apart_items R [] (items_of items)) (λ os h R. items_perform layout mark loops [] None items os.items h R []) made
+    IfOk-weaker c.outline_items.result (λ os. AreMade layout mark loops [] None items os.items) (λ os. (R : LineData) → items_performed R [] os.items ≡ apart_items R [] (items_of items)) (λ os h R. items_perform layout mark loops [] None items os.items h R []) made
 
 pub returns-clause-fits : goal.returns-clause-fits
 returns-clause-fits c =
@@ -32,6 +32,6 @@ returns-clause-fits c =
     let items = c.args.items.now in
     let made = subst (λ b. IfOk c.outline_items.result (λ os. AreMade layout mark loops b None items os.items)) c.new-bounds.ensures c.outline_items.ensures.made in
     IfOk-weaker c.outline_items.result (λ os. AreMade layout mark loops [] None items os.items)
-    (λ os. (text : List ℕ) (ds : List Declaration) (R : LineRoles) → ArePrivateLocals (length layout) R → AreOfText text R loops → ItemsHaveBy text (SharesBy ds R) [] (items_of items)
+    (λ os. (text : List ℕ) (ds : List Declaration) (R : LineData) → ArePrivateLocals (length layout) R → AreOfText text R loops → ItemsHaveBy text (SharesBy ds R) [] (items_of items)
     → WithLocals layout mark (declared_among (items_of items)) (AllFit layout mark R [] os.items))
     (λ os h. body_fits layout mark loops items os.items h) made

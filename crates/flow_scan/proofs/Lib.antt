@@ -1,0 +1,6 @@
+pub mod LinesLaw
+pub mod CutLaw
+pub mod SharingLaw
+pub mod WithoutLaw
+pub mod StandLaw
+pub mod TellLaw

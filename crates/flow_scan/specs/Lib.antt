@@ -1,0 +1,6 @@
+pub mod Lines
+pub mod Parts
+pub mod Sharing
+pub mod Scans
+pub mod Laws
+pub mod Views

@@ -1,0 +1,188 @@
+-- Nests by what their lines say of their data and of their phases.
+use Rattle.std.specs.Prelude.{ℕ, Bool, None, is_none, true, false, not, ◌≡◌, ◌⊎◌, ◌==◌, ◌&&◌, ◌||◌, List, [], ◌∷◌, ◌++◌, length, map, filter, if◌then◌else◌, Some, Option, IsSome}
+use Rattle.std.specs.List.{list_all}
+use Rattle.std.proofs.Common.{refl, sym, ap, ◌∙◌, subst, inl, inr}
+use Rattle.std.proofs.lemmas.Bool.{true≢false, and_from, eqb-true, eq-eqb}
+use Rattle.std.proofs.lemmas.List.{append-nil}
+use Rattle.std.proofs.lemmas.Option.{same_Some}
+use Rattle.semantics.specs.Tree.{Variable, Stmt, Declaration}
+use Rattle.semantics.specs.Meaning.Agrees.{is_among}
+use Rattle.semantics.specs.Meaning.Definite.{no_privates, definite}
+use Rattle.semantics.specs.Loops.Nest.{Loop}
+use Rattle.semantics.specs.Loops.Operator.{ReduceOp}
+use Rattle.semantics.specs.Loops.Piece.{Roles}
+use Rattle.pairtest_counter.specs.Levels.{Nesting}
+use Rattle.nest.specs.Nests.{Has, StaysInside}
+use Rattle.pairtest_access.specs.Found.{inner_loops}
+use Rattle.flow.specs.Private.{is_private_body}
+use Rattle.flow.specs.Phases.{PhasesSaid, HasPhases}
+use Rattle.flow.specs.Roles.{LoopData, takes_operands, left_roles, KeepsItsRoles}
+use Rattle.deptest_verdict.specs.Shown.{IsShownLoop, no_loops}
+use Rattle.law_turns.specs.Turns.{AreEntered}
+use Rattle.law_commute.specs.Targets.{targets_outside}
+use Rattle.law_commute.proofs.Values.{first_of, second_of}
+use Rattle.law_roles.specs.Updates.{is_and_also, is_or_else, is_plain, reduces}
+use Rattle.law_roles.specs.Reducing.{takes_all}
+use Rattle.law_roles.specs.Sharing.{assigned_first, role_variables, are_different, AssignsAll}
+use Rattle.law_independence.specs.Inside.{LoopsAreRead, HaveShort}
+use Rattle.law_independence.specs.IndependenceLaws.{IsIndependentNest}
+use Rattle.law_independence.specs.OrderLaws.{used_roles, TakesAtTurns, SharesInChunks, ScansInChunks, SharesAsNest}
+use Rattle.law_independence.proofs.IndependentNests.{shown_loops_are_independent}
+use Rattle.law_independence.proofs.ReorderedBodies.{IsStmtRead, IsNestRead, nest_read}
+use Rattle.law_independence.proofs.ReorderedNests.{assigned, leaves_others, have_turns, steps_are_read, iterates, takes_updated, in_chunks}
+use Rattle.law_independence.proofs.RoleNests.{used_updates, used_apart}
+use Rattle.law_independence.proofs.ScanNests.{in_passes}
+
+-- ---- what is left
+
+-- of a loop that carries nothing
+nothing_carried : (d : LoopData) → d.carried ≡ [] → left_roles d ≡ d.roles
+nothing_carried d none =
+    ap (λ xs. record d.roles { lasts = xs; reductions = d.roles.reductions ++ filter takes_operands d.carried }) (ap (λ (cs : List (Variable × ReduceOp)). d.roles.lasts ++ map (λ r. r.0) (filter (λ r. not (takes_operands r)) cs)) none ∙ append-nil d.roles.lasts)
+    ∙ ap (λ rs. record d.roles { reductions = rs }) (ap (λ (cs : List (Variable × ReduceOp)). d.roles.reductions ++ filter takes_operands cs) none ∙ append-nil d.roles.reductions)
+
+-- the roles of a scan by an operator that takes its operands
+abbrev scan_roles : LoopData → Variable → ReduceOp → Roles
+scan_roles d x op = record d.roles { reductions = (x, op) ∷ [] }
+
+one_carried : (d : LoopData) (x : Variable) (op : ReduceOp) → d.carried ≡ (x, op) ∷ [] → d.roles.reductions ≡ [] → takes_operands (x, op) ≡ true → left_roles d ≡ scan_roles d x op
+one_carried d x op sole alone takes =
+    ap (λ xs. record d.roles { lasts = xs; reductions = d.roles.reductions ++ filter takes_operands d.carried })
+    (ap (λ (cs : List (Variable × ReduceOp)). d.roles.lasts ++ map (λ r. r.0) (filter (λ r. not (takes_operands r)) cs)) sole
+    ∙ ap (λ b. d.roles.lasts ++ map (λ (r : Variable × ReduceOp). r.0) (if not b then (x, op) ∷ [] else [])) takes ∙ append-nil d.roles.lasts)
+    ∙ ap (λ rs. record d.roles { reductions = rs })
+    (ap (λ (rs : List (Variable × ReduceOp)). rs ++ filter takes_operands d.carried) alone ∙ ap (filter takes_operands) sole ∙ ap (λ b. if b then (x, op) ∷ [] else []) takes)
+
+-- ---- operands
+
+-- some of those that take all operands take all
+some_take : (p : Variable × ReduceOp → Bool) (rs : List (Variable × ReduceOp)) → takes_all rs ≡ true → takes_all (filter p rs) ≡ true
+some_take p [] h = refl
+some_take p (r ∷ rs) h = go (p r) (some_take p rs (second_of (not (is_and_also r.1) && not (is_or_else r.1)) (takes_all rs) h))
+  where
+    go : (b : Bool) → takes_all (filter p rs) ≡ true → takes_all (if b then r ∷ filter p rs else filter p rs) ≡ true
+    go true rest = and_from (not (is_and_also r.1) && not (is_or_else r.1)) (takes_all (filter p rs)) (first_of (not (is_and_also r.1) && not (is_or_else r.1)) (takes_all rs) h) rest
+    go false rest = rest
+
+kept_take : (rs : List (Variable × ReduceOp)) → takes_all (filter takes_operands rs) ≡ true
+kept_take [] = refl
+kept_take (r ∷ rs) = go (takes_operands r) refl (kept_take rs)
+  where
+    go : (b : Bool) → takes_operands r ≡ b → takes_all (filter takes_operands rs) ≡ true → takes_all (if b then r ∷ filter takes_operands rs else filter takes_operands rs) ≡ true
+    go true e rest = and_from (not (is_and_also r.1) && not (is_or_else r.1)) (takes_all (filter takes_operands rs)) (first_of (not (is_and_also r.1) && not (is_or_else r.1)) true e) rest
+    go false e rest = rest
+
+-- a variable that is none of these is apart from them
+plain_each : (x : Variable) (op : ReduceOp) (xs : List Variable) → is_among xs x ≡ false → list_all (is_plain ((x, op) ∷ [])) xs ≡ true
+plain_each x op [] h = refl
+plain_each x op (y ∷ xs) h = and_from (is_plain ((x, op) ∷ []) y) (list_all (is_plain ((x, op) ∷ [])) xs) (go (y == x) refl (x == y) refl h) (plain_each x op xs (rest (y == x) h))
+  where
+    rest : (b : Bool) → (b || is_among xs x) ≡ false → is_among xs x ≡ false
+    rest true q = absurd (true≢false q)
+    rest false q = q
+
+    go : (b : Bool) → (y == x) ≡ b → (c : Bool) → (x == y) ≡ c → (b || is_among xs x) ≡ false → is_none (if c then Some op else None) ≡ true
+    go true e c f q = absurd (true≢false q)
+    go false e true f q = absurd (true≢false (sym (eq-eqb y x (sym (eqb-true x y f))) ∙ e))
+    go false e false f q = refl
+
+-- ---- a nest
+
+module _ (ds : List Declaration) (around : List Loop) (round : Nesting) (n : ℕ) (s : Stmt) (short : HaveShort ds) (entered : AreEntered no_loops around round) (there : LoopsAreRead round.box s) (stays : Has (StaysInside ds) round.box s)
+    (stmt : IsStmtRead ds round.box s) (d : LoopData) (kept : KeepsItsRoles d n s) (shown : IsShownLoop round n s) where
+  abbrev outer : ℕ
+  outer = length round.levels
+
+  abbrev serial : List ℕ
+  serial = map (λ v. v.most) (inner_loops 0 round.levels)
+
+  found : IsNestRead ds round outer serial n s
+  found = nest_read n ds round outer serial s shown (record { read = there; stays = stays }) stmt
+
+  body_is : kept.body ≡ found.nest.body
+  body_is = ap (λ (p : List Loop × Stmt). p.1) (same_Some (kept.loops, kept.body) (found.nest.loops, found.nest.body) (sym kept.nest ∙ found.nest.is))
+
+  private : is_private_body (role_variables (left_roles d)) found.nest.body ≡ true
+  private = subst (λ b. is_private_body (role_variables (left_roles d)) b ≡ true) body_is kept.keeps
+
+  last : (d.roles.lasts ≡ [] → ⊥) → AssignsAll (assigned_first d.roles) d.roles.lasts found.nest.body
+  last some = subst (λ b. AssignsAll (assigned_first d.roles) d.roles.lasts b) body_is (kept.last some)
+
+  independent : IsIndependentNest around n s
+  independent = shown_loops_are_independent ds around round n s short entered there stays shown
+
+  abbrev used : Roles
+  used = used_roles s (left_roles d)
+
+  -- a loop that carries nothing
+  updates : d.carried ≡ [] → reduces used.reductions s ≡ true
+  updates none = used_updates s (left_roles d) (subst (λ (roles : Roles). reduces roles.reductions s ≡ true) (sym (nothing_carried d none)) kept.updates)
+
+  plain_shares : d.carried ≡ [] → SharesInChunks used around n s
+  plain_shares none =
+      let same = sym (nothing_carried d none) in
+      in_chunks ds short round outer serial n s found stmt stays (left_roles d) private
+      (subst (λ (roles : Roles). are_different (map (λ r. r.0) roles.reductions) ≡ true) same kept.different)
+      (subst (λ (roles : Roles). list_all (is_plain roles.reductions) (assigned_first roles) ≡ true) same kept.apart)
+      (subst (λ (roles : Roles). IsSome (definite no_privates s (λ x. not (is_among (assigned_first roles) x)))) same kept.first)
+      (subst (λ (roles : Roles). (roles.lasts ≡ [] → ⊥) → AssignsAll (assigned_first roles) roles.lasts found.nest.body) same last)
+      (updates none) around entered independent
+
+  -- a scan
+  scanned : (said : Option PhasesSaid) (its : HasPhases d said n s) → takes_operands (its.variable, its.operator) ≡ true → is_among (targets_outside s) its.variable ≡ true → ScansInChunks said its.variable its.operator used around n s
+  scanned said its takes target =
+      let x = its.variable in
+      let op = its.operator in
+      let same = one_carried d x op its.sole its.alone takes in
+      let back = sym same in
+      let only : used.reductions ≡ (x, op) ∷ [] = ap (λ (roles : Roles). (used_roles s roles).reductions) same ∙ ap (λ b. if b then (x, op) ∷ [] else []) target in
+      let apart = subst (λ (roles : Roles). list_all (is_plain roles.reductions) (assigned_first roles) ≡ true) back (plain_each x op (assigned_first d.roles) its.plain) in
+      record {
+        only = only;
+        apart = used_apart s (left_roles d) apart;
+        inclusive = its.inclusive;
+        front = its.front;
+        back = its.back;
+        told = its.told;
+        loops = its.loops;
+        nest = its.nest;
+        passes = in_passes ds short round outer serial n s found stmt stays (left_roles d) private
+            (subst (λ (roles : Roles). are_different (map (λ r. r.0) roles.reductions) ≡ true) back refl) apart
+            (subst (λ (roles : Roles). IsSome (definite no_privates s (λ y. not (is_among (assigned_first roles) y)))) back kept.first)
+            (subst (λ (roles : Roles). (roles.lasts ≡ [] → ⊥) → AssignsAll (assigned_first roles) roles.lasts found.nest.body) back last)
+            around entered independent x op its.inclusive its.front its.back its.loops only its.nest its.keeps takes;
+      }
+
+  sole_same : (a b : Variable × ReduceOp) → (d.carried ≡ a ∷ []) → (d.carried ≡ b ∷ []) → a ≡ b
+  sole_same a b e f = cc (e, f)
+
+  pub loop_shares : (said : Option PhasesSaid) → (d.carried ≡ []) ⊎ HasPhases d said n s → SharesAsNest ds d said around n s
+  loop_shares said phases =
+      record {
+        nest = independent.0;
+        round = have_turns ds short round outer serial n s found stmt stays (left_roles d) private around entered;
+        steps = steps_are_read ds short round outer serial n s found stmt stays (left_roles d) private around entered;
+        assigned = assigned ds short round outer serial n s found stmt stays (left_roles d) private;
+        there = iterates ds short round outer serial n s found stmt stays (left_roles d) private around entered;
+        leaves = leaves_others ds short round outer serial n s found stmt stays (left_roles d) private;
+        takes = takes phases;
+        phases = phases;
+        shares = plain_shares;
+        scans = λ x op sole taken target. scans phases x op sole taken target;
+      }
+    where
+      takes : (d.carried ≡ []) ⊎ HasPhases d said n s → TakesAtTurns ds used around s
+      takes (inl none) = takes_updated ds short round outer serial n s found stmt stays (left_roles d) private around entered (updates none)
+      takes (inr its) = λ scope order next next' tokens known outside reads turn met determined. inl all
+        where
+          all : takes_all used.reductions ≡ true
+          all =
+              some_take (λ r. is_among (targets_outside s) r.0) (d.roles.reductions ++ filter takes_operands d.carried)
+              (ap (λ (rs : List (Variable × ReduceOp)). takes_all (rs ++ filter takes_operands d.carried)) its.alone ∙ kept_take d.carried)
+
+      scans : (d.carried ≡ []) ⊎ HasPhases d said n s → (x : Variable) (op : ReduceOp) → d.carried ≡ (x, op) ∷ [] → takes_operands (x, op) ≡ true → is_among (targets_outside s) x ≡ true → ScansInChunks said x op used around n s
+      scans (inl none) x op sole taken target = absurd (cc (none, sole))
+      scans (inr its) x op sole taken target =
+          let same = sole_same (x, op) (its.variable, its.operator) sole its.sole in
+          subst (λ (r : Variable × ReduceOp). ScansInChunks said r.0 r.1 used around n s) (sym same)
+          (scanned said its (subst (λ (r : Variable × ReduceOp). takes_operands r ≡ true) same taken) (subst (λ (r : Variable × ReduceOp). is_among (targets_outside s) r.0 ≡ true) same target))
