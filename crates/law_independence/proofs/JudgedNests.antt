@@ -5,7 +5,7 @@ use Rattle.std.proofs.Common.{refl, sym, ap, ◌∙◌, subst, inl, inr}
 use Rattle.std.proofs.lemmas.Bool.{true≢false, and_from, eqb-true, eq-eqb}
 use Rattle.std.proofs.lemmas.List.{append-nil}
 use Rattle.std.proofs.lemmas.Option.{same_Some}
-use Rattle.semantics.specs.Tree.{Variable, Stmt, Declaration}
+use Rattle.semantics.specs.Tree.{Variable, Stmt, Items, Declaration}
 use Rattle.semantics.specs.Meaning.Agrees.{is_among}
 use Rattle.semantics.specs.Meaning.Definite.{no_privates, definite}
 use Rattle.semantics.specs.Loops.Nest.{Loop}

@@ -1,7 +1,7 @@
 -- Chunks of a scan that is shown to be independent, in two passes.
-use Rattle.std.specs.Prelude.{ℕ, Bool, true, false, not, ◌≡◌, ◌==◌, ◌||◌, List, [], ◌∷◌, map, Some, None, IsSome, is_none}
+use Rattle.std.specs.Prelude.{ℕ, Bool, true, false, not, ◌≡◌, ◌==◌, ◌&&◌, ◌||◌, List, [], ◌∷◌, length, map, Some, None, IsSome, is_none}
 use Rattle.std.specs.List.{list_all}
-use Rattle.std.proofs.Common.{refl, sym, ap, ◌∙◌, cond, inl}
+use Rattle.std.proofs.Common.{refl, sym, ap, ◌∙◌, subst, cond, inl}
 use Rattle.std.proofs.lemmas.Bool.{true≢false, eqb-true, eq-eqb}
 use Rattle.semantics.specs.Tree.{Variable, Stmt, Items, Declaration}
 use Rattle.semantics.specs.Meaning.Agrees.{is_among}
