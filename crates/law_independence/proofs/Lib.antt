@@ -30,3 +30,6 @@ pub mod Taking
 pub mod Hiding
 pub mod ScanNests
 pub mod JudgedNests
+pub mod ScanParts
+pub mod ScanInputs
+pub mod ScanTaken

@@ -37,7 +37,7 @@ each_short : (ns : List ℕ) → inside.AreShort ns → values.AreShort ns
 each_short [] h = tt
 each_short (n ∷ ns) h = (h.0, each_short ns h.1)
 
-all_short : (ds : List Declaration) → HaveShort ds → values.HaveShort ds
+pub all_short : (ds : List Declaration) → HaveShort ds → values.HaveShort ds
 all_short [] h = tt
 all_short (d ∷ ds) h = (each_short d.lengths h.0, all_short ds h.1)
 
@@ -62,25 +62,21 @@ up_is Outside h = absurd cc
 up_is Empty h = refl
 up_is (Holds v) h = refl
 
-pub operands_taken : (ds : List Declaration) (round : Nesting) (around : List Loop) (rs : List (Variable × ReduceOp)) (s : Stmt) (steps : ℕ → ℤ) → HaveShort ds → AreEntered no_loops around round → Has (StaysInside ds) round.box s
-    → Keeps round.box s → reduces rs s ≡ true → (scope : Scope) (order next next' : ℕ) (tokens : List Token) (known : Variable → Bool) (outer : State) → ReadsStmt scope order next tokens s next'
-    → AtTurn round.box (values_at round.levels steps) outer → IsMet ds scope next known around outer → IsSome (definite no_privates s known) → TakesOperands rs s outer
-operands_taken ds round around rs s steps short entered stays kept red scope order next next' tokens known outer reads turn met determined =
-    let left = some_there (definite no_privates s known) determined in
-    let point : IsPoint ds round.box (values_at round.levels steps) scope next known outer = record {
-      small = met.small;
-      usable = each_weaker (IsSeen ds next outer) (CanBeSet ds outer) settable scope met.seen;
-      room = met.room;
-      good = record { cells = met.stands.there; outside = met.stands.outside };
-      below = record {
-        visible = each_weaker (IsSeen ds next outer) (IsBelow next) below scope met.seen;
-        known = met.below;
-        counters = counters_below around no_loops round next entered met.loops (λ y c. absurd cc);
-      };
-      here = record { known = λ x le k. ap is_held (met.stands.held x k le).1; turn = turn };
-    } in
-    let ran = stmt_goes ds (all_short ds short) rs round.box (values_at round.levels steps) reads known left.0 outer stays kept red point left.1 in
-    inr (ap is_some ran.is)
+-- where a statement is met, its run begins
+pub point_met : (ds : List Declaration) (round : Nesting) (around : List Loop) (steps : ℕ → ℤ) → AreEntered no_loops around round → (scope : Scope) (next : ℕ) (known : Variable → Bool) (outer : State)
+    → AtTurn round.box (values_at round.levels steps) outer → IsMet ds scope next known around outer → IsPoint ds round.box (values_at round.levels steps) scope next known outer
+point_met ds round around steps entered scope next known outer turn met = record {
+  small = met.small;
+  usable = each_weaker (IsSeen ds next outer) (CanBeSet ds outer) settable scope met.seen;
+  room = met.room;
+  good = record { cells = met.stands.there; outside = met.stands.outside };
+  below = record {
+    visible = each_weaker (IsSeen ds next outer) (IsBelow next) below scope met.seen;
+    known = met.below;
+    counters = counters_below around no_loops round next entered met.loops (λ y c. absurd cc);
+  };
+  here = record { known = λ x le k. ap is_held (met.stands.held x k le).1; turn = turn };
+}
   where
     settable : (e : Entity) → IsSeen ds next outer e → CanBeSet ds outer e
     settable (AVariable x n) h = at (nat_lt x (length ds)) refl
@@ -93,3 +89,12 @@ operands_taken ds round around rs s steps short entered stays kept red scope ord
     below : (e : Entity) → IsSeen ds next outer e → IsBelow next e
     below (AVariable x n) h = h.0
     below (AConstant n) h = tt
+
+pub operands_taken : (ds : List Declaration) (round : Nesting) (around : List Loop) (rs : List (Variable × ReduceOp)) (s : Stmt) (steps : ℕ → ℤ) → HaveShort ds → AreEntered no_loops around round → Has (StaysInside ds) round.box s
+    → Keeps round.box s → reduces rs s ≡ true → (scope : Scope) (order next next' : ℕ) (tokens : List Token) (known : Variable → Bool) (outer : State) → ReadsStmt scope order next tokens s next'
+    → AtTurn round.box (values_at round.levels steps) outer → IsMet ds scope next known around outer → IsSome (definite no_privates s known) → TakesOperands rs s outer
+operands_taken ds round around rs s steps short entered stays kept red scope order next next' tokens known outer reads turn met determined =
+    let left = some_there (definite no_privates s known) determined in
+    let point = point_met ds round around steps entered scope next known outer turn met in
+    let ran = stmt_goes ds (all_short ds short) rs round.box (values_at round.levels steps) reads known left.0 outer stays kept red point left.1 in
+    inr (ap is_some ran.is)

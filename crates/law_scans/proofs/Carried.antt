@@ -1,5 +1,5 @@
 -- What is so of locals is so of scalars at file scope in their place.
-use Rattle.std.specs.Prelude.{ℕ, suc, Bool, true, false, ◌≡◌, ◌==◌, ◌&&◌, ◌⊎◌, List, [], ◌∷◌, ◌++◌, length, map, flat_map, Option, Some, None, slice_get}
+use Rattle.std.specs.Prelude.{ℕ, suc, Bool, true, false, ◌≡◌, ◌==◌, ◌&&◌, List, [], ◌∷◌, length, map, Option, Some, None}
 use Rattle.std.specs.List.{AllByRecursion as Each}
 use Rattle.std.proofs.Common.{refl, sym, ap, ◌∙◌, subst, cond, inl, inr}
 use Rattle.std.proofs.lemmas.Bool.{true≢false, eqb-true}
@@ -16,17 +16,16 @@ use Rattle.semantics.specs.Loops.Scan.{start_of}
 use Rattle.law_nests.specs.Walks.{walk}
 use Rattle.law_nests.specs.Merging.{Cells}
 use Rattle.law_private.proofs.Alike.{Both}
-use Rattle.law_roles.specs.Sharing.{role_variables, IsScalar, begins_with, MergesAt, last_filled, unless_same, changed_from}
+use Rattle.law_roles.specs.Sharing.{role_variables, IsScalar, begins_with, MergesAt, last_filled, unless_same}
 use Rattle.law_roles.proofs.Moved.{Moved, moved_look, moved_assigned, moved_stmt, moved_walk}
 use Rattle.law_roles.proofs.Joining.{each_filled}
-use Rattle.law_roles.proofs.Seen.{apart_back, look_of}
+use Rattle.law_roles.proofs.Seen.{look_of}
 use Rattle.law_roles.proofs.Starts.{roles_with}
 use Rattle.law_starts.specs.Begun.{begun}
 use Rattle.law_starts.proofs.Beginning.{given_only}
 use Rattle.law_scans.specs.Passes.{walks_from}
 use Rattle.law_scans.specs.Scanning.{scan_partials, scan_starts, ScansFrom}
 use Rattle.law_scans.proofs.Beginning.{starts_of, starts_are}
-use Rattle.law_scans.proofs.Once.{each_slice}
 use Rattle.law_scans.proofs.Steps.{same_slot}
 
 -- ---- the same writes to one object

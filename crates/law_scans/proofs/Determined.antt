@@ -1,13 +1,13 @@
 -- What is known before a statement counts for what it reads alone.
-use Rattle.std.specs.Prelude.{ℕ, Bool, true, false, ◌≡◌, ◌==◌, ◌&&◌, ◌||◌, List, [], ◌∷◌, ◌++◌, flat_map, Option, Some, None, option_and_then}
-use Rattle.std.proofs.Common.{refl, sym, ap, ◌∙◌, subst, cond}
+use Rattle.std.specs.Prelude.{Bool, true, false, ◌≡◌, ◌==◌, ◌&&◌, List, [], ◌∷◌, ◌++◌, flat_map, Option, Some, None, option_and_then}
+use Rattle.std.proofs.Common.{refl, sym, ap, ◌∙◌, cond}
 use Rattle.std.proofs.lemmas.Bool.{true≢false, and_from, or_parts}
 use Rattle.std.proofs.lemmas.List.Folds.{list_any-append}
 use Rattle.std.proofs.lemmas.Option.{same_Some, none-some}
 use Rattle.semantics.specs.Tree.{Variable, Expr, Exprs, Cond, Source, Increment, Up, Down, Set, Change, PrintPart, Stmt, Assign, Update, If, IfElse, For, Block, Print, Items, no_items, mark, local, stmt}
-use Rattle.semantics.specs.Meaning.Definite.{DefinitelyAssigned, known_with, without, may_read, may_read_all, may_test, may_take, may_step, may_print, where_ok, after_both, declared_known, if_stepped, privates_in, definite, definite_items, no_privates}
+use Rattle.semantics.specs.Meaning.Definite.{DefinitelyAssigned, known_with, without, may_read, may_read_all, may_test, may_take, may_step, may_print, where_ok, after_both, if_stepped, privates_in, definite, definite_items, no_privates}
 use Rattle.semantics.specs.Meaning.Agrees.{is_among}
-use Rattle.semantics.specs.Directives.Naming.{named_expr, named_exprs, named_cond, named_source, named_start, named_step, named_part}
+use Rattle.semantics.specs.Directives.Naming.{named_expr, named_exprs, named_cond, named_source, named_step, named_part}
 use Rattle.law_commute.proofs.Values.{first_of, second_of}
 use Rattle.law_private.proofs.Alike.{may_names, may_names_all, may_names_test, may_names_source, may_names_parts, without_within}
 use Rattle.law_private.proofs.Names.{both_true}

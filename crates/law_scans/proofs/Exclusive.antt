@@ -3,17 +3,16 @@ use Rattle.std.specs.Prelude.{ℕ, Bool, true, false, not, ◌≡◌, ◌==◌, 
 use Rattle.std.specs.List.{list_all}
 use Rattle.std.proofs.Common.{refl, sym, ap, ◌∙◌, subst, cond, inl, inr}
 use Rattle.std.proofs.lemmas.Bool.{true≢false, eqb-true, eq-eqb, and_from, or_left, or_right, or_cases, or_parts}
-use Rattle.std.proofs.lemmas.List.{append-nil}
 use Rattle.std.proofs.lemmas.List.Folds.{list_any-append}
 use Rattle.std.proofs.lemmas.List.Elements.{Contains-append_right}
 use Rattle.std.proofs.lemmas.Option.{same_Some, none-some}
 use Rattle.semantics.specs.Tree.{Variable, Source, Stmt, Block, Items, no_items, mark, local, stmt}
-use Rattle.semantics.specs.Meaning.State.{State, Slot, Outside, Empty, Holds, Write, Declared, slot_of, with_local, overwritten, is_there}
+use Rattle.semantics.specs.Meaning.State.{State, Empty, Holds, Write, Declared, slot_of, with_local, overwritten}
 use Rattle.semantics.specs.Meaning.Value.{map_option, source_value}
-use Rattle.semantics.specs.Meaning.Runs.{Effect, nothing, one_write, joined, then_from, declares, declared, run, run_items}
+use Rattle.semantics.specs.Meaning.Runs.{Effect, one_write, joined, then_from, declares, declared, run, run_items}
 use Rattle.semantics.specs.Meaning.Definite.{DefinitelyAssigned, definite_items, no_privates}
 use Rattle.semantics.specs.Meaning.Agrees.{also, is_among, declared_in, declared_among, names_only, names_items, names_start, visible_behind}
-use Rattle.semantics.specs.Loops.Access.{Access, accesses, items_accesses}
+use Rattle.semantics.specs.Loops.Access.{Access, items_accesses}
 use Rattle.semantics.specs.Loops.Operator.{ReduceOp}
 use Rattle.semantics.specs.Loops.Piece.{is_outside}
 use Rattle.law_commute.specs.Steady.{AreSteady}
@@ -26,12 +25,12 @@ use Rattle.law_private.proofs.Chunks.{not_true}
 use Rattle.law_private.proofs.Names.{names_more}
 use Rattle.law_private.proofs.Near.{all_inside}
 use Rattle.law_private.proofs.Own.{others, DeclaresNone}
-use Rattle.law_roles.specs.Updates.{operator_of, is_plain, reduces, all_reduce}
+use Rattle.law_roles.specs.Updates.{is_plain, reduces, all_reduce}
 use Rattle.law_roles.proofs.Seen.{apart_back}
 use Rattle.law_scans.specs.Phases.{joined_items, bare, read_among, written_in, written_among, spares}
 use Rattle.law_scans.proofs.Phased.{runs_joined, declared_joined, accesses_joined, steady_front}
-use Rattle.law_scans.proofs.Spared.{met, items_spare, spared_cells, spared_local, spared_empty, kept_kinds, there_stays}
-use Rattle.law_scans.proofs.Reading.{Read, Meets, items_same}
+use Rattle.law_scans.proofs.Spared.{items_spare, spared_cells, spared_local, spared_empty, kept_kinds, there_stays}
+use Rattle.law_scans.proofs.Reading.{Meets, items_same}
 use Rattle.law_scans.proofs.Determined.{Knows, bare_knows}
 use Rattle.law_scans.proofs.Steps.{same_slot}
 use Rattle.law_scans.proofs.Inputs.{IsInput}
@@ -42,7 +41,7 @@ use Rattle.law_scans.proofs.Inputs.{IsInput}
 abbrev pub tops : Items → List Variable
 tops front = declared_among (bare front)
 
-tops_declared : (front : Items) (y : Variable) → is_among (tops front) y ≡ true → is_among (declared_among front) y ≡ true
+pub tops_declared : (front : Items) (y : Variable) → is_among (tops front) y ≡ true → is_among (declared_among front) y ≡ true
 tops_declared no_items y h = h
 tops_declared (mark line rest) y h = tops_declared rest y h
 tops_declared (local x name start rest) y h = at (or_cases (x == y) (is_among (tops rest) y) h) (tops_declared rest y)
@@ -52,13 +51,13 @@ tops_declared (local x name start rest) y h = at (or_cases (x == y) (is_among (t
     at (inr k) go = or_right (x == y) (is_among (declared_among rest) y) (go k)
 tops_declared (stmt a rest) y h = list_any-append (λ z. z == y) (declared_in a) (declared_among rest) ∙ or_right (is_among (declared_in a) y) (is_among (declared_among rest) y) (tops_declared rest y h)
 
-bare_names : (front back : Items) (V : Variable → Bool) → names_items V (joined_items front back) ≡ true → names_items V (joined_items (bare front) back) ≡ true
+pub bare_names : (front back : Items) (V : Variable → Bool) → names_items V (joined_items front back) ≡ true → names_items V (joined_items (bare front) back) ≡ true
 bare_names no_items back V h = h
 bare_names (mark line rest) back V h = bare_names rest back V h
 bare_names (local x name start rest) back V h = bare_names rest back (also V x) (second_of (names_start V start) (names_items (also V x) (joined_items rest back)) h)
 bare_names (stmt a rest) back V h = bare_names rest back V (second_of (names_only V a) (names_items V (joined_items rest back)) h)
 
-bare_steady : (front back : Items) (F : Variable → Bool) → AreSteady F (joined_items front back) → AreSteady F (joined_items (bare front) back)
+pub bare_steady : (front back : Items) (F : Variable → Bool) → AreSteady F (joined_items front back) → AreSteady F (joined_items (bare front) back)
 bare_steady no_items back F h = h
 bare_steady (mark line rest) back F h = bare_steady rest back F h
 bare_steady (local x name start rest) back F h = (h.0, tt, bare_steady rest back F h.2)
@@ -204,6 +203,29 @@ tops_inside (stmt a rest) F steady q e y top ran =
     ap (λ (g : Effect). is_outside ((overwritten q g.writes).locals y)) (sym p.is) ∙ ap (λ (t : State). is_outside (t.locals y)) (overwritten-append q p.one.writes p.two.writes)
     ∙ tops_inside rest F steady.1 (overwritten q p.one.writes) p.two y top p.two_is
 
+-- what a part does not write the other may read
+pub spared_reads : (x : Variable) (front back : Items) → is_among (written_among front) x ≡ false → spares x front back ≡ true → (y : Variable) → is_among (read_among back) y ≡ true → is_among (written_among front) y ≡ false
+spared_reads x front back only_read apart y r = at (is_among (written_among front) y) refl
+  where
+    R : Variable → Bool
+    R = is_among (read_among back)
+
+    of : (xs : List Variable) → list_all (λ z. (z == x) || not (is_among (read_among back) z)) xs ≡ true → is_among xs y ≡ true → ((y == x) || not (R y)) ≡ true
+    of [] h k = absurd (true≢false (sym k))
+    of (z ∷ zs) h k = one (or_cases (z == y) (is_among zs y) k) (of zs (second_of ((z == x) || not (R z)) (list_all (λ w. (w == x) || not (is_among (read_among back) w)) zs) h))
+      where
+        one : ((z == y) ≡ true) ⊎ (is_among zs y ≡ true) → (is_among zs y ≡ true → ((y == x) || not (R y)) ≡ true) → ((y == x) || not (R y)) ≡ true
+        one (inl e) go = ap (λ w. (w == x) || not (R w)) (sym (eqb-true z y e)) ∙ first_of ((z == x) || not (R z)) (list_all (λ w. (w == x) || not (is_among (read_among back) w)) zs) h
+        one (inr j) go = go j
+
+    at : (b : Bool) → is_among (written_among front) y ≡ b → is_among (written_among front) y ≡ false
+    at false e = e
+    at true e = absurd (end (or_cases (y == x) (not (R y)) (of (written_among front) apart e)))
+      where
+        end : ((y == x) ≡ true) ⊎ (not (R y) ≡ true) → ⊥
+        end (inl k) = true≢false (sym e ∙ ap (is_among (written_among front)) (eqb-true y x k) ∙ only_read)
+        end (inr k) = true≢false (sym r ∙ not_true (R y) k)
+
 -- ---- the part
 
 module _ (x : Variable) (op : ReduceOp) (ps : List Variable) (front back : Items) (keeps : KeepsApart (x ∷ ps) (Block (joined_items front back))) (none : DeclaresNone (x ∷ ps) (Block (joined_items front back)))
@@ -243,23 +265,7 @@ module _ (x : Variable) (op : ReduceOp) (ps : List Variable) (front back : Items
 
   -- the scan phase writes nothing that is read
   free : (y : Variable) → R y ≡ true → is_among (written_among front) y ≡ false
-  free y r = at (is_among (written_among front) y) refl
-    where
-      of : (xs : List Variable) → list_all (λ z. (z == x) || not (is_among (read_among back) z)) xs ≡ true → is_among xs y ≡ true → ((y == x) || not (R y)) ≡ true
-      of [] h k = absurd (true≢false (sym k))
-      of (z ∷ zs) h k = one (or_cases (z == y) (is_among zs y) k) (of zs (second_of ((z == x) || not (R z)) (list_all (λ w. (w == x) || not (is_among (read_among back) w)) zs) h))
-        where
-          one : ((z == y) ≡ true) ⊎ (is_among zs y ≡ true) → (is_among zs y ≡ true → ((y == x) || not (R y)) ≡ true) → ((y == x) || not (R y)) ≡ true
-          one (inl e) go = ap (λ w. (w == x) || not (R w)) (sym (eqb-true z y e)) ∙ first_of ((z == x) || not (R z)) (list_all (λ w. (w == x) || not (is_among (read_among back) w)) zs) h
-          one (inr j) go = go j
-
-      at : (b : Bool) → is_among (written_among front) y ≡ b → is_among (written_among front) y ≡ false
-      at false e = e
-      at true e = absurd (end (or_cases (y == x) (not (R y)) (of (written_among front) apart e)))
-        where
-          end : ((y == x) ≡ true) ⊎ (not (R y) ≡ true) → ⊥
-          end (inl k) = true≢false (sym e ∙ ap (is_among (written_among front)) (eqb-true y x k) ∙ only_read)
-          end (inr k) = true≢false (sym r ∙ not_true (R y) k)
+  free = spared_reads x front back only_read apart
 
   -- ---- both runs
 

@@ -3,31 +3,28 @@ use Rattle.std.specs.Prelude.{ℕ, zero, Bool, true, false, not, ◌≡◌, ◌=
 use Rattle.std.specs.List.{AllByRecursion as Each}
 use Rattle.std.proofs.Common.{refl, sym, ap, ◌∙◌, subst, cond, inl, inr}
 use Rattle.std.proofs.Math.Path.{fun_ext}
-use Rattle.std.proofs.lemmas.Bool.{true≢false, and_from, eqb-true, eq-eqb, or_parts, or_cases, or_right}
+use Rattle.std.proofs.lemmas.Bool.{true≢false, eqb-true, eq-eqb, or_parts, or_cases}
 use Rattle.std.proofs.lemmas.List.{append-nil}
 use Rattle.std.proofs.lemmas.List.Folds.{list_any-append}
-use Rattle.std.proofs.lemmas.List.Elements.{Contains-append_left}
 use Rattle.std.proofs.lemmas.Option.{same_Some, none-some}
-use Rattle.semantics.specs.Tree.{Variable, Stmt, Items, Block}
+use Rattle.semantics.specs.Tree.{Variable, Stmt}
 use Rattle.semantics.specs.Meaning.State.{State, Slot, Outside, Empty, Holds, Write, Declared, Assigned, renewed, same_indexes, assign_at, written, overwritten, look, look_in}
-use Rattle.semantics.specs.Meaning.Runs.{Effect, nothing, joined, run, run_items}
+use Rattle.semantics.specs.Meaning.Runs.{Effect, nothing, joined, run}
 use Rattle.semantics.specs.Meaning.Definite.{DefinitelyAssigned, definite, no_privates}
-use Rattle.semantics.specs.Meaning.Agrees.{is_among, declared_in, declared_among, names_only, visible_behind}
+use Rattle.semantics.specs.Meaning.Agrees.{is_among, declared_in, names_only, visible_behind}
 use Rattle.semantics.specs.Loops.Nest.{Loop, Vector, at_vector}
-use Rattle.semantics.specs.Loops.Access.{Access, Mode, Writes, accesses, items_accesses}
+use Rattle.semantics.specs.Loops.Access.{Access, Mode, Writes, accesses}
 use Rattle.semantics.specs.Loops.Operator.{ReduceOp, combined}
 use Rattle.semantics.specs.Loops.OperatorLaw.{operators_are_lawful}
 use Rattle.semantics.specs.Loops.Piece.{is_outside}
-use Rattle.law_commute.specs.Steady.{IsSteady, AreSteady}
+use Rattle.law_commute.specs.Steady.{IsSteady}
 use Rattle.law_commute.specs.Targets.{KeepsApart, AssignsFirst}
 use Rattle.law_commute.specs.Commuting.{KeepsToItself, InnerLoopsTurn, LooksAlike}
-use Rattle.law_commute.proofs.Matched.{overwritten-append}
 use Rattle.law_commute.proofs.Iterations.{cells_at, one_iteration}
 use Rattle.law_nests.specs.Walks.{walk, entered, enters}
-use Rattle.law_nests.proofs.Nested.{parts_of}
 use Rattle.law_private.proofs.Own.{own_body, others, DeclaresNone, innermost, replaced_keeps, own_accesses, KnownInside}
 use Rattle.law_private.proofs.Near.{Twin, twin_body, all_inside}
-use Rattle.law_roles.specs.Updates.{operator_of, is_plain, reduces, operands}
+use Rattle.law_roles.specs.Updates.{operator_of, is_plain, operands}
 use Rattle.law_roles.specs.Reducing.{AgreesBut, AreHeld, AreLocal, joined_with, partial_of, takes_all}
 use Rattle.law_roles.specs.Following.{variables_of}
 use Rattle.law_roles.proofs.Chunked.{each_at}
@@ -37,8 +34,7 @@ use Rattle.law_roles.proofs.Shifting.{go, tell}
 use Rattle.law_scans.proofs.Inputs.{IsInput}
 use Rattle.law_scans.proofs.Started.{own_up}
 use Rattle.law_scans.proofs.Steps.{Apart, Intact, TouchedBy, IsSet, goes, near_self, dropped, drops, kept_entered, same_entered}
-use Rattle.law_scans.proofs.Phased.{runs_joined, declared_joined, accesses_joined, names_front, steady_front, definite_front, beside, beside_runs, beside_declares, beside_names, beside_accesses, beside_known, beside_steady}
-use Rattle.law_scans.proofs.Kept.{items_keep}
+use Rattle.law_scans.proofs.Phased.{beside, beside_runs, beside_declares, beside_names, beside_accesses, beside_known, beside_steady}
 use Rattle.law_scans.proofs.Walking.{AllApart, split_of, walk_cons, left_cons}
 
 -- ---- what a local's number hides does not change

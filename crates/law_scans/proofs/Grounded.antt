@@ -1,13 +1,13 @@
 -- A scan in two passes, where all variables with a role are locals.
-use Rattle.std.specs.Prelude.{ℕ, zero, suc, Bool, true, false, not, ◌≡◌, ◌≢◌, ◌==◌, ◌+◌, ◌||◌, ◌⊎◌, ◌<◌, ◌^◌, List, [], ◌∷◌, ◌++◌, length, map, flat_map, take, Option, Some, None, Contains, IsSome, slice_get}
+use Rattle.std.specs.Prelude.{ℕ, zero, suc, Bool, true, false, ◌≡◌, ◌≢◌, ◌==◌, ◌+◌, ◌||◌, ◌⊎◌, List, [], ◌∷◌, ◌++◌, length, map, flat_map, take, Option, Some, None, Contains, IsSome, slice_get}
 use Rattle.std.specs.List.{AllPairs, AllByRecursion as Each}
-use Rattle.std.proofs.Common.{refl, sym, ap, ◌∙◌, subst, cond, arith, inl, inr}
+use Rattle.std.proofs.Common.{refl, sym, ap, ◌∙◌, subst, arith, inl, inr}
 use Rattle.std.proofs.lemmas.Bool.{true≢false, eq-eqb, or_left, or_right}
-use Rattle.std.proofs.lemmas.List.{append-nil, length-map}
+use Rattle.std.proofs.lemmas.List.{append-nil}
 use Rattle.std.proofs.lemmas.List.Folds.{list_any-append}
 use Rattle.std.proofs.lemmas.Option.{same_Some, none-some}
 use Rattle.semantics.specs.Tree.{Variable, Stmt}
-use Rattle.semantics.specs.Meaning.State.{State, Slot, Outside, Empty, Holds, Assigned, with_local, assign_at, written, overwritten, look}
+use Rattle.semantics.specs.Meaning.State.{State, Slot, Outside, Empty, Holds, with_local, assign_at, overwritten, look}
 use Rattle.semantics.specs.Meaning.Value.{map_option}
 use Rattle.semantics.specs.Meaning.Runs.{Effect, nothing, run}
 use Rattle.semantics.specs.Meaning.Agrees.{is_among, visible_behind}
@@ -28,7 +28,7 @@ use Rattle.law_private.proofs.Near.{all_inside}
 use Rattle.law_roles.specs.Updates.{operands}
 use Rattle.law_roles.specs.Reducing.{takes_all}
 use Rattle.law_roles.specs.Following.{IsWalked}
-use Rattle.law_roles.specs.Sharing.{role_variables, HoldsNumber, AssignsAll, begins_with, MergesAt, last_filled, changed_from}
+use Rattle.law_roles.specs.Sharing.{role_variables, HoldsNumber, AssignsAll, begins_with, MergesAt, last_filled}
 use Rattle.law_roles.proofs.Seen.{look_of}
 use Rattle.law_roles.proofs.Starts.{roles_with}
 use Rattle.law_roles.proofs.Followed.{walked}

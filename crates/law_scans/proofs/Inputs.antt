@@ -1,7 +1,7 @@
 -- What a first pass runs of each iteration, beside the whole of it.
-use Rattle.std.specs.Prelude.{ℕ, Bool, true, false, not, ◌≡◌, ◌==◌, ◌&&◌, ◌||◌, List, [], ◌∷◌, ◌++◌, Some, Contains}
+use Rattle.std.specs.Prelude.{ℕ, true, false, not, ◌≡◌, ◌==◌, ◌&&◌, ◌||◌, List, [], ◌∷◌, Some, Contains}
 use Rattle.std.proofs.Common.{refl, sym, ap, ◌∙◌, subst}
-use Rattle.std.proofs.lemmas.Bool.{and_from, eq-eqb, or_left, or_parts}
+use Rattle.std.proofs.lemmas.Bool.{eq-eqb, or_left, or_parts}
 use Rattle.std.proofs.lemmas.List.Folds.{list_any-append}
 use Rattle.std.proofs.lemmas.List.Elements.{Contains-append_left}
 use Rattle.semantics.specs.Tree.{Variable, Stmt, Block, Items}
@@ -11,7 +11,7 @@ use Rattle.semantics.specs.Meaning.Definite.{no_privates}
 use Rattle.semantics.specs.Meaning.Agrees.{is_among, declared_in, declared_among, names_only, visible_behind}
 use Rattle.semantics.specs.Loops.Access.{Access, accesses, items_accesses}
 use Rattle.semantics.specs.Loops.Operator.{ReduceOp}
-use Rattle.law_commute.specs.Steady.{IsSteady, AreSteady}
+use Rattle.law_commute.specs.Steady.{IsSteady}
 use Rattle.law_commute.specs.Targets.{KeepsApart, AssignsFirst}
 use Rattle.law_commute.proofs.Matched.{overwritten-append}
 use Rattle.law_nests.proofs.Nested.{parts_of}
@@ -20,7 +20,6 @@ use Rattle.law_roles.specs.Updates.{reduces}
 use Rattle.law_scans.specs.Phases.{joined_items}
 use Rattle.law_scans.proofs.Phased.{runs_joined, declared_joined, accesses_joined, names_front, steady_front, definite_front}
 use Rattle.law_private.proofs.Chunks.{not_true}
-use Rattle.law_scans.proofs.Kept.{items_keep}
 use Rattle.law_scans.proofs.Steps.{number_left}
 
 -- a part of the body that leaves in the scan variable what the body leaves there

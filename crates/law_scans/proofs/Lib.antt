@@ -2,7 +2,6 @@ pub mod Started
 pub mod Steps
 pub mod Walking
 pub mod Phased
-pub mod Kept
 pub mod Spared
 pub mod Reading
 pub mod Determined

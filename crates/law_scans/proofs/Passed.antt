@@ -1,11 +1,10 @@
 -- Both passes, chunk by chunk.
-use Rattle.std.specs.Prelude.{ℕ, zero, suc, Bool, true, false, not, ◌≡◌, ◌==◌, ◌&&◌, ◌||◌, ◌<◌, ◌^◌, List, [], ◌∷◌, ◌++◌, length, map, flat_map, Option, Some, None, slice_get}
+use Rattle.std.specs.Prelude.{ℕ, zero, suc, Bool, true, false, ◌≡◌, ◌==◌, ◌<◌, ◌^◌, List, [], ◌∷◌, ◌++◌, length, map, flat_map, Option, Some, None, slice_get}
 use Rattle.std.specs.List.{AllByRecursion as Each}
 use Rattle.std.proofs.Common.{refl, sym, ap, ◌∙◌, subst, cond, inl, inr, arith}
-use Rattle.std.proofs.lemmas.Bool.{or_parts, eq-eqb, and_from}
-use Rattle.std.proofs.lemmas.List.{append-nil}
+use Rattle.std.proofs.lemmas.Bool.{or_parts, eq-eqb}
 use Rattle.std.proofs.lemmas.Option.{same_Some}
-use Rattle.semantics.specs.Tree.{Variable, Stmt, Items, Block}
+use Rattle.semantics.specs.Tree.{Variable, Stmt}
 use Rattle.semantics.specs.Meaning.State.{State, Slot, Holds, with_local, overwritten, look, look_in}
 use Rattle.semantics.specs.Meaning.Runs.{Effect, nothing}
 use Rattle.semantics.specs.Meaning.Agrees.{is_among, visible_behind}
@@ -26,19 +25,16 @@ use Rattle.law_private.proofs.Own.{DeclaresNone}
 use Rattle.law_roles.specs.Following.{variables_of}
 use Rattle.law_roles.proofs.Seen.{apart_back}
 use Rattle.law_roles.specs.Sharing.{begins_with, MergesAt, unless_same, changed_from}
-use Rattle.law_roles.proofs.Chunked.{each_contains}
 use Rattle.law_roles.proofs.Partials.{Grown, in_place_counts}
-use Rattle.law_scans.specs.Phases.{joined_items}
 use Rattle.law_scans.specs.Iterations.{StandsAt}
-use Rattle.law_scans.specs.Passes.{IsInclusive, walks_from, InclusiveScansPassTwice}
-use Rattle.law_scans.proofs.Kept.{items_keep}
+use Rattle.law_scans.specs.Passes.{walks_from}
 use Rattle.law_scans.proofs.Steps.{IsSet, TouchedBy}
 use Rattle.law_scans.proofs.Changing.{Kin, kin_cells}
 use Rattle.law_scans.proofs.Merging.{changing}
-use Rattle.law_scans.proofs.Once.{AllOnce, Misses, all_writes, each_slice, slice_each, none_changes, one_changes}
-use Rattle.law_scans.proofs.Walking.{AllApart, apart_left, apart_right, all_apart, halves, walked, walked_all, set_start}
-use Rattle.law_scans.proofs.Inputs.{IsInput, front_input}
-use Rattle.law_scans.proofs.Firsts.{Told, sequence, all_told, pass, joined_all, ready1}
+use Rattle.law_scans.proofs.Once.{AllOnce, Misses, all_writes, slice_each, none_changes, one_changes}
+use Rattle.law_scans.proofs.Walking.{AllApart, apart_left, apart_right, halves, walked, walked_all, set_start}
+use Rattle.law_scans.proofs.Inputs.{IsInput}
+use Rattle.law_scans.proofs.Firsts.{Told, sequence, pass, joined_all, ready1}
 
 grown_more : (op : ReduceOp) (v : ℕ) (fits : v < 2 ^ 64) (w : ℕ) (p : Option ℕ) → Grown op v fits w → Grown op v fits (combined op w p)
 grown_more op v fits w None g = g
@@ -207,45 +203,3 @@ put_together y is fs after c total outer whole held once acts (inl none) =
 put_together y is fs after c total outer whole held once acts (inr o) =
     let acted_is : left_by outer o.effect y is ≡ acted y is o.effect.writes c = acts o.number o.effect o.among ∙ ap (acted y is o.effect.writes) held in
     o.leaves ∙ acted_is ∙ sym (one_changes y is fs c o.number o.effect once o.among (λ k. o.changes (acted_is ∙ k ∙ sym held))) ∙ sym whole
-
-pub pass_twice : InclusiveScansPassTwice
-pass_twice x op ps loops front back outer zero_state chunks v e is stands fits zero_is =
-    let body : Stmt = Block (joined_items front back) in
-    let g = is.scan in
-    let k : Scans x op ps loops body (Block front) = record {
-      keeps = g.keeps;
-      declares_none = g.declares_none;
-      apart = g.apart;
-      first = g.first;
-      not_of_loops = g.not_of_loops;
-      part = front_input x op ps front back g.keeps g.declares_none g.first g.apart is.updates
-          (λ n s e ran h. items_keep x n back (λ y. visible_behind body y && not (is_among ps y))
-          (and_from (visible_behind body x) (not (is_among ps x)) (g.declares_none x (ap (λ b. b || is_among ps x) (eq-eqb x x refl))) (ap not g.apart)) is.reads s e ran h);
-    } in
-    let us = flat_map (λ (us : List Vector). us) chunks in
-    let set = set_start x ps body k.keeps k.declares_none k.first k.apart loops outer k.not_of_loops us outer v stands in
-    let sound = each_contains (λ u. (length u ≡ length loops) × InnerLoopsTurn loops body outer u) us (λ u h. (g.long u h, g.turning u h)) in
-    let clear = all_apart loops body outer us g.different g.independent in
-    let told = all_told x op ps body (Block front) k.keeps k.declares_none k.first k.apart k.part loops outer k.not_of_loops is.taken us outer v e sound clear set is.ran in
-    let p = passed x op ps loops body (Block front) outer zero_state v k stands fits zero_is chunks outer v e sound clear told (inl refl) set is.ran in
-    let w = walked_all x ps body k.keeps k.declares_none k.first k.apart loops outer k.not_of_loops us outer v e sound clear set is.ran in
-    let c = changing x ps body k.keeps k.declares_none k.first k.apart loops outer k.not_of_loops us [] outer v e sound
-    (subst (AllApart loops body outer) (sym (append-nil us)) clear)
-    (set_start x ps body k.keeps k.declares_none k.first k.apart loops outer k.not_of_loops (us ++ []) outer v stands) is.ran in
-    record {
-      firsts = p.firsts;
-      first_pass = p.first_pass;
-      seconds = p.seconds;
-      second_pass = λ starts s. p.second_pass starts s.long (λ c t at.
-          let b = s.each c t at in (b.0, ap (λ before. start_of op before (map (λ f. changed_from zero_state f x) p.firsts) c) (sym stands.value) ∙ b.1, b.2));
-      writes = p.writes;
-      text = p.text;
-      merge = λ after merges y i js.
-          put_together y (i ∷ js) p.seconds after (outer.cells y (i ∷ js)) (left_by outer e y (i ∷ js)) outer
-          (c.elements outer set y i js ∙ ap (λ ws. acted y (i ∷ js) ws (outer.cells y (i ∷ js))) p.writes) refl (p.once y i js)
-          (λ n f at. each_slice (λ (f : Effect). (y : Variable) (j : ℕ) (js : List ℕ) → left_by outer f y (j ∷ js) ≡ acted y (j ∷ js) f.writes (outer.cells y (j ∷ js))) p.seconds p.acts n f at y i js) (merges y i js);
-      same = λ n t f s y i js. same_left x op ps loops body (Block front) outer zero_state v k stands fits zero_is n t f s y i js;
-      scalars = λ y seen other. w.after.scalars y seen other;
-      locals = λ y seen other free. w.after.locals y seen other free;
-      value = p.value ∙ ap (λ before. start_of op before (map (λ f. changed_from zero_state f x) p.firsts) (length chunks)) (sym stands.value);
-    }

@@ -1,12 +1,12 @@
 -- A statement does the same from states that agree in what it reads.
 use Rattle.std.specs.Prelude.{ℕ, zero, suc, Bool, true, false, ◌≡◌, ◌==◌, ◌&&◌, ◌||◌, ◌⊎◌, List, [], ◌∷◌, ◌++◌, flat_map, Option, Some, None}
-use Rattle.std.proofs.Common.{refl, sym, ap, ◌∙◌, subst, cond, inl, inr}
+use Rattle.std.proofs.Common.{refl, sym, ap, ◌∙◌, cond, inl, inr}
 use Rattle.std.proofs.lemmas.Bool.{true≢false, eqb-true, eq-eqb, and_from, or_left, or_right, or_cases}
 use Rattle.std.proofs.lemmas.List.Folds.{list_any-append}
 use Rattle.semantics.specs.Tree.{Variable, Expr, Literal, Bare, Constant, Object, Unary, Binary, Conditional, Exprs, no_exprs, more_exprs, Cond, NotZero, Compare, Not, LogicalAnd, LogicalOr, Source, Number, Truth, BinaryOp, Plus, Minus, Increment, Up, Down, Set, Change, PrintPart, Characters, Decimal, Stmt, Assign, Update, If, IfElse, For, Block, Print, Items, no_items, mark, local, stmt}
-use Rattle.semantics.specs.Meaning.State.{State, Slot, Outside, Empty, Holds, Declared, Assigned, renewed, same_indexes, slot_of, with_local, assign_at, is_there, look, is_object, is_object_in, written, overwritten}
+use Rattle.semantics.specs.Meaning.State.{State, Slot, Outside, Empty, Holds, Declared, Assigned, renewed, same_indexes, with_local, assign_at, is_there, look, is_object, is_object_in, written}
 use Rattle.semantics.specs.Meaning.Value.{operate, map_option, both_then, value, values, holds, source_value}
-use Rattle.semantics.specs.Meaning.Runs.{Effect, nothing, one_write, then_from, declares, declared, assigned, updated, incremented, print_text, turns, greatest_trip_count, run, run_items}
+use Rattle.semantics.specs.Meaning.Runs.{nothing, one_write, then_from, declares, declared, assigned, updated, incremented, print_text, turns, greatest_trip_count, run, run_items}
 use Rattle.semantics.specs.Meaning.Agrees.{also, is_among, names_expr, names_exprs, names_cond, names_source, names_start, names_step, names_parts, names_only, names_items}
 use Rattle.semantics.specs.Directives.Naming.{named_expr, named_exprs, named_cond, named_source, named_start, named_step, named_part}
 use Rattle.semantics.specs.Loops.Piece.{is_outside}

@@ -1,34 +1,32 @@
 -- Chunks of a scan, from the state before the loop.
-use Rattle.std.specs.Prelude.{ℕ, zero, Bool, true, false, not, ◌≡◌, ◌==◌, ◌&&◌, ◌||◌, ◌⊎◌, List, [], ◌∷◌, ◌++◌, Option, Some, None, IsSome}
+use Rattle.std.specs.Prelude.{ℕ, Bool, true, false, not, ◌≡◌, ◌==◌, ◌&&◌, List, [], ◌∷◌, ◌++◌, Option, Some, None, IsSome}
 use Rattle.std.proofs.Common.{refl, sym, ap, ◌∙◌, subst, cond, inl, inr}
 use Rattle.std.proofs.Math.Path.{fun_ext}
-use Rattle.std.proofs.lemmas.Bool.{true≢false, eqb-true, eq-eqb, or_left, or_right, or_parts, not_from_false}
+use Rattle.std.proofs.lemmas.Bool.{true≢false, eqb-true, eq-eqb, or_left, or_right, or_parts}
 use Rattle.std.proofs.lemmas.List.Folds.{list_any-append}
 use Rattle.semantics.specs.Tree.{Variable, Stmt, Block, Items}
-use Rattle.semantics.specs.Meaning.State.{State, Holds, overwritten, look}
-use Rattle.semantics.specs.Meaning.Runs.{Effect, run, run_items}
+use Rattle.semantics.specs.Meaning.State.{State, Holds, overwritten}
+use Rattle.semantics.specs.Meaning.Runs.{Effect, run_items}
 use Rattle.semantics.specs.Meaning.Definite.{definite, no_privates}
 use Rattle.semantics.specs.Meaning.Agrees.{is_among, declared_among, visible_behind}
 use Rattle.semantics.specs.Loops.Nest.{Loop, Vector, nest_of, at_vector}
 use Rattle.semantics.specs.Loops.Operator.{ReduceOp}
-use Rattle.semantics.specs.Loops.Piece.{Roles, is_outside}
+use Rattle.semantics.specs.Loops.Piece.{Roles}
 use Rattle.law_commute.specs.Steady.{IsSteady}
 use Rattle.law_commute.specs.Targets.{KeepsApart, AssignsFirst}
 use Rattle.law_commute.proofs.Values.{first_of, second_of}
-use Rattle.law_nests.specs.Walks.{walk}
 use Rattle.law_nests.proofs.Joined.{nest_declares, visible_more}
 use Rattle.law_private.specs.Known.{KnowsMore}
 use Rattle.law_private.proofs.More.{more_known}
 use Rattle.law_private.proofs.Own.{own_body, others, DeclaresNone, HasReplaced, replaced, KnownInside, known_inside}
 use Rattle.law_private.proofs.Chunks.{not_true}
 use Rattle.law_roles.specs.Updates.{reduces, operands}
-use Rattle.law_roles.specs.Reducing.{takes_all}
-use Rattle.law_roles.specs.Sharing.{role_variables, AssignsAll}
+use Rattle.law_roles.specs.Sharing.{role_variables}
 use Rattle.law_roles.proofs.Moved.{Moved, moved_look, moved_stmt, moved_walk, moved_at, moved_iterations, moved_conflict}
 use Rattle.law_roles.proofs.Joining.{localized, localized_inside, localized_moved}
 use Rattle.law_roles.proofs.Chunked.{nest_variables}
 use Rattle.law_roles.proofs.Starts.{roles_with}
-use Rattle.law_scans.specs.Phases.{joined_items, written_among, input_of, scan_of, spares, keeps_phases}
+use Rattle.law_scans.specs.Phases.{joined_items, written_among, input_of, scan_of, spares}
 use Rattle.law_scans.specs.Scanning as law
 use Rattle.law_scans.specs.Scanning.{whole_of, IsScanned, ScansFrom, TakesInputs}
 use Rattle.law_scans.proofs.Phased.{declared_joined, steady_back}

@@ -1,13 +1,13 @@
 -- What a variable that each iteration assigns holds behind chunks of a scan.
-use Rattle.std.specs.Prelude.{ℕ, suc, Bool, true, false, not, ◌≡◌, ◌==◌, List, [], ◌∷◌, ◌++◌, length, map, flat_map, Option, Some, None}
+use Rattle.std.specs.Prelude.{Bool, true, false, not, ◌≡◌, ◌==◌, List, [], ◌∷◌, ◌++◌, length, map, flat_map, Option, Some, None}
 use Rattle.std.specs.List.{AllByRecursion as Each}
-use Rattle.std.proofs.Common.{refl, sym, ap, ◌∙◌, subst, cond, arith}
+use Rattle.std.proofs.Common.{refl, sym, ap, ◌∙◌, cond, arith}
 use Rattle.std.proofs.lemmas.Bool.{true≢false, eqb-true, eq-eqb}
 use Rattle.std.proofs.lemmas.Option.{same_Some, none-some}
 use Rattle.semantics.specs.Tree.{Variable, Stmt}
 use Rattle.semantics.specs.Meaning.State.{State, Slot, Write, with_local, overwritten}
 use Rattle.semantics.specs.Meaning.Runs.{Effect, nothing, run}
-use Rattle.semantics.specs.Meaning.Definite.{definite, no_privates}
+use Rattle.semantics.specs.Meaning.Definite.{no_privates}
 use Rattle.semantics.specs.Meaning.Agrees.{Agrees, is_among, names_only, visible_behind}
 use Rattle.semantics.specs.Loops.Nest.{Loop, Vector, at_vector}
 use Rattle.semantics.specs.Loops.Piece.{is_outside}

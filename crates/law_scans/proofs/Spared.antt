@@ -1,14 +1,14 @@
 -- A variable that a statement does not write.
 use Rattle.std.specs.Prelude.{ℕ, zero, suc, Bool, true, false, ◌≡◌, ◌==◌, ◌&&◌, ◌||◌, List, [], ◌∷◌, ◌++◌, Option, Some, None}
 use Rattle.std.specs.List.{list_any}
-use Rattle.std.proofs.Common.{refl, sym, ap, ◌∙◌, subst, cond}
+use Rattle.std.proofs.Common.{refl, sym, ap, ◌∙◌, cond}
 use Rattle.std.proofs.lemmas.Bool.{true≢false, eqb-true, eq-eqb, or_parts}
 use Rattle.std.proofs.lemmas.List.Folds.{list_any-append}
 use Rattle.std.proofs.lemmas.Option.{none-some, same_Some}
-use Rattle.semantics.specs.Tree.{Variable, BinaryOp, Plus, Minus, Expr, Literal, Bare, Object, Exprs, no_exprs, Source, Cond, Increment, Up, Down, Set, Change, Stmt, Assign, Update, If, IfElse, For, Block, Print, Items, no_items, mark, local, stmt}
-use Rattle.semantics.specs.Meaning.State.{State, Slot, Outside, Empty, Holds, Write, Declared, Assigned, renewed, same_indexes, slot_of, with_local, assign_at, is_object, is_there, written, overwritten}
+use Rattle.semantics.specs.Tree.{Variable, Plus, Minus, Literal, Bare, Object, no_exprs, Cond, Increment, Up, Down, Set, Change, Stmt, Assign, Update, If, IfElse, For, Block, Print, Items, no_items, mark, local, stmt}
+use Rattle.semantics.specs.Meaning.State.{State, Slot, Outside, Empty, Holds, Write, Declared, Assigned, renewed, same_indexes, assign_at, is_object, is_there, written, overwritten}
 use Rattle.semantics.specs.Meaning.Value.{map_option, by_test, both_then, operate, value, values, holds, source_value}
-use Rattle.semantics.specs.Meaning.Runs.{Effect, nothing, one_write, joined, then_from, declares, declared, assigned, updated, incremented, turns, greatest_trip_count, run, run_items, print_text}
+use Rattle.semantics.specs.Meaning.Runs.{Effect, nothing, one_write, joined, then_from, declares, declared, assigned, incremented, turns, greatest_trip_count, run, run_items, print_text}
 use Rattle.semantics.specs.Meaning.Agrees.{also, is_among, declared_in, declared_among}
 use Rattle.semantics.specs.Loops.Piece.{is_outside}
 use Rattle.law_commute.specs.Steady.{IsFixedStep, IsSteady, AreSteady}

@@ -5,7 +5,6 @@
 ghost use Rattle.law_scans.specs.Iterations.{ChunksRepeat};
 ghost use Rattle.law_scans.specs.Phases.{PhasesRunInTurn};
 ghost use Rattle.law_scans.specs.Rows.{ScanRows};
-ghost use Rattle.law_scans.specs.Passes.{InclusiveScansPassTwice};
 ghost use Rattle.law_scans.specs.Scanning.{ScanChunksJoin};
 
 /// Iterations of a scan do from the state before the loop, with the scan variable at the value that it has before them in sequence, what they
@@ -17,12 +16,6 @@ pub fn chunks_repeat()
 /// A body in two phases runs the first and then the second (C11 6.8.2).
 pub fn phases_run_in_turn()
     ensures { PhasesRunInTurn }
-{}
-
-/// A scan whose input phase comes first may be run in two passes: what the input phase alone leaves in the scan variable, chunk by chunk,
-/// tells each chunk's start, and what the chunks do from there, one after another, is what the loop does (OpenMP 5.2, 5.6).
-pub fn inclusive_scans_pass_twice()
-    ensures { InclusiveScansPassTwice }
 {}
 
 /// Chunks of a scan loop's iterations of which no two conflict, with private and lastprivate variables, have a run each in both passes: the
