@@ -4,3 +4,4 @@ pub mod SharingLaw
 pub mod WithoutLaw
 pub mod StandLaw
 pub mod TellLaw
+pub mod Different
