@@ -54,9 +54,9 @@ has_passed text k known whole stands judged =
       definite = subst (λ (R : LineData). IsDefinite (privates_by R) k) (sym stands.roles) judged.environment.0;
       roles = subst (λ (R : LineData). ItemsKeepRoles text R [] k.body) (sym stands.roles) judged.environment.1;
       fit = ap (λ (lines : Lines). fit_clauses lines k) stands.clauses ∙ judged.environment.2;
-      ordered = ap (λ (w : Whole). w.ordered) stands.found ∙ judged.environment.3;
+      ordered = ap (λ (w : Whole). w.ordered) stands.found ∙ judged.environment.3.0;
       dissolved = stands.dissolved;
-      scans = ap (λ (w : Whole). w.phased) stands.found ∙ judged.environment.4;
+      scans = ap (λ (w : Whole). w.phased) stands.found ∙ judged.environment.3.1;
       numbered = scan_lines_differ text (clauses_counted text stands.reads.whole stands.directives) stands.reads.whole stands.reads.reads;
     }
 

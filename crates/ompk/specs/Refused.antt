@@ -111,7 +111,7 @@ RefusesAlone text tree R lines whole r = RefusesPasses text tree R lines whole r
 
 -- the directives are attached, and the tree with its regions dissolved is refused, by the clauses that count for its lines
 abbrev pub RefusesAttached : List ℕ → Kernel → Refusal → Type 0
-RefusesAttached text tree r = (ds : Directives) × IsAttached text tree ds × RefusesAlone text (alone text tree) (data_counted text tree ds) (clauses_counted text tree ds) (prints_whole text tree) r
+RefusesAttached text tree r = (ds : Directives) × IsAttached text tree ds × RefusesAlone text (alone text tree) (data_counted text tree ds) (clauses_counted text tree ds) (whole_found text (clauses_counted text tree ds) tree) r
 
 -- the tree is none that is run
 abbrev pub RefusesKernel : List ℕ → Kernel → Refusal → Type 0
