@@ -1,31 +1,29 @@
 -- Scans where they stand, in the tree from which their lines are left out.
-use Rattle.std.specs.Prelude.{ℕ, Bool, true, false, not, ◌==◌, ◌&&◌, ◌||◌, if◌then◌else◌, ◌≡◌, List, [], ◌∷◌, ◌++◌, Option, Some, None, Contains}
+use Rattle.std.specs.Prelude.{ℕ, Bool, true, false, not, ◌&&◌, ◌||◌, if◌then◌else◌, ◌≡◌, List, [], ◌∷◌, ◌++◌, Option, Some, None, Contains}
 use Rattle.std.specs.List.{list_all}
 use Rattle.std.proofs.Common.{refl, sym, ap, ◌∙◌, subst, inl}
 use Rattle.std.proofs.lemmas.Bool.{eqb-true}
-use Rattle.std.proofs.lemmas.Option.{same_Some, none-some}
+use Rattle.std.proofs.lemmas.Option.{none-some}
 use Rattle.std.proofs.lemmas.List.Elements.{Contains-append_left, Contains-append_right}
 use Rattle.semantics.specs.Tree.{Name, Variable, Cond, Source, Increment, Stmt, Assign, Update, If, IfElse, For, Block, Print, Items, no_items, mark, local, stmt, Kernel}
 use Rattle.semantics.specs.Source.Text.{line_at}
 use Rattle.semantics.specs.Loops.Nest.{Loop}
 use Rattle.semantics.specs.Loops.Operator.{ReduceOp}
 use Rattle.semantics.specs.Directives.Directive.{Schedule, Directive, ParallelFor, Parallel, Worksharing, ScanInclusive, ScanExclusive, OrderedRegion, DoacrossSource, DoacrossSink}
-use Rattle.semantics.specs.Directives.Clauses.{is_scan}
 use Rattle.law_commute.proofs.Lists.{contains_among}
 use Rattle.law_commute.proofs.Values.{first_of, second_of}
 use Rattle.law_lines.specs.Without.{without_in, without_among}
-use Rattle.law_scans.specs.Phases.{joined_items, keeps_phases}
+use Rattle.law_scans.specs.Phases.{keeps_phases}
 use Rattle.pragma.specs.Clauses.{Said, loop_of, ReadsLoop}
-use Rattle.pragma.specs.Parallel.{associated, FirstHas, LineHas, LoopsHave, ItemsHave}
-use Rattle.pragma.specs.Plain.{has_line, has_line_among, IsPlainFor, IsPlainLoop, IsDirected}
-use Rattle.pragma_attach.specs.Standing.{directive_on}
+use Rattle.pragma.specs.Parallel.{associated, FirstHas, LoopsHave, ItemsHave}
+use Rattle.pragma.specs.Plain.{has_line, has_line_among, IsPlainFor, IsPlainLoop}
 use Rattle.pragma_attach.proofs.LookLaw.{is_on}
 use Rattle.pragma_named.specs.Known.{Lines}
-use Rattle.pragma_region.specs.Regions.{is_scan_line, is_left_out, alone}
+use Rattle.pragma_region.specs.Regions.{is_scan_line, is_left_out}
 use Rattle.flow.specs.Roles.{LoopsHaveBy, ItemsHaveBy}
 use Rattle.flow_scan.specs.Lines.{is_loop, is_loop_line, is_one, associates_one, associates_one_on, suits_scan, sole_of, scanned, is_called}
 use Rattle.flow_scan.specs.Parts.{Parts, block_parts, body_parts, cut, has_statement, count, have_scan}
-use Rattle.flow_scan.specs.Scans.{ScanPart, has_phases, scans_loop, is_scan_loop, scans_behind, line_before, scans_in, scans_among, scans_rightly, parts_at, parts_behind, parts_in, parts_among, scans_of}
+use Rattle.flow_scan.specs.Scans.{ScanPart, has_phases, scans_loop, is_scan_loop, scans_behind, line_before, scans_in, scans_among, parts_at, parts_behind, parts_in, parts_among, scans_of}
 use Rattle.flow_scan.specs.Laws.{HasPhases, ScanThere, ScansStandAlone}
 use Rattle.flow_scan.proofs.WithoutLaw.{both_true, phases_kept, cut_joined, count_all}
 

@@ -1,5 +1,5 @@
 -- What is told of the loop on a line, where the lines are different.
-use Rattle.std.specs.Prelude.{ℕ, zero, suc, Bool, true, false, not, ◌==◌, ◌&&◌, ◌||◌, ◌<◌, ◌≡◌, List, [], ◌∷◌, length, map, Contains, slice_index_or}
+use Rattle.std.specs.Prelude.{ℕ, zero, suc, Bool, true, false, not, ◌==◌, ◌||◌, ◌<◌, ◌≡◌, List, [], ◌∷◌, length, map, slice_index_or}
 use Rattle.std.proofs.Common.{refl, sym, ap, ◌∙◌, inl, inr, arith}
 use Rattle.std.proofs.lemmas.Bool.{true≢false, eqb-false, true_from_ne_false}
 use Rattle.semantics.specs.Meaning.Agrees.{is_among}

@@ -282,3 +282,63 @@ fn names_of_both_phases_are_told(rt: HostRuntime) {
     ];
     no_other(&rt, first_other(rt.alloc(), &rows));
 }
+
+/// Whether these are told of a kernel's loops of scans.
+fn are_listed(
+    alloc: Global,
+    kernel: &Kernel,
+    directives: &Directives,
+    lines: &LineClauses,
+    expected: &[ScanLoop],
+) -> bool {
+    match scans_of(alloc, kernel, directives, lines) {
+        Ok(loops) => loops.as_slice() == expected,
+        Err(_error) => false,
+    }
+}
+
+/// The same of a kernel with the directive lines of its text.
+fn are_read(
+    alloc: Global,
+    kernel: &Kernel,
+    directives: &Directives,
+    expected: &[ScanLoop],
+) -> bool {
+    match lines_of(alloc, kernel, directives) {
+        Ok(lines) => are_listed(alloc, kernel, directives, &lines, expected),
+        Err(_number) => false,
+    }
+}
+
+/// The same of the text with these lines.
+fn are_told(alloc: Global, lines: &str, expected: &[ScanLoop]) -> bool {
+    let Ok(text) = text(alloc, lines) else {
+        return false;
+    };
+    match (
+        parsed(alloc, text.as_str()),
+        Directives::read(alloc, text.as_bytes()),
+    ) {
+        (Ok(kernel), Ok(directives)) => are_read(alloc, &kernel, &directives, expected),
+        _ => false,
+    }
+}
+
+#[test]
+fn loops_of_scans_are_listed(rt: HostRuntime) {
+    let expected = [
+        ScanLoop {
+            line: at(2, 1),
+            inclusive: true,
+            front: 3,
+        },
+        ScanLoop {
+            line: at(10, 1),
+            inclusive: false,
+            front: 1,
+        },
+    ];
+    let lines =
+        "#pragma omp parallel for reduction(inscan, +: s)\nfor (uint64_t i = 0; i < 3; i++) { uint64_t t = i; s += t; { }\n#pragma omp scan inclusive(s)\nA[i] = s; }\n#pragma omp parallel for\nfor (uint64_t i = 0; i < 3; i++) A[i] = 1;\n#pragma omp parallel\n{\n#pragma omp for reduction(inscan, max: s)\nfor (uint64_t i = 0; i < 3; i++) { A[i] = s;\n#pragma omp scan exclusive(s)\nif (i > s) s = i; } }";
+    assert!(rt; are_told(rt.alloc(), lines, &expected));
+}

@@ -92,7 +92,7 @@ fn clauses_stand_in_any_order(rt: HostRuntime) {
             "#pragma omp parallel for lastprivate(x) reduction(+: s, t) collapse(2) reduction(min: u)",
             Ok((0, 2)),
         ),
-        ("#pragma omp for reduction(inscan, +: s)", Err(11)),
+        ("#pragma omp for reduction(inscan, +: s)", Ok((0, 0))),
         ("#pragma omp for lastprivate(conditional: s)", Err(11)),
         (
             "#pragma omp parallel for ordered schedule(dynamic, 2)",

@@ -1,4 +1,4 @@
-use Rattle.std.specs.Prelude.{Some, option_map}
+use Rattle.std.specs.Prelude.{option_map}
 use Rattle.std.proofs.Common.{subst}
 use Rattle.ktree.specs.View.{items_of}
 use Rattle.flow_scan.specs.Parts.{cut}
