@@ -26,13 +26,16 @@ use Rattle.lower_code.specs.declared.term.Laid.{Laid}
 use Rattle.lower.specs.declared.lowered.LoweredLoop.{LoweredLoop}
 use Rattle.lower.specs.Lowered.{IsReached}
 use Rattle.overlay_pages.specs.declared.changes.Change.{Change}
+use Rattle.team.specs.declared.pass.Pass.{Pass}
 use Rattle.team.specs.declared.log.EndedChunk.{EndedChunk}
 use Rattle.team.specs.Ends.{IsSplit, IsLeaving, AreAll}
 use Rattle.team.specs.Logged.{Leaving, Account, logged}
 use Rattle.team.specs.Printed.{entered, entered_from, text_in_order, AreSilent}
 use Rattle.team.specs.Together.{BeginsTogether}
 use Rattle.team.proofs.Cutting.{one_below}
-use Rattle.team.proofs.Effects.{value_at, same_length}
+use Rattle.team.specs.declared.pass.Pass.TheVariants.{Plain}
+use Rattle.team.specs.Starts.{started_in, HaveRuns}
+use Rattle.team.proofs.Effects.{have_same}
 
 pub entered_both : (cs ds : List Leaving) (texts : List (List ℕ)) → entered (cs ++ ds) texts ≡ entered ds (entered cs texts)
 entered_both [] ds texts = refl
@@ -133,8 +136,8 @@ texts_all [] = refl
 texts_all (e ∷ effects) = ap (λ (t : List ℕ). e.text ++ t) (texts_all effects)
 
 -- what all chunks print is what their runs print
-module _ (layout : List Laid) (mark : ℕ) (roles : Roles) (loops : List Loop) (body : Stmt) (outer : State) (us : List Vector) (effects : List Effect) (l : LoweredLoop) (registers : List ℕ) (ks : List Kept) (chunks : List Chunk) (account : Account)
-    (reached : IsReached layout mark roles loops body outer us l registers ks) (ran : map (λ vs. walk loops body vs (begun roles outer)) (chunked us chunks) ≡ map Some effects) (all : AreAll l registers ks chunks account) where
+module _ (layout : List Laid) (mark : ℕ) (roles : Roles) (loops : List Loop) (body : Stmt) (outer : State) (us : List Vector) (effects : List Effect) (l : LoweredLoop) (registers : List ℕ) (ks : List Kept) (pass : Pass) (chunks : List Chunk) (account : Account)
+    (reached : IsReached layout mark roles loops body outer us l registers ks) (ran : HaveRuns loops body (started_in pass roles outer) (chunked us chunks) effects) (all : AreAll l registers ks pass chunks account) where
   abbrev iterations_of : Chunk → List Vector
   iterations_of c = take c.count (drop c.first us)
 
@@ -142,12 +145,12 @@ module _ (layout : List Laid) (mark : ℕ) (roles : Roles) (loops : List Loop) (
   wanted = map (λ (e : Effect). e.text) effects
 
   many : length wanted ≡ length chunks
-  many = length-map effects (λ (e : Effect). e.text) ∙ same_length (λ vs. walk loops body vs (begun roles outer)) (chunked us chunks) effects ran ∙ length-map chunks iterations_of
+  many = length-map effects (λ (e : Effect). e.text) ∙ ran.count ∙ length-map chunks iterations_of
 
-  one : (c : Leaving) → IsLeaving l registers ks chunks c → slice_get wanted c.number ≡ Some c.text
+  one : (c : Leaving) → IsLeaving l registers ks pass chunks c → slice_get wanted c.number ≡ Some c.text
   one c is =
       let there : slice_get (chunked us chunks) c.number ≡ Some (iterations_of is.chunk) = slice_get-map iterations_of chunks c.number ∙ ap (option_map iterations_of) is.there in
-      let own = value_at (λ vs. walk loops body vs (begun roles outer)) (chunked us chunks) effects ran c.number (iterations_of is.chunk) there in
+      let own = ran.each c.number (iterations_of is.chunk) there in
       let left = is.leaves layout mark roles loops body outer us own.0 reached own.2 in
       slice_get-map (λ (e : Effect). e.text) effects c.number ∙ ap (option_map (λ (e : Effect). e.text)) own.1 ∙ ap Some (sym left.text ∙ sym is.text_is)
 
@@ -155,7 +158,7 @@ module _ (layout : List Laid) (mark : ℕ) (roles : Roles) (loops : List Loop) (
   printed =
       ap (flat_map (λ (t : List ℕ). t))
       (entered_all wanted account.chunks (none_each (length chunks)) (length-replicate (length chunks) [] ∙ sym many)
-      (All-weaker (IsLeaving l registers ks chunks) (λ (c : Leaving). slice_get wanted c.number ≡ Some c.text) one account.chunks all.account.each)
+      (All-weaker (IsLeaving l registers ks pass chunks) (λ (c : Leaving). slice_get wanted c.number ≡ Some c.text) one account.chunks all.account.each)
       (λ k lt.
       let once_is = all.once k in
       let is_one : once_below k (length chunks) ≡ 1 = one_below k (length chunks) (let m = many in omega arith) in
@@ -165,12 +168,12 @@ module _ (layout : List Laid) (mark : ℕ) (roles : Roles) (loops : List Loop) (
 
 -- a beginning of what all chunks print
 pub begins_all : (l : LoweredLoop) (registers : List ℕ) (ks : List Kept) (kind : Kind) (workers : ℕ) (space : List Turns) (chunks : List Chunk) (account : Account) (text text' : List ℕ) → IsSplit l registers space chunks → chunks ≡ cut kind (length (vectors space)) workers
-    → AreAll l registers ks chunks account → AddsBeginning text text' (text_in_order (length chunks) account.chunks) → BeginsTogether l registers ks text text' kind workers
+    → AreAll l registers ks Plain chunks account → AddsBeginning text text' (text_in_order (length chunks) account.chunks) → BeginsTogether l registers ks text text' kind workers
 begins_all l registers ks kind workers space chunks account text text' split cut_is all begun_by = λ layout mark roles loops body outer us effects reached ran.
     let same : us ≡ vectors space = split.iterations layout mark roles loops body outer us ks reached in
     let is : chunks ≡ cut kind (length us) workers = cut_is ∙ ap (λ (vs : List Vector). cut kind (length vs) workers) (sym same) in
     let here = subst (λ (cs : List Chunk). map (λ vs. walk loops body vs (begun roles outer)) (chunked us cs) ≡ map Some effects) (sym is) ran in
-    subst (AddsBeginning text text') (printed layout mark roles loops body outer us effects l registers ks chunks account reached here all) begun_by
+    subst (AddsBeginning text text') (printed layout mark roles loops body outer us effects l registers ks Plain chunks account reached (have_same loops body (begun roles outer) (chunked us chunks) effects here) all) begun_by
 
 -- nothing is put
 pub begins_none : (l : LoweredLoop) (registers : List ℕ) (ks : List Kept) (kind : Kind) (workers : ℕ) (text : List ℕ) → BeginsTogether l registers ks text text kind workers

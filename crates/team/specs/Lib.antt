@@ -1,3 +1,4 @@
+pub mod Starts
 pub mod Together
 pub mod Printed
 pub mod Applied

@@ -1,5 +1,5 @@
 -- What a team leaves of a lowered loop. (OpenMP 5.2, 5.4.5, 5.5.2, 5.5.5, 11.5 and 11.5.3)
-use Rattle.std.specs.Prelude.{ℕ, true, false, ◌≡◌, ◌<◌, ◌≤◌, List, [], ◌++◌, length, map, flat_map, slice_index, Some, All}
+use Rattle.std.specs.Prelude.{ℕ, true, false, ◌≡◌, ◌<◌, ◌≤◌, List, [], ◌++◌, length, map, flat_map, slice_index, Option, Some, All, ◌∷◌}
 use Rattle.semantics.specs.Tree.{Variable, Stmt}
 use Rattle.semantics.specs.Meaning.State.{State, look, overwritten}
 use Rattle.semantics.specs.Meaning.Runs.{Effect}
@@ -38,6 +38,18 @@ pub record PutTogether (layout : List Laid) (roles : Roles) (outer start : State
       → look (overwritten start f.writes) x [] ≡ Some v → HoldsAt layout registers' ks' x v
   pub no_last : (x : Variable) → is_among roles.lasts x ≡ true → flat_map (λ us. us) chunks ≡ []
       → (cell_at (shapes_of layout) (values_of ks') x [] ≡ cell_at (shapes_of layout) (values_of ks) x []) × (slice_index registers' x ≡ slice_index registers x)
+  pub others : (r : ℕ) → is_among (told_apart roles) r ≡ false → slice_index registers' r ≡ slice_index registers r
+  pub long : length registers' ≡ length registers
+  pub printed : text' ≡ text ++ flat_map (λ e. e.text) effects
+
+-- chunks of a scan's second pass are put together: an object with no role is as before where no chunk changes it, and else as one leaves it that does; the scan variable holds what it held before, combined with the first pass's partials in the order of the chunks; lastprivate variables and text are as of any loop (OpenMP 5.2, 5.6)
+pub record PutScan (layout : List Laid) (roles : Roles) (x : Variable) (op : ReduceOp) (outer : State) (chunks : List (List Vector)) (partials : List (Option ℕ)) (effects : List Effect) (registers registers' : List ℕ) (ks ks' : List Kept) (text text' : List ℕ) : Type 0 where
+  pub cells : (y : Variable) (is : List ℕ) → is_among (told_apart roles) y ≡ false → MergesAt outer effects (λ z js. cell_at (shapes_of layout) (values_of ks') z js) y is
+  pub value : (v : ℕ) → look outer x [] ≡ Some v → HoldsAt layout registers' ks' x (combined_all op v partials)
+  pub lasts : (y : Variable) (f : Effect) (v : ℕ) → is_among roles.lasts y ≡ true → last_filled chunks effects ≡ Some f
+      → look (overwritten outer f.writes) y [] ≡ Some v → HoldsAt layout registers' ks' y v
+  pub no_last : (y : Variable) → is_among roles.lasts y ≡ true → flat_map (λ us. us) chunks ≡ []
+      → (cell_at (shapes_of layout) (values_of ks') y [] ≡ cell_at (shapes_of layout) (values_of ks) y []) × (slice_index registers' y ≡ slice_index registers y)
   pub others : (r : ℕ) → is_among (told_apart roles) r ≡ false → slice_index registers' r ≡ slice_index registers r
   pub long : length registers' ≡ length registers
   pub printed : text' ≡ text ++ flat_map (λ e. e.text) effects

@@ -9,6 +9,7 @@ mod grounds;
 mod job;
 mod lent;
 mod log;
+mod pass;
 mod place;
 mod printing;
 mod putting;

@@ -42,7 +42,7 @@ fn loop_logs<'l, R: Wait, G: Gate>(
     requires chunks { grounds.chunks
         ≡ cut (kind_of sched.now) (length (vectors grounds.space)) workers }
     ensures all { IfOk result (λ logs. AreAll lowered.now grounds.registers.items store.old
-        grounds.chunks (joined logs.items)) }
+        grounds.pass grounds.chunks (joined logs.items)) }
     ensures store { store.new ≡ store.old }
     ensures refusal { IfErr result (λ refusal. refusal ≡ Refusal.OutOfMemory) }
 {

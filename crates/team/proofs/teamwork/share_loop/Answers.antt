@@ -5,6 +5,8 @@ use Rattle.schedule.specs.Sched.{kind_said}
 use Rattle.seqrun_io.specs.Told.{AddsBeginning}
 use Rattle.store.specs.Kept.{Kept}
 use Rattle.store.specs.Flat.{AreFilled}
+use Rattle.team.specs.declared.pass.Pass.{Pass}
+use Rattle.team.specs.declared.pass.Pass.TheVariants.{Plain}
 use Rattle.team.specs.Ends.{IsCut, AreAll, AreOfLoop}
 use Rattle.team.specs.Logged.{Account, joined}
 use Rattle.team.specs.Printed.{text_in_order}
@@ -20,7 +22,7 @@ returns-in_err-put_texts-clause-beginning g c =
     let account = joined c.in_ok-logs.logs.items in
     let ks = c.args.store.now in
     let chunks_are = c.in_ok-grounds.ensures.chunks ∙ ap (λ (k : Kind). cut k (length (vectors grounds.space)) c.args.workers) c.sched_of-sched.ensures in
-    let all = subst (λ (rs : List ℕ). AreAll l rs ks grounds.chunks account) c.in_ok-grounds.ensures.registers c.in_ok-logs.ensures.all in
+    let all = subst (λ (rs : List ℕ). AreAll l rs ks Plain grounds.chunks account) c.in_ok-grounds.ensures.registers (subst (λ (p : Pass). AreAll l grounds.registers.items ks p grounds.chunks account) c.in_ok-grounds.ensures.pass c.in_ok-logs.ensures.all) in
     let told = g.S.Sink.told c.args.sink.now in
     let after = g.S.Sink.told c.put_texts.new.sink in
     let begun = subst (λ (text : List ℕ). AddsBeginning told after text) (λ i. text_in_order (c.len-count.ensures i) (joined (c.as_slice.ensures.value i)).chunks) c.put_texts.ensures.beginning in
@@ -33,7 +35,7 @@ returns-clause-beginning g c =
     let account = joined c.in_ok-logs.logs.items in
     let ks = c.args.store.now in
     let chunks_are = c.in_ok-grounds.ensures.chunks ∙ ap (λ (k : Kind). cut k (length (vectors grounds.space)) c.args.workers) c.sched_of-sched.ensures in
-    let all = subst (λ (rs : List ℕ). AreAll l rs ks grounds.chunks account) c.in_ok-grounds.ensures.registers c.in_ok-logs.ensures.all in
+    let all = subst (λ (rs : List ℕ). AreAll l rs ks Plain grounds.chunks account) c.in_ok-grounds.ensures.registers (subst (λ (p : Pass). AreAll l grounds.registers.items ks p grounds.chunks account) c.in_ok-grounds.ensures.pass c.in_ok-logs.ensures.all) in
     let told = g.S.Sink.told c.args.sink.now in
     let after = g.S.Sink.told c.put_texts.new.sink in
     let begun = subst (λ (text : List ℕ). AddsBeginning told after text) (λ i. text_in_order (c.len-count.ensures i) (joined (c.as_slice.ensures.value i)).chunks) c.put_texts.ensures.beginning in
@@ -50,12 +52,12 @@ returns-clause-leaves g c =
     let now = c.put_together.new.store in
     let kind = kind_said l.schedule c.args.runtime in
     let chunks_are : grounds.chunks ≡ cut kind (length (vectors grounds.space)) c.args.workers = c.in_ok-grounds.ensures.chunks ∙ ap (λ (k : Kind). cut k (length (vectors grounds.space)) c.args.workers) c.sched_of-sched.ensures in
-    let all = subst (λ (rs : List ℕ). AreAll l rs ks grounds.chunks account) c.in_ok-grounds.ensures.registers c.in_ok-logs.ensures.all in
-    let of : AreOfLoop l registers ks kind c.args.workers account = record {
+    let all = subst (λ (rs : List ℕ). AreAll l rs ks Plain grounds.chunks account) c.in_ok-grounds.ensures.registers (subst (λ (p : Pass). AreAll l grounds.registers.items ks p grounds.chunks account) c.in_ok-grounds.ensures.pass c.in_ok-logs.ensures.all) in
+    let of : AreOfLoop l registers ks Plain kind c.args.workers account = record {
       space = grounds.space;
       of = c.in_ok-grounds.ensures.split.iterations;
       cut_is = subst (λ (k : List Chunk). IsCut (length (vectors grounds.space)) k) chunks_are c.in_ok-grounds.ensures.split.cut;
-      all = subst (λ (k : List Chunk). AreAll l registers ks k account) chunks_are all;
+      all = subst (λ (k : List Chunk). AreAll l registers ks Plain k account) chunks_are all;
     } in
     let filled = subst AreFilled c.in_ok-logs.ensures.store c.confirm_filled.ensures in
     let from_logs = subst (λ (logs : List Account). IsPut l.roles (joined logs) registers behind c.loop_logs.new.store now) c.as_slice-2.ensures.value c.put_together.ensures.put in
