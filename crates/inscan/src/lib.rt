@@ -6,4 +6,4 @@ mod in_front;
 mod passes;
 
 pub use in_front::starts;
-pub use passes::{first_pass, second_pass};
+pub use passes::{first_partial, first_pass, second_pass};

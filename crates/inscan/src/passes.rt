@@ -17,8 +17,8 @@ use overlay::{Piece, Start, Work, Worker};
 use reduce::Partial;
 use std::alloc::Global;
 
-// The partial of the first reduction variable, if there is one.
-fn first_partial(partials: &[Partial]) -> Partial
+/// The partial of the first reduction variable, if there is one; of a scan's loop it has no other.
+pub fn first_partial(partials: &[Partial]) -> Partial
     ensures { partial_of result ≡ value_at 0 (map partial_of partials.now) }
 {
     match partials.first() {

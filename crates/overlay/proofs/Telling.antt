@@ -47,13 +47,13 @@ have_operators (r ∷ rs) d = (
 )
 
 -- variables that take a given number have it, and all else is as it was
-given_locals : (v : ℕ) (rs : List (Variable × ReduceOp)) (s : State) (x : Variable) → is_among (reduced rs) x ≡ false → (started (Scan v) rs s).locals x ≡ s.locals x
+pub given_locals : (v : ℕ) (rs : List (Variable × ReduceOp)) (s : State) (x : Variable) → is_among (reduced rs) x ≡ false → (started (Scan v) rs s).locals x ≡ s.locals x
 given_locals v [] s x h = refl
 given_locals v (r ∷ rs) s x h =
     let parts = or_parts (r.0 == x) (is_among (reduced rs) x) h in
     given_locals v rs (given s r.0 (Some v)) x parts.1 ∙ (given_only s r.0 (Some v)).locals x (apart_back r.0 x parts.0)
 
-given_cells : (v : ℕ) (rs : List (Variable × ReduceOp)) (s : State) (x : Variable) (is : List ℕ) → is_among (reduced rs) x ≡ false → (started (Scan v) rs s).cells x is ≡ s.cells x is
+pub given_cells : (v : ℕ) (rs : List (Variable × ReduceOp)) (s : State) (x : Variable) (is : List ℕ) → is_among (reduced rs) x ≡ false → (started (Scan v) rs s).cells x is ≡ s.cells x is
 given_cells v [] s x is h = refl
 given_cells v (r ∷ rs) s x is h =
     let parts = or_parts (r.0 == x) (is_among (reduced rs) x) h in

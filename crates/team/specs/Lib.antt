@@ -1,4 +1,6 @@
 pub mod Starts
+pub mod Scanned
+pub mod Passed
 pub mod Together
 pub mod Printed
 pub mod Applied

@@ -5,8 +5,10 @@ use Rattle.semantics.specs.Meaning.State.{State, look, overwritten}
 use Rattle.semantics.specs.Meaning.Runs.{Effect}
 use Rattle.semantics.specs.Meaning.Agrees.{is_among}
 use Rattle.semantics.specs.Loops.Arrangement.{EachOnceBelow, picked}
-use Rattle.semantics.specs.Loops.Chunk.{Kind, cut}
-use Rattle.semantics.specs.Loops.Joined.{chunked}
+use Rattle.semantics.specs.Meaning.Places.{below}
+use Rattle.semantics.specs.Loops.Chunk.{Kind, PlainStatic, cut}
+use Rattle.semantics.specs.Loops.Joined.{chunked, given}
+use Rattle.semantics.specs.Loops.Scan.{start_of}
 use Rattle.semantics.specs.Loops.Nest.{Loop, Vector}
 use Rattle.semantics.specs.Loops.Operator.{ReduceOp, combined_all}
 use Rattle.semantics.specs.Loops.Piece.{Roles}
@@ -15,6 +17,7 @@ use Rattle.law_roles.specs.Updates.{operator_of}
 use Rattle.law_roles.specs.Reducing.{AreHeld}
 use Rattle.law_roles.specs.Sharing.{MergesAt, last_filled, changed_from}
 use Rattle.law_starts.specs.Begun.{told_apart, begun}
+use Rattle.law_scans.specs.Passes.{walks_from}
 use Rattle.seqrun_io.specs.Told.{AddsBeginning}
 use Rattle.store.specs.Kept.{Kept}
 use Rattle.store.specs.Flat.{values_of}
@@ -77,3 +80,34 @@ pub record IsLeft (l : LoweredLoop) (registers registers' : List ℕ) (ks ks' : 
 
 pub record IsBegun (l : LoweredLoop) (registers : List ℕ) (ks : List Kept) (text text' : List ℕ) (kind : Kind) (workers : ℕ) : Type 0 where
   pub together : BeginsTogether l registers ks text text' kind workers
+
+-- ---- scans
+
+-- the states in which so many chunks of a scan begin in the second pass, by the first pass's partials: that before the loop, but for the scan variable at the chunk's start (OpenMP 5.2, 5.6)
+abbrev pub scan_starts : Variable → ReduceOp → State → List (Option ℕ) → ℕ → List State
+scan_starts x op outer partials count = map (λ c. given outer x (start_of op (look outer x []) partials c)) (below count)
+
+-- a scan of x, whose input phase is this front, is reached twice with these registers and this store, and the chunks of its iterations, cut by plain static for so many workers, have a run each in both passes: of the input phase from where a chunk may begin, which leaves a number in x, and of the whole from the chunk's start
+pub record RunsInPasses (layout : List Laid) (mark : ℕ) (roles : Roles) (x : Variable) (op : ReduceOp) (loops : List Loop) (front whole : Stmt) (outer : State) (us : List Vector) (firsts seconds : List Effect) (first second : LoweredLoop) (registers : List ℕ) (ks : List Kept) (workers : ℕ) : Type 0 where
+  pub only : roles.reductions ≡ (x, op) ∷ []
+  pub first_reached : IsReached layout mark roles loops front outer us first registers ks
+  pub second_reached : IsReached layout mark roles loops whole outer us second registers ks
+  pub first_pass : map (λ vs. walk loops front vs (begun roles outer)) (chunked us (cut PlainStatic (length us) workers)) ≡ map Some firsts
+  pub held : All (λ e. AreHeld roles.reductions (overwritten (begun roles outer) e.writes)) firsts
+  pub second_pass :
+      walks_from loops whole (scan_starts x op outer (map (λ f. changed_from (begun roles outer) f x) firsts) (length (cut PlainStatic (length us) workers))) (chunked us (cut PlainStatic (length us) workers))
+      ≡ map Some seconds
+
+-- then the chunks of the second pass are put together
+abbrev pub ScansTogether : LoweredLoop → LoweredLoop → List ℕ → List ℕ → List Kept → List Kept → List ℕ → List ℕ → ℕ → Type 0
+ScansTogether first second registers registers' ks ks' text text' workers =
+    (layout : List Laid) (mark : ℕ) (roles : Roles) (x : Variable) (op : ReduceOp) (loops : List Loop) (front whole : Stmt) (outer : State) (us : List Vector) (firsts seconds : List Effect)
+    → RunsInPasses layout mark roles x op loops front whole outer us firsts seconds first second registers ks workers
+    → PutScan layout roles x op outer (chunked us (cut PlainStatic (length us) workers)) (map (λ f. changed_from (begun roles outer) f x) firsts) seconds registers registers' ks ks' text text'
+
+-- whatever is answered, a beginning of what they print stands behind the text from before, and nothing else
+abbrev pub ScansBeginning : LoweredLoop → LoweredLoop → List ℕ → List Kept → List ℕ → List ℕ → ℕ → Type 0
+ScansBeginning first second registers ks text text' workers =
+    (layout : List Laid) (mark : ℕ) (roles : Roles) (x : Variable) (op : ReduceOp) (loops : List Loop) (front whole : Stmt) (outer : State) (us : List Vector) (firsts seconds : List Effect)
+    → RunsInPasses layout mark roles x op loops front whole outer us firsts seconds first second registers ks workers
+    → AddsBeginning text text' (flat_map (λ e. e.text) seconds)

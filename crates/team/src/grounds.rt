@@ -23,6 +23,29 @@ pub struct Grounds {
     pub pass: Pass,
 }
 
+impl Grounds {
+    /// The same in this pass.
+    pub(crate) fn in_pass(self, pass: Pass) -> Grounds
+        ensures registers { result.registers ≡ self.registers }
+        ensures space { result.space ≡ self.space }
+        ensures chunks { result.chunks ≡ self.chunks }
+        ensures pass { result.pass ≡ pass }
+    {
+        let Grounds {
+            registers,
+            space,
+            chunks,
+            pass: _,
+        } = self;
+        Grounds {
+            registers,
+            space,
+            chunks,
+            pass,
+        }
+    }
+}
+
 /// That of a loop where it is reached with these registers, cut by this schedule for so many workers.
 pub(crate) fn grounds_of(
     alloc: Global,

@@ -13,11 +13,13 @@ mod pass;
 mod place;
 mod printing;
 mod putting;
+mod scanning;
 mod teamwork;
 mod way;
 mod worker;
 
 pub use gate::{Gate, OpenGate, Taken};
 pub use lent::{LentLoop, LoopCrew};
+pub use scanning::share_scan;
 pub use semantics::laws::every_order;
 pub use teamwork::{run_loop, share_loop};

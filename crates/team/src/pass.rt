@@ -1,6 +1,6 @@
 //! How the chunks of a loop begin.
 
-ghost use Rattle.std.specs.Prelude.{◌≡◌, slice_index};
+ghost use Rattle.std.specs.Prelude.{◌≡◌, ℕ, ◌+◌, length, slice_index};
 ghost use Rattle.team.specs.Starts.{start_at};
 
 use overlay::Start;
@@ -19,6 +19,17 @@ pub(crate) fn number_at(numbers: &[u64], index: u64) -> u64
     ensures { result ≡ slice_index numbers.now index }
 {
     numbers.get(index as usize).copied().unwrap_or(0)
+}
+
+/// The last of some numbers, and 0 of none.
+pub(crate) fn last_number(numbers: &[u64]) -> u64
+    ensures { (count : ℕ) → length numbers.now ≡ count + 1
+        → result ≡ slice_index numbers.now count }
+{
+    match numbers.split_last() {
+        Some((last, _)) => *last,
+        None => 0,
+    }
 }
 
 impl Pass {

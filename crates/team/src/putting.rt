@@ -7,7 +7,7 @@ ghost use Rattle.store.specs.Flat.{values_of};
 ghost use Rattle.lower_code.specs.Machine.{machine};
 ghost use Rattle.overlay.specs.Spots.{held_at, with_at};
 ghost use Rattle.team.specs.Logged.{joined};
-ghost use Rattle.team.specs.Spots.{told_of, reduced, put_values, IsPut};
+ghost use Rattle.team.specs.Spots.{told_of, reduced, scanned, put_values, IsPut, IsScanPut};
 
 use crate::applied::apply_all;
 use crate::log::ChunkLog;
@@ -15,8 +15,8 @@ use ktree::{ReductionOperator, VarId};
 use lower::{LoweredReduction, LoweredRoles, Spot};
 use store::Store;
 
-// What a scalar holds.
-fn read(spot: Spot, registers: &[u64], store: &Store) -> u64
+/// What a scalar holds.
+pub(crate) fn read(spot: Spot, registers: &[u64], store: &Store) -> u64
     ensures { result ≡ held_at spot (machine registers.now (values_of store.now)) }
 {
     match spot {
@@ -105,6 +105,41 @@ fn put_lasts(spots: &[Spot], values: &[u64], registers: &mut [u64], store: &mut 
     };
     write(*spot, *value, registers, store);
     put_lasts(rest, others, registers, store);
+}
+
+// A scan's variable takes a value.
+fn put_scanned(
+    reductions: &[LoweredReduction],
+    value: u64,
+    registers: &mut [u64],
+    store: &mut Store,
+)
+    ensures put { machine registers.new (values_of store.new)
+        ≡ scanned reductions.now value (machine registers.old (values_of store.old)) }
+    ensures shape { map (λ k. k.lengths) store.new ≡ map (λ k. k.lengths) store.old }
+{
+    let Some((reduction, _)) = reductions.split_first() else {
+        return;
+    };
+    write(reduction.spot, value, registers, store);
+}
+
+/// Puts together what all chunks of a scan's second pass leave: as [`put_together`], but that the scan variable takes this value
+/// (OpenMP 5.2, 5.6).
+pub(crate) fn put_scan(
+    roles: &LoweredRoles,
+    value: u64,
+    logs: &[ChunkLog],
+    registers: &mut [u64],
+    store: &mut Store,
+)
+    ensures put { IsScanPut value roles.now (joined logs.now) registers.old registers.new
+        store.old store.new }
+    ensures shape { map (λ k. k.lengths) store.new ≡ map (λ k. k.lengths) store.old }
+{
+    apply_all(store, logs);
+    put_scanned(roles.reductions.as_slice(), value, registers, store);
+    put_lasts(roles.lasts.as_slice(), last_values(logs), registers, store);
 }
 
 /// Puts together what all chunks leave: their changes over the store, then each reduction variable combined with its partials, and each

@@ -8,12 +8,14 @@ ghost use Rattle.seqrun_io.specs.Told.{Refuses};
 ghost use Rattle.store.specs.Flat.{AreFilled};
 ghost use Rattle.team.specs.Ends.{IsSplit, AreAll};
 ghost use Rattle.team.specs.Logged.{joined};
+ghost use Rattle.team.specs.Passed.{IsPassed, BeginsIn};
 ghost use Rattle.team.specs.Together.{LeavesTogether, BeginsTogether, IsLeft, IsBegun};
 
 use crate::gate::Gate;
 use crate::grounds::{Grounds, grounds_of};
 use crate::lent::{LoopCrew, lent_logs};
 use crate::log::ChunkLog;
+use crate::pass::Pass;
 use crate::printing::put_texts;
 use crate::putting::put_together;
 use crew::{Crew, dismiss, serve_all};
@@ -27,7 +29,7 @@ use std::thread::{Threads, join_mut};
 use store::Store;
 
 /// The logs of all chunks of a loop. Where it has no iteration, nothing is lent to the crew.
-fn loop_logs<'l, R: Wait, G: Gate>(
+pub(crate) fn loop_logs<'l, R: Wait, G: Gate>(
     rt: &R,
     alloc: Global,
     crew: &LoopCrew<'l>,
@@ -55,10 +57,43 @@ fn loop_logs<'l, R: Wait, G: Gate>(
 }
 
 // Each variable has as many values as elements.
-fn confirm_filled(store: &Store)
+pub(crate) fn confirm_filled(store: &Store)
     ensures { AreFilled store.now }
 {
     let _cells = store.cells();
+}
+
+/// Runs all chunks of a loop in a pass, puts what they print, and leaves the rest to be put together.
+pub(crate) fn run_pass<'l, R: Wait, G: Gate, S: Sink>(
+    rt: &R,
+    alloc: Global,
+    crew: &LoopCrew<'l>,
+    lowered: &'l LoweredLoop,
+    pass: Pass,
+    registers: &[u64],
+    store: &mut Store,
+    workers: Workers,
+    sched: &Sched,
+    gate: &G,
+    sink: &mut S,
+) -> Result<Vec<ChunkLog>, Refusal>
+    requires room { S.failed sink.old + 1 < 2 ^ 64 }
+    ensures passed { IfOk result (λ logs. IsPassed lowered.now registers.now store.old pass
+        (kind_of sched.now) workers (joined logs.items) (S.told sink.old) (S.told sink.new)) }
+    ensures beginning { BeginsIn pass lowered.now registers.now store.old (S.told sink.old)
+        (S.told sink.new) (kind_of sched.now) workers }
+    ensures sound { OnOk result (S.failed sink.new ≡ S.failed sink.old) }
+    ensures refusal { IfErr result (Refuses (S.failed sink.old) (S.failed sink.new)) }
+    ensures store { store.new ≡ store.old }
+{
+    let grounds = grounds_of(alloc, lowered, registers, sched, workers)?;
+    let count = grounds.chunks.len();
+    let grounds = grounds.in_pass(pass);
+    let logs = loop_logs(
+        rt, alloc, crew, lowered, grounds, store, workers, sched, gate,
+    )?;
+    put_texts(alloc, logs.as_slice(), count, sink)?;
+    Ok(logs)
 }
 
 /// Runs a loop on a crew that stands by, as [`run_loop`] does on a team of its own.
@@ -92,12 +127,19 @@ pub fn share_loop<'l, R: Wait, G: Gate, S: Sink>(
     ensures long { length registers.new ≡ length registers.old }
 {
     let sched = sched_of(lowered.schedule, runtime);
-    let grounds = grounds_of(alloc, lowered, registers, &sched, workers)?;
-    let count = grounds.chunks.len();
-    let logs = loop_logs(
-        rt, alloc, crew, lowered, grounds, store, workers, &sched, gate,
+    let logs = run_pass(
+        rt,
+        alloc,
+        crew,
+        lowered,
+        Pass::Plain,
+        registers,
+        store,
+        workers,
+        &sched,
+        gate,
+        sink,
     )?;
-    put_texts(alloc, logs.as_slice(), count, sink)?;
     confirm_filled(store);
     put_together(&lowered.roles, logs.as_slice(), registers, store);
     Ok(())
