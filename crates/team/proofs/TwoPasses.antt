@@ -93,10 +93,10 @@ first_starts l registers ks workers space chunks account partials starts split c
     let iterations_of : Chunk → List Vector = λ c. take c.count (drop c.first us) in
     let many : length (map changed firsts) ≡ length chunks = length-map firsts changed ∙ runs.count ∙ length-map chunks iterations_of in
     let one : (c : Leaving) → IsLeaving l registers ks Plain chunks c → slice_get (map changed firsts) c.number ≡ Some (told_of_scan c) = λ c is.
-        let own = leaves_of layout mark roles loops front outer us firsts Plain l registers ks chunks account reached runs c is in
-        let holds = all_at (λ (e : Effect). AreHeld roles.reductions (overwritten start e.writes)) firsts c.number own.effect helds own.among in
-        let tells = tells_of layout mark roles loops front outer us firsts Plain l registers ks chunks account reached runs x op 0 (ap (λ rs. slice_get rs 0) only) c own holds in
-        slice_get-map changed firsts c.number ∙ ap (option_map changed) own.among ∙ ap Some (sym tells) in
+    let own = leaves_of layout mark roles loops front outer us firsts Plain l registers ks chunks account reached runs c is in
+    let holds = all_at (λ (e : Effect). AreHeld roles.reductions (overwritten start e.writes)) firsts c.number own.effect helds own.among in
+    let tells = tells_of layout mark roles loops front outer us firsts Plain l registers ks chunks account reached runs x op 0 (ap (λ rs. slice_get rs 0) only) c own holds in
+    slice_get-map changed firsts c.number ∙ ap (option_map changed) own.among ∙ ap Some (sym tells) in
     let table = all_entered told_of_scan None (map changed firsts) l registers ks Plain chunks account all many one in
     from_held layout mark x op v outer registers ks l.roles.reductions.items (map changed firsts) starts roles loops front us l reached (subst (λ rs. AreReduced layout mark rs l.roles.reductions.items) only reached.lowered.roles_at.reductions) h
     (subst (λ ps. StartFrom l.roles.reductions.items (machine registers (values_of ks)) ps starts) (told ∙ table) from)

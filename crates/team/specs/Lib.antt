@@ -9,3 +9,4 @@ pub mod Dealt
 pub mod Places
 pub mod Logged
 pub mod Spots
+pub mod Tasks

@@ -74,13 +74,6 @@ BeginsTogether l registers ks text text' kind workers =
     → map (λ vs. walk loops body vs (begun roles outer)) (chunked us (cut kind (length us) workers)) ≡ map Some effects
     → AddsBeginning text text' (flat_map (λ e. e.text) effects)
 
--- the same as one fact each
-pub record IsLeft (l : LoweredLoop) (registers registers' : List ℕ) (ks ks' : List Kept) (text text' : List ℕ) (kind : Kind) (workers : ℕ) : Type 0 where
-  pub together : LeavesTogether l registers registers' ks ks' text text' kind workers
-
-pub record IsBegun (l : LoweredLoop) (registers : List ℕ) (ks : List Kept) (text text' : List ℕ) (kind : Kind) (workers : ℕ) : Type 0 where
-  pub together : BeginsTogether l registers ks text text' kind workers
-
 -- ---- scans
 
 -- the states in which so many chunks of a scan begin in the second pass, by the first pass's partials: that before the loop, but for the scan variable at the chunk's start (OpenMP 5.2, 5.6)

@@ -7,6 +7,7 @@ mod drawn;
 mod gate;
 mod grounds;
 mod job;
+mod leading;
 mod lent;
 mod log;
 mod pass;
@@ -19,7 +20,8 @@ mod way;
 mod worker;
 
 pub use gate::{Gate, OpenGate, Taken};
+pub use leading::{run_loop, run_scan};
 pub use lent::{LentLoop, LoopCrew};
 pub use scanning::share_scan;
 pub use semantics::laws::every_order;
-pub use teamwork::{run_loop, share_loop};
+pub use teamwork::share_loop;

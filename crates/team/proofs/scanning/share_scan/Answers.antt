@@ -47,7 +47,7 @@ returns-clause-leaves g c =
     let from_logs = subst (λ (logs : List Account). IsScanPut value l.roles (joined logs) registers behind c.run_pass.new.store now) c.as_slice-2.ensures.value c.put_scan.ensures.put in
     let put = subst (λ (k : List Kept). IsScanPut value l.roles account registers behind k now) same from_logs in
     let last : (count : ℕ) → length starts ≡ count + 1 → value ≡ slice_index starts count = λ count is.
-        c.last_number-value.ensures count (ap (λ (k : List ℕ). length k) c.as_slice.ensures.value ∙ is) ∙ ap (λ (k : List ℕ). slice_index k count) c.as_slice.ensures.value in
+    c.last_number-value.ensures count (ap (λ (k : List ℕ). length k) c.as_slice.ensures.value ∙ is) ∙ ap (λ (k : List ℕ). slice_index k count) c.as_slice.ensures.value in
     scans_together c.args.first.now l registers behind ks now c.args.workers pass starts (λ number. refl) c.in_ok-starts.ensures.starts value last account told after filled passed put
 
 pub returns-clause-long : goal.returns-clause-long
