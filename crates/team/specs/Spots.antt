@@ -10,6 +10,8 @@ use Rattle.lower.specs.declared.roles.Spot.{Spot}
 use Rattle.lower.specs.declared.roles.LoweredReduction.{LoweredReduction}
 use Rattle.lower.specs.declared.roles.LoweredRoles.{LoweredRoles}
 use Rattle.overlay.specs.Spots.{held_at, with_at}
+use Rattle.team.specs.declared.putting.Total.{Total}
+use Rattle.team.specs.declared.putting.Total.TheVariants.{Combined, Scanned}
 use Rattle.team.specs.Applied.{AreApplied}
 use Rattle.team.specs.Logged.{Leaving, Account}
 
@@ -32,6 +34,11 @@ put_values (at ∷ spots) (v ∷ vs) m = put_values spots vs (with_at at v m)
 abbrev pub scanned : List LoweredReduction → ℕ → Machine → Machine
 scanned [] value m = m
 scanned (r ∷ rs) value m = with_at r.spot value m
+
+-- each reduction variable holds its total
+abbrev pub totalled : Total → List LoweredReduction → List Leaving → Machine → Machine
+totalled Combined rs cs m = reduced 0 rs cs m
+totalled (Scanned value) rs cs m = scanned rs value m
 
 -- what all chunks leave is put together: their changes over the store, then reduction variables in a way, then lastprivate ones
 pub record IsPutBy (reducing : Machine → Machine) (roles : LoweredRoles) (a : Account) (registers registers' : List ℕ) (ks ks' : List Kept) : Type 0 where

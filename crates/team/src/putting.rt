@@ -7,13 +7,22 @@ ghost use Rattle.store.specs.Flat.{values_of};
 ghost use Rattle.lower_code.specs.Machine.{machine};
 ghost use Rattle.overlay.specs.Spots.{held_at, with_at};
 ghost use Rattle.team.specs.Logged.{joined};
-ghost use Rattle.team.specs.Spots.{told_of, reduced, scanned, put_values, IsPut, IsScanPut};
+ghost use Rattle.team.specs.Spots.{told_of, reduced, scanned, totalled, put_values, IsPutBy};
 
 use crate::applied::apply_all;
 use crate::log::ChunkLog;
 use ktree::{ReductionOperator, VarId};
 use lower::{LoweredReduction, LoweredRoles, Spot};
 use store::Store;
+
+/// What reduction variables hold behind a loop.
+#[derive(Clone, Copy, Debug, PartialEq, Eq)]
+pub(crate) enum Total {
+    /// What they held before, combined with what all chunks tell of them.
+    Combined,
+    /// Of a scan, whose chunks begin with what those before them leave, what the last chunk leaves.
+    Scanned(u64),
+}
 
 /// What a scalar holds.
 pub(crate) fn read(spot: Spot, registers: &[u64], store: &Store) -> u64
@@ -118,43 +127,45 @@ fn put_scanned(
         ≡ scanned reductions.now value (machine registers.old (values_of store.old)) }
     ensures shape { map (λ k. k.lengths) store.new ≡ map (λ k. k.lengths) store.old }
 {
-    let Some((reduction, _)) = reductions.split_first() else {
+    let Some((scanned, _)) = reductions.split_first() else {
         return;
     };
-    write(reduction.spot, value, registers, store);
+    write(scanned.spot, value, registers, store);
 }
 
-/// Puts together what all chunks of a scan's second pass leave: as [`put_together`], but that the scan variable takes this value
-/// (OpenMP 5.2, 5.6).
-pub(crate) fn put_scan(
-    roles: &LoweredRoles,
-    value: u64,
+// Reduction variables take their totals.
+fn put_totals(
+    reductions: &[LoweredReduction],
+    total: Total,
     logs: &[ChunkLog],
     registers: &mut [u64],
     store: &mut Store,
 )
-    ensures put { IsScanPut value roles.now (joined logs.now) registers.old registers.new
-        store.old store.new }
+    ensures put { machine registers.new (values_of store.new)
+        ≡ totalled total reductions.now (joined logs.now).chunks
+        (machine registers.old (values_of store.old)) }
     ensures shape { map (λ k. k.lengths) store.new ≡ map (λ k. k.lengths) store.old }
 {
-    apply_all(store, logs);
-    put_scanned(roles.reductions.as_slice(), value, registers, store);
-    put_lasts(roles.lasts.as_slice(), last_values(logs), registers, store);
+    match total {
+        Total::Combined => put_reductions(reductions, 0, logs, registers, store),
+        Total::Scanned(value) => put_scanned(reductions, value, registers, store),
+    }
 }
 
-/// Puts together what all chunks leave: their changes over the store, then each reduction variable combined with its partials, and each
-/// lastprivate one as the last chunk leaves it (OpenMP 5.2, 5.4.5 and 5.5.5).
+/// Puts together what all chunks leave: their changes over the store, then each reduction variable with its total, and each lastprivate
+/// one as the last chunk leaves it (OpenMP 5.2, 5.4.5 and 5.5.5).
 pub(crate) fn put_together(
     roles: &LoweredRoles,
+    total: Total,
     logs: &[ChunkLog],
     registers: &mut [u64],
     store: &mut Store,
 )
-    ensures put { IsPut roles.now (joined logs.now) registers.old registers.new
-        store.old store.new }
+    ensures put { IsPutBy (totalled total roles.now.reductions.items (joined logs.now).chunks)
+        roles.now (joined logs.now) registers.old registers.new store.old store.new }
     ensures shape { map (λ k. k.lengths) store.new ≡ map (λ k. k.lengths) store.old }
 {
     apply_all(store, logs);
-    put_reductions(roles.reductions.as_slice(), 0, logs, registers, store);
+    put_totals(roles.reductions.as_slice(), total, logs, registers, store);
     put_lasts(roles.lasts.as_slice(), last_values(logs), registers, store);
 }

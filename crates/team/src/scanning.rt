@@ -15,7 +15,7 @@ use crate::grounds::grounds_of;
 use crate::lent::LoopCrew;
 use crate::log::ChunkLog;
 use crate::pass::{Pass, last_number};
-use crate::putting::{put_scan, read};
+use crate::putting::{Total, put_together, read};
 use crate::teamwork::{confirm_filled, loop_logs, run_pass};
 use inscan::starts;
 use ktree::{Refusal, Workers};
@@ -151,6 +151,12 @@ pub fn share_scan<'l, R: Wait, G: Gate, S: Sink>(
         sink,
     )?;
     confirm_filled(store);
-    put_scan(&second.roles, value, logs.as_slice(), registers, store);
+    put_together(
+        &second.roles,
+        Total::Scanned(value),
+        logs.as_slice(),
+        registers,
+        store,
+    );
     Ok(())
 }

@@ -17,7 +17,7 @@ use crate::lent::{LoopCrew, lent_logs};
 use crate::log::ChunkLog;
 use crate::pass::Pass;
 use crate::printing::put_texts;
-use crate::putting::put_together;
+use crate::putting::{Total, put_together};
 use ktree::{Refusal, Workers};
 use lower::LoweredLoop;
 use schedule::{Sched, sched_of};
@@ -139,6 +139,12 @@ pub fn share_loop<'l, R: Wait, G: Gate, S: Sink>(
         sink,
     )?;
     confirm_filled(store);
-    put_together(&lowered.roles, logs.as_slice(), registers, store);
+    put_together(
+        &lowered.roles,
+        Total::Combined,
+        logs.as_slice(),
+        registers,
+        store,
+    );
     Ok(())
 }

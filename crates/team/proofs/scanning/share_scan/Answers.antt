@@ -34,8 +34,8 @@ returns-clause-leaves g c =
     let account = joined c.in_ok-logs.logs.items in
     let registers = c.args.registers.now in
     let ks = c.args.store.now in
-    let behind = c.put_scan.new.registers in
-    let now = c.put_scan.new.store in
+    let behind = c.put_together.new.registers in
+    let now = c.put_together.new.store in
     let told = g.S.Sink.told c.args.sink.now in
     let after = g.S.Sink.told c.run_pass.new.sink in
     let pass = Second c.in_ok-starts.starts in
@@ -44,7 +44,7 @@ returns-clause-leaves g c =
     let same = c.in_ok-logs.ensures.store ∙ c.in_ok-starts.ensures.store in
     let passed = subst (λ (k : List Kept). IsPassed l registers k pass PlainStatic c.args.workers account told after) c.in_ok-starts.ensures.store c.in_ok-logs.ensures.passed in
     let filled = subst AreFilled same c.confirm_filled.ensures in
-    let from_logs = subst (λ (logs : List Account). IsScanPut value l.roles (joined logs) registers behind c.run_pass.new.store now) c.as_slice-2.ensures.value c.put_scan.ensures.put in
+    let from_logs = subst (λ (logs : List Account). IsScanPut value l.roles (joined logs) registers behind c.run_pass.new.store now) c.as_slice-2.ensures.value c.put_together.ensures.put in
     let put = subst (λ (k : List Kept). IsScanPut value l.roles account registers behind k now) same from_logs in
     let last : (count : ℕ) → length starts ≡ count + 1 → value ≡ slice_index starts count = λ count is.
     c.last_number-value.ensures count (ap (λ (k : List ℕ). length k) c.as_slice.ensures.value ∙ is) ∙ ap (λ (k : List ℕ). slice_index k count) c.as_slice.ensures.value in
@@ -54,4 +54,4 @@ pub returns-clause-long : goal.returns-clause-long
 returns-clause-long g c =
     let l = c.args.second.now in
     let value = c.last_number-value.result in
-    long_by (scanned l.roles.reductions.items value) l (joined c.as_slice-2.result.now) c.args.registers.now c.put_scan.new.registers c.run_pass.new.store c.put_scan.new.store (scanned_long l.roles.reductions.items value) c.put_scan.ensures.put
+    long_by (scanned l.roles.reductions.items value) l (joined c.as_slice-2.result.now) c.args.registers.now c.put_together.new.registers c.run_pass.new.store c.put_together.new.store (scanned_long l.roles.reductions.items value) c.put_together.ensures.put
