@@ -1,5 +1,5 @@
 -- A scan's two passes.
-use Rattle.std.specs.Prelude.{ℕ, zero, suc, Bool, true, false, ◌≡◌, ◌+◌, ◌<◌, ◌≤◌, ◌==◌, List, [], ◌∷◌, ◌++◌, length, map, flat_map, take, drop, replicate, slice_get, slice_index, All, Option, Some, None, option_map}
+use Rattle.std.specs.Prelude.{ℕ, zero, suc, Bool, true, false, ◌≡◌, ◌+◌, ◌<◌, ◌≤◌, ◌==◌, List, [], ◌∷◌, ◌++◌, length, map, take, drop, replicate, slice_get, slice_index, Option, Some, None, option_map}
 use Rattle.std.proofs.Common.{refl, sym, ap, ◌∙◌, cond, subst, arith}
 use Rattle.std.proofs.lemmas.Bool.{eqb-true, eq-eqb}
 use Rattle.std.proofs.lemmas.List.{length-map, take_all}
@@ -15,7 +15,6 @@ use Rattle.semantics.specs.Loops.Nest.{Loop, Vector}
 use Rattle.semantics.specs.Loops.Operator.{ReduceOp, combined_all}
 use Rattle.semantics.specs.Loops.Piece.{Roles, is_outside}
 use Rattle.semantics.specs.Loops.Scan.{start_of}
-use Rattle.ktree.specs.DirectiveView
 use Rattle.nest_space.specs.Space.{Turns, vectors}
 use Rattle.law_nests.specs.Walks.{walk}
 use Rattle.law_roles.specs.Updates.{operator_of}
@@ -29,17 +28,15 @@ use Rattle.law_scans.proofs.Steps.{same_slot}
 use Rattle.reduce.specs.declared.partial.Partial.{Partial}
 use Rattle.reduce.specs.declared.partial.Partial.TheVariants.{Untouched}
 use Rattle.reduce.specs.Partial.{partial_of}
-use Rattle.seqrun_io.specs.Told.{AddsBeginning}
 use Rattle.store.specs.Kept.{Kept}
 use Rattle.store.specs.Flat.{AreFilled, values_of}
 use Rattle.lower_code.specs.declared.term.Laid.{Laid}
-use Rattle.lower_code.specs.Machine.{Machine, machine}
+use Rattle.lower_code.specs.Machine.{machine}
 use Rattle.lower.specs.declared.lowered.LoweredLoop.{LoweredLoop}
 use Rattle.lower.specs.declared.roles.LoweredReduction.{LoweredReduction}
 use Rattle.lower.specs.Lowered.{IsReached}
 use Rattle.lower.specs.Roles.{AreReduced}
 use Rattle.inscan.specs.InFront.{AreStarts}
-use Rattle.overlay.specs.declared.beginning.Start.{Start}
 use Rattle.overlay.specs.declared.beginning.Start.TheVariants.{Scan}
 use Rattle.overlay.specs.Chunks.{started}
 use Rattle.overlay.specs.Spots.{held_at}

@@ -16,7 +16,6 @@ use Rattle.law_starts.specs.Begun.{begun}
 use Rattle.reduce.specs.declared.partial.Partial.{Partial}
 use Rattle.reduce.specs.Partial.{partial_of}
 use Rattle.store.specs.Kept.{Kept}
-use Rattle.store.specs.Flat.{values_of}
 use Rattle.lower_code.specs.declared.term.Laid.{Laid}
 use Rattle.lower_code.specs.Machine.{Machine}
 use Rattle.lower.specs.declared.roles.LoweredReduction.{LoweredReduction}

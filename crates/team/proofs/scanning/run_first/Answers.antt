@@ -1,4 +1,4 @@
-use Rattle.std.proofs.Common.{◌≡◌, ℕ, List, length, map, ap, subst, ◌∙◌}
+use Rattle.std.proofs.Common.{◌≡◌, ℕ, List, length, map, subst, ◌∙◌}
 use Rattle.reduce.specs.declared.partial.Partial.{Partial}
 use Rattle.reduce.specs.Partial.{partial_of}
 use Rattle.store.specs.Kept.{Kept}
@@ -8,7 +8,7 @@ use Rattle.lower.specs.declared.roles.LoweredReduction.{LoweredReduction}
 use Rattle.team.specs.declared.pass.Pass.{Pass}
 use Rattle.team.specs.declared.pass.Pass.TheVariants.{Plain}
 use Rattle.team.specs.Ends.{AreAll}
-use Rattle.team.specs.Logged.{Account, joined}
+use Rattle.team.specs.Logged.{joined}
 use Rattle.team.specs.Scanned.{StartFrom, partials_in_order}
 use Rattle.team.proofs.TwoPasses.{first_starts}
 use Rattle.team.proofs.scanning.run_first.Goals as goal

@@ -1,4 +1,3 @@
-use Rattle.std.proofs.Common.{◌≡◌, ℕ, suc, map, replicate, None, refl, ap, ◌∙◌}
 use Rattle.std.proofs.lemmas.Result.{IfOk-weaker}
 use Rattle.team.proofs.TwoPasses.{all_untouched}
 use Rattle.team.proofs.scanning.untouched.Goals as goal

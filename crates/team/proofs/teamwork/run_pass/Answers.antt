@@ -1,5 +1,5 @@
-use Rattle.std.proofs.Common.{◌≡◌, ℕ, List, ◌++◌, length, ap, subst, ◌∙◌}
-use Rattle.semantics.specs.Loops.Chunk.{Chunk, cut}
+use Rattle.std.proofs.Common.{ℕ, List, ◌++◌, length, ap, subst, ◌∙◌}
+use Rattle.semantics.specs.Loops.Chunk.{Chunk}
 use Rattle.nest_space.specs.Space.{vectors}
 use Rattle.schedule.specs.Sched.{kind_of}
 use Rattle.seqrun_io.specs.Told.{AddsBeginning}
