@@ -122,8 +122,8 @@ module _ (first second : LoweredLoop) (registers : List ℕ) (ks : List Kept) (w
     abbrev cs : List Chunk
     cs = cut PlainStatic (length us) workers
 
-    abbrev iterations_of : Chunk → List Vector
-    iterations_of c = take c.count (drop c.first us)
+    abbrev css : List (List Vector)
+    css = chunked us cs
 
     abbrev changed : Effect → Option ℕ
     changed f = changed_from (begun roles outer) f x
@@ -140,29 +140,27 @@ module _ (first second : LoweredLoop) (registers : List ℕ) (ks : List Kept) (w
     are : AreStarts op holds.0 partials numbers
     are = scan layout mark roles x op loops front outer us firsts holds.0 runs.only runs.first_reached runs.first_pass runs.held holds.1
 
-    many : length partials ≡ length cs
-    many = length-map firsts changed ∙ same_length (λ vs. walk loops front vs (begun roles outer)) (chunked us cs) firsts runs.first_pass ∙ length-map cs iterations_of
+    many : length partials ≡ length css
+    many = length-map firsts changed ∙ same_length (λ vs. walk loops front vs (begun roles outer)) css firsts runs.first_pass
 
     -- a chunk's start
     start_is : (c : ℕ) → c ≤ length partials → start c ≡ started_in pass roles outer c
     start_is c le =
         ap (λ o. given outer x (start_of op o partials c)) holds.1 ∙ ap (given outer x) (are.each c le) ∙ ap (λ rs. started (Scan (slice_index numbers c)) rs outer) (sym runs.only) ∙ ap (λ s. started s roles.reductions outer) (sym (begins c))
 
-    have_runs : HaveRuns loops whole (started_in pass roles outer) (chunked us cs) seconds
+    have_runs : HaveRuns loops whole (started_in pass roles outer) css seconds
     have_runs = record {
-      count = sym (length-map seconds Some) ∙ ap (λ l. length l) (sym runs.second_pass) ∙ walks_long loops whole (scan_starts x op outer partials (length cs)) (chunked us cs) long;
+      count = sym (length-map seconds Some) ∙ ap (λ l. length l) (sym runs.second_pass) ∙ walks_long loops whole starts css (length-map (below (length css)) start ∙ length_below (length css));
       each = λ number vs there.
-          let within : number < length (chunked us cs) = slice_get_within (chunked us cs) number vs there in
-          let chunks = length-map cs iterations_of in
+          let lt : number < length css = slice_get_within css number vs there in
           let count = many in
-          let lt : number < length cs = omega arith in
-          let at : slice_get (scan_starts x op outer partials (length cs)) number ≡ Some (start number) = slice_get-map start (below (length cs)) number ∙ ap (option_map start) (at_below number (length cs) lt) in
-          let own = walks_at loops whole (scan_starts x op outer partials (length cs)) (chunked us cs) seconds runs.second_pass number vs (start number) there at in
+          let at : slice_get starts number ≡ Some (start number) = slice_get-map start (below (length css)) number ∙ ap (option_map start) (at_below number (length css) lt) in
+          let own = walks_at loops whole starts css seconds runs.second_pass number vs (start number) there at in
           (own.0, own.1, ap (λ s. walk loops whole vs s) (sym (start_is number (omega arith))) ∙ own.2);
     }
       where
-        long : length (scan_starts x op outer partials (length cs)) ≡ length (chunked us cs)
-        long = length-map (below (length cs)) start ∙ length_below (length cs) ∙ sym (length-map cs iterations_of)
+        starts : List State
+        starts = scan_starts x op outer partials (length css)
 
     -- ---- what is seen of other variables
 

@@ -88,7 +88,7 @@ pub record RunsInPasses (layout : List Laid) (mark : ℕ) (roles : Roles) (x : V
   pub first_pass : map (λ vs. walk loops front vs (begun roles outer)) (chunked us (cut PlainStatic (length us) workers)) ≡ map Some firsts
   pub held : All (λ e. AreHeld roles.reductions (overwritten (begun roles outer) e.writes)) firsts
   pub second_pass :
-      walks_from loops whole (scan_starts x op outer (map (λ f. changed_from (begun roles outer) f x) firsts) (length (cut PlainStatic (length us) workers))) (chunked us (cut PlainStatic (length us) workers))
+      walks_from loops whole (scan_starts x op outer (map (λ f. changed_from (begun roles outer) f x) firsts) (length (chunked us (cut PlainStatic (length us) workers)))) (chunked us (cut PlainStatic (length us) workers))
       ≡ map Some seconds
 
 -- then the chunks of the second pass are put together
