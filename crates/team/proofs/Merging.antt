@@ -360,6 +360,12 @@ module _ (layout : List Laid) (mark : ℕ) (roles : Roles) (loops : List Loop) (
           there : slice_get cs index ≡ Some chunk
           leave : held (written_over (writes_of chunk.changes) (values_of ks)) x is ≡ left_by base e x is
 
+        same_effect : (c : Leaving) (own : Known c) (k : ℕ) (e : Effect) → c.number ≡ k → slice_get effects k ≡ Some e → own.effect ≡ e
+        same_effect c own k e is there = same_Some own.effect e (sym own.among ∙ ap (slice_get effects) is ∙ there)
+
+        left_by_own : (e : Effect) (is : List ℕ) (index : ℕ) (c : Leaving) → slice_get cs index ≡ Some c → (own : Known c) → own.effect ≡ e → Left e is
+        left_by_own e is index c there own same = record { index = index; chunk = c; there = there; leave = leaves_at c own is ∙ ap (λ (z : Effect). left_by base z x is) same }
+
         left : (k : ℕ) (e : Effect) (is : List ℕ) → slice_get effects k ≡ Some e → Left e is
         left k e is there =
             let within : k < length effects = slice_get_within effects k e there in
@@ -368,8 +374,7 @@ module _ (layout : List Laid) (mark : ℕ) (roles : Roles) (loops : List Loop) (
             let one : once_below k (length chunks) ≡ 1 = one_below k (length chunks) (omega arith) in
             let f = find cs k (omega arith) in
             let own = leaves f.chunk (all_at (IsLeaving l registers ks pass chunks) cs f.index f.chunk all.account.each f.there) in
-            let same : own.effect ≡ e = same_Some own.effect e (sym own.among ∙ ap (slice_get effects) f.number ∙ there) in
-            record { index = f.index; chunk = f.chunk; there = f.there; leave = leaves_at f.chunk own is ∙ ap (λ (z : Effect). left_by base z x is) same }
+            left_by_own e is f.index f.chunk f.there own (same_effect f.chunk own k e f.number there)
 
         -- where no changes alter a cell, no effect changes its object
         none_changes : (is : List ℕ) → ((k : ℕ) (c : Leaving) → slice_get cs k ≡ Some c → held (written_over (writes_of c.changes) (values_of ks)) x is ≡ held (values_of ks) x is)
