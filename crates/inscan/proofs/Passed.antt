@@ -1,7 +1,7 @@
 -- A chunk of a scan in each of the two passes.
 use Rattle.std.specs.Prelude.{ℕ, ◌≡◌, List, [], ◌∷◌, map, take, drop, Some}
-use Rattle.std.proofs.Common.{refl, sym, ap, ◌∙◌, subst}
-use Rattle.semantics.specs.Tree.{Variable, Stmt}
+use Rattle.std.proofs.Common.{sym, ap, ◌∙◌, subst}
+use Rattle.semantics.specs.Tree.{Variable}
 use Rattle.semantics.specs.Meaning.State.{State, overwritten}
 use Rattle.semantics.specs.Loops.Operator.{ReduceOp}
 use Rattle.semantics.specs.Loops.Joined.{value_at, given}
