@@ -8,7 +8,6 @@ use Rattle.semantics.specs.Meaning.Runs.{Effect}
 use Rattle.semantics.specs.Loops.Nest.{Loop, Vector}
 use Rattle.semantics.specs.Loops.Piece.{Roles}
 use Rattle.law_nests.specs.Walks.{walk}
-use Rattle.law_starts.specs.Begun.{begun}
 use Rattle.nest_space.specs.Space.{Turns, vectors}
 use Rattle.store.specs.Kept.{Kept}
 use Rattle.store.specs.Flat.{values_of}
@@ -22,27 +21,28 @@ use Rattle.lower.specs.Lowered.{IsReached, IsSpaceOf}
 use Rattle.overlay.specs.declared.ending.Told.{Told}
 use Rattle.overlay.specs.declared.worker.Piece.{Piece}
 use Rattle.overlay.specs.declared.worker.Work.{Work}
-use Rattle.overlay.specs.Chunks.{IsChunkOf, IsLastOf, AreLasts}
+use Rattle.overlay.specs.declared.beginning.Start.{Start}
+use Rattle.overlay.specs.Chunks.{IsChunkFrom, IsLastFrom, AreLasts, started}
 use Rattle.overlay.specs.Running.{IsRunOver}
 use Rattle.reduce.specs.Partial.{partial_of}
 use Rattle.overlay.specs.Spots.{held_at, begun_by}
 use Rattle.overlay.proofs.Going.{as_copied}
-use Rattle.overlay.proofs.Standing.{begun_stands}
+use Rattle.overlay.proofs.Standing.{started_stands}
 use Rattle.overlay.proofs.Back.{all_back}
 use Rattle.overlay.proofs.Telling.{all_partials, lasts_are}
 
-module _ (l : LoweredLoop) (registers : List ℕ) (ks : List Kept) (ts : List Turns) (work : Work) (told : Told) (cells : List ℕ) (space : IsSpaceOf l registers ts)
-    (ran : IsRunOver l ts work (machine registers (values_of ks)) told cells) where
+module _ (l : LoweredLoop) (registers : List ℕ) (ks : List Kept) (ts : List Turns) (work : Work) (first : Start) (told : Told) (cells : List ℕ) (space : IsSpaceOf l registers ts)
+    (ran : IsRunOver l ts work first (machine registers (values_of ks)) told cells) where
   -- the machine behind the iterations stands for the state that they leave, and what they print is kept
-  behind_stands : (layout : List Laid) (mark : ℕ) (roles : Roles) (loops : List Loop) (body : Stmt) (outer : State) (us : List Vector) (e : Effect) → IsReached layout mark roles loops body outer us l registers ks → walk loops body (take work.count (drop work.first us)) (begun roles outer) ≡ Some e
-      → Leads layout mark (begun roles outer) (running (begun_by l.roles.reductions.items ran.start) []) e (running ran.runs.behind told.text.bytes)
+  behind_stands : (layout : List Laid) (mark : ℕ) (roles : Roles) (loops : List Loop) (body : Stmt) (outer : State) (us : List Vector) (e : Effect) → IsReached layout mark roles loops body outer us l registers ks → walk loops body (take work.count (drop work.first us)) (started first roles.reductions outer) ≡ Some e
+      → Leads layout mark (started first roles.reductions outer) (running (begun_by first l.roles.reductions.items ran.start) []) e (running ran.runs.behind told.text.bytes)
   behind_stands layout mark roles loops body outer us e r is =
       let all : us ≡ vectors ts = space layout mark roles loops body outer us ks r in
-      ran.runs.walks layout mark r.box roles loops body r.lowered (begun roles outer) e
-      (begun_stands layout mark roles.reductions l.roles.reductions.items outer ran.start r.lowered.roles_at.reductions r.held (as_copied layout mark outer (machine registers (values_of ks)) ran.start ran.copied r.stand.machine))
-      (subst (λ vs. walk loops body (take work.count (drop work.first vs)) (begun roles outer) ≡ Some e) all is)
+      ran.runs.walks layout mark r.box roles loops body r.lowered (started first roles.reductions outer) e
+      (started_stands layout mark first ran.runs.word roles.reductions l.roles.reductions.items outer ran.start r.lowered.roles_at.reductions r.held (as_copied layout mark outer (machine registers (values_of ks)) ran.start ran.copied r.stand.machine))
+      (subst (λ vs. walk loops body (take work.count (drop work.first vs)) (started first roles.reductions outer) ≡ Some e) all is)
 
-  pub chunk_of : (p : Piece) → written_over (writes_of p.changes) (values_of ks) ≡ cells → p.partials ≡ told.partials → p.text ≡ told.text → IsChunkOf l registers ks work p
+  pub chunk_of : (p : Piece) → written_over (writes_of p.changes) (values_of ks) ≡ cells → p.partials ≡ told.partials → p.text ≡ told.text → IsChunkFrom first l registers ks work p
   chunk_of p left partials text layout mark roles loops body outer us e r is =
       let led = behind_stands layout mark roles loops body outer us e r is in
       let stands = led.machine in
@@ -54,11 +54,11 @@ module _ (l : LoweredLoop) (registers : List ℕ) (ks : List Kept) (ts : List Tu
         unchanged = λ x js h. leaves x js ∙ (back x js).these h ∙ sym (r.stand.machine.cell x js);
         partials = λ held.
             ap (λ ps. map partial_of ps.items) partials ∙ ran.runs.told_of.partials
-            ∙ all_partials layout mark roles.reductions outer e (machine registers (values_of ks)) ran.runs.behind r.stand.machine stands r.different r.held held l.roles.reductions.items at.reductions;
+            ∙ all_partials layout mark first roles.reductions outer e (machine registers (values_of ks)) ran.runs.behind r.stand.machine stands r.different r.held held l.roles.reductions.items at.reductions;
         text = ap (λ t. t.bytes) text ∙ led.text;
       }
 
-  pub last_of : (p : Piece) → p.lasts ≡ told.lasts → IsLastOf l registers ks work p
+  pub last_of : (p : Piece) → p.lasts ≡ told.lasts → IsLastFrom first l registers ks work p
   last_of p lasts layout mark roles loops body outer us e r is =
       record {
         last = λ h. subst (λ vs. AreLasts roles.lasts behind vs) (sym (told_is ∙ ap (λ b. cond b values []) (eq-eqb (work.first + work.count) (length (vectors ts)) (h ∙ count))))
@@ -67,7 +67,7 @@ module _ (l : LoweredLoop) (registers : List ℕ) (ks : List Kept) (ts : List Tu
       }
     where
       behind : State
-      behind = overwritten (begun roles outer) e.writes
+      behind = overwritten (started first roles.reductions outer) e.writes
 
       stands : Represents layout mark behind ran.runs.behind
       stands = (behind_stands layout mark roles loops body outer us e r is).machine

@@ -12,6 +12,8 @@ use Rattle.law_roles.specs.Updates.{operator_of}
 use Rattle.law_roles.specs.Reducing.{AreHeld}
 use Rattle.law_roles.specs.Sharing.{begins_with}
 use Rattle.law_starts.specs.Begun.{begun_with}
+use Rattle.overlay.specs.declared.beginning.Start.{Start}
+use Rattle.overlay.specs.declared.beginning.Start.TheVariants.{Reduction, Scan}
 use Rattle.law_starts.proofs.Holding.{given_lasts}
 use Rattle.ktree.specs.DirectiveView
 use Rattle.lower_code.specs.declared.term.Laid.{Laid}
@@ -27,7 +29,8 @@ use Rattle.lower.specs.declared.roles.Spot.{Spot}
 use Rattle.lower.specs.declared.roles.Spot.TheVariants.{Register, Cell}
 use Rattle.lower.specs.declared.roles.LoweredReduction.{LoweredReduction}
 use Rattle.lower.specs.Roles.{StandsAt, AreReduced}
-use Rattle.overlay.specs.Spots.{held_at, with_at, beginning, begun_by}
+use Rattle.overlay.specs.Spots.{IsWord, held_at, with_at, beginning, begun_by}
+use Rattle.overlay.specs.Chunks.{started}
 
 pub some_value : (o : Option ℕ) → IsSome o → (v : ℕ) × (o ≡ Some v)
 some_value None h = absurd (true≢false (sym h))
@@ -115,7 +118,7 @@ others_held r rs s held x op is = at (r.0 == x) refl
     at true e = held x r.1 (ap (λ b. cond b (Some r.1) (operator_of rs x)) e)
     at false e = held x op (ap (λ b. cond b (Some r.1) (operator_of rs x)) e ∙ is)
 
-pub begun_stands : (layout : List Laid) (mark : ℕ) (rs : List (Variable × ReduceOp)) (ls : List LoweredReduction) (s : State) (m : Machine) → AreReduced layout mark rs ls → AreHeld rs s → Represents layout mark s m → Represents layout mark (begun_with rs s) (begun_by ls m)
+begun_stands : (layout : List Laid) (mark : ℕ) (rs : List (Variable × ReduceOp)) (ls : List LoweredReduction) (s : State) (m : Machine) → AreReduced layout mark rs ls → AreHeld rs s → Represents layout mark s m → Represents layout mark (begun_with rs s) (begun_by Reduction ls m)
 begun_stands layout mark [] [] s m are held stands = stands
 begun_stands layout mark [] (l ∷ ls) s m are held stands = absurd are
 begun_stands layout mark (r ∷ rs) [] s m are held stands = absurd are
@@ -126,7 +129,22 @@ begun_stands layout mark (r ∷ rs) (l ∷ ls) s m (op, at, rest) held stands =
     let small : value < 2 ^ 64 = begins_small r.1 some.0 (subst (λ n. n < 2 ^ 64) here.is (held_small layout mark s m l.spot stands)) in
     let next = given s r.0 (map_option (begins_with r.1) (look s r.0 [])) in
     let state_is : given s r.0 (Some value) ≡ next = ap (λ o. given s r.0 (map_option (begins_with r.1) o)) (sym some.1) in
-    let machine_is : with_at l.spot value m ≡ beginning l m = ap (λ o. with_at l.spot (begins_with o some.0) m) (sym op) ∙ ap (λ n. with_at l.spot (begins_with (DirectiveView.operator_of l.operator) n) m) (sym here.is) in
-    begun_stands layout mark rs ls next (beginning l m) rest
+    let machine_is : with_at l.spot value m ≡ beginning Reduction l m = ap (λ o. with_at l.spot (begins_with o some.0) m) (sym op) ∙ ap (λ n. with_at l.spot (begins_with (DirectiveView.operator_of l.operator) n) m) (sym here.is) in
+    begun_stands layout mark rs ls next (beginning Reduction l m) rest
     (λ x o is. given_lasts x s r.0 (map_option (begins_with r.1) (look s r.0 [])) (others_held r rs s held x o is))
-    (subst (λ t. Represents layout mark t (beginning l m)) state_is (subst (λ k. Represents layout mark (given s r.0 (Some value)) k) machine_is (here.write value small)))
+    (subst (λ t. Represents layout mark t (beginning Reduction l m)) state_is (subst (λ k. Represents layout mark (given s r.0 (Some value)) k) machine_is (here.write value small)))
+
+-- a number that is given
+given_stands : (layout : List Laid) (mark : ℕ) (v : ℕ) → v < 2 ^ 64 → (rs : List (Variable × ReduceOp)) (ls : List LoweredReduction) (s : State) (m : Machine) → AreReduced layout mark rs ls → AreHeld rs s → Represents layout mark s m → Represents layout mark (started (Scan v) rs s) (begun_by (Scan v) ls m)
+given_stands layout mark v small [] [] s m are held stands = stands
+given_stands layout mark v small [] (l ∷ ls) s m are held stands = absurd are
+given_stands layout mark v small (r ∷ rs) [] s m are held stands = absurd are
+given_stands layout mark v small (r ∷ rs) (l ∷ ls) s m (op, at, rest) held stands =
+    let some = some_value (look s r.0 []) (first_held r rs s held) in
+    let here = held_in layout mark s m r.0 some.0 l.spot at stands some.1 in
+    given_stands layout mark v small rs ls (given s r.0 (Some v)) (with_at l.spot v m) rest (λ x o is. given_lasts x s r.0 (Some v) (others_held r rs s held x o is)) (here.write v small)
+
+pub started_stands : (layout : List Laid) (mark : ℕ) (start : Start) → IsWord start → (rs : List (Variable × ReduceOp)) (ls : List LoweredReduction) (s : State) (m : Machine) → AreReduced layout mark rs ls → AreHeld rs s → Represents layout mark s m
+    → Represents layout mark (started start rs s) (begun_by start ls m)
+started_stands layout mark Reduction word rs ls s m are held stands = begun_stands layout mark rs ls s m are held stands
+started_stands layout mark (Scan v) word rs ls s m are held stands = given_stands layout mark v word rs ls s m are held stands

@@ -1,7 +1,7 @@
 -- What is told of the variables with a role behind a chunk.
 use Rattle.std.proofs.Common.{ℕ, zero, suc, ◌≡◌, Bool, true, false, cond, List, [], ◌∷◌, map, Some, refl, sym, ap, ◌∙◌}
 use Rattle.std.specs.Prelude.{◌==◌, ◌||◌, slice_get}
-use Rattle.std.proofs.lemmas.Bool.{true≢false, eq-eqb}
+use Rattle.std.proofs.lemmas.Bool.{true≢false, eq-eqb, eqb-true, or_parts}
 use Rattle.std.proofs.lemmas.Option.{none-some, same_Some}
 use Rattle.semantics.specs.Tree.{Variable}
 use Rattle.semantics.specs.Meaning.State.{State, overwritten, look}
@@ -10,18 +10,20 @@ use Rattle.semantics.specs.Meaning.Agrees.{is_among}
 use Rattle.semantics.specs.Loops.Operator.{ReduceOp}
 use Rattle.law_roles.specs.Updates.{operator_of}
 use Rattle.law_roles.specs.Reducing.{AreHeld}
-use Rattle.law_roles.specs.Sharing.{are_different, begins_with, changed_from, unless_same}
-use Rattle.law_roles.proofs.Seen.{apart_back}
-use Rattle.law_starts.specs.Begun.{begun_with}
-use Rattle.law_starts.proofs.Beginning.{reduced, first_apart, others_apart, begun_holds}
+use Rattle.law_roles.specs.Sharing.{are_different, changed_from, unless_same}
+use Rattle.semantics.specs.Loops.Joined.{given}
+use Rattle.law_roles.proofs.Seen.{apart_back, only_look, look_of, takes}
+use Rattle.law_starts.proofs.Beginning.{reduced, first_apart, others_apart, begun_holds, given_only}
 use Rattle.lower_code.specs.declared.term.Laid.{Laid}
 use Rattle.lower_code.specs.Machine.{Machine}
 use Rattle.lower_code.specs.Meaning.{Represents}
 use Rattle.lower.specs.declared.roles.Spot.{Spot}
 use Rattle.lower.specs.declared.roles.LoweredReduction.{LoweredReduction}
 use Rattle.lower.specs.Roles.{StandsAt, StandEach, AreReduced}
-use Rattle.overlay.specs.Spots.{held_at, partial_at}
-use Rattle.overlay.specs.Chunks.{AreLasts}
+use Rattle.overlay.specs.declared.beginning.Start.{Start}
+use Rattle.overlay.specs.declared.beginning.Start.TheVariants.{Reduction, Scan}
+use Rattle.overlay.specs.Spots.{begins_at, held_at, partial_at}
+use Rattle.overlay.specs.Chunks.{AreLasts, started}
 use Rattle.overlay.proofs.Standing.{some_value, held_in}
 
 -- each reduction variable of a list has its operator among all
@@ -44,25 +46,61 @@ have_operators (r ∷ rs) d = (
   have_more r rs rs (first_apart r rs d) (have_operators rs (others_apart r rs d)),
 )
 
--- machines before the loop and behind the chunk stand for the states there
-module _ (layout : List Laid) (mark : ℕ) (all : List (Variable × ReduceOp)) (outer : State) (e : Effect) (before behind : Machine) (stands : Represents layout mark outer before)
-    (stands_behind : Represents layout mark (overwritten (begun_with all outer) e.writes) behind) (different : are_different (reduced all) ≡ true) (held : AreHeld all outer) (held_behind : AreHeld all (overwritten (begun_with all outer) e.writes)) where
-  abbrev start : State
-  start = begun_with all outer
+-- variables that take a given number have it, and all else is as it was
+pub given_locals : (v : ℕ) (rs : List (Variable × ReduceOp)) (s : State) (x : Variable) → is_among (reduced rs) x ≡ false → (started (Scan v) rs s).locals x ≡ s.locals x
+given_locals v [] s x h = refl
+given_locals v (r ∷ rs) s x h =
+    let parts = or_parts (r.0 == x) (is_among (reduced rs) x) h in
+    given_locals v rs (given s r.0 (Some v)) x parts.1 ∙ (given_only s r.0 (Some v)).locals x (apart_back r.0 x parts.0)
 
-  partial_is : (r : Variable × ReduceOp) (l : LoweredReduction) → operator_of all r.0 ≡ Some r.1 → AreReduced layout mark (r ∷ []) (l ∷ []) → partial_at before behind l ≡ changed_from start e r.0
+pub given_cells : (v : ℕ) (rs : List (Variable × ReduceOp)) (s : State) (x : Variable) (is : List ℕ) → is_among (reduced rs) x ≡ false → (started (Scan v) rs s).cells x is ≡ s.cells x is
+given_cells v [] s x is h = refl
+given_cells v (r ∷ rs) s x is h =
+    let parts = or_parts (r.0 == x) (is_among (reduced rs) x) h in
+    given_cells v rs (given s r.0 (Some v)) x is parts.1 ∙ (given_only s r.0 (Some v)).cells x is (apart_back r.0 x parts.0)
+
+given_holds : (n : ℕ) (rs : List (Variable × ReduceOp)) (s : State) (x : Variable) (op : ReduceOp) (v : ℕ) → are_different (reduced rs) ≡ true → operator_of rs x ≡ Some op → look s x [] ≡ Some v
+    → look (started (Scan n) rs s) x [] ≡ Some n
+given_holds n [] s x op v d is h = absurd (none-some op is)
+given_holds n (r ∷ rs) s x op v d is h = at (r.0 == x) refl is (λ k g. given_holds n rs next x op v (others_apart r rs d) k g)
+  where
+    next : State
+    next = given s r.0 (Some n)
+
+    at : (b : Bool) → (r.0 == x) ≡ b → cond b (Some r.1) (operator_of rs x) ≡ Some op
+        → (operator_of rs x ≡ Some op → look next x [] ≡ Some v → look (started (Scan n) rs next) x [] ≡ Some n)
+        → look (started (Scan n) rs next) x [] ≡ Some n
+    at true e k rest =
+        let same : r.0 ≡ x = eqb-true r.0 x e in
+        let gone : is_among (reduced rs) x ≡ false = ap (is_among (reduced rs)) (sym same) ∙ first_apart r rs d in
+        look_of x (started (Scan n) rs next) next (given_locals n rs next x gone) (λ is. given_cells n rs next x is gone) []
+        ∙ ap (λ y. look next y []) (sym same) ∙ (takes s r.0 v n (ap (λ y. look s y []) same ∙ h)).holds
+    at false e k rest = rest k (only_look r.0 s next (given_only s r.0 (Some n)) x (apart_back r.0 x e) [] ∙ h)
+
+started_holds : (start : Start) (rs : List (Variable × ReduceOp)) (s : State) (x : Variable) (op : ReduceOp) (v : ℕ) → are_different (reduced rs) ≡ true → operator_of rs x ≡ Some op → look s x [] ≡ Some v
+    → look (started start rs s) x [] ≡ Some (begins_at start op v)
+started_holds Reduction rs s x op v d is h = begun_holds rs s x op v d is h
+started_holds (Scan n) rs s x op v d is h = given_holds n rs s x op v d is h
+
+-- machines before the loop and behind the chunk stand for the states there
+module _ (layout : List Laid) (mark : ℕ) (first : Start) (all : List (Variable × ReduceOp)) (outer : State) (e : Effect) (before behind : Machine) (stands : Represents layout mark outer before)
+    (stands_behind : Represents layout mark (overwritten (started first all outer) e.writes) behind) (different : are_different (reduced all) ≡ true) (held : AreHeld all outer) (held_behind : AreHeld all (overwritten (started first all outer) e.writes)) where
+  abbrev start : State
+  start = started first all outer
+
+  partial_is : (r : Variable × ReduceOp) (l : LoweredReduction) → operator_of all r.0 ≡ Some r.1 → AreReduced layout mark (r ∷ []) (l ∷ []) → partial_at first before behind l ≡ changed_from start e r.0
   partial_is r l known (op, at, none) =
-      let first = some_value (look outer r.0 []) (held r.0 r.1 known) in
+      let was_value = some_value (look outer r.0 []) (held r.0 r.1 known) in
       let last = some_value (look (overwritten start e.writes) r.0 []) (held_behind r.0 r.1 known) in
-      let was = (held_in layout mark outer before r.0 first.0 l.spot at stands first.1).is in
+      let was = (held_in layout mark outer before r.0 was_value.0 l.spot at stands was_value.1).is in
       let left = (held_in layout mark (overwritten start e.writes) behind r.0 last.0 l.spot at stands_behind last.1).is in
-      ap (λ o. unless_same (Some (begins_with o (held_at l.spot before))) (Some (held_at l.spot behind))) op
-      ∙ ap (λ n. unless_same (Some (begins_with r.1 n)) (Some (held_at l.spot behind))) was
-      ∙ ap (λ n. unless_same (Some (begins_with r.1 first.0)) (Some n)) left
-      ∙ ap (λ o. unless_same o (Some last.0)) (sym (begun_holds all outer r.0 r.1 first.0 different known first.1))
+      ap (λ o. unless_same (Some (begins_at first o (held_at l.spot before))) (Some (held_at l.spot behind))) op
+      ∙ ap (λ n. unless_same (Some (begins_at first r.1 n)) (Some (held_at l.spot behind))) was
+      ∙ ap (λ n. unless_same (Some (begins_at first r.1 was_value.0)) (Some n)) left
+      ∙ ap (λ o. unless_same o (Some last.0)) (sym (started_holds first all outer r.0 r.1 was_value.0 different known was_value.1))
       ∙ ap (λ o. unless_same (look start r.0 []) o) (sym last.1)
 
-  partials_are : (rs : List (Variable × ReduceOp)) (ls : List LoweredReduction) → HaveOperators all rs → AreReduced layout mark rs ls → map (partial_at before behind) ls ≡ map (λ r. changed_from start e r.0) rs
+  partials_are : (rs : List (Variable × ReduceOp)) (ls : List LoweredReduction) → HaveOperators all rs → AreReduced layout mark rs ls → map (partial_at first before behind) ls ≡ map (λ r. changed_from start e r.0) rs
   partials_are [] [] known are = refl
   partials_are [] (l ∷ ls) known are = absurd are
   partials_are (r ∷ rs) [] known are = absurd are
@@ -71,7 +109,7 @@ module _ (layout : List Laid) (mark : ℕ) (all : List (Variable × ReduceOp)) (
       let others = partials_are rs ls known.1 rest in
       λ i. one i ∷ others i
 
-  pub all_partials : (ls : List LoweredReduction) → AreReduced layout mark all ls → map (partial_at before behind) ls ≡ map (λ r. changed_from start e r.0) all
+  pub all_partials : (ls : List LoweredReduction) → AreReduced layout mark all ls → map (partial_at first before behind) ls ≡ map (λ r. changed_from start e r.0) all
   all_partials ls are = partials_are all ls (have_operators all different) are
 
 -- and last values

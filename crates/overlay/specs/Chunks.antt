@@ -1,15 +1,17 @@
 -- What a chunk of a lowered loop leaves. (OpenMP 5.2, 5.4.5, 5.5.2 and 11.5; C11 6.8.5.3)
-use Rattle.std.specs.Prelude.{ℕ, true, false, ◌≡◌, ◌+◌, ◌<◌, List, [], map, length, take, drop, Some, slice_get, slice_index}
+use Rattle.std.specs.Prelude.{ℕ, true, false, ◌≡◌, ◌+◌, ◌<◌, List, [], map, length, take, drop, Some, slice_get, slice_index, ◌∷◌}
 use Rattle.semantics.specs.Tree.{Variable, Stmt}
 use Rattle.semantics.specs.Meaning.State.{State, overwritten, look}
 use Rattle.semantics.specs.Meaning.Runs.{Effect}
 use Rattle.semantics.specs.Meaning.Agrees.{is_among}
 use Rattle.semantics.specs.Loops.Nest.{Loop, Vector}
+use Rattle.semantics.specs.Loops.Operator.{ReduceOp}
+use Rattle.semantics.specs.Loops.Joined.{given}
 use Rattle.semantics.specs.Loops.Piece.{Roles}
 use Rattle.law_nests.specs.Walks.{walk}
 use Rattle.law_roles.specs.Reducing.{AreHeld}
 use Rattle.law_roles.specs.Sharing.{changed_from}
-use Rattle.law_starts.specs.Begun.{told_apart, begun}
+use Rattle.law_starts.specs.Begun.{told_apart, begun_with}
 use Rattle.reduce.specs.Partial.{partial_of}
 use Rattle.store.specs.Kept.{Kept}
 use Rattle.store.specs.Flat.{values_of}
@@ -19,8 +21,16 @@ use Rattle.overlay_pages.specs.Over.{writes_of, written_over}
 use Rattle.overlay_pages.specs.declared.changes.Change.{Change}
 use Rattle.lower.specs.declared.lowered.LoweredLoop.{LoweredLoop}
 use Rattle.lower.specs.Lowered.{IsReached}
+use Rattle.overlay.specs.declared.beginning.Start.{Start}
+use Rattle.overlay.specs.declared.beginning.Start.TheVariants.{Reduction, Scan}
 use Rattle.overlay.specs.declared.worker.Piece.{Piece}
 use Rattle.overlay.specs.declared.worker.Work.{Work}
+
+-- the state in which a chunk begins: its reduction variables take what a chunk may begin with, or a number that is given
+abbrev pub started : Start → List (Variable × ReduceOp) → State → State
+started Reduction rs outer = begun_with rs outer
+started (Scan v) [] outer = outer
+started (Scan v) (r ∷ rs) outer = started (Scan v) rs (given outer r.0 (Some v))
 
 -- changes of these cells: each is one of them, and holds another number then
 abbrev pub ChangeOnly : List Kept → List Change → Type 0
@@ -35,12 +45,16 @@ pub record LeavesPiece (layout : List Laid) (roles : Roles) (outer start : State
   pub partials : AreHeld roles.reductions (overwritten start e.writes) → map partial_of p.partials.items ≡ map (λ r. changed_from start e r.0) roles.reductions
   pub text : p.text.bytes ≡ e.text
 
--- wherever the loop is reached with these registers and this store, and the iterations of a chunk have a run one after another from where it may begin there, its effect is told
-abbrev pub IsChunkOf : LoweredLoop → List ℕ → List Kept → Work → Piece → Type 0
-IsChunkOf l registers ks work p =
+-- wherever the loop is reached with these registers and this store, and the iterations of a chunk have a run one after another from its start there, its effect is told
+abbrev pub IsChunkFrom : Start → LoweredLoop → List ℕ → List Kept → Work → Piece → Type 0
+IsChunkFrom start l registers ks work p =
     (layout : List Laid) (mark : ℕ) (roles : Roles) (loops : List Loop) (body : Stmt) (outer : State) (us : List Vector) (e : Effect)
-    → IsReached layout mark roles loops body outer us l registers ks → walk loops body (take work.count (drop work.first us)) (begun roles outer) ≡ Some e
-    → LeavesPiece layout roles outer (begun roles outer) ks e p
+    → IsReached layout mark roles loops body outer us l registers ks → walk loops body (take work.count (drop work.first us)) (started start roles.reductions outer) ≡ Some e
+    → LeavesPiece layout roles outer (started start roles.reductions outer) ks e p
+
+-- so it is from where a chunk may begin
+abbrev pub IsChunkOf : LoweredLoop → List ℕ → List Kept → Work → Piece → Type 0
+IsChunkOf l registers ks work p = IsChunkFrom Reduction l registers ks work p
 
 -- of each lastprivate variable what it holds behind an effect, where it holds a number
 pub record AreLasts (xs : List Variable) (behind : State) (lasts : List ℕ) : Type 0 where
@@ -53,8 +67,8 @@ pub record TellsLasts (roles : Roles) (behind : State) (us : List Vector) (work 
   pub other : (work.first + work.count ≡ length us → ⊥) → lasts ≡ []
 
 -- so it does wherever the loop is reached
-abbrev pub IsLastOf : LoweredLoop → List ℕ → List Kept → Work → Piece → Type 0
-IsLastOf l registers ks work p =
+abbrev pub IsLastFrom : Start → LoweredLoop → List ℕ → List Kept → Work → Piece → Type 0
+IsLastFrom start l registers ks work p =
     (layout : List Laid) (mark : ℕ) (roles : Roles) (loops : List Loop) (body : Stmt) (outer : State) (us : List Vector) (e : Effect)
-    → IsReached layout mark roles loops body outer us l registers ks → walk loops body (take work.count (drop work.first us)) (begun roles outer) ≡ Some e
-    → TellsLasts roles (overwritten (begun roles outer) e.writes) us work p.lasts.items
+    → IsReached layout mark roles loops body outer us l registers ks → walk loops body (take work.count (drop work.first us)) (started start roles.reductions outer) ≡ Some e
+    → TellsLasts roles (overwritten (started start roles.reductions outer) e.writes) us work p.lasts.items

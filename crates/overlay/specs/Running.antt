@@ -4,10 +4,11 @@ use Rattle.semantics.specs.Loops.Nest.{Vector}
 use Rattle.nest_space.specs.Space.{Turns, vectors}
 use Rattle.lower_code.specs.Machine.{Machine, running}
 use Rattle.lower.specs.declared.lowered.LoweredLoop.{LoweredLoop}
+use Rattle.overlay.specs.declared.beginning.Start.{Start}
 use Rattle.overlay.specs.declared.worker.Work.{Work}
 use Rattle.overlay.specs.declared.ending.Told.{Told}
 use Rattle.overlay.specs.Walking.{WalksOver}
-use Rattle.overlay.specs.Spots.{begun_by, back_at_each, reduced_at}
+use Rattle.overlay.specs.Spots.{IsWord, begun_by, back_at_each, reduced_at}
 use Rattle.overlay.specs.Ending.{IsTold}
 
 -- the iterations of a chunk
@@ -21,15 +22,16 @@ pub record IsCopied (m m' : Machine) : Type 0 where
   pub cells : m'.cells ≡ m.cells
 
 -- from where reduction variables took what a chunk begins with, its iterations are run; what they print is kept, what the variables with a role hold then is told, and their cells are put back
-pub record IsRun (l : LoweredLoop) (ts : List Turns) (work : Work) (before start : Machine) (told : Told) (cells : List ℕ) : Type 0 where
+pub record IsRun (l : LoweredLoop) (ts : List Turns) (work : Work) (first : Start) (before start : Machine) (told : Told) (cells : List ℕ) : Type 0 where
+  pub word : IsWord first
   pub behind : Machine
-  pub walks : WalksOver l (part_of ts work) (running (begun_by l.roles.reductions.items start) []) (running behind told.text.bytes)
+  pub walks : WalksOver l (part_of ts work) (running (begun_by first l.roles.reductions.items start) []) (running behind told.text.bytes)
   pub room : length behind.cells ≡ length before.cells
-  pub told_of : IsTold l.roles (work.first + work.count == length (vectors ts)) before behind told
+  pub told_of : IsTold l.roles first (work.first + work.count == length (vectors ts)) before behind told
   pub back : cells ≡ back_at_each before.cells (reduced_at l.roles.reductions.items) (back_at_each before.cells l.roles.lasts.items behind.cells)
 
 -- the same over copies of the registers
-pub record IsRunOver (l : LoweredLoop) (ts : List Turns) (work : Work) (before : Machine) (told : Told) (cells : List ℕ) : Type 0 where
+pub record IsRunOver (l : LoweredLoop) (ts : List Turns) (work : Work) (first : Start) (before : Machine) (told : Told) (cells : List ℕ) : Type 0 where
   pub start : Machine
   pub copied : IsCopied before start
-  pub runs : IsRun l ts work before start told cells
+  pub runs : IsRun l ts work first before start told cells

@@ -7,10 +7,10 @@ ghost use Rattle.reduce.specs.Partial.{partial_of};
 ghost use Rattle.law_roles.specs.Sharing as law;
 ghost use Rattle.lower_code.specs.Machine.{machine};
 ghost use Rattle.overlay_pages.specs.Seen.{cells_of};
-ghost use Rattle.overlay.specs.Spots.{held_at, partial_at, back_at_each, reduced_at};
+ghost use Rattle.overlay.specs.Spots.{begins_at, held_at, partial_at, back_at_each, reduced_at};
 ghost use Rattle.overlay.specs.Ending.{IsTold};
 
-use crate::beginning::begins_with;
+use crate::beginning::{Start, first_value};
 use crate::spots::{put_back, read, read_before};
 use lower::{LoweredReduction, LoweredRoles, Spot};
 use overlay_pages::Chunk;
@@ -27,11 +27,11 @@ pub struct Told {
 }
 
 // The partial of a reduction variable that held this before the loop and holds that behind the chunk.
-fn partial(reduction: &LoweredReduction, before: u64, behind: u64) -> Partial
+fn partial(reduction: &LoweredReduction, start: Start, before: u64, behind: u64) -> Partial
     ensures { partial_of result ≡ law.unless_same
-        (Some (law.begins_with (operator_of reduction.now.operator) before)) (Some behind) }
+        (Some (begins_at start (operator_of reduction.now.operator) before)) (Some behind) }
 {
-    if behind == begins_with(reduction.operator, before) {
+    if behind == first_value(start, reduction.operator, before) {
         return Partial::Untouched;
     }
     Partial::Updated(behind)
@@ -41,19 +41,20 @@ fn partial(reduction: &LoweredReduction, before: u64, behind: u64) -> Partial
 fn partials(
     alloc: Global,
     reductions: &[LoweredReduction],
+    start: Start,
     before: &[u64],
     registers: &[u64],
     cells: &Chunk<'_>,
 ) -> Result<Vec<Partial>, AllocError>
     ensures { IfOk result (λ partials. map partial_of partials.items
-        ≡ map (partial_at (machine before.now (values_of cells.now.store))
+        ≡ map (partial_at start (machine before.now (values_of cells.now.store))
         (machine registers.now (cells_of cells.now))) reductions.now) }
 {
     let mut partials = Vec::new(alloc);
     for reduction in reductions {
         let held = read_before(reduction.spot, before, cells);
         let left = read(reduction.spot, registers, cells);
-        partials.push(partial(reduction, held, left))?;
+        partials.push(partial(reduction, start, held, left))?;
     }
     Ok(partials)
 }
@@ -101,18 +102,20 @@ fn last_values(
 pub fn tell(
     alloc: Global,
     roles: &LoweredRoles,
+    start: Start,
     has_last: bool,
     before: &[u64],
     registers: &[u64],
     cells: &Chunk<'_>,
     text: Memory,
 ) -> Result<Told, AllocError>
-    ensures told { IfOk result (IsTold roles.now has_last
+    ensures told { IfOk result (IsTold roles.now start has_last
         (machine before.now (values_of cells.now.store))
         (machine registers.now (cells_of cells.now))) }
     ensures text { IfOk result (λ told. told.text ≡ text) }
 {
-    let partials = partials(alloc, roles.reductions.as_slice(), before, registers, cells)?;
+    let reductions = roles.reductions.as_slice();
+    let partials = partials(alloc, reductions, start, before, registers, cells)?;
     let lasts = last_values(alloc, roles.lasts.as_slice(), has_last, registers, cells)?;
     Ok(Told {
         text,

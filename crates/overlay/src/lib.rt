@@ -8,4 +8,5 @@ mod spots;
 mod walking;
 mod worker;
 
+pub use beginning::Start;
 pub use worker::{Bench, Piece, Work, Worker};

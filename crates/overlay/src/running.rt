@@ -7,7 +7,7 @@ ghost use Rattle.lower_code.specs.Machine.{machine};
 ghost use Rattle.overlay_pages.specs.Seen.{cells_of};
 ghost use Rattle.overlay.specs.Running.{IsRun, IsRunOver};
 
-use crate::beginning::begin;
+use crate::beginning::{Start, begin, confirm_word};
 use crate::ending::{Told, put_roles_back, tell};
 use crate::walking::{copy_registers, end_of, run_iterations};
 use crate::worker::Work;
@@ -31,23 +31,26 @@ fn run_from(
     before: &[u64],
     space: &Space,
     work: Work,
+    start: Start,
     registers: &mut [u64],
     cells: &mut Chunk<'_>,
 ) -> Result<Told, AllocError>
     requires loops { length space.now ≡ length lowered.now.loops.items }
     requires work { work.first + work.count ≤ length (vectors space.now) }
     requires wide { lowered.now.body.registers ≤ length registers.old }
-    ensures ran { IfOk result (λ told. IsRun lowered.now space.now work
+    ensures ran { IfOk result (λ told. IsRun lowered.now space.now work start
         (machine before.now (values_of cells.old.store))
         (machine registers.old (cells_of cells.old)) told (cells_of cells.new)) }
     ensures store { cells.new.store ≡ cells.old.store }
 {
-    begin(lowered.roles.reductions.as_slice(), registers, cells);
+    confirm_word(start);
+    begin(lowered.roles.reductions.as_slice(), start, registers, cells);
     let text = run_iterations(alloc, lowered, space, work, registers, cells)?;
     let has_last = has_last(space, work);
     let told = tell(
         alloc,
         &lowered.roles,
+        start,
         has_last,
         before,
         registers,
@@ -70,13 +73,14 @@ pub fn run_copied(
     registers: &[u64],
     space: &Space,
     work: Work,
+    start: Start,
     own: &mut Vec<u64>,
     cells: &mut Chunk<'_>,
 ) -> Result<Told, AllocError>
     requires loops { length space.now ≡ length lowered.now.loops.items }
     requires work { work.first + work.count ≤ length (vectors space.now) }
     requires unwritten { cells_of cells.old ≡ values_of cells.old.store }
-    ensures ran { IfOk result (λ told. IsRunOver lowered.now space.now work
+    ensures ran { IfOk result (λ told. IsRunOver lowered.now space.now work start
         (machine registers.now (values_of cells.old.store)) told (cells_of cells.new)) }
     ensures store { cells.new.store ≡ cells.old.store }
 {
@@ -87,6 +91,7 @@ pub fn run_copied(
         registers,
         space,
         work,
+        start,
         own.as_mut_slice(),
         cells,
     )

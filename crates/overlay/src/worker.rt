@@ -7,8 +7,9 @@ ghost use Rattle.store.specs.Flat.{values_of};
 ghost use Rattle.overlay_pages.specs.Over.{writes_of, written_over, AreOnce};
 ghost use Rattle.overlay_pages.specs.Seen.{cells_of};
 ghost use Rattle.lower.specs.Lowered.{IsSpaceOf};
-ghost use Rattle.overlay.specs.Chunks.{IsChunkOf, IsLastOf, ChangeOnly};
+ghost use Rattle.overlay.specs.Chunks.{IsChunkFrom, IsLastFrom, ChangeOnly};
 
+use crate::beginning::Start;
 use crate::ending::Told;
 use crate::running::run_copied;
 use ktree::{ChunkNo, Refusal};
@@ -101,6 +102,7 @@ fn run_whole(
     registers: &[u64],
     space: &Space,
     work: Work,
+    start: Start,
     own: &mut Vec<u64>,
     cells: &mut Chunk<'_>,
 ) -> Result<Piece, Refusal>
@@ -109,8 +111,10 @@ fn run_whole(
     requires work { work.first + work.count ≤ length (vectors space.now) }
     requires unwritten { cells.old.written
         ≡ replicate (length (values_of cells.old.store)) None }
-    ensures leaves { IfOk result (IsChunkOf lowered.now registers.now cells.old.store work) }
-    ensures last { IfOk result (IsLastOf lowered.now registers.now cells.old.store work) }
+    ensures leaves { IfOk result
+        (IsChunkFrom start lowered.now registers.now cells.old.store work) }
+    ensures last { IfOk result
+        (IsLastFrom start lowered.now registers.now cells.old.store work) }
     ensures only { IfOk result (λ piece. ChangeOnly cells.old.store piece.changes) }
     ensures once { IfOk result (λ piece. AreOnce piece.changes) }
     ensures refusal { IfErr result (λ refusal. refusal ≡ OutOfMemory) }
@@ -118,7 +122,7 @@ fn run_whole(
     ensures unwritten { cells.new.written
         ≡ replicate (length (values_of cells.new.store)) None }
 {
-    match run_copied(alloc, lowered, registers, space, work, own, cells) {
+    match run_copied(alloc, lowered, registers, space, work, start, own, cells) {
         Ok(told) => Ok(finish(alloc, told, cells)?),
         Err(AllocError) => {
             cells.clear();
@@ -188,8 +192,8 @@ impl<'s> Worker<'s> {
 
     /// Runs a chunk from the store before the loop and from registers that stand as before it, and tells what it leaves and prints.
     ///
-    /// A reduction variable begins with its operator's identity, or of && and || with what it held before the loop, and its partial is
-    /// what it holds in the end, unless that is what it began with.
+    /// A reduction variable begins with its operator's identity, or of && and || with what it held before the loop, or with the number
+    /// that is given; its partial is what it holds in the end, unless that is what it began with.
     ///
     /// # Errors
     ///
@@ -201,13 +205,16 @@ impl<'s> Worker<'s> {
         registers: &[u64],
         space: &Space,
         work: Work,
+        start: Start,
     ) -> Result<Piece, Refusal>
         requires loops { length space.now ≡ length lowered.now.loops.items }
         requires space { IsSpaceOf lowered.now registers.now space.now }
         requires work { work.first + work.count ≤ length (vectors space.now) }
         ensures store { self.new ≡ self.old }
-        ensures leaves { IfOk result (IsChunkOf lowered.now registers.now self.old work) }
-        ensures last { IfOk result (IsLastOf lowered.now registers.now self.old work) }
+        ensures leaves { IfOk result
+            (IsChunkFrom start lowered.now registers.now self.old work) }
+        ensures last { IfOk result
+            (IsLastFrom start lowered.now registers.now self.old work) }
         ensures only { IfOk result (λ piece. ChangeOnly self.old piece.changes) }
         ensures once { IfOk result (λ piece. AreOnce piece.changes) }
         ensures refusal { IfErr result (λ refusal. refusal ≡ OutOfMemory) }
@@ -218,6 +225,7 @@ impl<'s> Worker<'s> {
             registers,
             space,
             work,
+            start,
             &mut self.registers,
             &mut self.cells,
         )

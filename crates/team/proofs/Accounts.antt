@@ -15,18 +15,17 @@ use Rattle.semantics.specs.Loops.Joined.{chunked}
 use Rattle.semantics.specs.Loops.Nest.{Vector}
 use Rattle.semantics.specs.Loops.Piece.{Roles}
 use Rattle.semantics.proofs.TicketLaw.{times-append}
-use Rattle.law_nests.specs.Walks.{walk}
-use Rattle.law_starts.specs.Begun.{begun}
 use Rattle.nest_space.specs.Space.{Turns, vectors}
 use Rattle.store.specs.Kept.{Kept}
 use Rattle.lower.specs.declared.lowered.LoweredLoop.{LoweredLoop}
 use Rattle.overlay.specs.declared.worker.Work.{Work}
-use Rattle.overlay.specs.Chunks.{IsChunkOf, IsLastOf, ChangeOnly}
+use Rattle.overlay.specs.Chunks.{IsChunkFrom, IsLastFrom, ChangeOnly}
+use Rattle.team.specs.declared.pass.Pass.{Pass}
 use Rattle.team.specs.declared.worker.ChunkPiece.{ChunkPiece}
 use Rattle.team.specs.Ends.{IsSplit, IsLeaving, IsAccount, AreLastValues}
 use Rattle.team.specs.Logged.{Leaving, Account, no_account, later, both, joined, account_of}
 use Rattle.team.proofs.Cutting.{ends_last, last_ends}
-use Rattle.team.proofs.Effects.{value_at, same_length}
+use Rattle.team.specs.Starts.{start_at, started_in}
 
 later_none : (ns : List ℕ) → later [] ns ≡ ns
 later_none [] = refl
@@ -53,13 +52,13 @@ joined_last (b ∷ logs) a = ap (both b) (joined_last logs a) ∙ both_three b (
 pub joined_more : (logs logs' : List Account) (log : Account) → logs' ≡ logs ++ log ∷ [] → joined logs' ≡ both (joined logs) log
 joined_more logs logs' log more = ap joined more ∙ joined_last logs log
 
-module _ (roles : Roles) (start : State) (effects : List Effect) where
-  abbrev Tells : Effect → List ℕ → Type 0
-  Tells e lasts = (k : ℕ) (x : Variable) (v : ℕ) → slice_get roles.lasts k ≡ Some x → look (overwritten start e.writes) x [] ≡ Some v → slice_get lasts k ≡ Some v
+module _ (roles : Roles) (start : ℕ → State) (effects : List Effect) where
+  abbrev Tells : ℕ → Effect → List ℕ → Type 0
+  Tells n e lasts = (k : ℕ) (x : Variable) (v : ℕ) → slice_get roles.lasts k ≡ Some x → look (overwritten (start n) e.writes) x [] ≡ Some v → slice_get lasts k ≡ Some v
 
-  tells_later : (e : Effect) (older newer : List ℕ) → Tells e newer → Tells e (later older newer)
-  tells_later e older [] tells k x v f g = absurd (none-some v (tells k x v f g))
-  tells_later e older (n ∷ newer) tells k x v f g = tells k x v f g
+  tells_later : (m : ℕ) (e : Effect) (older newer : List ℕ) → Tells m e newer → Tells m e (later older newer)
+  tells_later m e older [] tells k x v f g = absurd (none-some v (tells k x v f g))
+  tells_later m e older (n ∷ newer) tells k x v f g = tells k x v f g
 
   pub both_tell : (ns ms older newer : List ℕ) → AreLastValues roles start effects ns older → AreLastValues roles start effects ms newer → AreLastValues roles start effects (ns ++ ms) (later older newer)
   both_tell ns ms older newer first second =
@@ -71,12 +70,12 @@ module _ (roles : Roles) (start : State) (effects : List Effect) where
             (λ i. later (no_first i) (no_second i));
       }
     where
-      pick : (number : ℕ) (e : Effect) → number + 1 ≡ length effects → slice_get effects number ≡ Some e → 0 < times number (ns ++ ms) → (n : ℕ) → times number ms ≡ n → Tells e (later older newer)
+      pick : (number : ℕ) (e : Effect) → number + 1 ≡ length effects → slice_get effects number ≡ Some e → 0 < times number (ns ++ ms) → (n : ℕ) → times number ms ≡ n → Tells number e (later older newer)
       pick number e last there some zero none =
           let no_second : newer ≡ [] = second.other (λ m is. let same : number ≡ m = omega arith in subst (λ k. times k ms ≡ 0) same none) in
           let now : 0 < times number ns = omega (arith, times-append number ns ms) in
-          subst (λ ls. Tells e ls) (sym (ap (later older) no_second)) (first.told number e last there now)
-      pick number e last there some (suc n) is = tells_later e older newer (second.told number e last there (omega arith))
+          subst (λ ls. Tells number e ls) (sym (ap (later older) no_second)) (first.told number e last there now)
+      pick number e last there some (suc n) is = tells_later number e older newer (second.told number e last there (omega arith))
 
   pub none_tell : AreLastValues roles start effects [] []
   none_tell = record { told = λ number e last there some. absurd (omega arith); other = λ none. refl }
@@ -88,31 +87,31 @@ only_one n m some = go (m == n) refl
     go true e = sym (eqb-true m n e)
     go false e = let none : once n m ≡ 0 = grind (arith, nat_tests) in absurd (omega arith)
 
-module _ (l : LoweredLoop) (registers : List ℕ) (ks : List Kept) (chunks : List Chunk) where
+module _ (l : LoweredLoop) (registers : List ℕ) (ks : List Kept) (pass : Pass) (chunks : List Chunk) where
   abbrev P : Leaving → Type 0
-  P c = IsLeaving l registers ks chunks c
+  P c = IsLeaving l registers ks pass chunks c
 
-  pub account_none : IsAccount l registers ks chunks [] no_account
+  pub account_none : IsAccount l registers ks pass chunks [] no_account
   account_none =
       record {
         numbers_are = refl;
         each = All-nil P;
-        lasts = λ layout mark roles loops body outer us effects reached ran. none_tell roles (begun roles outer) effects;
+        lasts = λ layout mark roles loops body outer us effects reached ran. none_tell roles (started_in pass roles outer) effects;
       }
 
-  pub account_both : (ns ms : List ℕ) (a b : Account) → IsAccount l registers ks chunks ns a → IsAccount l registers ks chunks ms b → IsAccount l registers ks chunks (ns ++ ms) (both a b)
+  pub account_both : (ns ms : List ℕ) (a b : Account) → IsAccount l registers ks pass chunks ns a → IsAccount l registers ks pass chunks ms b → IsAccount l registers ks pass chunks (ns ++ ms) (both a b)
   account_both ns ms a b first second =
       record {
         numbers_are = map-append (λ (c : Leaving). c.number) a.chunks b.chunks ∙ (λ i. first.numbers_are i ++ second.numbers_are i);
         each = All-append P a.chunks b.chunks first.each second.each;
         lasts = λ layout mark roles loops body outer us effects reached ran.
-            both_tell roles (begun roles outer) effects ns ms a.lasts b.lasts (first.lasts layout mark roles loops body outer us effects reached ran) (second.lasts layout mark roles loops body outer us effects reached ran);
+            both_tell roles (started_in pass roles outer) effects ns ms a.lasts b.lasts (first.lasts layout mark roles loops body outer us effects reached ran) (second.lasts layout mark roles loops body outer us effects reached ran);
       }
 
   -- the account of a chunk that was run
   pub account_one : (space : List Turns) (p : ChunkPiece) (chunk : Chunk) → IsSplit l registers space chunks → slice_get chunks p.number.0 ≡ Some chunk
-      → (let work : Work = record { chunk = p.number; first = chunk.first; count = chunk.count } in IsChunkOf l registers ks work p.piece × IsLastOf l registers ks work p.piece)
-      → ChangeOnly ks p.piece.changes → IsAccount l registers ks chunks (p.number.0 ∷ []) (account_of p)
+      → (let work : Work = record { chunk = p.number; first = chunk.first; count = chunk.count } in IsChunkFrom (start_at pass p.number.0) l registers ks work p.piece × IsLastFrom (start_at pass p.number.0) l registers ks work p.piece)
+      → ChangeOnly ks p.piece.changes → IsAccount l registers ks pass chunks (p.number.0 ∷ []) (account_of p)
   account_one space p chunk split there (leaves, last) only =
       record {
         numbers_are = refl;
@@ -122,8 +121,8 @@ module _ (l : LoweredLoop) (registers : List ℕ) (ks : List Kept) (chunks : Lis
             let count : length us ≡ length (vectors space) = ap (λ vs. length vs) same in
             let iterations_of : Chunk → List Vector = λ c. take c.count (drop c.first us) in
             let here : slice_get (chunked us chunks) p.number.0 ≡ Some (take chunk.count (drop chunk.first us)) = slice_get-map iterations_of chunks p.number.0 ∙ ap (option_map iterations_of) there in
-            let own = value_at (λ vs. walk loops body vs (begun roles outer)) (chunked us chunks) effects ran p.number.0 (take chunk.count (drop chunk.first us)) here in
-            let many : length effects ≡ length chunks = same_length (λ vs. walk loops body vs (begun roles outer)) (chunked us chunks) effects ran ∙ length-map chunks iterations_of in
+            let own = ran.each p.number.0 (take chunk.count (drop chunk.first us)) here in
+            let many : length effects ≡ length chunks = ran.count ∙ length-map chunks iterations_of in
             let tells = last layout mark roles loops body outer us own.0 reached own.2 in
             record {
               told = λ number e is at some k x v f g.
@@ -131,7 +130,7 @@ module _ (l : LoweredLoop) (registers : List ℕ) (ks : List Kept) (chunks : Lis
                   let own_is : own.0 ≡ e = same_Some own.0 e (sym own.1 ∙ sym (ap (slice_get effects) here_is) ∙ at) in
                   let last_is : p.number.0 + 1 ≡ length chunks = ap (λ n. n + 1) (sym here_is) ∙ is ∙ many in
                   let end : chunk.first + chunk.count ≡ length us = last_ends (length (vectors space)) p.number.0 chunks chunk split.cut there last_is ∙ sym count in
-                  (tells.last end).each k x v f (ap (λ z. look (overwritten (begun roles outer) z.writes) x []) own_is ∙ g);
+                  (tells.last end).each k x v f ((λ i. look (overwritten (started_in pass roles outer (sym here_is i)) (own_is i).writes) x []) ∙ g);
               other = λ none. tells.other (λ end.
                   let is : p.number.0 + 1 ≡ length chunks = ends_last (length (vectors space)) p.number.0 chunks chunk split.cut there (end ∙ count) in
                   let no = none p.number.0 (is ∙ sym many) in

@@ -1,5 +1,5 @@
 -- What chunks tell of a reduction variable, taken in one after another.
-use Rattle.std.specs.Prelude.{ℕ, suc, ◌≡◌, List, [], ◌∷◌, ◌++◌, map, take, drop, Option}
+use Rattle.std.specs.Prelude.{ℕ, suc, ◌≡◌, List, [], ◌∷◌, ◌++◌, map, take, drop, slice_set, Option}
 use Rattle.std.proofs.Common.{refl, sym, ap, ◌∙◌}
 use Rattle.std.proofs.lemmas.List.{map-append}
 use Rattle.semantics.specs.Loops.Operator.{ReduceOp, combined, combined_all}
@@ -9,6 +9,8 @@ use Rattle.reduce.specs.declared.partial.Partial.{Partial}
 use Rattle.reduce.specs.Partial.{partial_of}
 use Rattle.team.specs.declared.log.EndedChunk.{EndedChunk}
 use Rattle.team.specs.Logged.{Leaving, Account, logged, joined}
+use Rattle.team.specs.Printed.{entered_by}
+use Rattle.team.specs.Scanned.{told_of_scan, partials_from}
 use Rattle.team.specs.Spots.{told_of}
 
 -- what is left to take in
@@ -31,6 +33,13 @@ left_all index [] ws ps bs = refl
 left_all index (e ∷ es) ws ps bs =
     let rest = ap (λ qs. told_of index (logged es (drop e.changes ws) qs (drop e.bytes bs))) (sym (map_drop e.partials ps)) ∙ left_all index es (drop e.changes ws) (drop e.partials ps) (drop e.bytes bs) in
     λ i. value_at index (sym (map_take e.partials ps) i) ∷ rest i
+
+-- partials that come one behind another, by number
+pub logged_partials : (es : List EndedChunk) (ws : List Change) (ps : List Partial) (bs : List ℕ) (table : List (Option ℕ)) → entered_by told_of_scan (logged es ws (map partial_of ps) bs) table ≡ partials_from es ps table
+logged_partials [] ws ps bs table = refl
+logged_partials (e ∷ es) ws ps bs table =
+    (λ i. entered_by told_of_scan (logged es (drop e.changes ws) (sym (map_drop e.partials ps) i) (drop e.bytes bs)) (slice_set table e.number.0 (value_at 0 (sym (map_take e.partials ps) i))))
+    ∙ logged_partials es (drop e.changes ws) (drop e.partials ps) (drop e.bytes bs) (slice_set table e.number.0 (value_at 0 (map partial_of (take e.partials ps))))
 
 combined_both : (op : ReduceOp) (v : ℕ) (ps qs : List (Option ℕ)) → combined_all op v (ps ++ qs) ≡ combined_all op (combined_all op v ps) qs
 combined_both op v [] qs = refl

@@ -97,7 +97,7 @@ is_cut kind n workers cs e joined =
     record { joined = joined; filled = subst (λ (k : List Chunk). All (λ c. 0 < c.count) k) (sym e) (chunks_hold_iterations kind n workers) }
 
 -- a number stands at its place
-at_below : (p n : ℕ) → p < n → slice_get (below n) p ≡ Some p
+pub at_below : (p n : ℕ) → p < n → slice_get (below n) p ≡ Some p
 at_below p zero lt = absurd (omega arith)
 at_below p (suc n) lt = go (p == n) refl (λ less. at_below p n less)
   where

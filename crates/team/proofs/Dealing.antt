@@ -15,6 +15,7 @@ use Rattle.schedule.specs.Part.{static_kind}
 use Rattle.schedule.proofs.Owned.{workers_share_chunks}
 use Rattle.store.specs.Kept.{Kept}
 use Rattle.lower.specs.declared.lowered.LoweredLoop.{LoweredLoop}
+use Rattle.team.specs.declared.pass.Pass.{Pass}
 use Rattle.team.specs.Ends.{IsAccount, AreAll}
 use Rattle.team.specs.Logged.{Account, both}
 use Rattle.team.specs.Dealt.{own_numbers}
@@ -42,15 +43,15 @@ past_end [] i e = omega arith
 past_end (x ∷ xs) zero e = absurd (cc e)
 past_end (x ∷ xs) (suc i) e = let r = past_end xs i e in omega arith
 
-module _ (l : LoweredLoop) (registers : List ℕ) (ks : List Kept) (chunks : List Chunk) where
+module _ (l : LoweredLoop) (registers : List ℕ) (ks : List Kept) (pass : Pass) (chunks : List Chunk) where
   -- one worker more
   pub dealt_more : (own : ℕ → List ℕ) (n m : ℕ) (was more after : Account) → m ≡ suc n → after ≡ both was more
-      → IsAccount l registers ks chunks (flat_map own (below n)) was → IsAccount l registers ks chunks (own n) more → IsAccount l registers ks chunks (flat_map own (below m)) after
+      → IsAccount l registers ks pass chunks (flat_map own (below n)) was → IsAccount l registers ks pass chunks (own n) more → IsAccount l registers ks pass chunks (flat_map own (below m)) after
   dealt_more own n m was more after next joined first last =
       let all : flat_map own (below m) ≡ flat_map own (below n) ++ own n =
       ap (λ k. flat_map own (below k)) next ∙ flat_map-append own (below n) (n ∷ []) ∙ ap (λ (k : List ℕ). flat_map own (below n) ++ k) (append-nil (own n)) in
-      subst (λ ns. IsAccount l registers ks chunks ns after) (sym all)
-      (subst (λ a. IsAccount l registers ks chunks (flat_map own (below n) ++ own n) a) (sym joined) (account_both l registers ks chunks (flat_map own (below n)) (own n) was more first last))
+      subst (λ ns. IsAccount l registers ks pass chunks ns after) (sym all)
+      (subst (λ a. IsAccount l registers ks pass chunks (flat_map own (below n) ++ own n) a) (sym joined) (account_both l registers ks pass chunks (flat_map own (below n)) (own n) was more first last))
 
   not_drawn : (size : Option ℕ) → is_by_ticket (static_kind size) ≡ false
   not_drawn None = refl
@@ -58,7 +59,7 @@ module _ (l : LoweredLoop) (registers : List ℕ) (ks : List Kept) (chunks : Lis
 
   -- all workers' together
   pub dealt_all : (size : Option ℕ) (workers n iterations : ℕ) (a : Account) → chunks ≡ cut (static_kind size) iterations workers → 0 < workers → n ≡ workers
-      → IsAccount l registers ks chunks (flat_map (own_numbers size (length chunks) workers) (below n)) a → AreAll l registers ks chunks a
+      → IsAccount l registers ks pass chunks (flat_map (own_numbers size (length chunks) workers) (below n)) a → AreAll l registers ks pass chunks a
   dealt_all size workers n iterations a is some number dealt =
       let kind = static_kind size in
       let count = length chunks in

@@ -1,5 +1,11 @@
 -- Steps that all have a value.
 use Rattle.std.specs.Prelude.{ℕ, ◌≡◌, List, length, map, slice_get, All, Option, Some, None, option_map}
+use Rattle.semantics.specs.Tree.{Stmt}
+use Rattle.semantics.specs.Meaning.State.{State}
+use Rattle.semantics.specs.Meaning.Runs.{Effect}
+use Rattle.semantics.specs.Loops.Nest.{Loop, Vector}
+use Rattle.law_nests.specs.Walks.{walk}
+use Rattle.team.specs.Starts.{HaveRuns}
 use Rattle.std.proofs.Common.{refl, sym, ap, ◌∙◌, subst}
 use Rattle.std.proofs.lemmas.List.{length-map}
 use Rattle.std.proofs.lemmas.Option.{same_Some, slice_get-map, slice_get_within, get_or_from_slice_get}
@@ -22,3 +28,10 @@ module _ {A B : Type 0} (f : A → Option B) (xs : List A) (ys : List B) (all : 
 
   pub same_length : length ys ≡ length xs
   same_length = sym (length-map ys Some) ∙ sym (ap (λ l. length l) all) ∙ length-map xs f
+
+-- chunks that all begin in one state
+pub have_same : (loops : List Loop) (body : Stmt) (start : State) (chunks : List (List Vector)) (effects : List Effect) → map (λ us. walk loops body us start) chunks ≡ map Some effects → HaveRuns loops body (λ number. start) chunks effects
+have_same loops body start chunks effects ran = record {
+  count = same_length (λ us. walk loops body us start) chunks effects ran;
+  each = λ number us there. value_at (λ vs. walk loops body vs start) chunks effects ran number us there;
+}

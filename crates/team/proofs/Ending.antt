@@ -11,39 +11,40 @@ use Rattle.store.specs.Kept.{Kept}
 use Rattle.lower.specs.declared.lowered.LoweredLoop.{LoweredLoop}
 use Rattle.draw.specs.Tickets.{DrawingName, SeatState, all_tickets}
 use Rattle.draw.proofs.Seats.{all_tickets-snoc}
+use Rattle.team.specs.declared.pass.Pass.{Pass}
 use Rattle.team.specs.declared.worker.Finished.{Finished}
 use Rattle.team.specs.Ends.{IsAccount, IsFinished, AreTaken, AreAll}
 use Rattle.team.specs.Logged.{Account, no_account, both}
 use Rattle.team.specs.Places.{Aim, AreFor}
 use Rattle.team.proofs.Accounts.{account_none, account_both}
 
-module _ (l : LoweredLoop) (registers : List ℕ) (ks : List Kept) (chunks : List Chunk) (of : DrawingName) where
-  pub taken_none : AreTaken l registers ks chunks of [] no_account
+module _ (l : LoweredLoop) (registers : List ℕ) (ks : List Kept) (pass : Pass) (chunks : List Chunk) (of : DrawingName) where
+  pub taken_none : AreTaken l registers ks pass chunks of [] no_account
   taken_none =
       record {
         named = All-nil (λ (s : SeatState). s.of ≡ of);
         ended = All-nil (λ (s : SeatState). s.ended ≡ true);
-        account = account_none l registers ks chunks;
+        account = account_none l registers ks pass chunks;
       }
 
   -- one more end
   pub taken_more : (seats seats' : List SeatState) (a a' : Account) (f : Finished) → seats' ≡ seats ++ f.seat ∷ [] → a' ≡ both a f.log
-      → AreTaken l registers ks chunks of seats a → IsFinished l registers ks chunks of f → AreTaken l registers ks chunks of seats' a'
+      → AreTaken l registers ks pass chunks of seats a → IsFinished l registers ks pass chunks of f → AreTaken l registers ks pass chunks of seats' a'
   taken_more seats seats' a a' f more joined was one =
       let tickets : all_tickets seats' ≡ all_tickets seats ++ f.seat.tickets = ap all_tickets more ∙ all_tickets-snoc seats f.seat in
-      let all = account_both l registers ks chunks (all_tickets seats) f.seat.tickets a f.log was.account one.account in
+      let all = account_both l registers ks pass chunks (all_tickets seats) f.seat.tickets a f.log was.account one.account in
       record {
         named = All-same (λ (s : SeatState). s.of ≡ of) seats' (seats ++ f.seat ∷ []) more (All-push (λ (s : SeatState). s.of ≡ of) seats f.seat was.named one.seat);
         ended = All-same (λ (s : SeatState). s.ended ≡ true) seats' (seats ++ f.seat ∷ []) more (All-push (λ (s : SeatState). s.ended ≡ true) seats f.seat was.ended one.ended);
-        account = subst (λ ns. IsAccount l registers ks chunks ns a') (sym tickets) (subst (λ b. IsAccount l registers ks chunks (all_tickets seats ++ f.seat.tickets) b) (sym joined) all);
+        account = subst (λ ns. IsAccount l registers ks pass chunks ns a') (sym tickets) (subst (λ b. IsAccount l registers ks pass chunks (all_tickets seats ++ f.seat.tickets) b) (sym joined) all);
       }
 
 -- where there is no chunk, that of none is the account of all
-pub all_of_none : (l : LoweredLoop) (registers : List ℕ) (ks : List Kept) (chunks : List Chunk) (a : Account) → chunks ≡ [] → a ≡ no_account → AreAll l registers ks chunks a
-all_of_none l registers ks chunks a none is =
+pub all_of_none : (l : LoweredLoop) (registers : List ℕ) (ks : List Kept) (pass : Pass) (chunks : List Chunk) (a : Account) → chunks ≡ [] → a ≡ no_account → AreAll l registers ks pass chunks a
+all_of_none l registers ks pass chunks a none is =
     record {
       numbers = [];
-      account = subst (λ b. IsAccount l registers ks chunks [] b) (sym is) (account_none l registers ks chunks);
+      account = subst (λ b. IsAccount l registers ks pass chunks [] b) (sym is) (account_none l registers ks pass chunks);
       once = λ number. let zero_is : 0 ≡ once_below number 0 = grind (arith, nat_tests) in subst (λ (k : List Chunk). 0 ≡ once_below number (length k)) (sym none) zero_is;
     }
 

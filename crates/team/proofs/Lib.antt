@@ -1,6 +1,7 @@
 pub mod Cutting
 pub mod Texts
 pub mod Ending
+pub mod Entering
 pub mod Dealing
 pub mod Applying
 pub mod Merging
@@ -9,3 +10,4 @@ pub mod Accounts
 pub mod Effects
 pub mod Combining
 pub mod Standing
+pub mod TwoPasses

@@ -3,7 +3,7 @@ use Rattle.std.specs.Prelude.{ℕ, zero, suc, Bool, true, false, ◌≡◌, ◌+
 use Rattle.std.specs.List.{list_all}
 use Rattle.std.proofs.Common.{refl, sym, ap, ◌∙◌, cond, subst, inl, inr, arith}
 use Rattle.std.proofs.lemmas.Bool.Decides.{nat_tests}
-use Rattle.std.proofs.lemmas.Bool.{true≢false, eqb-true, or_parts}
+use Rattle.std.proofs.lemmas.Bool.{true≢false, eqb-true, eq-eqb, or_parts}
 use Rattle.std.proofs.lemmas.List.{length-map, length-append, length-take, length-drop}
 use Rattle.std.proofs.lemmas.List.Folds.{list_any-append}
 use Rattle.std.proofs.lemmas.List.Elements.{All-head, All-tail}
@@ -21,7 +21,6 @@ use Rattle.semantics.specs.Loops.Nest.{Loop, Vector}
 use Rattle.semantics.specs.Loops.Operator.{ReduceOp, combined_all}
 use Rattle.semantics.specs.Loops.Piece.{Roles}
 use Rattle.nest_space.specs.Space.{vectors}
-use Rattle.law_nests.specs.Walks.{walk}
 use Rattle.law_nests.specs.Merging.{NoneChanges, left_by}
 use Rattle.law_roles.specs.Updates.{operator_of, is_plain}
 use Rattle.law_roles.specs.Reducing.{AreHeld}
@@ -46,13 +45,16 @@ use Rattle.team.specs.Applied.{NoneWrites, OneWrites, AreApplied}
 use Rattle.team.specs.Ends.{IsCut, IsLeaving, AreAll, AreOfLoop}
 use Rattle.team.specs.Logged.{Leaving, Account}
 use Rattle.team.specs.Printed.{text_in_order}
-use Rattle.team.specs.Spots.{told_of, reduced, put_values, IsPut}
-use Rattle.team.specs.Together.{HoldsAt, PutTogether, LeavesTogether}
+use Rattle.team.specs.Spots.{told_of, reduced, scanned, put_values, IsPutBy, IsPut}
+use Rattle.team.specs.declared.pass.Pass.{Pass}
+use Rattle.team.specs.declared.pass.Pass.TheVariants.{Plain}
+use Rattle.team.specs.Starts.{started_in, HaveRuns}
+use Rattle.lower.specs.Roles.{AreReduced}
+use Rattle.team.specs.Together.{HoldsAt, PutTogether, PutScan, LeavesTogether}
 use Rattle.team.proofs.Cutting.{chunk_within, each_filled, one_below}
-use Rattle.team.proofs.Effects.{all_at, same_length}
-use Rattle.team.proofs.Effects as steps
+use Rattle.team.proofs.Effects.{all_at, have_same}
 use Rattle.team.proofs.Texts.{printed}
-use Rattle.team.proofs.Standing.{HoldsIn, SameIn, HasRoomFor, reduced_long, put_long, put_none, same_then, holds_still, room_still, put_others, put_own, reduced_others, reduced_own}
+use Rattle.team.proofs.Standing.{HoldsIn, SameIn, HasRoomFor, AsLong, scanned_own, reduced_long, put_long, put_none, same_then, holds_still, room_still, put_others, put_own, reduced_others, reduced_own}
 
 -- a cell under writes that leave it out, and under one that names it
 pub get_none : (w : Writes) (ns : List ℕ) (p : ℕ) → w p ≡ None → slice_get (written_over w ns) p ≡ slice_get ns p
@@ -215,25 +217,75 @@ spot_within ks shapes x p all shape here =
     omega arith
 
 -- the lengths of the registers
-pub long_after : (l : LoweredLoop) (account : Account) (registers registers' : List ℕ) (ks ks' : List Kept) → IsPut l.roles account registers registers' ks ks' → length registers' ≡ length registers
-long_after l account registers registers' ks ks' put =
+pub long_by : (reducing : Machine → Machine) (l : LoweredLoop) (account : Account) (registers registers' : List ℕ) (ks ks' : List Kept) → ((m : Machine) → AsLong m (reducing m)) → IsPutBy reducing l.roles account registers registers' ks ks'
+    → length registers' ≡ length registers
+long_by reducing l account registers registers' ks ks' long put =
     let m0 = machine registers put.cells in
-    let m1 = reduced 0 l.roles.reductions.items account.chunks m0 in
-    ap (λ (m : Machine). length m.registers) put.put ∙ (put_long l.roles.lasts.items account.lasts m1).registers ∙ (reduced_long 0 l.roles.reductions.items account.chunks m0).registers
+    let m1 = reducing m0 in
+    ap (λ (m : Machine). length m.registers) put.put ∙ (put_long l.roles.lasts.items account.lasts m1).registers ∙ (long m0).registers
 
-module _ (layout : List Laid) (mark : ℕ) (roles : Roles) (loops : List Loop) (body : Stmt) (outer : State) (us : List Vector) (effects : List Effect) where
-  abbrev start : State
-  start = begun roles outer
+pub long_after : (l : LoweredLoop) (account : Account) (registers registers' : List ℕ) (ks ks' : List Kept) → IsPut l.roles account registers registers' ks ks' → length registers' ≡ length registers
+long_after l account registers registers' ks ks' put = long_by (reduced 0 l.roles.reductions.items account.chunks) l account registers registers' ks ks' (reduced_long 0 l.roles.reductions.items account.chunks) put
 
-  module _ (l : LoweredLoop) (registers registers' : List ℕ) (ks ks' : List Kept) (chunks : List Chunk) (account : Account) where
-    module _ (reached : IsReached layout mark roles loops body outer us l registers ks) (ran : map (λ vs. walk loops body vs start) (chunked us chunks) ≡ map Some effects)
-        (helds : All (λ (e : Effect). AreHeld roles.reductions (overwritten start e.writes)) effects) (filled : AreFilled ks) (cut_is : IsCut (length us) chunks)
-        (all : AreAll l registers ks chunks account) (put : IsPut l.roles account registers registers' ks ks') where
+-- how a chunk's effect from its start looks from a common state
+pub record IsAlike (base start : State) (e : Effect) (x : Variable) : Type 0 where
+  pub cells : (is : List ℕ) → left_by start e x is ≡ left_by base e x is
+  pub looks : look (overwritten start e.writes) x [] ≡ look (overwritten base e.writes) x []
+
+-- the effect of a chunk, by what it leaves
+pub record Leaves (layout : List Laid) (roles : Roles) (outer : State) (ks : List Kept) (start : ℕ → State) (effects : List Effect) (c : Leaving) : Type 0 where
+  pub effect : Effect
+  pub among : slice_get effects c.number ≡ Some effect
+  pub piece : Piece
+  pub changes_are : c.changes ≡ piece.changes
+  pub partials_are : c.partials ≡ map partial_of piece.partials.items
+  pub leave : LeavesPiece layout roles outer (start c.number) ks effect piece
+
+module _ (layout : List Laid) (mark : ℕ) (roles : Roles) (loops : List Loop) (body : Stmt) (outer : State) (us : List Vector) (effects : List Effect) (pass : Pass) where
+  abbrev start : ℕ → State
+  start = started_in pass roles outer
+
+  module _ (l : LoweredLoop) (registers : List ℕ) (ks : List Kept) (chunks : List Chunk) (account : Account) where
+    module _ (reached : IsReached layout mark roles loops body outer us l registers ks) (ran : HaveRuns loops body start (chunked us chunks) effects) where
+      pub leaves_of : (c : Leaving) → IsLeaving l registers ks pass chunks c → Leaves layout roles outer ks start effects c
+      leaves_of c is =
+          let iterations_of : Chunk → List Vector = λ d. take d.count (drop d.first us) in
+          let there : slice_get (chunked us chunks) c.number ≡ Some (iterations_of is.chunk) = slice_get-map iterations_of chunks c.number ∙ ap (option_map iterations_of) is.there in
+          let own = ran.each c.number (iterations_of is.chunk) there in
+          record {
+            effect = own.0;
+            among = own.1;
+            piece = is.piece;
+            changes_are = is.changes_are;
+            partials_are = is.partials_are;
+            leave = is.leaves layout mark roles loops body outer us own.0 reached own.2;
+          }
+
+      -- what it tells of the reduction variable of an index
+      pub tells_of : (x : Variable) (op : ReduceOp) (index : ℕ) → slice_get roles.reductions index ≡ Some (x, op) → (c : Leaving) (own : Leaves layout roles outer ks start effects c) → AreHeld roles.reductions (overwritten (start c.number) own.effect.writes)
+          → value_at index c.partials ≡ changed_from (start c.number) own.effect x
+      tells_of x op index there c own holds =
+          let changed : Variable × ReduceOp → Option ℕ = λ r. changed_from (start c.number) own.effect r.0 in
+          ap (value_at index) (own.partials_are ∙ own.leave.partials holds) ∙ ap (option_and_then (λ o. o)) (slice_get-map changed roles.reductions index ∙ ap (option_map changed) there)
+
+    module _ (registers' : List ℕ) (ks' : List Kept) (reached : IsReached layout mark roles loops body outer us l registers ks) (ran : HaveRuns loops body start (chunked us chunks) effects) (filled : AreFilled ks) (cut_is : IsCut (length us) chunks)
+        (all : AreAll l registers ks pass chunks account) (base : State) (alike : (number : ℕ) (e : Effect) (x : Variable) → is_among (map (λ r. r.0) roles.reductions) x ≡ false → IsAlike base (start number) e x)
+        (base_is : (x : Variable) (is : List ℕ) → is_among (map (λ r. r.0) roles.reductions) x ≡ false → base.cells x is ≡ outer.cells x is) (reducing : Machine → Machine) (put : IsPutBy reducing l.roles account registers registers' ks ks')
+        (as_long : (m : Machine) → AsLong m (reducing m)) (leaves_others : (m : Machine) (x : Variable) → is_among (map (λ r. r.0) roles.reductions) x ≡ false → SameIn layout m (reducing m) x) where
       abbrev cs : List Leaving
       cs = account.chunks
 
       abbrev applied : AreApplied (values_of ks) put.cells cs
       applied = put.applied
+
+      abbrev Known : Leaving → Type 0
+      Known c = Leaves layout roles outer ks start effects c
+
+      leaves : (c : Leaving) → IsLeaving l registers ks pass chunks c → Known c
+      leaves c is = leaves_of reached ran c is
+
+      not_reduced : (x : Variable) → is_among (told_apart roles) x ≡ false → is_among (map (λ r. r.0) roles.reductions) x ≡ false
+      not_reduced x plain = (or_parts (is_among roles.lasts x) (is_among (map (λ r. r.0) roles.reductions) x) (sym (list_any-append (λ y. y == x) roles.lasts (map (λ r. r.0) roles.reductions)) ∙ plain)).1
 
       abbrev iterations_of : Chunk → List Vector
       iterations_of c = take c.count (drop c.first us)
@@ -245,35 +297,13 @@ module _ (layout : List Laid) (mark : ℕ) (roles : Roles) (loops : List Loop) (
       before_is x is = reached.stand.machine.cell x is
 
       many : length effects ≡ length chunks
-      many = same_length (λ vs. walk loops body vs start) (chunked us chunks) effects ran ∙ length-map chunks iterations_of
+      many = ran.count ∙ length-map chunks iterations_of
 
       many_chunks : length (chunked us chunks) ≡ length chunks
       many_chunks = length-map chunks iterations_of
 
-      -- the effect of a chunk, by what it leaves
-      record Leaves (c : Leaving) : Type 0 where
-        effect : Effect
-        among : slice_get effects c.number ≡ Some effect
-        piece : Piece
-        changes_are : c.changes ≡ piece.changes
-        partials_are : c.partials ≡ map partial_of piece.partials.items
-        leave : LeavesPiece layout roles outer start ks effect piece
-
-      leaves : (c : Leaving) → IsLeaving l registers ks chunks c → Leaves c
-      leaves c is =
-          let there : slice_get (chunked us chunks) c.number ≡ Some (iterations_of is.chunk) = slice_get-map iterations_of chunks c.number ∙ ap (option_map iterations_of) is.there in
-          let own = steps.value_at (λ vs. walk loops body vs start) (chunked us chunks) effects ran c.number (iterations_of is.chunk) there in
-          record {
-            effect = own.0;
-            among = own.1;
-            piece = is.piece;
-            changes_are = is.changes_are;
-            partials_are = is.partials_are;
-            leave = is.leaves layout mark roles loops body outer us own.0 reached own.2;
-          }
-
       -- its changes
-      over : (c : Leaving) (own : Leaves c) (x : Variable) (is : List ℕ) → held (written_over (writes_of c.changes) (values_of ks)) x is ≡ held (written_over (writes_of own.piece.changes) (values_of ks)) x is
+      over : (c : Leaving) (own : Known c) (x : Variable) (is : List ℕ) → held (written_over (writes_of c.changes) (values_of ks)) x is ≡ held (written_over (writes_of own.piece.changes) (values_of ks)) x is
       over c own x is = ap (λ ws. held (written_over (writes_of ws) (values_of ks)) x is) own.changes_are
 
       -- ---- variables that are told apart are as before in the cells with all changes
@@ -294,7 +324,7 @@ module _ (layout : List Laid) (mark : ℕ) (roles : Roles) (loops : List Loop) (
           at p e (inr one) =
               let cell : (cells : List ℕ) → held cells x is ≡ slice_get cells p = λ cells. ap (option_and_then (λ k. slice_get cells k)) e in
               let c = one.chunk in
-              let is_leaving : IsLeaving l registers ks chunks c = all_at (IsLeaving l registers ks chunks) cs one.number c all.account.each one.among in
+              let is_leaving : IsLeaving l registers ks pass chunks c = all_at (IsLeaving l registers ks pass chunks) cs one.number c all.account.each one.among in
               let own = leaves c is_leaving in
               let only = is_leaving.only p one.value one.writes in
               let now : slice_get (values_of ks) p ≡ Some one.value =
@@ -316,20 +346,25 @@ module _ (layout : List Laid) (mark : ℕ) (roles : Roles) (loops : List Loop) (
       -- ---- all other objects
 
       module _ (x : Variable) (plain : is_among (told_apart roles) x ≡ false) where
-        start_is : (is : List ℕ) → start.cells x is ≡ outer.cells x is
-        start_is is =
-            begun_cells roles.reductions outer x is
-            (or_parts (is_among roles.lasts x) (is_among (map (λ r. r.0) roles.reductions) x) (sym (list_any-append (λ y. y == x) roles.lasts (map (λ r. r.0) roles.reductions)) ∙ plain)).1
+        begins : (is : List ℕ) → base.cells x is ≡ held (values_of ks) x is
+        begins is = base_is x is (not_reduced x plain) ∙ before_is x is
 
-        begins : (is : List ℕ) → start.cells x is ≡ held (values_of ks) x is
-        begins is = start_is is ∙ before_is x is
+        -- what a chunk's changes leave
+        leaves_at : (c : Leaving) (own : Known c) (is : List ℕ) → held (written_over (writes_of c.changes) (values_of ks)) x is ≡ left_by base own.effect x is
+        leaves_at c own is = over c own x is ∙ own.leave.changes x is plain ∙ (alike c.number own.effect x (not_reduced x plain)).cells is
 
         -- what changes leave the chunk of an effect
         record Left (e : Effect) (is : List ℕ) : Type 0 where
           index : ℕ
           chunk : Leaving
           there : slice_get cs index ≡ Some chunk
-          leave : held (written_over (writes_of chunk.changes) (values_of ks)) x is ≡ left_by start e x is
+          leave : held (written_over (writes_of chunk.changes) (values_of ks)) x is ≡ left_by base e x is
+
+        same_effect : (c : Leaving) (own : Known c) (k : ℕ) (e : Effect) → c.number ≡ k → slice_get effects k ≡ Some e → own.effect ≡ e
+        same_effect c own k e is there = same_Some own.effect e (sym own.among ∙ ap (slice_get effects) is ∙ there)
+
+        left_by_own : (e : Effect) (is : List ℕ) (index : ℕ) (c : Leaving) → slice_get cs index ≡ Some c → (own : Known c) → own.effect ≡ e → Left e is
+        left_by_own e is index c there own same = record { index = index; chunk = c; there = there; leave = leaves_at c own is ∙ ap (λ (z : Effect). left_by base z x is) same }
 
         left : (k : ℕ) (e : Effect) (is : List ℕ) → slice_get effects k ≡ Some e → Left e is
         left k e is there =
@@ -338,13 +373,12 @@ module _ (layout : List Laid) (mark : ℕ) (roles : Roles) (loops : List Loop) (
             let times_is : times k (map (λ (c : Leaving). c.number) cs) ≡ once_below k (length chunks) = ap (times k) all.account.numbers_are ∙ all.once k in
             let one : once_below k (length chunks) ≡ 1 = one_below k (length chunks) (omega arith) in
             let f = find cs k (omega arith) in
-            let own = leaves f.chunk (all_at (IsLeaving l registers ks chunks) cs f.index f.chunk all.account.each f.there) in
-            let same : own.effect ≡ e = same_Some own.effect e (sym own.among ∙ ap (slice_get effects) f.number ∙ there) in
-            record { index = f.index; chunk = f.chunk; there = f.there; leave = over f.chunk own x is ∙ own.leave.changes x is plain ∙ ap (λ (z : Effect). left_by start z x is) same }
+            let own = leaves f.chunk (all_at (IsLeaving l registers ks pass chunks) cs f.index f.chunk all.account.each f.there) in
+            left_by_own e is f.index f.chunk f.there own (same_effect f.chunk own k e f.number there)
 
         -- where no changes alter a cell, no effect changes its object
         none_changes : (is : List ℕ) → ((k : ℕ) (c : Leaving) → slice_get cs k ≡ Some c → held (written_over (writes_of c.changes) (values_of ks)) x is ≡ held (values_of ks) x is)
-            → NoneChanges start effects x is
+            → NoneChanges base effects x is
         none_changes is same k e there =
             let own = left k e is there in
             sym own.leave ∙ same own.index own.chunk own.there ∙ sym (begins is)
@@ -353,7 +387,7 @@ module _ (layout : List Laid) (mark : ℕ) (roles : Roles) (loops : List Loop) (
         after y is = held put.cells y is
 
         abbrev Merged : List ℕ → Type 0
-        Merged is = MergesAt start effects after x is
+        Merged is = MergesAt base effects after x is
 
         absent : (is : List ℕ) → spot (shapes_of layout) x is ≡ None → Merged is
         absent is e =
@@ -384,11 +418,11 @@ module _ (layout : List Laid) (mark : ℕ) (roles : Roles) (loops : List Loop) (
           changed : OneWrites cs put.cells p → Merged is
           changed one =
               let c = one.chunk in
-              let is_leaving : IsLeaving l registers ks chunks c = all_at (IsLeaving l registers ks chunks) cs one.number c all.account.each one.among in
+              let is_leaving : IsLeaving l registers ks pass chunks c = all_at (IsLeaving l registers ks pass chunks) cs one.number c all.account.each one.among in
               let own = leaves c is_leaving in
               let only = is_leaving.only p one.value one.writes in
-              let now : left_by start own.effect x is ≡ Some one.value =
-              sym (own.leave.changes x is plain) ∙ sym (over c own x is) ∙ cell (written_over (writes_of c.changes) (values_of ks)) ∙ get_some (writes_of c.changes) (values_of ks) p one.value only.0 one.writes in
+              let now : left_by base own.effect x is ≡ Some one.value =
+              sym (leaves_at c own is) ∙ cell (written_over (writes_of c.changes) (values_of ks)) ∙ get_some (writes_of c.changes) (values_of ks) p one.value only.0 one.writes in
               inr
               (record {
                 number = c.number;
@@ -419,7 +453,7 @@ module _ (layout : List Laid) (mark : ℕ) (roles : Roles) (loops : List Loop) (
       m0 = machine registers put.cells
 
       abbrev m1 : Machine
-      m1 = reduced 0 l.roles.reductions.items cs m0
+      m1 = reducing m0
 
       abbrev m2 : Machine
       m2 = put_values l.roles.lasts.items account.lasts m1
@@ -439,7 +473,7 @@ module _ (layout : List Laid) (mark : ℕ) (roles : Roles) (loops : List Loop) (
           }
 
       same_first : (x : Variable) → is_among (map (λ r. r.0) roles.reductions) x ≡ false → SameIn layout m0 m1 x
-      same_first x h = reduced_others layout mark cs 0 roles.reductions l.roles.reductions.items m0 x reached.lowered.roles_at.reductions h
+      same_first x h = leaves_others m0 x h
 
       same_second : (x : Variable) → is_among roles.lasts x ≡ false → SameIn layout m1 m2 x
       same_second x h = put_others layout mark roles.lasts l.roles.lasts.items account.lasts m1 x reached.lowered.roles_at.lasts h
@@ -452,7 +486,7 @@ module _ (layout : List Laid) (mark : ℕ) (roles : Roles) (loops : List Loop) (
       holds_at : (x v : ℕ) → HoldsIn layout m2 x v → HoldsAt layout registers' ks' x v
       holds_at x v holds = let at_end = subst (λ m. HoldsIn layout m x v) m2_is holds in record { cell = at_end.cell; register = at_end.register }
 
-      merges_same : (x : Variable) (is : List ℕ) → held (values_of ks') x is ≡ held put.cells x is → MergesAt start effects (λ y js. held put.cells y js) x is → MergesAt start effects (λ y js. held (values_of ks') y js) x is
+      merges_same : (x : Variable) (is : List ℕ) → held (values_of ks') x is ≡ held put.cells x is → MergesAt base effects (λ y js. held put.cells y js) x is → MergesAt base effects (λ y js. held (values_of ks') y js) x is
       merges_same x is same (inl (none, e)) = inl (none, same ∙ e)
       merges_same x is same (inr one) = inr (record { number = one.number; effect = one.effect; among = one.among; changes = one.changes; leaves = same ∙ one.leaves })
 
@@ -470,46 +504,12 @@ module _ (layout : List Laid) (mark : ℕ) (roles : Roles) (loops : List Loop) (
           slot le Empty e f = absurd (none-some v f)
           slot le (Holds n) e f = reached.stand.machine.local x n e ∙ same_Some n v f
 
-      module _ (x : Variable) (op : ReduceOp) (index : ℕ) (there : slice_get roles.reductions index ≡ Some (x, op)) where
-        tells : (c : Leaving) (own : Leaves c) → value_at index c.partials ≡ changed_from start own.effect x
-        tells c own =
-            let changed : Variable × ReduceOp → Option ℕ = λ r. changed_from start own.effect r.0 in
-            let holds = all_at (λ (e : Effect). AreHeld roles.reductions (overwritten start e.writes)) effects c.number own.effect helds own.among in
-            ap (value_at index) (own.partials_are ∙ own.leave.partials holds)
-            ∙ ap (option_and_then (λ o. o)) (slice_get-map changed roles.reductions index ∙ ap (option_map changed) there)
-
-        told_picked : (ds : List Leaving) → All (IsLeaving l registers ks chunks) ds → told_of index ds ≡ picked (map (λ f. changed_from start f x) effects) (map (λ (c : Leaving). c.number) ds)
-        told_picked [] each = refl
-        told_picked (d ∷ ds) each =
-            let own = leaves d (All-head (IsLeaving l registers ks chunks) d ds each) in
-            let rest = told_picked ds (All-tail (IsLeaving l registers ks chunks) d ds each) in
-            let changed : Effect → Option ℕ = λ f. changed_from start f x in
-            let found : slice_get (map changed effects) d.number ≡ Some (changed own.effect) = slice_get-map changed effects d.number ∙ ap (option_map changed) own.among in
-            (λ i. tells d own i ∷ rest i) ∙ ap (λ o. with_found o (picked (map changed effects) (map (λ (c : Leaving). c.number) ds))) (sym found)
-
-      abbrev order : List ℕ
-      order = map (λ (c : Leaving). c.number) cs
-
-      order_is : EachOnceBelow (length (chunked us chunks)) order
-      order_is n = ap (times n) all.account.numbers_are ∙ all.once n ∙ ap (once_below n) (sym many_chunks)
-
-      reduction : (x : Variable) (op : ReduceOp) (v : ℕ) → operator_of roles.reductions x ≡ Some op → look outer x [] ≡ Some v → HoldsAt layout registers' ks' x (combined_all op v (picked (map (λ f. changed_from start f x) effects) order))
-      reduction x op v known h =
-          let known_is = known_among roles.reductions x op known in
-          let apart : is_among (told_apart roles) x ≡ true = list_any-append (λ y. y == x) roles.lasts (map (λ r. r.0) roles.reductions) ∙ or_right (is_among roles.lasts x) (is_among (map (λ r. r.0) roles.reductions) x) known_is in
-          let one = reduced_own layout mark cs 0 roles.reductions l.roles.reductions.items m0 x op v reached.lowered.roles_at.reductions reached.different known (room x) (holds_before x v apart h) in
-          let no_last = plain_apart roles.reductions roles.lasts x op reached.apart known in
-          let value = combined_all op v (told_of (0 + one.number) cs) in
-          let told : told_of (0 + one.number) cs ≡ picked (map (λ f. changed_from start f x) effects) order =
-          ap (λ n. told_of n cs) (let z : 0 + one.number ≡ one.number = omega arith in z) ∙ told_picked x op one.number one.there cs all.account.each in
-          subst (HoldsAt layout registers' ks' x) (ap (combined_all op v) told) (holds_at x value (holds_still layout mark m1 m2 x value (same_second x no_last) one.holds))
-
       -- ---- lastprivate variables
 
       full : Full (chunked us chunks)
       full = all_full us chunks cut_is
 
-      last : (x : Variable) (f : Effect) (v : ℕ) → is_among roles.lasts x ≡ true → last_filled (chunked us chunks) effects ≡ Some f → look (overwritten start f.writes) x [] ≡ Some v → HoldsAt layout registers' ks' x v
+      last : (x : Variable) (f : Effect) (v : ℕ) → is_among roles.lasts x ≡ true → last_filled (chunked us chunks) effects ≡ Some f → look (overwritten base f.writes) x [] ≡ Some v → HoldsAt layout registers' ks' x v
       last x f v among is h =
           let found = last_is (chunked us chunks) effects f full (many ∙ sym many_chunks) is in
           let long = many in
@@ -518,7 +518,8 @@ module _ (layout : List Laid) (mark : ℕ) (roles : Roles) (loops : List Loop) (
           let one : once_below found.0 (length chunks) ≡ 1 = one_below found.0 (length chunks) (omega arith) in
           let values = all.account.lasts layout mark roles loops body outer us effects reached ran in
           let told = values.told found.0 f found.1 found.2 (omega arith) in
-          holds_at x v (put_own layout mark roles.lasts l.roles.lasts.items account.lasts m1 x v reached.lowered.roles_at.lasts among (λ k there. told k x v there h) (room_still layout mark m0 m1 x (reduced_long 0 l.roles.reductions.items cs m0) (room x)))
+          let seen = alike found.0 f x (plain_other roles.reductions x (among_plain roles.reductions roles.lasts x reached.apart among)) in
+          holds_at x v (put_own layout mark roles.lasts l.roles.lasts.items account.lasts m1 x v reached.lowered.roles_at.lasts among (λ k there. told k x v there (seen.looks ∙ h)) (room_still layout mark m0 m1 x (as_long m0) (room x)))
 
       none_last : (x : Variable) → is_among roles.lasts x ≡ true → flat_map (λ vs. vs) (chunked us chunks) ≡ [] → SameIn layout m0 end x
       none_last x among none =
@@ -535,27 +536,86 @@ module _ (layout : List Laid) (mark : ℕ) (roles : Roles) (loops : List Loop) (
       last_apart x among = list_any-append (λ y. y == x) roles.lasts (map (λ r. r.0) roles.reductions) ∙ or_left (is_among roles.lasts x) (is_among (map (λ r. r.0) roles.reductions) x) among
 
       long_end : length registers' ≡ length registers
-      long_end = long_after l account registers registers' ks ks' put
+      long_end = long_by reducing l account registers registers' ks ks' as_long put
 
-      pub put_together : (text text' : List ℕ) → text' ≡ text ++ text_in_order (length chunks) account.chunks → PutTogether layout roles outer start (chunked us chunks) effects registers registers' ks ks' text text'
-      put_together text text' told =
-          record {
-            cells = λ x is plain. merges_same x is ((same_end x plain).cells is) (merged x plain is);
-            reductions = λ x op v known h. (order, order_is, reduction x op v known h);
-            lasts = last;
-            no_last = λ x among none. let same = none_last x among none in (same.cells [] ∙ keeps x [] (last_apart x among), same.register);
-            others = λ r plain. (same_end r plain).register;
-            long = long_end;
-            printed = told ∙ ap (λ (t : List ℕ). text ++ t) (printed layout mark roles loops body outer us effects l registers ks chunks account reached ran all);
-          }
+      module _ (same_start : (number : ℕ) → start number ≡ base) (reduces : (m : Machine) → reducing m ≡ reduced 0 l.roles.reductions.items account.chunks m) (helds : All (λ (e : Effect). AreHeld roles.reductions (overwritten base e.writes)) effects) where
+        module _ (x : Variable) (op : ReduceOp) (index : ℕ) (there : slice_get roles.reductions index ≡ Some (x, op)) where
+          tells : (c : Leaving) (own : Known c) → value_at index c.partials ≡ changed_from base own.effect x
+          tells c own =
+              let holds = all_at (λ (e : Effect). AreHeld roles.reductions (overwritten base e.writes)) effects c.number own.effect helds own.among in
+              tells_of reached ran x op index there c own (subst (λ s. AreHeld roles.reductions (overwritten s own.effect.writes)) (sym (same_start c.number)) holds) ∙ ap (λ s. changed_from s own.effect x) (same_start c.number)
+
+          told_picked : (ds : List Leaving) → All (IsLeaving l registers ks pass chunks) ds → told_of index ds ≡ picked (map (λ f. changed_from base f x) effects) (map (λ (c : Leaving). c.number) ds)
+          told_picked [] each = refl
+          told_picked (d ∷ ds) each =
+              let own = leaves d (All-head (IsLeaving l registers ks pass chunks) d ds each) in
+              let rest = told_picked ds (All-tail (IsLeaving l registers ks pass chunks) d ds each) in
+              let changed : Effect → Option ℕ = λ f. changed_from base f x in
+              let found : slice_get (map changed effects) d.number ≡ Some (changed own.effect) = slice_get-map changed effects d.number ∙ ap (option_map changed) own.among in
+              (λ i. tells d own i ∷ rest i) ∙ ap (λ o. with_found o (picked (map changed effects) (map (λ (c : Leaving). c.number) ds))) (sym found)
+
+        abbrev order : List ℕ
+        order = map (λ (c : Leaving). c.number) cs
+
+        order_is : EachOnceBelow (length (chunked us chunks)) order
+        order_is n = ap (times n) all.account.numbers_are ∙ all.once n ∙ ap (once_below n) (sym many_chunks)
+
+        reduction : (x : Variable) (op : ReduceOp) (v : ℕ) → operator_of roles.reductions x ≡ Some op → look outer x [] ≡ Some v → HoldsAt layout registers' ks' x (combined_all op v (picked (map (λ f. changed_from base f x) effects) order))
+        reduction x op v known h =
+            let known_is = known_among roles.reductions x op known in
+            let apart : is_among (told_apart roles) x ≡ true = list_any-append (λ y. y == x) roles.lasts (map (λ r. r.0) roles.reductions) ∙ or_right (is_among roles.lasts x) (is_among (map (λ r. r.0) roles.reductions) x) known_is in
+            let one = reduced_own layout mark cs 0 roles.reductions l.roles.reductions.items m0 x op v reached.lowered.roles_at.reductions reached.different known (room x) (holds_before x v apart h) in
+            let no_last = plain_apart roles.reductions roles.lasts x op reached.apart known in
+            let value = combined_all op v (told_of (0 + one.number) cs) in
+            let told : told_of (0 + one.number) cs ≡ picked (map (λ f. changed_from base f x) effects) order =
+            ap (λ n. told_of n cs) (let z : 0 + one.number ≡ one.number = omega arith in z) ∙ told_picked x op one.number one.there cs all.account.each in
+            let here : HoldsIn layout m1 x value = subst (λ (m : Machine). HoldsIn layout m x value) (sym (reduces m0)) one.holds in
+            subst (HoldsAt layout registers' ks' x) (ap (combined_all op v) told) (holds_at x value (holds_still layout mark m1 m2 x value (same_second x no_last) here))
+
+        pub put_together : (text text' : List ℕ) → text' ≡ text ++ text_in_order (length chunks) account.chunks → PutTogether layout roles outer base (chunked us chunks) effects registers registers' ks ks' text text'
+        put_together text text' told =
+            record {
+              cells = λ x is plain. merges_same x is ((same_end x plain).cells is) (merged x plain is);
+              reductions = λ x op v known h. (order, order_is, reduction x op v known h);
+              lasts = last;
+              no_last = λ x among none. let same = none_last x among none in (same.cells [] ∙ keeps x [] (last_apart x among), same.register);
+              others = λ r plain. (same_end r plain).register;
+              long = long_end;
+              printed = told ∙ ap (λ (t : List ℕ). text ++ t) (printed layout mark roles loops body outer us effects l registers ks pass chunks account reached ran all);
+            }
+
+      -- a scan's variable
+      module _ (x : Variable) (op : ReduceOp) (only : roles.reductions ≡ (x, op) ∷ []) (value : ℕ) (scans : (m : Machine) → reducing m ≡ scanned l.roles.reductions.items value m) where
+        scan_value : HoldsAt layout registers' ks' x value
+        scan_value =
+            let known : operator_of roles.reductions x ≡ Some op = ap (λ rs. operator_of rs x) only ∙ ap (λ b. cond b (Some op) None) (eq-eqb x x refl) in
+            let no_last = plain_apart roles.reductions roles.lasts x op reached.apart known in
+            let at = subst (λ rs. AreReduced layout mark rs l.roles.reductions.items) only reached.lowered.roles_at.reductions in
+            let here : HoldsIn layout m1 x value = subst (λ (m : Machine). HoldsIn layout m x value) (sym (scans m0)) (scanned_own layout mark x op value l.roles.reductions.items m0 (room x) at) in
+            holds_at x value (holds_still layout mark m1 m2 x value (same_second x no_last) here)
+
+        pub put_scan : (partials : List (Option ℕ)) → ((v : ℕ) → look base x [] ≡ Some v → value ≡ combined_all op v partials) → (text text' : List ℕ) → text' ≡ text ++ text_in_order (length chunks) account.chunks
+            → PutScan layout roles x op base (chunked us chunks) partials effects registers registers' ks ks' text text'
+        put_scan partials value_is text text' told =
+            record {
+              cells = λ y is plain. merges_same y is ((same_end y plain).cells is) (merged y plain is);
+              value = λ v h. subst (HoldsAt layout registers' ks' x) (value_is v h) scan_value;
+              lasts = last;
+              no_last = λ y among none. let same = none_last y among none in (same.cells [] ∙ keeps y [] (last_apart y among), same.register);
+              others = λ r plain. (same_end r plain).register;
+              long = long_end;
+              printed = told ∙ ap (λ (t : List ℕ). text ++ t) (printed layout mark roles loops body outer us effects l registers ks pass chunks account reached ran all);
+            }
 
 -- the chunks of the space are those of the iterations
-pub together : (l : LoweredLoop) (registers registers' : List ℕ) (ks ks' : List Kept) (kind : Kind) (workers : ℕ) (account : Account) (text text' : List ℕ) → AreFilled ks → (of : AreOfLoop l registers ks kind workers account) → IsPut l.roles account registers registers' ks ks'
+pub together : (l : LoweredLoop) (registers registers' : List ℕ) (ks ks' : List Kept) (kind : Kind) (workers : ℕ) (account : Account) (text text' : List ℕ) → AreFilled ks → (of : AreOfLoop l registers ks Plain kind workers account) → IsPut l.roles account registers registers' ks ks'
     → text' ≡ text ++ text_in_order (length (cut kind (length (vectors of.space)) workers)) account.chunks → LeavesTogether l registers registers' ks ks' text text' kind workers
 together l registers registers' ks ks' kind workers account text text' filled of put told = λ layout mark roles loops body outer us effects reached ran helds.
     let same : us ≡ vectors of.space = of.of layout mark roles loops body outer us ks reached in
     let chunks = cut kind (length us) workers in
-    let all : AreAll l registers ks chunks account = subst (λ (vs : List Vector). AreAll l registers ks (cut kind (length vs) workers) account) (sym same) of.all in
+    let all : AreAll l registers ks Plain chunks account = subst (λ (vs : List Vector). AreAll l registers ks Plain (cut kind (length vs) workers) account) (sym same) of.all in
     let cut_is : IsCut (length us) chunks = subst (λ (vs : List Vector). IsCut (length vs) (cut kind (length vs) workers)) (sym same) of.cut_is in
     let told_is : text' ≡ text ++ text_in_order (length chunks) account.chunks = subst (λ (vs : List Vector). text' ≡ text ++ text_in_order (length (cut kind (length vs) workers)) account.chunks) (sym same) told in
-    put_together layout mark roles loops body outer us effects l registers registers' ks ks' chunks account reached ran helds filled cut_is all put text text' told_is
+    put_together layout mark roles loops body outer us effects Plain l registers ks chunks account registers' ks' reached (have_same loops body (begun roles outer) (chunked us chunks) effects ran) filled cut_is all (begun roles outer)
+    (λ number e x h. record { cells = λ is. refl; looks = refl }) (begun_cells roles.reductions outer) (reduced 0 l.roles.reductions.items account.chunks) put (reduced_long 0 l.roles.reductions.items account.chunks)
+    (λ m x h. reduced_others layout mark account.chunks 0 roles.reductions l.roles.reductions.items m x reached.lowered.roles_at.reductions h) (λ number. refl) (λ m. refl) helds text text' told_is

@@ -21,7 +21,7 @@ use Rattle.lower.specs.declared.roles.LoweredReduction.{LoweredReduction}
 use Rattle.lower.specs.Roles.{StandsAt, StandEach, AreReduced}
 use Rattle.overlay.specs.Spots.{held_at, with_at}
 use Rattle.team.specs.Logged.{Leaving}
-use Rattle.team.specs.Spots.{told_of, reduced, put_values}
+use Rattle.team.specs.Spots.{told_of, reduced, scanned, put_values}
 
 get_same : (xs : List ℕ) (i v : ℕ) → i < length xs → slice_get (slice_set xs i v) i ≡ Some v
 get_same [] i v lt = absurd (omega arith)
@@ -61,6 +61,10 @@ reduced_long index [] cs m = record { registers = refl; cells = refl }
 reduced_long index (l ∷ ls) cs m =
     let value = combined_all (DirectiveView.operator_of l.operator) (held_at l.spot m) (told_of index cs) in
     long_then m (with_at l.spot value m) (reduced index (l ∷ ls) cs m) (with_long l.spot value m) (reduced_long (suc index) ls cs (with_at l.spot value m))
+
+pub scanned_long : (ls : List LoweredReduction) (value : ℕ) (m : Machine) → AsLong m (scanned ls value m)
+scanned_long [] value m = record { registers = refl; cells = refl }
+scanned_long (l ∷ ls) value m = with_long l.spot value m
 
 pub put_long : (spots : List Spot) (vs : List ℕ) (m : Machine) → AsLong m (put_values spots vs m)
 put_long [] vs m = record { registers = refl; cells = refl }
@@ -152,6 +156,17 @@ module _ (layout : List Laid) (mark : ℕ) where
           let first = own x at w m room (subst (λ z. StandsAt layout mark z at) (eqb-true y x f) here) in
           subst (HoldsIn layout (put_values spots vs (with_at at w m)) x) is (holds_still (with_at at w m) (put_values spots vs (with_at at w m)) x w (put_others ys spots vs (with_at at w m) x rest e) first)
       go false e false f k later = absurd (true≢false (sym k))
+
+  -- a scan's variable takes a value
+  pub scanned_own : (x : Variable) (op : ReduceOp) (value : ℕ) (ls : List LoweredReduction) (m : Machine) → HasRoomFor layout mark m x → AreReduced layout mark ((x, op) ∷ []) ls → HoldsIn layout (scanned ls value m) x value
+  scanned_own x op value [] m room are = absurd are
+  scanned_own x op value (l ∷ ls) m room (is, at, rest) = own x l.spot value m room at
+
+  pub scanned_others : (rs : List (Variable × ReduceOp)) (ls : List LoweredReduction) (value : ℕ) (m : Machine) (x : Variable) → AreReduced layout mark rs ls → is_among (map (λ r. r.0) rs) x ≡ false → SameIn layout m (scanned ls value m) x
+  scanned_others [] [] value m x are h = record { cells = λ is. refl; register = refl }
+  scanned_others [] (l ∷ ls) value m x are h = absurd are
+  scanned_others (r ∷ rs) [] value m x are h = absurd are
+  scanned_others (r ∷ rs) (l ∷ ls) value m x (op, at, rest) h = others x r.0 l.spot value m at (or_parts (r.0 == x) (is_among (map (λ q. q.0) rs) x) h).0
 
   -- reduction variables take what they held combined with what chunks tell
   module _ (cs : List Leaving) where

@@ -1,22 +1,18 @@
 -- What chunks print, in the order of their iterations.
-use Rattle.std.specs.Prelude.{ℕ, zero, suc, Bool, true, false, ◌≡◌, ◌<◌, ◌==◌, ◌⊎◌, List, [], ◌∷◌, ◌++◌, length, map, take, drop, flat_map, replicate, slice_get, slice_set, All, Option, Some, option_map}
-use Rattle.std.proofs.Common.{refl, sym, ap, ◌∙◌, subst, inl, inr, arith, Bor, get_or}
-use Rattle.std.proofs.lemmas.Bool.Decides.{nat_tests}
-use Rattle.std.proofs.lemmas.Bool.{eqb-true}
+use Rattle.std.specs.Prelude.{ℕ, zero, suc, ◌≡◌, ◌<◌, List, [], ◌∷◌, ◌++◌, length, map, take, drop, flat_map, replicate, slice_get, slice_set, Option, Some, option_map}
+use Rattle.std.proofs.Common.{refl, sym, ap, ◌∙◌, subst, arith, Bor, get_or}
 use Rattle.std.proofs.Math.Seq.{drop-cons}
 use Rattle.std.proofs.lemmas.Grind.{flat_map-append}
-use Rattle.std.proofs.lemmas.List.{map-append, length-map, length-take, length-drop, length-replicate, take-append-drop, map-set, length-set, ext_get_or, get_or-set_same, get_or-set_other}
-use Rattle.std.proofs.lemmas.List.Elements.{All-nil, All-cons, All-head, All-tail, All-weaker}
-use Rattle.std.proofs.lemmas.Option.{slice_get_within, get_or_from_slice_get, slice_get-map}
+use Rattle.std.proofs.lemmas.List.{map-append, length-map, length-take, length-drop, take-append-drop, map-set}
+use Rattle.std.proofs.lemmas.List.Elements.{All-nil, All-cons, All-head, All-tail}
+use Rattle.std.proofs.lemmas.Option.{slice_get-map}
 use Rattle.semantics.specs.Tree.{Stmt}
 use Rattle.semantics.specs.Meaning.State.{State}
 use Rattle.semantics.specs.Meaning.Runs.{Effect}
-use Rattle.semantics.specs.Loops.Arrangement.{times, once, once_below}
 use Rattle.semantics.specs.Loops.Chunk.{Chunk, Kind, cut}
 use Rattle.semantics.specs.Loops.Joined.{chunked}
 use Rattle.semantics.specs.Loops.Nest.{Loop, Vector}
 use Rattle.semantics.specs.Loops.Piece.{Roles}
-use Rattle.law_nests.specs.Walks.{walk}
 use Rattle.law_starts.specs.Begun.{begun}
 use Rattle.nest_space.specs.Space.{Turns, vectors}
 use Rattle.seqrun_io.specs.Told.{AddsBeginning}
@@ -26,17 +22,17 @@ use Rattle.lower_code.specs.declared.term.Laid.{Laid}
 use Rattle.lower.specs.declared.lowered.LoweredLoop.{LoweredLoop}
 use Rattle.lower.specs.Lowered.{IsReached}
 use Rattle.overlay_pages.specs.declared.changes.Change.{Change}
+use Rattle.team.specs.declared.pass.Pass.{Pass}
 use Rattle.team.specs.declared.log.EndedChunk.{EndedChunk}
 use Rattle.team.specs.Ends.{IsSplit, IsLeaving, AreAll}
 use Rattle.team.specs.Logged.{Leaving, Account, logged}
 use Rattle.team.specs.Printed.{entered, entered_from, text_in_order, AreSilent}
 use Rattle.team.specs.Together.{BeginsTogether}
-use Rattle.team.proofs.Cutting.{one_below}
-use Rattle.team.proofs.Effects.{value_at, same_length}
-
-pub entered_both : (cs ds : List Leaving) (texts : List (List ℕ)) → entered (cs ++ ds) texts ≡ entered ds (entered cs texts)
-entered_both [] ds texts = refl
-entered_both (c ∷ cs) ds texts = entered_both cs ds (slice_set texts c.number c.text)
+use Rattle.team.specs.Passed.{BeginsIn}
+use Rattle.team.proofs.Entering.{all_entered}
+use Rattle.team.specs.declared.pass.Pass.TheVariants.{Plain}
+use Rattle.team.specs.Starts.{started_in, HaveRuns}
+use Rattle.team.proofs.Effects.{have_same}
 
 -- so many empty texts
 abbrev none_each : ℕ → List (List ℕ)
@@ -70,30 +66,6 @@ none_of (suc n) = none_of n
 
 pub silent_text : (n : ℕ) (cs : List Leaving) → AreSilent cs → text_in_order n cs ≡ []
 silent_text n cs silent = ap (flat_map (λ (t : List ℕ). t)) (entered_silent n cs silent) ∙ none_of n
-
--- where each text is the one that is wanted at its number, and each number that has another one so far is among them, all are as they are wanted
-pub entered_all : (wanted : List (List ℕ)) (cs : List Leaving) (texts : List (List ℕ)) → length texts ≡ length wanted → All (λ (c : Leaving). slice_get wanted c.number ≡ Some c.text) cs
-    → ((k : ℕ) → k < length wanted → (get_or texts k [] ≡ get_or wanted k []) ⊎ (0 < times k (map (λ (c : Leaving). c.number) cs))) → entered cs texts ≡ wanted
-entered_all wanted [] texts count right there = ext_get_or [] texts wanted count (λ k lt. go k (there k (omega arith)))
-  where
-    go : (k : ℕ) → (get_or texts k [] ≡ get_or wanted k []) ⊎ (0 < 0) → get_or texts k [] ≡ get_or wanted k []
-    go k (inl e) = e
-    go k (inr none) = absurd (omega arith)
-entered_all wanted (c ∷ cs) texts count right there =
-    entered_all wanted cs (slice_set texts c.number c.text) (length-set texts c.number c.text ∙ count) (All-tail (λ (c : Leaving). slice_get wanted c.number ≡ Some c.text) c cs right) (λ k lt. at k lt (c.number == k) refl (there k lt))
-  where
-    own : slice_get wanted c.number ≡ Some c.text
-    own = All-head (λ (c : Leaving). slice_get wanted c.number ≡ Some c.text) c cs right
-
-    at : (k : ℕ) → k < length wanted → (b : Bool) → (c.number == k) ≡ b → (get_or texts k [] ≡ get_or wanted k []) ⊎ (0 < times k (map (λ (c : Leaving). c.number) (c ∷ cs)))
-        → (get_or (slice_set texts c.number c.text) k [] ≡ get_or wanted k []) ⊎ (0 < times k (map (λ (c : Leaving). c.number) cs))
-    at k lt true e is =
-        let same : c.number ≡ k = eqb-true c.number k e in
-        let here : get_or (slice_set texts c.number c.text) c.number [] ≡ get_or wanted c.number [] =
-        get_or-set_same texts c.number c.text [] (let w = slice_get_within wanted c.number c.text own in omega arith) ∙ sym (get_or_from_slice_get wanted c.number c.text [] own) in
-        inl (subst (λ n. get_or (slice_set texts c.number c.text) n [] ≡ get_or wanted n []) same here)
-    at k lt false e (inl h) = inl (get_or-set_other texts c.number k c.text [] (λ same. let z : (c.number == k) ≡ true = grind (arith, nat_tests) in absurd cc) ∙ h)
-    at k lt false e (inr some) = let none : once k c.number ≡ 0 = grind (arith, nat_tests) in inr (omega arith)
 
 -- texts that come one behind another
 pub logged_enter : (es : List EndedChunk) (ws : List Change) (ps : List (Option ℕ)) (bs : List ℕ) (texts : List (List ℕ)) → entered (logged es ws ps bs) texts ≡ entered_from es bs texts
@@ -133,8 +105,8 @@ texts_all [] = refl
 texts_all (e ∷ effects) = ap (λ (t : List ℕ). e.text ++ t) (texts_all effects)
 
 -- what all chunks print is what their runs print
-module _ (layout : List Laid) (mark : ℕ) (roles : Roles) (loops : List Loop) (body : Stmt) (outer : State) (us : List Vector) (effects : List Effect) (l : LoweredLoop) (registers : List ℕ) (ks : List Kept) (chunks : List Chunk) (account : Account)
-    (reached : IsReached layout mark roles loops body outer us l registers ks) (ran : map (λ vs. walk loops body vs (begun roles outer)) (chunked us chunks) ≡ map Some effects) (all : AreAll l registers ks chunks account) where
+module _ (layout : List Laid) (mark : ℕ) (roles : Roles) (loops : List Loop) (body : Stmt) (outer : State) (us : List Vector) (effects : List Effect) (l : LoweredLoop) (registers : List ℕ) (ks : List Kept) (pass : Pass) (chunks : List Chunk) (account : Account)
+    (reached : IsReached layout mark roles loops body outer us l registers ks) (ran : HaveRuns loops body (started_in pass roles outer) (chunked us chunks) effects) (all : AreAll l registers ks pass chunks account) where
   abbrev iterations_of : Chunk → List Vector
   iterations_of c = take c.count (drop c.first us)
 
@@ -142,36 +114,32 @@ module _ (layout : List Laid) (mark : ℕ) (roles : Roles) (loops : List Loop) (
   wanted = map (λ (e : Effect). e.text) effects
 
   many : length wanted ≡ length chunks
-  many = length-map effects (λ (e : Effect). e.text) ∙ same_length (λ vs. walk loops body vs (begun roles outer)) (chunked us chunks) effects ran ∙ length-map chunks iterations_of
+  many = length-map effects (λ (e : Effect). e.text) ∙ ran.count ∙ length-map chunks iterations_of
 
-  one : (c : Leaving) → IsLeaving l registers ks chunks c → slice_get wanted c.number ≡ Some c.text
+  one : (c : Leaving) → IsLeaving l registers ks pass chunks c → slice_get wanted c.number ≡ Some c.text
   one c is =
       let there : slice_get (chunked us chunks) c.number ≡ Some (iterations_of is.chunk) = slice_get-map iterations_of chunks c.number ∙ ap (option_map iterations_of) is.there in
-      let own = value_at (λ vs. walk loops body vs (begun roles outer)) (chunked us chunks) effects ran c.number (iterations_of is.chunk) there in
+      let own = ran.each c.number (iterations_of is.chunk) there in
       let left = is.leaves layout mark roles loops body outer us own.0 reached own.2 in
       slice_get-map (λ (e : Effect). e.text) effects c.number ∙ ap (option_map (λ (e : Effect). e.text)) own.1 ∙ ap Some (sym left.text ∙ sym is.text_is)
 
   pub printed : text_in_order (length chunks) account.chunks ≡ flat_map (λ (e : Effect). e.text) effects
-  printed =
-      ap (flat_map (λ (t : List ℕ). t))
-      (entered_all wanted account.chunks (none_each (length chunks)) (length-replicate (length chunks) [] ∙ sym many)
-      (All-weaker (IsLeaving l registers ks chunks) (λ (c : Leaving). slice_get wanted c.number ≡ Some c.text) one account.chunks all.account.each)
-      (λ k lt.
-      let once_is = all.once k in
-      let is_one : once_below k (length chunks) ≡ 1 = one_below k (length chunks) (let m = many in omega arith) in
-      let some : 0 < times k all.numbers = omega arith in
-      inr (subst (λ (ns : List ℕ). 0 < times k ns) (sym all.account.numbers_are) some)))
-      ∙ texts_all effects
+  printed = ap (flat_map (λ (t : List ℕ). t)) (all_entered (λ (c : Leaving). c.text) [] wanted l registers ks pass chunks account all many one) ∙ texts_all effects
 
 -- a beginning of what all chunks print
-pub begins_all : (l : LoweredLoop) (registers : List ℕ) (ks : List Kept) (kind : Kind) (workers : ℕ) (space : List Turns) (chunks : List Chunk) (account : Account) (text text' : List ℕ) → IsSplit l registers space chunks → chunks ≡ cut kind (length (vectors space)) workers
-    → AreAll l registers ks chunks account → AddsBeginning text text' (text_in_order (length chunks) account.chunks) → BeginsTogether l registers ks text text' kind workers
-begins_all l registers ks kind workers space chunks account text text' split cut_is all begun_by = λ layout mark roles loops body outer us effects reached ran.
+pub begins_all : (l : LoweredLoop) (registers : List ℕ) (ks : List Kept) (pass : Pass) (kind : Kind) (workers : ℕ) (space : List Turns) (chunks : List Chunk) (account : Account) (text text' : List ℕ) → IsSplit l registers space chunks → chunks ≡ cut kind (length (vectors space)) workers
+    → AreAll l registers ks pass chunks account → AddsBeginning text text' (text_in_order (length chunks) account.chunks) → BeginsIn pass l registers ks text text' kind workers
+begins_all l registers ks pass kind workers space chunks account text text' split cut_is all begun_by = λ layout mark roles loops body outer us effects reached ran.
     let same : us ≡ vectors space = split.iterations layout mark roles loops body outer us ks reached in
     let is : chunks ≡ cut kind (length us) workers = cut_is ∙ ap (λ (vs : List Vector). cut kind (length vs) workers) (sym same) in
-    let here = subst (λ (cs : List Chunk). map (λ vs. walk loops body vs (begun roles outer)) (chunked us cs) ≡ map Some effects) (sym is) ran in
-    subst (AddsBeginning text text') (printed layout mark roles loops body outer us effects l registers ks chunks account reached here all) begun_by
+    let here = subst (λ (cs : List Chunk). HaveRuns loops body (started_in pass roles outer) (chunked us cs) effects) (sym is) ran in
+    subst (AddsBeginning text text') (printed layout mark roles loops body outer us effects l registers ks pass chunks account reached here all) begun_by
 
 -- nothing is put
-pub begins_none : (l : LoweredLoop) (registers : List ℕ) (ks : List Kept) (kind : Kind) (workers : ℕ) (text : List ℕ) → BeginsTogether l registers ks text text kind workers
-begins_none l registers ks kind workers text = λ layout mark roles loops body outer us effects reached ran. none text (flat_map (λ (e : Effect). e.text) effects)
+pub begins_none : (pass : Pass) (l : LoweredLoop) (registers : List ℕ) (ks : List Kept) (kind : Kind) (workers : ℕ) (text : List ℕ) → BeginsIn pass l registers ks text text kind workers
+begins_none pass l registers ks kind workers text = λ layout mark roles loops body outer us effects reached ran. none text (flat_map (λ (e : Effect). e.text) effects)
+
+-- of a loop's only pass
+pub begins_plain : (l : LoweredLoop) (registers : List ℕ) (ks : List Kept) (kind : Kind) (workers : ℕ) (text text' : List ℕ) → BeginsIn Plain l registers ks text text' kind workers → BeginsTogether l registers ks text text' kind workers
+begins_plain l registers ks kind workers text text' begins = λ layout mark roles loops body outer us effects reached ran.
+    begins layout mark roles loops body outer us effects reached (have_same loops body (begun roles outer) (chunked us (cut kind (length us) workers)) effects ran)

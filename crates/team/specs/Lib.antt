@@ -1,3 +1,6 @@
+pub mod Starts
+pub mod Scanned
+pub mod Passed
 pub mod Together
 pub mod Printed
 pub mod Applied
@@ -6,3 +9,4 @@ pub mod Dealt
 pub mod Places
 pub mod Logged
 pub mod Spots
+pub mod Tasks

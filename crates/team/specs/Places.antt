@@ -10,16 +10,18 @@ use Rattle.team.specs.declared.way.Draw.{Draw}
 use Rattle.team.specs.declared.way.Way.{Way}
 use Rattle.team.specs.declared.way.Way.TheVariants.{Dealt, Drawn}
 use Rattle.team.specs.declared.grounds.Grounds.{Grounds}
+use Rattle.team.specs.declared.pass.Pass.{Pass}
 use Rattle.team.specs.declared.place.End.{End}
 use Rattle.team.specs.declared.place.End.TheVariants.{Share, Draws}
 use Rattle.team.specs.Ends.{IsAccount, IsFinished}
 use Rattle.team.specs.Dealt.{own_numbers}
 
--- what a place is made for: a loop where it is reached, its chunks, how these come to so many workers, and the number of one of them
+-- what a place is made for: a loop where it is reached, its chunks and how they begin, how these come to so many workers, and the number of one of them
 pub record Aim : Type 0 where
   pub lowered : LoweredLoop
   pub registers : List ℕ
   pub store : List Kept
+  pub pass : Pass
   pub chunks : List Chunk
   pub way : Way
   pub workers : ℕ
@@ -27,8 +29,8 @@ pub record Aim : Type 0 where
 
 -- what this worker leaves, by the way that chunks come to it
 abbrev pub IsEndBy : Aim → Way → End → Type 0
-IsEndBy a (Dealt size) (Share account) = IsAccount a.lowered a.registers a.store a.chunks (own_numbers size (length a.chunks) a.workers a.number) account
-IsEndBy a (Drawn draws) (Draws f) = IsFinished a.lowered a.registers a.store a.chunks draws.drawing f
+IsEndBy a (Dealt size) (Share account) = IsAccount a.lowered a.registers a.store a.pass a.chunks (own_numbers size (length a.chunks) a.workers a.number) account
+IsEndBy a (Drawn draws) (Draws f) = IsFinished a.lowered a.registers a.store a.pass a.chunks draws.drawing f
 IsEndBy a _ _ = ⊥
 
 abbrev pub IsEnd : Aim → End → Type 0
@@ -45,6 +47,7 @@ aim_of l grounds ks way workers =
       lowered = l;
       registers = grounds.registers.items;
       store = ks;
+      pass = grounds.pass;
       chunks = grounds.chunks;
       way = way;
       workers = workers;

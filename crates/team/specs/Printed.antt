@@ -3,10 +3,14 @@ use Rattle.std.specs.Prelude.{ℕ, ◌≡◌, List, [], ◌∷◌, take, drop, f
 use Rattle.team.specs.declared.log.EndedChunk.{EndedChunk}
 use Rattle.team.specs.Logged.{Leaving}
 
--- the text of each of these chunks stands at its number, in place of another
+-- what each of these chunks tells stands at its number, in place of something else
+abbrev pub entered_by : {A : Type 0} → (Leaving → A) → List Leaving → List A → List A
+entered_by told [] table = table
+entered_by told (c ∷ cs) table = entered_by told cs (slice_set table c.number (told c))
+
+-- what it prints does
 abbrev pub entered : List Leaving → List (List ℕ) → List (List ℕ)
-entered [] texts = texts
-entered (c ∷ cs) texts = entered cs (slice_set texts c.number c.text)
+entered cs texts = entered_by (λ c. c.text) cs texts
 
 -- the same of texts that come one behind another
 abbrev pub entered_from : List EndedChunk → List ℕ → List (List ℕ) → List (List ℕ)

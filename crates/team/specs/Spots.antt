@@ -10,6 +10,8 @@ use Rattle.lower.specs.declared.roles.Spot.{Spot}
 use Rattle.lower.specs.declared.roles.LoweredReduction.{LoweredReduction}
 use Rattle.lower.specs.declared.roles.LoweredRoles.{LoweredRoles}
 use Rattle.overlay.specs.Spots.{held_at, with_at}
+use Rattle.team.specs.declared.putting.Total.{Total}
+use Rattle.team.specs.declared.putting.Total.TheVariants.{Combined, Scanned}
 use Rattle.team.specs.Applied.{AreApplied}
 use Rattle.team.specs.Logged.{Leaving, Account}
 
@@ -28,8 +30,26 @@ put_values [] vs m = m
 put_values (at ∷ spots) [] m = m
 put_values (at ∷ spots) (v ∷ vs) m = put_values spots vs (with_at at v m)
 
--- what all chunks leave is put together: their changes over the store, then reduction variables, then lastprivate ones
-pub record IsPut (roles : LoweredRoles) (a : Account) (registers registers' : List ℕ) (ks ks' : List Kept) : Type 0 where
+-- a scan's variable holds this value
+abbrev pub scanned : List LoweredReduction → ℕ → Machine → Machine
+scanned [] value m = m
+scanned (r ∷ rs) value m = with_at r.spot value m
+
+-- each reduction variable holds its total
+abbrev pub totalled : Total → List LoweredReduction → List Leaving → Machine → Machine
+totalled Combined rs cs m = reduced 0 rs cs m
+totalled (Scanned value) rs cs m = scanned rs value m
+
+-- what all chunks leave is put together: their changes over the store, then reduction variables in a way, then lastprivate ones
+pub record IsPutBy (reducing : Machine → Machine) (roles : LoweredRoles) (a : Account) (registers registers' : List ℕ) (ks ks' : List Kept) : Type 0 where
   pub cells : List ℕ
   pub applied : AreApplied (values_of ks) cells a.chunks
-  pub put : machine registers' (values_of ks') ≡ put_values roles.lasts.items a.lasts (reduced 0 roles.reductions.items a.chunks (machine registers cells))
+  pub put : machine registers' (values_of ks') ≡ put_values roles.lasts.items a.lasts (reducing (machine registers cells))
+
+-- each reduction variable combined with what the chunks tell of it
+abbrev pub IsPut : LoweredRoles → Account → List ℕ → List ℕ → List Kept → List Kept → Type 0
+IsPut roles a registers registers' ks ks' = IsPutBy (reduced 0 roles.reductions.items a.chunks) roles a registers registers' ks ks'
+
+-- or a scan's variable with this value
+abbrev pub IsScanPut : ℕ → LoweredRoles → Account → List ℕ → List ℕ → List Kept → List Kept → Type 0
+IsScanPut value roles a registers registers' ks ks' = IsPutBy (scanned roles.reductions.items value) roles a registers registers' ks ks'

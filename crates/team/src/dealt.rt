@@ -62,7 +62,7 @@ pub(crate) fn run_own<G: Gate>(
 /// The logs of all workers, where all of them have left theirs.
 pub(crate) fn gather(alloc: Global, places: Vec<Place>) -> Result<Vec<ChunkLog>, Refusal>
     ensures dealt { (aim : Aim) (size : Option ℕ) → aim.way ≡ Dealt size → AreFor aim places.items
-        → IfOk result (λ logs. IsAccount aim.lowered aim.registers aim.store aim.chunks
+        → IfOk result (λ logs. IsAccount aim.lowered aim.registers aim.store aim.pass aim.chunks
         (flat_map (own_numbers size (length aim.chunks) aim.workers) (below (vec_len places)))
         (joined logs.items)) }
     ensures refusal { IfErr result (λ refusal. refusal ≡ Refusal.OutOfMemory) }

@@ -4,6 +4,7 @@ ghost use Rattle.std.specs.Prelude.{◌≡◌, ◌++◌, ◌∷◌, [], ℕ, Lis
 ghost use Rattle.semantics.specs.Loops.Chunk.{Chunk};
 ghost use Rattle.store.specs.Kept.{Kept};
 ghost use Rattle.lower.specs.declared.lowered.LoweredLoop.{LoweredLoop};
+ghost use Rattle.team.specs.declared.pass.Pass.{Pass};
 ghost use Rattle.team.specs.declared.way.Draw.{Draw};
 ghost use Rattle.team.specs.declared.way.Way.TheVariants.{Drawn};
 ghost use Rattle.team.specs.Ends.{AreTaken, AreBack, AreDrawn, AreAll};
@@ -35,7 +36,7 @@ pub(crate) fn collect(
     places: Vec<Place>,
 ) -> Result<(Vec<DrawSeat>, Vec<ChunkLog>), Refusal>
     ensures taken { (aim : Aim) (draw : Draw) → aim.way ≡ Drawn draw → AreFor aim places.items
-        → IfOk result (λ r. AreTaken aim.lowered aim.registers aim.store aim.chunks draw.drawing
+        → IfOk result (λ r. AreTaken aim.lowered aim.registers aim.store aim.pass aim.chunks draw.drawing
         r.0.items (joined r.1.items)) }
     ensures len { IfOk result (λ r. length r.0.items ≡ vec_len places) }
     ensures refusal { IfErr result (λ refusal. refusal ≡ Refusal.OutOfMemory) }
@@ -63,9 +64,9 @@ pub(crate) struct TeamEnd {
 /// The logs of all chunks of a loop: where all seats are back, no chunk was left out.
 pub(crate) fn all_logs(end: TeamEnd) -> Vec<ChunkLog>
     requires { AreBack end.drawing end.seats.items }
-    ensures { (l : LoweredLoop) (registers : List ℕ) (ks : List Kept) (chunks : List Chunk)
-        → AreDrawn l registers ks chunks end.drawing end.seats.items (joined end.logs.items)
-        → AreAll l registers ks chunks (joined result.items) }
+    ensures { (l : LoweredLoop) (registers : List ℕ) (ks : List Kept) (pass : Pass) (chunks : List Chunk)
+        → AreDrawn l registers ks pass chunks end.drawing end.seats.items (joined end.logs.items)
+        → AreAll l registers ks pass chunks (joined result.items) }
 {
     let TeamEnd {
         drawing,

@@ -6,18 +6,44 @@ ghost use Rattle.nest_space.specs.Space.{vectors};
 ghost use Rattle.schedule.specs.Sched.{kind_of};
 ghost use Rattle.team.specs.Ends.{IsSplit};
 
+use crate::pass::Pass;
 use ktree::{Refusal, Workers};
 use lower::LoweredLoop;
 use nest_space::Space;
 use schedule::{Chunks, Sched, chunk_list};
 use std::alloc::Global;
 
-/// What a loop is run from where it is reached, but for its store: registers, its iterations, and the chunks that these are cut into.
+/// What a loop is run from where it is reached, but for its store: registers, its iterations, the chunks that these are cut
+/// into, and how they begin.
 #[derive(Drop)]
 pub struct Grounds {
     pub registers: Vec<u64>,
     pub space: Space,
     pub chunks: Chunks,
+    pub pass: Pass,
+}
+
+impl Grounds {
+    /// The same in this pass.
+    pub(crate) fn in_pass(self, pass: Pass) -> Grounds
+        ensures registers { result.registers ≡ self.registers }
+        ensures space { result.space ≡ self.space }
+        ensures chunks { result.chunks ≡ self.chunks }
+        ensures pass { result.pass ≡ pass }
+    {
+        let Grounds {
+            registers,
+            space,
+            chunks,
+            pass: _,
+        } = self;
+        Grounds {
+            registers,
+            space,
+            chunks,
+            pass,
+        }
+    }
 }
 
 /// That of a loop where it is reached with these registers, cut by this schedule for so many workers.
@@ -32,6 +58,7 @@ pub(crate) fn grounds_of(
     ensures split { IfOk result (λ g. IsSplit lowered.now registers.now g.space g.chunks) }
     ensures chunks { IfOk result (λ g. g.chunks
         ≡ cut (kind_of sched.now) (length (vectors g.space)) workers) }
+    ensures pass { IfOk result (λ g. g.pass ≡ Pass.Plain) }
     ensures refusal { IfErr result (λ refusal. refusal ≡ Refusal.OutOfMemory) }
 {
     let space = lowered.space(alloc, registers)?;
@@ -41,5 +68,6 @@ pub(crate) fn grounds_of(
         registers,
         space,
         chunks,
+        pass: Pass::Plain,
     })
 }

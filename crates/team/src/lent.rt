@@ -66,6 +66,7 @@ fn places_for(
             lowered,
             &grounds.registers,
             store,
+            &grounds.pass,
             &grounds.chunks,
             way,
             workers,
@@ -117,6 +118,7 @@ fn end_of<G: Gate>(
         space: &lent.grounds.space,
         store: &lent.store,
         chunks: &lent.grounds.chunks,
+        pass: &lent.grounds.pass,
     };
     match &lent.way {
         Way::Dealt(size) => {
@@ -164,7 +166,7 @@ impl<'l, G: Gate> crew::Job<G, Option<Bench>> for LentLoop<'l> {
 fn logs_left(alloc: Global, way: Way, places: Vec<Place>) -> Result<Vec<ChunkLog>, Refusal>
     requires { (aim : Aim) × (space : List Turns) × AreLeft aim space way places.items }
     ensures all { (aim : Aim) (space : List Turns) → AreLeft aim space way places.items
-        → IfOk result (λ logs. AreAll aim.lowered aim.registers aim.store aim.chunks
+        → IfOk result (λ logs. AreAll aim.lowered aim.registers aim.store aim.pass aim.chunks
         (joined logs.items)) }
     ensures refusal { IfErr result (λ refusal. refusal ≡ Refusal.OutOfMemory) }
 {
@@ -186,7 +188,8 @@ fn logs_left(alloc: Global, way: Way, places: Vec<Place>) -> Result<Vec<ChunkLog
 fn taken_back(lent: LentLoop<'_>) -> (Store, Result<Vec<ChunkLog>, Refusal>)
     ensures store { result.0 ≡ lent.entry.store }
     ensures all { IfOk result.1 (λ logs. AreAll lent.entry.lowered.now
-        lent.entry.grounds.registers.items lent.entry.store lent.entry.grounds.chunks
+        lent.entry.grounds.registers.items lent.entry.store lent.entry.grounds.pass
+        lent.entry.grounds.chunks
         (joined logs.items)) }
     ensures refusal { IfErr result.1 (λ refusal. refusal ≡ Refusal.OutOfMemory) }
 {
@@ -220,7 +223,7 @@ pub(crate) fn lent_logs<'l, R: Wait, G: Gate>(
     requires chunks { grounds.chunks
         ≡ cut (kind_of sched.now) (length (vectors grounds.space)) workers }
     ensures all { IfOk result (λ logs. AreAll lowered.now grounds.registers.items store.old
-        grounds.chunks (joined logs.items)) }
+        grounds.pass grounds.chunks (joined logs.items)) }
     ensures store { store.new ≡ store.old }
     ensures refusal { IfErr result (λ refusal. refusal ≡ Refusal.OutOfMemory) }
 {

@@ -7,11 +7,13 @@ ghost use Rattle.semantics.specs.Loops.Operator.{combined, combined_all};
 ghost use Rattle.reduce.specs.Partial.{partial_of};
 ghost use Rattle.store.specs.Flat.{values_of};
 ghost use Rattle.team.specs.Applied.{AreApplied};
-ghost use Rattle.team.specs.Logged.{account_of, both, bytes_in, later, no_account};
-ghost use Rattle.team.specs.Printed.{AreSilent, entered, entered_from};
+ghost use Rattle.team.specs.Logged.{account_of, both, bytes_in, later, no_account, partials_in};
+ghost use Rattle.team.specs.Printed.{AreSilent, entered, entered_by, entered_from};
+ghost use Rattle.team.specs.Scanned.{told_of_scan, partials_from};
 ghost use Rattle.team.specs.Spots.{told_of};
 
 use crate::worker::ChunkPiece;
+use inscan::first_partial;
 use ktree::{ChunkNo, ReductionOperator};
 use overlay::Piece;
 use overlay_pages::Changes;
@@ -163,6 +165,32 @@ fn enter_each<'l>(ended: &[EndedChunk], text: &'l [u8], texts: &mut [&'l [u8]])
     }
 }
 
+// What a chunk tells of a scan's variable stands at its number, if there is a place for it.
+fn enter_partial(table: &mut [Partial], number: ChunkNo, partials: &[Partial])
+    ensures { map partial_of table.new ≡ slice_set (map partial_of table.old) number.0
+        (value_at 0 (map partial_of partials.now)) }
+{
+    if (number.0 as usize) < table.len() {
+        table[number.0 as usize] = first_partial(partials);
+    }
+}
+
+// So does what each of these tells, whose partials come one behind another.
+fn enter_each_partial(ended: &[EndedChunk], partials: &[Partial], table: &mut [Partial])
+    requires { partials_in ended.now ≡ length partials.now }
+    ensures { map partial_of table.new
+        ≡ partials_from ended.now partials.now (map partial_of table.old) }
+{
+    let mut chunks = ended;
+    let mut left = partials;
+    'chunks: while let Some((ended, more)) = chunks.split_first() {
+        let (own, behind) = left.split_at(ended.partials as usize);
+        enter_partial(table, ended.number, own);
+        chunks = more;
+        left = behind;
+    }
+}
+
 impl ChunkLog {
     /// Of no chunk.
     pub(crate) fn new(alloc: Global) -> ChunkLog
@@ -246,6 +274,14 @@ impl ChunkLog {
             ≡ entered self.now.chunks (map (λ t. t.now) texts.old) }
     {
         enter_each(self.ended.as_slice(), self.text.as_slice(), texts);
+    }
+
+    /// What each of these chunks tells of a scan's variable stands at its number.
+    pub(crate) fn enter_partials(&self, table: &mut [Partial])
+        ensures { map partial_of table.new
+            ≡ entered_by told_of_scan self.now.chunks (map partial_of table.old) }
+    {
+        enter_each_partial(self.ended.as_slice(), self.partials.as_slice(), table);
     }
 
     /// What the last chunk leaves in lastprivate variables, where it is among these; no values where it is not.

@@ -6,6 +6,7 @@ ghost use Rattle.team.specs.declared.way.Way.TheVariants.{Dealt, Drawn};
 ghost use Rattle.team.specs.Places.{IsEnd, IsEndBy};
 
 use crate::log::ChunkLog;
+use crate::pass::Pass;
 use crate::way::Way;
 use crate::worker::Finished;
 use counted_slot::{Counted, FREE, Fits, PRESENT, TAKEN};
@@ -29,6 +30,7 @@ pub struct Plan {
     lowered: Snapshot<LoweredLoop>,
     registers: Snapshot<Vec<u64>>,
     store: Snapshot<Store>,
+    pass: Snapshot<Pass>,
     chunks: Snapshot<Chunks>,
     way: Snapshot<Way>,
     workers: u64,
@@ -48,6 +50,7 @@ impl Model for Plan {
       lowered = p.lowered.value;
       registers = p.registers.value.items;
       store = p.store.value;
+      pass = p.pass.value;
       chunks = p.chunks.value;
       way = p.way.value;
       workers = p.workers;
@@ -61,6 +64,7 @@ impl Plan {
         lowered: &LoweredLoop,
         registers: &Vec<u64>,
         store: &Store,
+        pass: &Pass,
         chunks: &Chunks,
         way: &Way,
         workers: Workers,
@@ -70,6 +74,7 @@ impl Plan {
           lowered = lowered.now;
           registers = registers.now.items;
           store = store.now;
+          pass = pass.now;
           chunks = chunks.now;
           way = way.now;
           workers = workers;
@@ -80,6 +85,7 @@ impl Plan {
             lowered: Snapshot::of(lowered),
             registers: Snapshot::of(registers),
             store: Snapshot::of(store),
+            pass: Snapshot::of(pass),
             chunks: Snapshot::of(chunks),
             way: Snapshot::of(way),
             workers: workers.get(),

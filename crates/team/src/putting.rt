@@ -7,7 +7,7 @@ ghost use Rattle.store.specs.Flat.{values_of};
 ghost use Rattle.lower_code.specs.Machine.{machine};
 ghost use Rattle.overlay.specs.Spots.{held_at, with_at};
 ghost use Rattle.team.specs.Logged.{joined};
-ghost use Rattle.team.specs.Spots.{told_of, reduced, put_values, IsPut};
+ghost use Rattle.team.specs.Spots.{told_of, reduced, scanned, totalled, put_values, IsPutBy};
 
 use crate::applied::apply_all;
 use crate::log::ChunkLog;
@@ -15,8 +15,17 @@ use ktree::{ReductionOperator, VarId};
 use lower::{LoweredReduction, LoweredRoles, Spot};
 use store::Store;
 
-// What a scalar holds.
-fn read(spot: Spot, registers: &[u64], store: &Store) -> u64
+/// What reduction variables hold behind a loop.
+#[derive(Clone, Copy, Debug, PartialEq, Eq)]
+pub(crate) enum Total {
+    /// What they held before, combined with what all chunks tell of them.
+    Combined,
+    /// Of a scan, whose chunks begin with what those before them leave, what the last chunk leaves.
+    Scanned(u64),
+}
+
+/// What a scalar holds.
+pub(crate) fn read(spot: Spot, registers: &[u64], store: &Store) -> u64
     ensures { result ≡ held_at spot (machine registers.now (values_of store.now)) }
 {
     match spot {
@@ -107,19 +116,56 @@ fn put_lasts(spots: &[Spot], values: &[u64], registers: &mut [u64], store: &mut 
     put_lasts(rest, others, registers, store);
 }
 
-/// Puts together what all chunks leave: their changes over the store, then each reduction variable combined with its partials, and each
-/// lastprivate one as the last chunk leaves it (OpenMP 5.2, 5.4.5 and 5.5.5).
-pub(crate) fn put_together(
-    roles: &LoweredRoles,
+// A scan's variable takes a value.
+fn put_scanned(
+    reductions: &[LoweredReduction],
+    value: u64,
+    registers: &mut [u64],
+    store: &mut Store,
+)
+    ensures put { machine registers.new (values_of store.new)
+        ≡ scanned reductions.now value (machine registers.old (values_of store.old)) }
+    ensures shape { map (λ k. k.lengths) store.new ≡ map (λ k. k.lengths) store.old }
+{
+    let Some((scanned, _)) = reductions.split_first() else {
+        return;
+    };
+    write(scanned.spot, value, registers, store);
+}
+
+// Reduction variables take their totals.
+fn put_totals(
+    reductions: &[LoweredReduction],
+    total: Total,
     logs: &[ChunkLog],
     registers: &mut [u64],
     store: &mut Store,
 )
-    ensures put { IsPut roles.now (joined logs.now) registers.old registers.new
-        store.old store.new }
+    ensures put { machine registers.new (values_of store.new)
+        ≡ totalled total reductions.now (joined logs.now).chunks
+        (machine registers.old (values_of store.old)) }
+    ensures shape { map (λ k. k.lengths) store.new ≡ map (λ k. k.lengths) store.old }
+{
+    match total {
+        Total::Combined => put_reductions(reductions, 0, logs, registers, store),
+        Total::Scanned(value) => put_scanned(reductions, value, registers, store),
+    }
+}
+
+/// Puts together what all chunks leave: their changes over the store, then each reduction variable with its total, and each lastprivate
+/// one as the last chunk leaves it (OpenMP 5.2, 5.4.5 and 5.5.5).
+pub(crate) fn put_together(
+    roles: &LoweredRoles,
+    total: Total,
+    logs: &[ChunkLog],
+    registers: &mut [u64],
+    store: &mut Store,
+)
+    ensures put { IsPutBy (totalled total roles.now.reductions.items (joined logs.now).chunks)
+        roles.now (joined logs.now) registers.old registers.new store.old store.new }
     ensures shape { map (λ k. k.lengths) store.new ≡ map (λ k. k.lengths) store.old }
 {
     apply_all(store, logs);
-    put_reductions(roles.reductions.as_slice(), 0, logs, registers, store);
+    put_totals(roles.reductions.as_slice(), total, logs, registers, store);
     put_lasts(roles.lasts.as_slice(), last_values(logs), registers, store);
 }

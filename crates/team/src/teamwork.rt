@@ -1,4 +1,4 @@
-//! The team.
+//! Loops on a crew that stands by.
 
 ghost use Rattle.std.specs.Prelude.{◌≡◌, ◌+◌, ◌<◌, ◌^◌, length, map, IfOk, IfErr, OnOk};
 ghost use Rattle.semantics.specs.Loops.Chunk.{cut};
@@ -8,26 +8,26 @@ ghost use Rattle.seqrun_io.specs.Told.{Refuses};
 ghost use Rattle.store.specs.Flat.{AreFilled};
 ghost use Rattle.team.specs.Ends.{IsSplit, AreAll};
 ghost use Rattle.team.specs.Logged.{joined};
-ghost use Rattle.team.specs.Together.{LeavesTogether, BeginsTogether, IsLeft, IsBegun};
+ghost use Rattle.team.specs.Passed.{IsPassed, BeginsIn};
+ghost use Rattle.team.specs.Together.{LeavesTogether, BeginsTogether};
 
 use crate::gate::Gate;
 use crate::grounds::{Grounds, grounds_of};
 use crate::lent::{LoopCrew, lent_logs};
 use crate::log::ChunkLog;
+use crate::pass::Pass;
 use crate::printing::put_texts;
-use crate::putting::put_together;
-use crew::{Crew, dismiss, serve_all};
+use crate::putting::{Total, put_together};
 use ktree::{Refusal, Workers};
 use lower::LoweredLoop;
 use schedule::{Sched, sched_of};
 use seqrun_io::Sink;
 use std::alloc::Global;
 use std::sync::Wait;
-use std::thread::{Threads, join_mut};
 use store::Store;
 
 /// The logs of all chunks of a loop. Where it has no iteration, nothing is lent to the crew.
-fn loop_logs<'l, R: Wait, G: Gate>(
+pub(crate) fn loop_logs<'l, R: Wait, G: Gate>(
     rt: &R,
     alloc: Global,
     crew: &LoopCrew<'l>,
@@ -42,7 +42,7 @@ fn loop_logs<'l, R: Wait, G: Gate>(
     requires chunks { grounds.chunks
         ≡ cut (kind_of sched.now) (length (vectors grounds.space)) workers }
     ensures all { IfOk result (λ logs. AreAll lowered.now grounds.registers.items store.old
-        grounds.chunks (joined logs.items)) }
+        grounds.pass grounds.chunks (joined logs.items)) }
     ensures store { store.new ≡ store.old }
     ensures refusal { IfErr result (λ refusal. refusal ≡ Refusal.OutOfMemory) }
 {
@@ -55,17 +55,50 @@ fn loop_logs<'l, R: Wait, G: Gate>(
 }
 
 // Each variable has as many values as elements.
-fn confirm_filled(store: &Store)
+pub(crate) fn confirm_filled(store: &Store)
     ensures { AreFilled store.now }
 {
     let _cells = store.cells();
 }
 
-/// Runs a loop on a crew that stands by, as [`run_loop`] does on a team of its own.
+/// Runs all chunks of a loop in a pass, puts what they print, and leaves the rest to be put together.
+pub(crate) fn run_pass<'l, R: Wait, G: Gate, S: Sink>(
+    rt: &R,
+    alloc: Global,
+    crew: &LoopCrew<'l>,
+    lowered: &'l LoweredLoop,
+    pass: Pass,
+    registers: &[u64],
+    store: &mut Store,
+    workers: Workers,
+    sched: &Sched,
+    gate: &G,
+    sink: &mut S,
+) -> Result<Vec<ChunkLog>, Refusal>
+    requires room { S.failed sink.old + 1 < 2 ^ 64 }
+    ensures passed { IfOk result (λ logs. IsPassed lowered.now registers.now store.old pass
+        (kind_of sched.now) workers (joined logs.items) (S.told sink.old) (S.told sink.new)) }
+    ensures beginning { BeginsIn pass lowered.now registers.now store.old (S.told sink.old)
+        (S.told sink.new) (kind_of sched.now) workers }
+    ensures sound { OnOk result (S.failed sink.new ≡ S.failed sink.old) }
+    ensures refusal { IfErr result (Refuses (S.failed sink.old) (S.failed sink.new)) }
+    ensures store { store.new ≡ store.old }
+{
+    let grounds = grounds_of(alloc, lowered, registers, sched, workers)?;
+    let count = grounds.chunks.len();
+    let grounds = grounds.in_pass(pass);
+    let logs = loop_logs(
+        rt, alloc, crew, lowered, grounds, store, workers, sched, gate,
+    )?;
+    put_texts(alloc, logs.as_slice(), count, sink)?;
+    Ok(logs)
+}
+
+/// Runs a loop on a crew that stands by, as [`crate::run_loop`] does on a team of its own.
 ///
 /// # Errors
 ///
-/// As for [`run_loop`].
+/// As for [`crate::run_loop`].
 pub fn share_loop<'l, R: Wait, G: Gate, S: Sink>(
     rt: &R,
     alloc: Global,
@@ -92,133 +125,26 @@ pub fn share_loop<'l, R: Wait, G: Gate, S: Sink>(
     ensures long { length registers.new ≡ length registers.old }
 {
     let sched = sched_of(lowered.schedule, runtime);
-    let grounds = grounds_of(alloc, lowered, registers, &sched, workers)?;
-    let count = grounds.chunks.len();
-    let logs = loop_logs(
-        rt, alloc, crew, lowered, grounds, store, workers, &sched, gate,
-    )?;
-    put_texts(alloc, logs.as_slice(), count, sink)?;
-    confirm_filled(store);
-    put_together(&lowered.roles, logs.as_slice(), registers, store);
-    Ok(())
-}
-
-/// Runs a loop on a crew, and dismisses it.
-fn lead<'l, R: Wait, G: Gate, S: Sink>(
-    rt: &R,
-    alloc: Global,
-    crew: &LoopCrew<'l>,
-    lowered: &'l LoweredLoop,
-    registers: &mut [u64],
-    store: &mut Store,
-    workers: Workers,
-    runtime: Sched,
-    gate: &G,
-    sink: &mut S,
-) -> Result<(), Refusal>
-    requires room { S.failed sink.old + 1 < 2 ^ 64 }
-    ensures leaves { OnOk result (IsLeft lowered.now registers.old registers.new store.old
-        store.new (S.told sink.old) (S.told sink.new)
-        (kind_said lowered.now.schedule runtime) workers) }
-    ensures beginning { IsBegun lowered.now registers.old store.old (S.told sink.old)
-        (S.told sink.new) (kind_said lowered.now.schedule runtime) workers }
-    ensures sound { OnOk result (S.failed sink.new ≡ S.failed sink.old) }
-    ensures shape { map (λ k. k.lengths) store.new ≡ map (λ k. k.lengths) store.old }
-    ensures refusal { IfErr result (Refuses (S.failed sink.old) (S.failed sink.new)) }
-    ensures kept { IfErr result (λ _. store.new ≡ store.old) }
-    ensures kept_registers { IfErr result (λ _. registers.new ≡ registers.old) }
-    ensures long { length registers.new ≡ length registers.old }
-{
-    let end = share_loop(
-        rt, alloc, crew, lowered, registers, store, workers, runtime, gate, sink,
-    );
-    dismiss(crew);
-    end
-}
-
-/// Starts a crew, runs a loop on it, and ends it.
-fn run_led<'l, R: Threads + Wait + Sync, G: Gate + Sync, S: Sink>(
-    rt: &R,
-    alloc: Global,
-    crew: &LoopCrew<'l>,
-    lowered: &'l LoweredLoop,
-    registers: &mut [u64],
-    store: &mut Store,
-    workers: Workers,
-    runtime: Sched,
-    gate: &G,
-    sink: &mut S,
-) -> Result<(), Refusal>
-    requires room { S.failed sink.old + 1 < 2 ^ 64 }
-    ensures leaves { OnOk result (IsLeft lowered.now registers.old registers.new store.old
-        store.new (S.told sink.old) (S.told sink.new)
-        (kind_said lowered.now.schedule runtime) workers) }
-    ensures beginning { IsBegun lowered.now registers.old store.old (S.told sink.old)
-        (S.told sink.new) (kind_said lowered.now.schedule runtime) workers }
-    ensures sound { OnOk result (S.failed sink.new ≡ S.failed sink.old) }
-    ensures shape { map (λ k. k.lengths) store.new ≡ map (λ k. k.lengths) store.old }
-    ensures refusal { IfErr result (Refuses (S.failed sink.old) (S.failed sink.new)) }
-    ensures kept { IfErr result (λ _. store.new ≡ store.old) }
-    ensures kept_registers { IfErr result (λ _. registers.new ≡ registers.old) }
-    ensures long { length registers.new ≡ length registers.old }
-{
-    let (_, end) = join_mut(
+    let logs = run_pass(
         rt,
-        &mut || serve_all(rt, alloc, crew, gate),
-        &mut || -> Result<(), Refusal>
-            requires { S.failed sink.now + 1 < 2 ^ 64 }
-        {
-            lead(
-                rt, alloc, crew, lowered, registers, store, workers, runtime, gate, sink,
-            )
-        },
+        alloc,
+        crew,
+        lowered,
+        Pass::Plain,
+        registers,
+        store,
+        workers,
+        &sched,
+        gate,
+        sink,
+    )?;
+    confirm_filled(store);
+    put_together(
+        &lowered.roles,
+        Total::Combined,
+        logs.as_slice(),
+        registers,
+        store,
     );
-    end
-}
-
-/// Runs a loop on a team of so many workers, by the schedule of its clause, and for `runtime` by this one (OpenMP 5.2, 11.5 and
-/// 11.5.3): each worker runs the chunks that are its own or that it draws from the store before the loop; after all have met the
-/// end, what they leave is put together. These registers stand as where the loop is reached. Where its chunks have a run each from
-/// there, each object with no role is then as before where none of these runs changes it, and else as one of them leaves it that does;
-/// each reduction variable holds what it held combined with what all chunks tell of it, and each lastprivate one what the last chunk
-/// leaves in it, in the store or in these registers (OpenMP 5.2, 5.4.5 and 5.5.5); and what the chunks print is put, the first chunk's
-/// first, which is the order of the iterations (OpenMP 5.2, 15.10).
-///
-/// # Errors
-///
-/// `OutOfMemory` where memory is refused, and nothing is put then; `OutputFailed` where a `put` fails, behind a beginning of the text.
-/// Registers and store are then as before. Of threads that do not start the others do the work.
-pub fn run_loop<R: Threads + Wait + Sync, G: Gate + Sync, S: Sink>(
-    rt: &R,
-    alloc: Global,
-    lowered: &LoweredLoop,
-    registers: &mut [u64],
-    store: &mut Store,
-    workers: Workers,
-    runtime: Sched,
-    gate: &G,
-    sink: &mut S,
-) -> Result<(), Refusal>
-    requires room { S.failed sink.old + 1 < 2 ^ 64 }
-    ensures leaves { OnOk result (LeavesTogether lowered.now registers.old registers.new store.old
-        store.new (S.told sink.old) (S.told sink.new)
-        (kind_said lowered.now.schedule runtime) workers) }
-    ensures beginning { BeginsTogether lowered.now registers.old store.old (S.told sink.old)
-        (S.told sink.new) (kind_said lowered.now.schedule runtime) workers }
-    ensures sound { OnOk result (S.failed sink.new ≡ S.failed sink.old) }
-    ensures shape { map (λ k. k.lengths) store.new ≡ map (λ k. k.lengths) store.old }
-    ensures refusal { IfErr result (Refuses (S.failed sink.old) (S.failed sink.new)) }
-    ensures kept { IfErr result (λ _. store.new ≡ store.old) }
-    ensures kept_registers { IfErr result (λ _. registers.new ≡ registers.old) }
-    ensures long { length registers.new ≡ length registers.old }
-{
-    let crew = Crew::new(alloc, workers.get() - 1)?;
-    if crew.others() == 0 {
-        return share_loop(
-            rt, alloc, &crew, lowered, registers, store, workers, runtime, gate, sink,
-        );
-    }
-    run_led(
-        rt, alloc, &crew, lowered, registers, store, workers, runtime, gate, sink,
-    )
+    Ok(())
 }

@@ -55,12 +55,13 @@ pub(crate) fn run_taken<G: Gate>(
     gate.entered(taken);
     let chunk = job.chunks.at(taken.chunk);
     let number = ChunkNo(taken.chunk);
+    let start = job.pass.start(taken.chunk);
     let work = Work {
         chunk: number,
         first: chunk.first,
         count: chunk.count,
     };
-    let piece = runner.run_chunk(alloc, job.lowered, job.registers, job.space, work)?;
+    let piece = runner.run_chunk(alloc, job.lowered, job.registers, job.space, work, start)?;
     Ok(ChunkPiece { number, piece })
 }
 
@@ -77,7 +78,7 @@ pub(crate) fn work<G: Gate>(
     requires count { drawing.now.count ≡ length job.chunks.now }
     requires seat { member.seat ≡ fresh drawing.now }
     ensures finished { IfOk result (λ f. IsFinished job.entry.lowered.now job.entry.registers.now
-        job.entry.store.now job.entry.chunks.now drawing.now f) }
+        job.entry.store.now job.entry.pass.now job.entry.chunks.now drawing.now f) }
     ensures refusal { IfErr result (λ refusal. refusal ≡ Refusal.OutOfMemory) }
 {
     let Member {

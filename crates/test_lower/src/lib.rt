@@ -14,6 +14,8 @@ mod overlay_rows;
 #[cfg(test)]
 mod role_rows;
 #[cfg(test)]
+mod scan_rows;
+#[cfg(test)]
 mod stores;
 #[cfg(test)]
 mod text_rows;

@@ -8,6 +8,8 @@ mod lowering;
 #[cfg(test)]
 mod printed_rows;
 #[cfg(test)]
+mod scan_rows;
+#[cfg(test)]
 mod seqrun_io_rows;
 #[cfg(test)]
 mod seqrun_rows;

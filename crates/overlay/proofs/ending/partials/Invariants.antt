@@ -8,4 +8,4 @@ use Rattle.overlay.proofs.ending.partials.Given as goal
 
 abbrev pub invariant-loop-reduction : goal.invariant-loop-reduction
 invariant-loop-reduction l =
-    map partial_of l.partials.items ≡ map (partial_at (machine l.before (values_of l.cells.store)) (machine l.registers (cells_of l.cells))) (take l.reduction-index l.reductions)
+    map partial_of l.partials.items ≡ map (partial_at l.start (machine l.before (values_of l.cells.store)) (machine l.registers (cells_of l.cells))) (take l.reduction-index l.reductions)

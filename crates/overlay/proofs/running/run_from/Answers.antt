@@ -22,14 +22,15 @@ returns-clause-ran c =
     let start : Machine = machine c.args.registers.now (cells_of c.args.cells.now) in
     let stores = c.run_iterations.ensures.store ∙ c.begin.ensures.store in
     record {
+      word = c.confirm_word.ensures;
       behind = behind;
       walks =
-          subst (λ (text : List ℕ). WalksOver l (part_of c.args.space.now c.args.work) (running (begun_by l.roles.reductions.items start) []) (running behind text)) (ap (λ t. t.bytes) (sym c.in_ok-told.ensures.text))
-          (subst (λ m. WalksOver l (part_of c.args.space.now c.args.work) (running m []) (running behind c.in_ok-text.text.bytes)) (c.begin.ensures.begun ∙ ap (λ (ls : List LoweredReduction). begun_by ls start) c.as_slice.ensures.value) c.in_ok-text.ensures.walked);
+          subst (λ (text : List ℕ). WalksOver l (part_of c.args.space.now c.args.work) (running (begun_by c.args.start l.roles.reductions.items start) []) (running behind text)) (ap (λ t. t.bytes) (sym c.in_ok-told.ensures.text))
+          (subst (λ m. WalksOver l (part_of c.args.space.now c.args.work) (running m []) (running behind c.in_ok-text.text.bytes)) (c.begin.ensures.begun ∙ ap (λ (ls : List LoweredReduction). begun_by c.args.start ls start) c.as_slice.ensures.value) c.in_ok-text.ensures.walked);
       room = length_over (writes_in cells.written) (values_of cells.store) ∙ ap (λ (ks : List Kept). length (values_of ks)) stores;
       told_of =
-          subst (λ (ks : List Kept). IsTold l.roles (c.args.work.first + c.args.work.count == length (vectors c.args.space.now)) (machine c.args.before.now (values_of ks)) behind c.in_ok-told.told) stores
-          (subst (λ (b : Bool). IsTold l.roles b (machine c.args.before.now (values_of cells.store)) behind c.in_ok-told.told) c.has_last-has_last.ensures c.in_ok-told.ensures.told);
+          subst (λ (ks : List Kept). IsTold l.roles c.args.start (c.args.work.first + c.args.work.count == length (vectors c.args.space.now)) (machine c.args.before.now (values_of ks)) behind c.in_ok-told.told) stores
+          (subst (λ (b : Bool). IsTold l.roles c.args.start b (machine c.args.before.now (values_of cells.store)) behind c.in_ok-told.told) c.has_last-has_last.ensures c.in_ok-told.ensures.told);
       back = c.put_roles_back.ensures.back
           ∙ ap (λ (ks : List Kept). back_at_each (values_of ks) (reduced_at l.roles.reductions.items) (back_at_each (values_of ks) l.roles.lasts.items behind.cells)) stores;
     }

@@ -25,9 +25,9 @@ loop-place-preserved c =
       dealt = λ aim size way are.
           let here = place_of aim ys _ c.args.places.items place whole are in
           let own = own_numbers size (length aim.chunks) aim.workers in
-          let last : IsAccount aim.lowered aim.registers aim.store aim.chunks (own (length ys)) log
+          let last : IsAccount aim.lowered aim.registers aim.store aim.pass aim.chunks (own (length ys)) log
           = subst (λ (a : Aim). IsEndBy a (Dealt size) (Share log)) here (c.in-Some-share.ensures size (ap (λ (a : Aim). a.way) here ∙ way)) in
-          dealt_more aim.lowered aim.registers aim.store aim.chunks own (length ys) (length (ys ++ place ∷ [])) (joined c.loop-place.logs.items) log _ long (joined_more c.loop-place.logs.items c.push.new.self.items log c.in_ok-push.ensures.items) (was.dealt aim size way are) last;
+          dealt_more aim.lowered aim.registers aim.store aim.pass aim.chunks own (length ys) (length (ys ++ place ∷ [])) (joined c.loop-place.logs.items) log _ long (joined_more c.loop-place.logs.items c.push.new.self.items log c.in_ok-push.ensures.items) (was.dealt aim size way are) last;
     }
 
 pub returns-clause-dealt : goal.returns-clause-dealt
@@ -36,4 +36,4 @@ returns-clause-dealt c = λ aim size way are.
     let same : length c.args.places.items ≡ length c.loop-place.yielded = ap (λ k. length k) whole in
     let is = c.args.places.ok.0 in
     let count : length c.loop-place.yielded ≡ vec_len c.args.places = omega arith in
-    subst (λ (n : ℕ). IsAccount aim.lowered aim.registers aim.store aim.chunks (flat_map (own_numbers size (length aim.chunks) aim.workers) (below n)) (joined c.loop-place.logs.items)) count (c.loop-place.invariant.dealt aim size way are)
+    subst (λ (n : ℕ). IsAccount aim.lowered aim.registers aim.store aim.pass aim.chunks (flat_map (own_numbers size (length aim.chunks) aim.workers) (below n)) (joined c.loop-place.logs.items)) count (c.loop-place.invariant.dealt aim size way are)

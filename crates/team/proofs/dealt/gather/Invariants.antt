@@ -12,5 +12,5 @@ invariant-loop-place l =
     record {
       whole : l.yielded ++ l.place-iterator.rest.items ≡ l.fn.places.items;
       dealt : (aim : Aim) (size : Option ℕ) → aim.way ≡ Dealt size → AreFor aim l.fn.places.items
-          → IsAccount aim.lowered aim.registers aim.store aim.chunks (flat_map (own_numbers size (length aim.chunks) aim.workers) (below (length l.yielded))) (joined l.logs.items);
+          → IsAccount aim.lowered aim.registers aim.store aim.pass aim.chunks (flat_map (own_numbers size (length aim.chunks) aim.workers) (below (length l.yielded))) (joined l.logs.items);
     }

@@ -31,7 +31,7 @@ loop-number-init g c =
     let job = c.args.job in
     record {
       runner = c.in_ok-runner.ensures.store;
-      account = subst (IsAccountOf job []) (sym c.new-log.ensures) (account_none job.lowered.now job.registers.now job.store.now job.chunks.now);
+      account = subst (IsAccountOf job []) (sym c.new-log.ensures) (account_none job.lowered.now job.registers.now job.store.now job.pass.now job.chunks.now);
     }
 
 pub loop-number-smaller : goal.loop-number-smaller
@@ -56,7 +56,7 @@ loop-number-preserved g c =
     let was = c.loop-number.invariant in
     let job = c.args.job in
     let piece = c.in_ok-run_taken.field-0 in
-    let more = account_both job.lowered.now job.registers.now job.store.now job.chunks.now (take c.loop-number.turn own) (c.in-Some.number ∷ []) c.loop-number.log (account_of piece) was.account c.in_ok-run_taken.ensures.account in
+    let more = account_both job.lowered.now job.registers.now job.store.now job.pass.now job.chunks.now (take c.loop-number.turn own) (c.in-Some.number ∷ []) c.loop-number.log (account_of piece) was.account c.in_ok-run_taken.ensures.account in
     record {
       runner = c.in_ok-run_taken.ensures.runner ∙ was.runner;
       account = subst (λ ns. IsAccountOf job ns c.push.new.self) (sym (next_own own c.loop-number.turn c.in-Some.number there)) (subst (IsAccountOf job (take c.loop-number.turn own ++ c.in-Some.number ∷ [])) (sym c.in_ok-push.ensures) more);

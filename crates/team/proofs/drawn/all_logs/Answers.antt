@@ -20,7 +20,7 @@ prove-unreachable-requires c =
     false≢true (sym c.if-prove.true ∙ (c.whole-whole.ensures ∙ whole))
 
 pub returns : goal.returns
-returns c = λ l registers ks chunks drawn.
+returns c = λ l registers ks pass chunks drawn.
     let back = c.requires in
     let least = back.some in
     let is = c.args.end.seats.ok.0 in

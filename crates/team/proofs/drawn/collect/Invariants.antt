@@ -11,6 +11,6 @@ invariant-loop-place l =
     record {
       whole : l.yielded ++ l.place-iterator.rest.items ≡ l.fn.places.items;
       taken : (aim : Aim) (draw : Draw) → aim.way ≡ Drawn draw → AreFor aim l.fn.places.items
-          → AreTaken aim.lowered aim.registers aim.store aim.chunks draw.drawing l.seats.items (joined l.logs.items);
+          → AreTaken aim.lowered aim.registers aim.store aim.pass aim.chunks draw.drawing l.seats.items (joined l.logs.items);
       len : length l.seats.items ≡ length l.yielded;
     }

@@ -36,8 +36,8 @@ returns-in-Dealt-clause-all c = λ aim space left.
     let places = c.args.places.ok.0 in
     let all = left.all in
     let least = left.some in
-    IfOk-weaker c.gather.result (λ cs. IsAccount aim.lowered aim.registers aim.store aim.chunks (flat_map own (below count)) (joined cs.items)) (λ cs. AreAll aim.lowered aim.registers aim.store aim.chunks (joined cs.items))
-    (λ cs dealt. dealt_all aim.lowered aim.registers aim.store aim.chunks size aim.workers count (length (vectors space)) (joined cs.items) (left.comes.cut size is) (omega arith) (omega arith) dealt)
+    IfOk-weaker c.gather.result (λ cs. IsAccount aim.lowered aim.registers aim.store aim.pass aim.chunks (flat_map own (below count)) (joined cs.items)) (λ cs. AreAll aim.lowered aim.registers aim.store aim.pass aim.chunks (joined cs.items))
+    (λ cs dealt. dealt_all aim.lowered aim.registers aim.store aim.pass aim.chunks size aim.workers count (length (vectors space)) (joined cs.items) (left.comes.cut size is) (omega arith) (omega arith) dealt)
     (c.gather.ensures.dealt aim size (left.way_is ∙ is) left.made)
 
 pub returns-in_ok-seats-in-Drawn-clause-all : goal.returns-in_ok-seats-in-Drawn-clause-all
@@ -45,4 +45,4 @@ returns-in_ok-seats-in-Drawn-clause-all c = λ aim space left.
     let draw = c.in-Drawn.draw in
     let is = c.in-Drawn.is in
     let taken = c.in_ok-seats-in-Drawn.ensures.taken aim draw (left.way_is ∙ is) left.made in
-    c.all_logs.ensures aim.lowered aim.registers aim.store aim.chunks (record { count = left.comes.count draw is; account = taken.account })
+    c.all_logs.ensures aim.lowered aim.registers aim.store aim.pass aim.chunks (record { count = left.comes.count draw is; account = taken.account })

@@ -1,7 +1,8 @@
 use Rattle.std.proofs.Common.{◌≡◌, ℕ, List, ◌∷◌, map, sym, ap, ◌∙◌, Bor, rules}
 use Rattle.team.specs.Logged.{Account, joined}
 use Rattle.team.specs.Printed.{entered}
-use Rattle.team.proofs.Texts.{entered_both}
+use Rattle.team.specs.Logged.{Leaving}
+use Rattle.team.proofs.Entering.{entered_both}
 use Rattle.team.proofs.printing.+enter_all.Goals as goal
 
 pub returns : goal.returns
@@ -12,5 +13,5 @@ returns t c =
     let whole : c.args.logs.now ≡ log ∷ rest = search rules in
     c.enter_all.ensures
     ∙ ap (entered (joined rest).chunks) c.enter_texts.ensures
-    ∙ sym (entered_both log.chunks (joined rest).chunks texts)
+    ∙ sym (entered_both (λ (c : Leaving). c.text) log.chunks (joined rest).chunks texts)
     ∙ ap (λ (ls : List Account). entered (joined ls).chunks texts) (sym whole)

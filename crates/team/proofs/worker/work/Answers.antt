@@ -12,7 +12,7 @@ loop-ticket-init g c =
     record {
       runner = c.in_ok-runner.ensures.store;
       seat = ap (λ (s : SeatState). s.of) c.requires.seat;
-      account = subst (λ ns. IsAccountOf job ns c.new-log.result) (ap (λ (s : SeatState). s.tickets) (sym c.requires.seat)) (subst (IsAccountOf job []) (sym c.new-log.ensures) (account_none job.lowered.now job.registers.now job.store.now job.chunks.now));
+      account = subst (λ ns. IsAccountOf job ns c.new-log.result) (ap (λ (s : SeatState). s.tickets) (sym c.requires.seat)) (subst (IsAccountOf job []) (sym c.new-log.ensures) (account_none job.lowered.now job.registers.now job.store.now job.pass.now job.chunks.now));
     }
 
 pub loop-ticket-smaller : goal.loop-ticket-smaller
@@ -29,7 +29,7 @@ loop-ticket-preserved g c =
     let job = c.args.job in
     let piece = c.in_ok-run_taken.field-0 in
     let tickets = c.loop-ticket.seat.tickets in
-    let all = account_both job.lowered.now job.registers.now job.store.now job.chunks.now tickets (c.in-Some.ticket ∷ []) c.loop-ticket.log (account_of piece) was.account c.in_ok-run_taken.ensures.account in
+    let all = account_both job.lowered.now job.registers.now job.store.now job.pass.now job.chunks.now tickets (c.in-Some.ticket ∷ []) c.loop-ticket.log (account_of piece) was.account c.in_ok-run_taken.ensures.account in
     record {
       runner = c.in_ok-run_taken.ensures.runner ∙ was.runner;
       seat = ap (λ (s : SeatState). s.of) told.seat ∙ was.seat;

@@ -1,0 +1,67 @@
+use Rattle.std.proofs.Common.{ℕ, List, ◌++◌, length, ap, subst, ◌∙◌}
+use Rattle.semantics.specs.Loops.Chunk.{Chunk}
+use Rattle.nest_space.specs.Space.{vectors}
+use Rattle.schedule.specs.Sched.{kind_of}
+use Rattle.seqrun_io.specs.Told.{AddsBeginning}
+use Rattle.team.specs.declared.pass.Pass.{Pass}
+use Rattle.team.specs.Ends.{IsCut, AreAll}
+use Rattle.team.specs.Logged.{joined}
+use Rattle.team.specs.Printed.{text_in_order}
+use Rattle.team.proofs.Texts.{begins_all}
+use Rattle.team.proofs.teamwork.run_pass.Goals as goal
+
+pub returns-in_err-put_texts-clause-beginning : goal.returns-in_err-put_texts-clause-beginning
+returns-in_err-put_texts-clause-beginning g c =
+    let l = c.args.lowered.now in
+    let grounds = c.in_ok-grounds.grounds in
+    let passing = c.in_pass-grounds.result in
+    let pass = c.args.pass in
+    let account = joined c.in_ok-logs.logs.items in
+    let ks = c.args.store.now in
+    let by_chunks = subst (λ (k : List Chunk). AreAll l passing.registers.items ks passing.pass k account) c.in_pass-grounds.ensures.chunks c.in_ok-logs.ensures.all in
+    let by_pass = subst (λ (p : Pass). AreAll l passing.registers.items ks p grounds.chunks account) c.in_pass-grounds.ensures.pass by_chunks in
+    let all = subst (λ (rs : List ℕ). AreAll l rs ks pass grounds.chunks account) ((λ i. (c.in_pass-grounds.ensures.registers i).items) ∙ c.in_ok-grounds.ensures.registers) by_pass in
+    let told = g.S.Sink.told c.args.sink.now in
+    let after = g.S.Sink.told c.put_texts.new.sink in
+    let begun = subst (λ (text : List ℕ). AddsBeginning told after text) (λ i. text_in_order (c.len-count.ensures i) (joined (c.as_slice.ensures.value i)).chunks) c.put_texts.ensures.beginning in
+    begins_all l c.args.registers.now ks pass (kind_of c.args.sched.now) c.args.workers grounds.space grounds.chunks account told after c.in_ok-grounds.ensures.split c.in_ok-grounds.ensures.chunks all begun
+
+pub returns-clause-beginning : goal.returns-clause-beginning
+returns-clause-beginning g c =
+    let l = c.args.lowered.now in
+    let grounds = c.in_ok-grounds.grounds in
+    let passing = c.in_pass-grounds.result in
+    let pass = c.args.pass in
+    let account = joined c.in_ok-logs.logs.items in
+    let ks = c.args.store.now in
+    let by_chunks = subst (λ (k : List Chunk). AreAll l passing.registers.items ks passing.pass k account) c.in_pass-grounds.ensures.chunks c.in_ok-logs.ensures.all in
+    let by_pass = subst (λ (p : Pass). AreAll l passing.registers.items ks p grounds.chunks account) c.in_pass-grounds.ensures.pass by_chunks in
+    let all = subst (λ (rs : List ℕ). AreAll l rs ks pass grounds.chunks account) ((λ i. (c.in_pass-grounds.ensures.registers i).items) ∙ c.in_ok-grounds.ensures.registers) by_pass in
+    let told = g.S.Sink.told c.args.sink.now in
+    let after = g.S.Sink.told c.put_texts.new.sink in
+    let begun = subst (λ (text : List ℕ). AddsBeginning told after text) (λ i. text_in_order (c.len-count.ensures i) (joined (c.as_slice.ensures.value i)).chunks) c.put_texts.ensures.beginning in
+    begins_all l c.args.registers.now ks pass (kind_of c.args.sched.now) c.args.workers grounds.space grounds.chunks account told after c.in_ok-grounds.ensures.split c.in_ok-grounds.ensures.chunks all begun
+
+pub returns-clause-passed : goal.returns-clause-passed
+returns-clause-passed g c =
+    let l = c.args.lowered.now in
+    let grounds = c.in_ok-grounds.grounds in
+    let passing = c.in_pass-grounds.result in
+    let pass = c.args.pass in
+    let account = joined c.in_ok-logs.logs.items in
+    let ks = c.args.store.now in
+    let by_chunks = subst (λ (k : List Chunk). AreAll l passing.registers.items ks passing.pass k account) c.in_pass-grounds.ensures.chunks c.in_ok-logs.ensures.all in
+    let by_pass = subst (λ (p : Pass). AreAll l passing.registers.items ks p grounds.chunks account) c.in_pass-grounds.ensures.pass by_chunks in
+    let all = subst (λ (rs : List ℕ). AreAll l rs ks pass grounds.chunks account) ((λ i. (c.in_pass-grounds.ensures.registers i).items) ∙ c.in_ok-grounds.ensures.registers) by_pass in
+    let told = g.S.Sink.told c.args.sink.now in
+    let chunks_are = c.in_ok-grounds.ensures.chunks in
+    let count_is = c.len-count.ensures ∙ ap (λ (k : List Chunk). length k) chunks_are in
+    record {
+      of = record {
+        space = grounds.space;
+        of = c.in_ok-grounds.ensures.split.iterations;
+        cut_is = subst (λ (k : List Chunk). IsCut (length (vectors grounds.space)) k) chunks_are c.in_ok-grounds.ensures.split.cut;
+        all = subst (λ (k : List Chunk). AreAll l c.args.registers.now ks pass k account) chunks_are all;
+      };
+      printed = c.in_ok-put_texts.ensures.all ∙ (λ i. told ++ text_in_order (count_is i) (joined (c.as_slice.ensures.value i)).chunks);
+    }
