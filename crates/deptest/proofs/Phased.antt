@@ -24,9 +24,9 @@ use Rattle.flow.specs.Roles.{LineData, line_data, AskedByLine, KeepsItsRoles, Ke
 use Rattle.flow_scan.specs.Lines.{suits_scan, sole_of, scanned}
 use Rattle.flow_scan.specs.Parts.{count}
 use Rattle.flow_scan.specs.Scans.{ScanPart, scans_of}
+use Rattle.flow_scan.specs.Views.{phases_at}
 use Rattle.flow_scan.specs.Laws.{HasPhases, ScanThere}
 use Rattle.flow_scan.proofs.TellLaw.{among_at, lines_of, never_twice}
-use Rattle.deptest.specs.Accepted.{phases_at}
 
 -- ---- what is asked twice of each line
 

@@ -1,5 +1,5 @@
 -- Kernels whose parallel loops are shown to be independent, and what is kept of an accepted text. (OpenMP 5.2, 1.4.1 and 11.5; C11 5.1.2.4)
-use Rattle.std.specs.Prelude.{ℕ, ◌≡◌, true, List, [], map, length, Some, ◌==◌, ◌∷◌, None, if◌then◌else◌}
+use Rattle.std.specs.Prelude.{ℕ, ◌≡◌, true, List, [], map, length, Some}
 use Rattle.semantics.specs.Tree.{Kernel, strip}
 use Rattle.semantics.specs.Source.Grammar.{ReadsText}
 use Rattle.law_lines.specs.Without.{IsTreeOf}
@@ -21,7 +21,7 @@ use Rattle.flow.specs.Roles.{LineData, line_data, privates_by, ItemsHaveBy, Item
 use Rattle.flow_clauses.specs.Fitting.{fit_clauses}
 use Rattle.flow_ordered.specs.Ordered.{prints_in_order}
 use Rattle.flow_scan.specs.Scans.{ScanPart, scans_rightly, scans_of}
-use Rattle.flow_scan.specs.Views.{scan_part}
+use Rattle.flow_scan.specs.Views.{scan_part, phases_at}
 use Rattle.flow_scan.specs.declared.listing.ScanLoop.{ScanLoop}
 use Rattle.law_roles.specs.Sharing.{are_different}
 use Rattle.flow.specs.Parallel.{AreParallelLoops}
@@ -51,12 +51,7 @@ clauses_counted text k ds = counted_in text k (clauses_said k ds)
 abbrev pub data_counted : List ℕ → Kernel → Directives → LineData
 data_counted text k ds line = line_data (length k.variables) (clauses_counted text k ds line)
 
--- whether its input phase comes first, and how many items its first phase has, of the first of some loops of scans behind the line of this number
-abbrev pub phases_at : List ScanPart → LinePhases
-phases_at [] line = None
-phases_at (p ∷ ps) line = if p.line == line then Some (p.inclusive, p.front) else phases_at ps line
-
--- so of those of a kernel, by the clauses that count for each line (OpenMP 5.2, 5.6)
+-- the loops of scans of a kernel, by the clauses that count for each line (OpenMP 5.2, 5.6)
 abbrev pub scans_counted : List ℕ → Kernel → Directives → List ScanPart
 scans_counted text k ds = scans_of text (clauses_counted text k ds) k
 

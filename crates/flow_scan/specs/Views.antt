@@ -1,5 +1,5 @@
 -- What the code's values stand for.
-use Rattle.std.specs.Prelude.{ℕ, Bool, not, ◌≡◌, ◌==◌, ◌||◌, List, [], ◌∷◌, ◌++◌, map, Option, Some, None}
+use Rattle.std.specs.Prelude.{ℕ, Bool, not, ◌≡◌, ◌==◌, ◌||◌, if◌then◌else◌, List, [], ◌∷◌, ◌++◌, map, Option, Some, None}
 use Rattle.std.specs.HashSet.{HashSet}
 use Rattle.semantics.specs.Tree.{Variable, Items}
 use Rattle.semantics.specs.Loops.Operator.{ReduceOp}
@@ -10,6 +10,7 @@ use Rattle.ktree.specs.declared.statement.Item.{Item, Directive}
 use Rattle.pragma_mention.specs.Sets.{holds}
 use Rattle.pragma_named.specs.Known.{Lines}
 use Rattle.pragma_region.specs.Listed.{line_of}
+use Rattle.flow.specs.Phases.{LinePhases}
 use Rattle.flow_reduction.specs.Reduced.{reduction_of}
 use Rattle.flow_reduction.specs.declared.reduction.Reduction.{Reduction}
 use Rattle.flow_scan.specs.Lines.{ScanSaid}
@@ -65,3 +66,8 @@ AddsScans added before after = map scan_part after ≡ map scan_part before ++ a
 abbrev pub AddsOfItem : List ℕ → Lines → Option Place → Item → (Items → Items) → List ScanLoop → List ScanLoop → Type 0
 AddsOfItem text lines line item front before after =
     (rest : Items) → map scan_part after ++ parts_among text lines (next_line text (line_of line) item) rest ≡ map scan_part before ++ parts_among text lines (line_of line) (front rest)
+
+-- whether its input phase comes first, and how many items its first phase has, of the first of some loops of scans behind the line of this number
+abbrev pub phases_at : List ScanPart → LinePhases
+phases_at [] line = None
+phases_at (p ∷ ps) line = if p.line == line then Some (p.inclusive, p.front) else phases_at ps line

@@ -3,6 +3,7 @@ pub mod Blocks
 pub mod Found
 pub mod Lookups
 pub mod Nested
+pub mod Phased
 pub mod Shaped
 pub mod Standing
 pub mod Whole

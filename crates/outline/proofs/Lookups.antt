@@ -1,12 +1,15 @@
 -- The loops behind directive lines, as they are looked up by their places.
-use Rattle.std.specs.Prelude.{ℕ, Bool, true, false, ◌≡◌, ◌+◌, ◌<◌, ◌≤◌, ◌&&◌, ◌==◌, List, [], ◌∷◌, ◌++◌, length, take, All}
-use Rattle.std.proofs.Common.{sym, ap, ◌∙◌, get_or}
+use Rattle.std.specs.Prelude.{ℕ, suc, Bool, true, false, ◌≡◌, ◌+◌, ◌<◌, ◌≤◌, ◌&&◌, ◌==◌, if◌then◌else◌, List, [], ◌∷◌, ◌++◌, length, map, take, drop, Option, Some, All}
+use Rattle.std.proofs.Common.{sym, ap, ◌∙◌, get_or, drop-cons, add-one}
 use Rattle.std.proofs.lemmas.Bool.{eqb-true, eq-eqb}
 use Rattle.std.proofs.lemmas.List.{take_more, take_all}
 use Rattle.std.proofs.lemmas.List.Elements.{All-same, All-push}
 use Rattle.semantics.proofs.EraseTokenLaw.{first_of, second_of, and_true}
 use Rattle.ktree.specs.declared.place.Place.{Place}
 use Rattle.flow.specs.declared.environment.ParallelLoop.{ParallelLoop}
+use Rattle.flow.specs.Phases.{PhasesSaid}
+use Rattle.flow_scan.specs.Views.{scan_part, phases_at}
+use Rattle.flow_scan.specs.declared.listing.ScanLoop.{ScanLoop}
 use Rattle.outline.specs.Handed.{StandsAt, NoneStandsAt}
 
 -- two places are the same
@@ -40,3 +43,27 @@ stands_not loops line i l lt at here earlier =
 -- none stands there
 pub none_stands : (loops : List ParallelLoop) (line : Place) (i : ℕ) → length loops ≤ i → All (λ p. p.line ≡ line → ⊥) (take i loops) → NoneStandsAt loops line
 none_stands loops line i le all = All-same (λ (p : ParallelLoop). p.line ≡ line → ⊥) loops (take i loops) (sym (take_all i loops le)) all
+
+-- ---- the loops of scans
+
+-- none before this one stands behind the line
+abbrev pub ScanIsLeft : List ScanLoop → ℕ → ℕ → Type 0
+ScanIsLeft scans line i = phases_at (map scan_part (drop i scans)) line ≡ phases_at (map scan_part scans) line
+
+abbrev said_here : ScanLoop → Option PhasesSaid → Bool → Option PhasesSaid
+said_here s further here = if here then Some (s.inclusive, s.front) else further
+
+one_left : (scans : List ScanLoop) (line i : ℕ) (s : ScanLoop) → i < length scans → s ≡ get_or scans i s → ScanIsLeft scans line i
+    → said_here s (phases_at (map scan_part (drop (i + 1) scans)) line) (s.line.line == line) ≡ phases_at (map scan_part scans) line
+one_left scans line i s lt at left =
+    let here : drop i scans ≡ s ∷ drop (i + 1) scans = rw add-one (drop-cons scans i s lt ∙ ap (λ x. x ∷ drop (suc i) scans) (sym at)) in
+    sym (ap (λ ss. phases_at (map scan_part ss) line) here) ∙ left
+
+pub scan_here : (scans : List ScanLoop) (line i : ℕ) (s : ScanLoop) → i < length scans → s ≡ get_or scans i s → (s.line.line == line) ≡ true → ScanIsLeft scans line i
+    → phases_at (map scan_part scans) line ≡ Some (s.inclusive, s.front)
+scan_here scans line i s lt at here left =
+    sym (one_left scans line i s lt at left) ∙ ap (said_here s (phases_at (map scan_part (drop (i + 1) scans)) line)) here
+
+pub scan_further : (scans : List ScanLoop) (line i : ℕ) (s : ScanLoop) → i < length scans → s ≡ get_or scans i s → (s.line.line == line) ≡ false → ScanIsLeft scans line i → ScanIsLeft scans line (i + 1)
+scan_further scans line i s lt at here left =
+    sym (ap (said_here s (phases_at (map scan_part (drop (i + 1) scans)) line)) here) ∙ one_left scans line i s lt at left

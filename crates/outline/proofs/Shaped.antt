@@ -8,6 +8,7 @@ use Rattle.std.proofs.lemmas.Option.{same_Some, none-some}
 use Rattle.semantics.specs.Tree
 use Rattle.semantics.specs.Tree.{Variable, Stmt}
 use Rattle.semantics.specs.Loops.Operator.{ReduceOp}
+use Rattle.semantics.specs.Loops.Piece.{Roles}
 use Rattle.semantics.specs.Source.Text.{line_at}
 use Rattle.semantics.specs.Meaning.State.{State}
 use Rattle.semantics.specs.Meaning.Value.{holds, by_test, map_option}
@@ -31,14 +32,16 @@ use Rattle.pragma.specs.Clauses.{ReadsLoop}
 use Rattle.pragma.specs.Parallel.{associated, LineHas}
 use Rattle.pragma.specs.Views.{scheduled}
 use Rattle.pragma.proofs.LoopLaw.{read_once}
-use Rattle.flow.specs.Phases.{LinePhases}
-use Rattle.flow.specs.Roles.{LineData, takes_operands, left_roles, ItemsHaveBy}
+use Rattle.flow.specs.Phases.{PhasesSaid, LinePhases, item_count}
+use Rattle.flow.specs.Roles.{LoopData, LineData, takes_operands, left_roles, ItemsHaveBy}
 use Rattle.flow_reduction.specs.Reduced.{reduced}
 use Rattle.flow.specs.Parallel.{AreRolesOf}
 use Rattle.flow.specs.declared.environment.LoopRoles.{LoopRoles}
-use Rattle.flow.specs.declared.environment.ParallelLoop.{ParallelLoop}
+use Rattle.outline.specs.declared.handing.Loops.{Loops}
 use Rattle.law_commute.specs.Targets.{targets_outside}
-use Rattle.law_independence.specs.OrderLaws.{AreStepsRead, SharesAsNest, SharesBy, used_roles}
+use Rattle.law_scans.specs.Phases.{input_of}
+use Rattle.law_scans.specs.Scanning.{whole_of, first_of}
+use Rattle.law_independence.specs.OrderLaws.{AreStepsRead, HasStepsRead, SharesAsNest, SharesBy, used_roles}
 use Rattle.law_apart.specs.Apart.{apart_items, apart_behind, handed}
 use Rattle.lower_code.specs.declared.term.Laid.{Laid}
 use Rattle.lower_code.specs.declared.term.Test.{Test}
@@ -48,18 +51,23 @@ use Rattle.lower_block.specs.declared.op.Compiled.{Compiled}
 use Rattle.lower_run.specs.Walk.{Performs}
 use Rattle.lower.specs.Roles.{StandEach, AreReduced, AreRolesAt}
 use Rattle.lower.specs.declared.roles.LoweredRoles.{LoweredRoles}
+use Rattle.lower.specs.declared.lowered.LoweredLoop.{LoweredLoop}
+use Rattle.lower.specs.Lowered.{IsLoweredFrom}
 use Rattle.outline.specs.declared.shape.LoweredHead.{LoweredHead}
 use Rattle.outline.specs.declared.shape.TeamLoop.{TeamLoop}
+use Rattle.outline.specs.declared.shape.Way.{Way}
+use Rattle.outline.specs.declared.shape.Way.TheVariants.{Chunks, Scan, Alone}
 use Rattle.outline.specs.declared.shape.Outline.{Outline, Serial, Team, If, For, Block}
 use Rattle.outline.specs.declared.shape.OutlineItem.{OutlineItem, Plain, Statement}
-use Rattle.outline.specs.Fit.{AllFit, HeadFits, TeamFits}
+use Rattle.outline.specs.Fit.{AllFit, HeadFits, ScanFits, WayFits, TeamFits}
 use Rattle.outline.specs.Given.{IsRound, ArePrivateLocals, IsGiven}
-use Rattle.outline.specs.Handed.{IsOfText, AreOfText, IsHanded, roles_of}
+use Rattle.outline.specs.Handed.{IsOfText, AreOfText, phases_told, IsBodyCode, IsLowered, IsFirstHanded, IsWay, IsHanded, roles_of}
 use Rattle.pragma.specs.Plain.{has_line}
 use Rattle.outline.specs.Made.{line_of, loop_with, IsInside, run_behind, items_behind, SharesBehind, ItemShares, IsMade, IsMadeItem, AreMade}
 use Rattle.outline.specs.View.{roles_in, performed, item_performed, items_performed}
 use Rattle.outline.proofs.Assigned.{among_left}
 use Rattle.outline.proofs.Blocks.{block_performed, block_fits}
+use Rattle.outline.proofs.Phased.{first_performs}
 use Rattle.outline.proofs.Whole.{whole}
 
 -- ---- nests
@@ -111,11 +119,19 @@ heads_of box (h ∷ hs) [] r s = absurd r
 heads_of box (h ∷ hs) (l ∷ ls) r s =
     (record { scope = s.0.scope; order = s.0.order; tokens = s.0.tokens; small = s.0.small; reads = s.0.reads; is = r.0; other = r.1 }, heads_of box hs ls r.2 s.1)
 
+-- a nest has one body
+same_nest : (n : ℕ) (s : Stmt) (p q : List Loop × Stmt) → nest_of n s ≡ Some p → nest_of n s ≡ Some q → p ≡ q
+same_nest n s p q one two = same_Some p q (sym one ∙ two)
+
+-- a line's phases are said once
+same_phases : (o : Option PhasesSaid) (p q : PhasesSaid) → o ≡ Some p → o ≡ Some q → p ≡ q
+same_phases o p q one two = same_Some p q (sym one ∙ two)
+
 -- one of a list
 pub of_all : {A : Type 0} (P : A → Type 0) (xs : List A) (x : A) → All P xs → Contains xs x → P x
 of_all P xs x all c = subst P c.2 (all c.0 x c.1)
 
-module _ (layout : List Laid) (mark : ℕ) (loops : List ParallelLoop) where
+module _ (layout : List Laid) (mark : ℕ) (loops : Loops) where
   -- ---- code alone
 
   pub serial_made : (box : List Side) (code : Compiled) (s : Bor statements.Stmt) → has_line (stmt_of s.now) ≡ false → (AreLocals layout mark (declared_in (stmt_of s.now)) → Performs layout mark (run (stmt_of s.now)) code)
@@ -139,16 +155,67 @@ module _ (layout : List Laid) (mark : ℕ) (loops : List ParallelLoop) where
       reduces : (roles_of roles).reductions ≡ (left_roles (R line)).reductions
       reduces = ap (λ rs. rs ++ filter takes_operands (reduced roles.carried.items)) e.reductions ∙ ap (λ (cs : List (Variable × ReduceOp)). (R line).roles.reductions ++ filter takes_operands cs) e.carried
 
+  body_performs : (n : ℕ) (s : Stmt) (loops : List Loop) (body : Stmt) (code : Compiled) → nest_of n s ≡ Some (loops, body) → IsBodyCode layout mark n s code → AreLocals layout mark (declared_in body) → Performs layout mark (run body) code
+  body_performs n s loops body code nest h =
+      subst (λ (p : List Loop × Stmt). AreLocals layout mark (declared_in p.1) → Performs layout mark (run p.1) code) (same_nest n s (h.is.0, h.body) (loops, body) h.is.1 nest) h.performs
+
+  body_locals : (n : ℕ) (s : Stmt) (loops : List Loop) (body : Stmt) → nest_of n s ≡ Some (loops, body) → AreLocals layout mark (declared_in s) → AreLocals layout mark (map (λ q. q.variable) loops ++ declared_in body)
+  body_locals n s loops body nest all = subst (AreLocals layout mark) (nest_locals n s loops body nest) all
+
+  -- a nest inside serial loops, lowered with code that does what this statement does
+  lowered_from : (box : List Side) (serial : List Loop) (roles : Roles) (n : ℕ) (s : Stmt) (kept : LoopRoles) (l : LoweredLoop) → IsLowered layout mark box n s kept l → IsRound mark serial box → HasStepsRead n s → AreLocals layout mark (declared_in s)
+      → AreRolesAt layout mark roles l.roles → (loops : List Loop) (body statement : Stmt) → nest_of n s ≡ Some (loops, body) → Performs layout mark (run statement) l.body → IsLoweredFrom layout mark box roles loops statement l
+  lowered_from box serial roles n s kept l h round steps all at loops body statement nest performs = record {
+    around = λ x is. h.around x (round x is).0 is;
+    heads = heads_of box loops l.loops.items (subst (λ (p : List Loop × Stmt). AreRectangular box p.0 l.loops.items) (same_nest n s (h.loops, h.body) (loops, body) h.nest nest) h.heads) (steps loops body nest);
+    own = locals_left layout mark (map (λ q. q.variable) loops) (declared_in body) (body_locals n s loops body nest all);
+    body = performs;
+    roles_at = at;
+  }
+
+  -- what the first pass of a scan runs, and the whole
+  module _ (box : List Side) (serial : List Loop) (roles : Roles) (ds : List Tree.Declaration) (d : LoopData) (said : Option PhasesSaid) (n : ℕ) (s : Stmt) (kept : LoopRoles) where
+    scan_fits : (nested : SharesAsNest ds d said serial n s) (phases : LinePhases) (line : ℕ) (first second : LoweredLoop) → said ≡ phases line → reduced kept.carried.items ≡ d.carried → IsRound mark serial box → AreLocals layout mark (declared_in s)
+        → ((ls : LoweredRoles) → AreRolesAt layout mark (used_roles s (roles_of kept)) ls → AreRolesAt layout mark roles ls) → IsLowered layout mark box n s kept second → IsBodyCode layout mark n s second.body
+        → IsFirstHanded layout mark box phases line n s kept first → ScanFits layout mark box roles ds d said serial n s nested first second
+    scan_fits nested phases line first second same carried round all at lowered body w =
+        let c = w.carries in
+        let sole = sym carried ∙ c.sole in
+        let its = nested.scans c.variable c.operator sole c.takes c.assigned in
+        let whole = whole_of its.front its.back in
+        let told = same_phases said (w.inclusive, w.count) (its.inclusive, item_count its.front) (same ∙ w.told) its.told in
+        let body_is = ap (λ (p : List Loop × Stmt). p.1) (same_nest n s (w.input.1.0, w.input.0) (its.loops, whole) w.input.1.1 its.nest) in
+        let part = w.input.2 its.front its.back body_is (sym (ap (λ (p : PhasesSaid). p.1) told)) in
+        let there = part ∙ ap (λ (p : PhasesSaid). input_of p.0 its.front its.back) told in
+        let locals = locals_right layout mark (map (λ q. q.variable) its.loops) (declared_in whole) (body_locals n s its.loops whole its.nest all) in
+        record {
+          variable = c.variable;
+          operator = c.operator;
+          sole = sole;
+          takes = c.takes;
+          assigned = c.assigned;
+          first = lowered_from box serial roles n s kept first w.lowered round nested.steps all (at first.roles w.lowered.roles) its.loops whole (first_of its.inclusive its.front its.back) its.nest
+              (first_performs layout mark its.inclusive its.front its.back w.part first.body there w.code locals);
+          second = lowered_from box serial roles n s kept second lowered round nested.steps all (at second.roles lowered.roles) its.loops whole whole its.nest (body_performs n s its.loops whole second.body its.nest body locals);
+        }
+
+    way_fits : (nested : SharesAsNest ds d said serial n s) (phases : LinePhases) (line : ℕ) (way : Way) (second : LoweredLoop) → said ≡ phases line → reduced kept.carried.items ≡ d.carried → IsRound mark serial box → AreLocals layout mark (declared_in s)
+        → ((ls : LoweredRoles) → AreRolesAt layout mark (used_roles s (roles_of kept)) ls → AreRolesAt layout mark roles ls) → IsLowered layout mark box n s kept second → IsBodyCode layout mark n s second.body
+        → IsWay layout mark box phases line n s kept way → WayFits layout mark box roles ds d said serial n s nested second way
+    way_fits nested phases line Chunks second same carried round all at lowered body w = sym carried ∙ w
+    way_fits nested phases line (Scan first) second same carried round all at lowered body w = scan_fits nested phases line first second same carried round all at lowered body w
+    way_fits nested phases line Alone second same carried round all at lowered body w = tt
+
   pub team_made : (box : List Side) (line : Place) (s : Stmt) (l : TeamLoop) → IsHanded layout mark box loops line s l → IsMade layout mark loops box (Some line) s (Team l)
   team_made box line s l h = record {
     performs = λ R serial. ap (λ a. handed (used_roles a (left_roles (R l.line))) serial a) h.statement ∙ ap (λ m. handed (used_roles s (left_roles (R m))) serial s) h.at;
     fits = λ text ds R P serial given shares all. team_fits text ds R P serial given shares all;
   }
     where
-      team_fits : (text : List ℕ) (ds : List Tree.Declaration) (R : LineData) (P : LinePhases) (serial : List Loop) → IsGiven (length layout) mark text R loops serial box → SharesBehind text ds R P serial (Some line) s → AreLocals layout mark (declared_in s)
+      team_fits : (text : List ℕ) (ds : List Tree.Declaration) (R : LineData) (P : LinePhases) (serial : List Loop) → IsGiven (length layout) mark text R P loops serial box → SharesBehind text ds R P serial (Some line) s → AreLocals layout mark (declared_in s)
           → TeamFits layout mark R serial l
       team_fits text ds R P serial given (k, c, reads, share) all =
-          let own = of_all (IsOfText text R) loops h.parallel given.table h.stands.0 in
+          let own = of_all (IsOfText text R) loops.parallel.now h.parallel given.table h.stands.0 in
           let here = subst (λ (p : Place). ReadsLoop (line_at text p.line) (scheduled h.parallel.directive) h.parallel.directive.collapse) h.stands.1 own.reads in
           let kept = subst (λ (p : Place). AreRolesOf (R p.line) h.parallel.roles) h.stands.1 own.roles in
           let same = (read_once (line_at text line.line) (scheduled h.parallel.directive) h.parallel.directive.collapse k c here reads).1 in
@@ -157,30 +224,30 @@ module _ (layout : List Laid) (mark : ℕ) (loops : List ParallelLoop) where
           let deep : SharesAsNest ds (R line.line) (P line.line) serial l.depth s = subst (λ d. SharesAsNest ds (R line.line) (P line.line) serial d s) depth share in
           let nested : SharesAsNest ds (R l.line) (P line.line) serial l.depth s = subst (λ m. SharesAsNest ds (R m) (P line.line) serial l.depth s) (sym h.at) deep in
           let n = h.lowered in
-          let parts = nest_locals l.depth s n.loops n.body n.nest in
-          let both = subst (AreLocals layout mark) parts all in
+          let now : SharesAsNest ds (R l.line) (P line.line) serial l.depth (stmt_of l.statement.now) = subst (λ a. SharesAsNest ds (R l.line) (P line.line) serial l.depth a) (sym h.statement) nested in
+          let at : (ls : LoweredRoles) → AreRolesAt layout mark (used_roles s (roles_of h.parallel.roles)) ls → AreRolesAt layout mark (roles_in R l) ls =
+          λ ls stand. subst (λ rs. AreRolesAt layout mark rs ls) roles (roles_by_line h.parallel.roles R line.line s ls kept stand) in
           record {
             loops = n.loops;
             body = n.body;
             nest = subst (λ a. nest_of l.depth a ≡ Some (n.loops, n.body)) (sym h.statement) n.nest;
             box = box;
             known = λ x is. (given.round x is).1;
-            lowered = record {
-              around = λ x is. n.around x (given.round x is).0 is;
-              heads = heads_of box n.loops l.lowered.loops.items n.heads (nested.steps n.loops n.body n.nest);
-              own = locals_left layout mark (map (λ q. q.variable) n.loops) (declared_in n.body) both;
-              body = n.code (locals_right layout mark (map (λ q. q.variable) n.loops) (declared_in n.body) both);
-              roles_at = subst (λ rs. AreRolesAt layout mark rs l.lowered.roles) roles (roles_by_line h.parallel.roles R line.line s l.lowered.roles kept n.roles);
-            };
+            lowered = lowered_from box serial (roles_in R l) l.depth s h.parallel.roles l.lowered n given.round nested.steps all (at l.lowered.roles n.roles) n.loops n.body n.body n.nest
+                (body_performs l.depth s n.loops n.body l.lowered.body n.nest h.body (locals_right layout mark (map (λ q. q.variable) n.loops) (declared_in n.body) (body_locals l.depth s n.loops n.body n.nest all)));
             locals = subst (λ a. AreLocals layout mark (declared_in a)) (sym h.statement) all;
             code = subst (λ a. Performs layout mark (run a) l.code) (sym h.statement) (h.code all);
             privates = λ x e.
                 let f = is_among (targets_outside (stmt_of l.statement.now)) in
                 given.privates l.line x (second_of (f x) (is_among (R l.line).roles.privates x) (sym (among_left f (R l.line).roles.privates x) ∙ e));
             declarations = ds;
-            carries = λ none. ap (λ m. (R m).carried) h.at ∙ sym kept.carried ∙ h.carries none;
             said = P line.line;
-            nested = subst (λ a. SharesAsNest ds (R l.line) (P line.line) serial l.depth a) (sym h.statement) nested;
+            nested = now;
+            way = way_fits box serial (roles_in R l) ds (R l.line) (P line.line) l.depth (stmt_of l.statement.now) h.parallel.roles now (phases_told loops) line.line l.way l.lowered (λ i. given.phases i line.line)
+                (kept.carried ∙ ap (λ m. (R m).carried) (sym h.at)) given.round (subst (λ a. AreLocals layout mark (declared_in a)) (sym h.statement) all)
+                (subst (λ a. (ls : LoweredRoles) → AreRolesAt layout mark (used_roles a (roles_of h.parallel.roles)) ls → AreRolesAt layout mark (roles_in R l) ls) (sym h.statement) at)
+                (subst (λ a. IsLowered layout mark box l.depth a h.parallel.roles l.lowered) (sym h.statement) n) (subst (λ a. IsBodyCode layout mark l.depth a l.lowered.body) (sym h.statement) h.body)
+                (subst (λ a. IsWay layout mark box (phases_told loops) line.line l.depth a h.parallel.roles l.way) (sym h.statement) h.way);
           }
 
   -- ---- a serial loop
@@ -205,7 +272,7 @@ module _ (layout : List Laid) (mark : ℕ) (loops : List ParallelLoop) where
         (turns greatest_trip_count (λ t. holds t (cond_of head.now.test)) (made.performs R (serial ++ head_of head.now ∷ []) i) (λ t. incremented t (increment_of head.now.step)));
     fits = λ text ds R P serial given shares all. (
       head_fits (all.0, tt),
-      made.fits text ds R P (serial ++ head_of head.now ∷ []) (record { round = inside_round box within head.now serial is all.0.1 given.round; table = given.table; privates = given.privates }) shares all.1,
+      made.fits text ds R P (serial ++ head_of head.now ∷ []) (record { round = inside_round box within head.now serial is all.0.1 given.round; table = given.table; phases = given.phases; privates = given.privates }) shares all.1,
     );
   }
 
@@ -327,7 +394,7 @@ module _ (layout : List Laid) (mark : ℕ) (loops : List ParallelLoop) where
       (subst (AreLocals layout mark) (sym (append-nil xs)) (locals_left layout mark xs (declared_among rest) all), locals_right layout mark xs (declared_among rest) all)
 
   items_fitted : (box : List Side) (d : Option Place) (is : List Item) (os : List OutlineItem) → AreMade layout mark loops box d is os → (text : List ℕ) (ds : List Tree.Declaration) (R : LineData) (P : LinePhases) (serial : List Loop)
-      → IsGiven (length layout) mark text R loops serial box → ShareFrom text ds R P serial d (items_of is)
+      → IsGiven (length layout) mark text R P loops serial box → ShareFrom text ds R P serial d (items_of is)
       → AreLocals layout mark (declared_among (items_of is)) → AllFit layout mark R serial os
   items_fitted box d [] [] h text ds R P serial given share all = tt
   items_fitted box d [] (o ∷ os) h text ds R P serial given share all = absurd h
@@ -345,6 +412,6 @@ module _ (layout : List Laid) (mark : ℕ) (loops : List ParallelLoop) where
 
   -- ---- a body
 
-  pub body_fits : (items : List Item) (os : List OutlineItem) → AreMade layout mark loops [] None items os → (text : List ℕ) (ds : List Tree.Declaration) (R : LineData) (P : LinePhases) → ArePrivateLocals (length layout) R → AreOfText text R loops
+  pub body_fits : (items : List Item) (os : List OutlineItem) → AreMade layout mark loops [] None items os → (text : List ℕ) (ds : List Tree.Declaration) (R : LineData) (P : LinePhases) → ArePrivateLocals (length layout) R → AreOfText text R loops.parallel.now → P ≡ phases_told loops
       → ItemsHaveBy text (SharesBy ds R P) [] (items_of items) → AreLocals layout mark (declared_among (items_of items)) → AllFit layout mark R [] os
-  body_fits items os h text ds R P privates table share all = items_fitted [] None items os h text ds R P [] (record { round = λ x is. absurd cc; table = table; privates = privates }) share all
+  body_fits items os h text ds R P privates table phases share all = items_fitted [] None items os h text ds R P [] (record { round = λ x is. absurd cc; table = table; phases = phases; privates = privates }) share all

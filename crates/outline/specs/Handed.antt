@@ -1,10 +1,11 @@
 -- Which statements are handed to a team, and as what. (OpenMP 5.2, 4.4.3 and 11.5)
-use Rattle.std.specs.Prelude.{ℕ, ◌≡◌, ◌<◌, true, false, List, [], ◌++◌, map, filter, not, All, Contains, Some}
-use Rattle.semantics.specs.Tree.{Variable, Stmt}
+use Rattle.std.specs.Prelude.{ℕ, Bool, ◌≡◌, ◌<◌, true, List, [], ◌∷◌, ◌++◌, map, filter, not, All, Contains, Some}
+use Rattle.semantics.specs.Tree.{Variable, Stmt, Items}
 use Rattle.semantics.specs.Source.Text.{line_at}
-use Rattle.semantics.specs.Meaning.Runs.{run}
-use Rattle.semantics.specs.Meaning.Agrees.{declared_in}
+use Rattle.semantics.specs.Meaning.Runs.{run, run_items}
+use Rattle.semantics.specs.Meaning.Agrees.{is_among, declared_in, declared_among}
 use Rattle.semantics.specs.Loops.Nest.{Loop, nest_of}
+use Rattle.semantics.specs.Loops.Operator.{ReduceOp}
 use Rattle.semantics.specs.Loops.Piece.{Roles}
 use Rattle.ktree.specs.declared.place.Place.{Place}
 use Rattle.ktree.specs.declared.place.VarId.{VarId}
@@ -16,10 +17,15 @@ use Rattle.pragma.specs.Parallel.{associated}
 use Rattle.pragma.specs.Views.{scheduled}
 use Rattle.nest.specs.Perfect.{AreRectangular}
 use Rattle.flow_reduction.specs.Reduced.{reduced}
+use Rattle.flow.specs.Phases.{LinePhases, item_count}
 use Rattle.flow.specs.Roles.{LineData, takes_operands}
 use Rattle.flow.specs.Parallel.{numbers, AreRolesOf}
 use Rattle.flow.specs.declared.environment.LoopRoles.{LoopRoles}
 use Rattle.flow.specs.declared.environment.ParallelLoop.{ParallelLoop}
+use Rattle.flow_scan.specs.Views.{scan_part, phases_at}
+use Rattle.law_commute.specs.Targets.{targets_outside}
+use Rattle.law_scans.specs.Phases.{input_of}
+use Rattle.law_scans.specs.Scanning.{whole_of}
 use Rattle.law_independence.specs.OrderLaws.{used_roles}
 use Rattle.lower_code.specs.declared.term.Laid.{Laid}
 use Rattle.lower_code.specs.Meaning.{AreLocals}
@@ -27,7 +33,10 @@ use Rattle.lower_block.specs.declared.op.Compiled.{Compiled}
 use Rattle.lower_run.specs.Walk.{Performs}
 use Rattle.lower.specs.Roles.{AreRolesAt}
 use Rattle.lower.specs.declared.lowered.LoweredLoop.{LoweredLoop}
+use Rattle.outline.specs.declared.handing.Loops.{Loops}
 use Rattle.outline.specs.declared.shape.TeamLoop.{TeamLoop}
+use Rattle.outline.specs.declared.shape.Way.{Way}
+use Rattle.outline.specs.declared.shape.Way.TheVariants.{Chunks, Scan, Alone}
 
 -- one of these loops, which stands behind the directive line at this place
 abbrev pub StandsAt : List ParallelLoop → Place → ParallelLoop → Type 0
@@ -45,6 +54,10 @@ pub record IsOfText (text : List ℕ) (R : LineData) (l : ParallelLoop) : Type 0
 -- so it is of each of some loops
 abbrev pub AreOfText : List ℕ → LineData → List ParallelLoop → Type 0
 AreOfText text R loops = All (IsOfText text R) loops
+
+-- the phases of the loops of scans that are told
+abbrev pub phases_told : Loops → LinePhases
+phases_told loops = phases_at (map scan_part loops.scans.now)
 
 -- the locals among the variables of a box stand in a list
 abbrev pub ListsLocals : ℕ → List Side → List VarId → Type 0
@@ -71,24 +84,61 @@ roles_of l =
       reductions = reduced l.reductions.items ++ filter takes_operands (reduced l.carried.items);
     }
 
--- a lowered loop is this nest inside the loops of a box: its loops in their canonical form, its body as code, and where those of its variables stand that it assigns from outside and that leave something behind it
+-- of a body with so many items in front of its `scan` line, this is what stands in its input phase (OpenMP 5.2, 5.6)
+abbrev pub IsInputOf : Bool → ℕ → Stmt → Items → Type 0
+IsInputOf inclusive count body part = (front back : Items) → body ≡ whole_of front back → item_count front ≡ count → part ≡ input_of inclusive front back
+
+-- so of the body of so many loops
+abbrev pub IsInputIn : Bool → ℕ → ℕ → Stmt → Items → Type 0
+IsInputIn inclusive count n s part = (body : Stmt) × IsBodyOf n s body × IsInputOf inclusive count body part
+
+-- code does what these items do
+abbrev pub AreItemsCode : List Laid → ℕ → Items → Compiled → Type 0
+AreItemsCode layout mark part code = AreLocals layout mark (declared_among part) → Performs layout mark (run_items part) code
+
+-- one variable is carried, by an operator that takes its operands, and the loop assigns it from outside
+pub record CarriesOne (carried : List (Variable × ReduceOp)) (s : Stmt) : Type 0 where
+  pub variable : Variable
+  pub operator : ReduceOp
+  pub sole : carried ≡ (variable, operator) ∷ []
+  pub takes : takes_operands (variable, operator) ≡ true
+  pub assigned : is_among (targets_outside s) variable ≡ true
+
+-- a lowered loop is this nest inside the loops of a box: its loops in their canonical form, and where those of its variables stand that it assigns from outside and that leave something behind it
 pub record IsLowered (layout : List Laid) (mark : ℕ) (box : List Side) (n : ℕ) (s : Stmt) (kept : LoopRoles) (l : LoweredLoop) : Type 0 where
   pub loops : List Loop
   pub body : Stmt
   pub nest : nest_of n s ≡ Some (loops, body)
   pub around : ListsLocals mark box l.around.items
   pub heads : AreRectangular box loops l.loops.items
-  pub code : AreLocals layout mark (declared_in body) → Performs layout mark (run body) l.body
   pub roles : AreRolesAt layout mark (used_roles s (roles_of kept)) l.roles
 
--- a statement behind the directive line at this place is handed over, as many loops of it as that line associates, with its schedule (OpenMP 5.2, 11.5.3) and whether it carries anything from one iteration to the next (OpenMP 5.2, 5.6), and with code of the whole
-pub record IsHanded (layout : List Laid) (mark : ℕ) (box : List Side) (loops : List ParallelLoop) (line : Place) (s : Stmt) (l : TeamLoop) : Type 0 where
+-- what the first pass of a scan runs is lowered from the same nest, with its input phase in place of its body (OpenMP 5.2, 5.6)
+pub record IsFirstHanded (layout : List Laid) (mark : ℕ) (box : List Side) (phases : LinePhases) (line n : ℕ) (s : Stmt) (kept : LoopRoles) (first : LoweredLoop) : Type 0 where
+  pub carries : CarriesOne (reduced kept.carried.items) s
+  pub inclusive : Bool
+  pub count : ℕ
+  pub told : phases line ≡ Some (inclusive, count)
+  pub part : Items
+  pub input : IsInputIn inclusive count n s part
+  pub lowered : IsLowered layout mark box n s kept first
+  pub code : AreItemsCode layout mark part first.body
+
+-- the way in which a loop may be run
+abbrev pub IsWay : List Laid → ℕ → List Side → LinePhases → ℕ → ℕ → Stmt → LoopRoles → Way → Type 0
+IsWay layout mark box phases line n s kept Chunks = reduced kept.carried.items ≡ []
+IsWay layout mark box phases line n s kept (Scan first) = IsFirstHanded layout mark box phases line n s kept first
+IsWay layout mark box phases line n s kept Alone = Unit {0}
+
+-- a statement behind the directive line at this place is handed over, as many loops of it as that line associates, with its schedule (OpenMP 5.2, 11.5.3) and the way in which it may be run, and with code of its body and of the whole
+pub record IsHanded (layout : List Laid) (mark : ℕ) (box : List Side) (loops : Loops) (line : Place) (s : Stmt) (l : TeamLoop) : Type 0 where
   pub parallel : ParallelLoop
-  pub stands : StandsAt loops line parallel
+  pub stands : StandsAt loops.parallel.now line parallel
   pub statement : stmt_of l.statement.now ≡ s
   pub at : l.line ≡ line.line
   pub depth : l.depth ≡ associated parallel.directive.collapse
   pub schedule : l.lowered.schedule ≡ parallel.directive.schedule
-  pub carries : l.carries ≡ false → reduced parallel.roles.carried.items ≡ []
+  pub way : IsWay layout mark box (phases_told loops) line.line l.depth s parallel.roles l.way
   pub lowered : IsLowered layout mark box l.depth s parallel.roles l.lowered
+  pub body : IsBodyCode layout mark l.depth s l.lowered.body
   pub code : AreLocals layout mark (declared_in s) → Performs layout mark (run s) l.code

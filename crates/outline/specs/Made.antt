@@ -19,12 +19,12 @@ use Rattle.pragma.specs.Clauses.{ReadsLoop}
 use Rattle.pragma.specs.Parallel.{associated}
 use Rattle.flow.specs.Phases.{LinePhases}
 use Rattle.flow.specs.Roles.{left_roles, LineData, LoopsHaveBy}
-use Rattle.flow.specs.declared.environment.ParallelLoop.{ParallelLoop}
 use Rattle.law_independence.specs.OrderLaws.{SharesBy}
 use Rattle.law_independence.specs.OrderLaws.{used_roles}
 use Rattle.law_apart.specs.Apart.{handed, apart, apart_items, apart_behind}
 use Rattle.lower_code.specs.declared.term.Laid.{Laid}
 use Rattle.lower_code.specs.Meaning.{AreLocals}
+use Rattle.outline.specs.declared.handing.Loops.{Loops}
 use Rattle.outline.specs.declared.shape.Outline.{Outline}
 use Rattle.outline.specs.declared.shape.OutlineItem.{OutlineItem}
 use Rattle.outline.specs.Given.{IsGiven}
@@ -65,17 +65,17 @@ ItemShares text ds R P serial d (Local l) = Unit {0}
 ItemShares text ds R P serial d (Statement' p s) = SharesBehind text ds R P serial d (stmt_of s)
 
 -- an outline does what its statement does behind such a line or behind none, and its code fits where the statement is one of an accepted kernel
-pub record IsMade (layout : List Laid) (mark : ℕ) (loops : List ParallelLoop) (box : List Side) (d : Option Place) (a : Stmt) (o : Outline) : Type 0 where
+pub record IsMade (layout : List Laid) (mark : ℕ) (loops : Loops) (box : List Side) (d : Option Place) (a : Stmt) (o : Outline) : Type 0 where
   pub performs : (R : LineData) (serial : List Loop) → performed R serial o ≡ run_behind R d serial a
-  pub fits : (text : List ℕ) (ds : List Tree.Declaration) (R : LineData) (P : LinePhases) (serial : List Loop) → IsGiven (length layout) mark text R loops serial box → SharesBehind text ds R P serial d a → AreLocals layout mark (declared_in a) → Fits layout mark R serial o
+  pub fits : (text : List ℕ) (ds : List Tree.Declaration) (R : LineData) (P : LinePhases) (serial : List Loop) → IsGiven (length layout) mark text R P loops serial box → SharesBehind text ds R P serial d a → AreLocals layout mark (declared_in a) → Fits layout mark R serial o
 
 -- one of an item does what the item does before others
-pub record IsMadeItem (layout : List Laid) (mark : ℕ) (loops : List ParallelLoop) (box : List Side) (d : Option Place) (item : Item) (o : OutlineItem) : Type 0 where
+pub record IsMadeItem (layout : List Laid) (mark : ℕ) (loops : Loops) (box : List Side) (d : Option Place) (item : Item) (o : OutlineItem) : Type 0 where
   pub performs : (R : LineData) (serial : List Loop) (rest : Tree.Items) → items_behind R d serial (with_item item rest) ≡ (λ s. then_from s (item_performed R serial o s) (items_behind R (line_of item) serial rest))
-  pub fits : (text : List ℕ) (ds : List Tree.Declaration) (R : LineData) (P : LinePhases) (serial : List Loop) → IsGiven (length layout) mark text R loops serial box → ItemShares text ds R P serial d item → AreLocals layout mark (declared_among (with_item item Tree.no_items)) → ItemFits layout mark R serial o
+  pub fits : (text : List ℕ) (ds : List Tree.Declaration) (R : LineData) (P : LinePhases) (serial : List Loop) → IsGiven (length layout) mark text R P loops serial box → ItemShares text ds R P serial d item → AreLocals layout mark (declared_among (with_item item Tree.no_items)) → ItemFits layout mark R serial o
 
 -- those of items, the first of which stands behind such a line or behind none
-abbrev pub AreMade : List Laid → ℕ → List ParallelLoop → List Side → Option Place → List Item → List OutlineItem → Type 0
+abbrev pub AreMade : List Laid → ℕ → Loops → List Side → Option Place → List Item → List OutlineItem → Type 0
 AreMade layout mark loops box d [] [] = Unit {0}
 AreMade layout mark loops box d [] (o ∷ os) = ⊥
 AreMade layout mark loops box d (i ∷ is) [] = ⊥

@@ -4,7 +4,7 @@ ghost use Rattle.std.specs.Prelude.{◌≡◌, ◌≤◌, [], ◌∷◌, IfOk, I
 ghost use Rattle.semantics.specs.Tree.{no_items};
 ghost use Rattle.semantics.specs.Meaning.Runs.{run, run_items};
 ghost use Rattle.semantics.specs.Meaning.Agrees.{declared_in, declared_among};
-ghost use Rattle.ktree.specs.View.{stmt_of, cond_of, with_item};
+ghost use Rattle.ktree.specs.View.{stmt_of, items_of, cond_of, with_item};
 ghost use Rattle.ktree.specs.declared.refusal.Refusal.TheVariants.{OutOfMemory};
 ghost use Rattle.lower_code.specs.Meaning.{MeansTest};
 ghost use Rattle.lower_block.specs.Emission.{Compiles};
@@ -14,7 +14,10 @@ ghost use Rattle.lower_run.specs.Walk.{Performs};
 use crate::shape::LoweredHead;
 use ktree::{Cond, Head, Item, Refusal, Stmt};
 use lower_block::{Compiled, compile};
-use lower_code::{Code, Laid, Test, entry, increment, item as code_of_item, statement, test};
+use lower_code::{
+    Code, Laid, Test, entry, increment, item as code_of_item, items as code_of_items, statement,
+    test,
+};
 use std::alloc::Global;
 
 /// What code is made for: where the file-scope variables lie among the cells, and how many registers the locals have.
@@ -63,6 +66,23 @@ pub(crate) fn compile_item(
     ensures refusal { IfErr result (λ refusal. refusal ≡ OutOfMemory) }
 {
     let code = code_of_item(alloc, item, target.layout)?;
+    compile_code(alloc, code, target.registers)
+}
+
+// The code of a block's items.
+pub(crate) fn compile_items(
+    alloc: Global,
+    items: &[Item],
+    target: Target<'_>,
+) -> Result<Compiled, Refusal>
+    ensures ok { IfOk result
+        (λ c. WithLocals target.entry.layout.now target.entry.registers
+        (declared_among (items_of items.now))
+        (Performs target.entry.layout.now target.entry.registers
+        (run_items (items_of items.now)) c)) }
+    ensures refusal { IfErr result (λ refusal. refusal ≡ OutOfMemory) }
+{
+    let code = code_of_items(alloc, items, target.layout)?;
     compile_code(alloc, code, target.registers)
 }
 

@@ -3,21 +3,30 @@
 ghost use Rattle.flow_reduction.specs.Reduced.{reduced};
 ghost use Rattle.std.specs.Prelude.{◌≡◌, false, [], IfOk, IfErr, IfSome, MatchOption};
 ghost use Rattle.nest.specs.Perfect.{NestHas, AreRectangular};
-ghost use Rattle.ktree.specs.View.{stmt_of};
+ghost use Rattle.ktree.specs.View.{stmt_of, items_of};
 ghost use Rattle.ktree.specs.declared.refusal.Refusal.TheVariants.{OutOfMemory};
-ghost use Rattle.outline.specs.Handed.{StandsAt, NoneStandsAt, ListsLocals, IsBodyOf, IsBodyCode, IsLowered, IsHanded};
+ghost use Rattle.outline.specs.Handed.{StandsAt, NoneStandsAt, ListsLocals, IsBodyOf, IsBodyCode, AreItemsCode, IsLowered, IsInputIn, IsWay, IsHanded, phases_told};
 
-use crate::compiling::{Target, compile_statement};
-use crate::shape::TeamLoop;
+use crate::compiling::{Target, compile_items, compile_statement};
+use crate::scanning::{carries_one, input_among, scan_at};
+use crate::shape::{TeamLoop, Way};
 use crate::spots::lower_roles;
 use affine::VarBox;
 use flow::{LoopRoles, ParallelLoop};
-use ktree::{Place, Refusal, Stmt, VarId};
+use flow_scan::ScanLoop;
+use ktree::{Item, Place, Refusal, Stmt, VarId};
 use lower::LoweredLoop;
 use lower_block::Compiled;
 use nest::{Nest, as_loop};
 use nest_loop::Canonical;
 use std::alloc::{AllocError, Global};
+
+/// What is kept of a text's directive lines: its parallel loops, and those of its scans.
+#[derive(Clone, Copy)]
+pub struct Loops<'l> {
+    pub parallel: &'l [ParallelLoop],
+    pub scans: &'l [ScanLoop],
+}
 
 // The parallel loop behind the directive line at this place.
 fn loop_at(loops: &[ParallelLoop], directive: Place) -> Option<&ParallelLoop>
@@ -107,8 +116,38 @@ fn compile_body(
     }
 }
 
-// What the nest of a parallel loop is lowered to, inside the loops of a box.
+// What the nest of a parallel loop is lowered to, inside the loops of a box, with this code for its body.
 fn lower(
+    alloc: Global,
+    body: Compiled,
+    depth: u64,
+    stmt: &Stmt,
+    parallel: &ParallelLoop,
+    target: Target<'_>,
+    bounds: &VarBox,
+) -> Result<LoweredLoop, Refusal>
+    ensures lowered { IfOk result
+        (IsLowered target.entry.layout.now target.entry.registers bounds.now depth
+        (stmt_of stmt.now) parallel.now.roles) }
+    ensures body { IfOk result (λ l. l.body ≡ body) }
+    ensures schedule { IfOk result (λ l. l.schedule ≡ parallel.now.directive.schedule) }
+    ensures refusal { IfErr result (λ refusal. refusal ≡ OutOfMemory) }
+{
+    let schedule = parallel.directive.schedule;
+    let loops = canonical_loops(alloc, depth, stmt, bounds, parallel.line)?;
+    let around = variables_round(alloc, bounds, target)?;
+    let roles = lower_roles(alloc, &parallel.roles, stmt, target)?;
+    Ok(LoweredLoop {
+        around,
+        loops,
+        body,
+        schedule,
+        roles,
+    })
+}
+
+// The same with the code of its own body.
+fn lower_whole(
     alloc: Global,
     depth: u64,
     stmt: &Stmt,
@@ -119,21 +158,34 @@ fn lower(
     ensures lowered { IfOk result
         (IsLowered target.entry.layout.now target.entry.registers bounds.now depth
         (stmt_of stmt.now) parallel.now.roles) }
+    ensures body { IfOk result (λ l. IsBodyCode target.entry.layout.now target.entry.registers depth
+        (stmt_of stmt.now) l.body) }
     ensures schedule { IfOk result (λ l. l.schedule ≡ parallel.now.directive.schedule) }
     ensures refusal { IfErr result (λ refusal. refusal ≡ OutOfMemory) }
 {
-    let schedule = parallel.directive.schedule;
-    let loops = canonical_loops(alloc, depth, stmt, bounds, parallel.line)?;
     let body = compile_body(alloc, depth, stmt, target)?;
-    let around = variables_round(alloc, bounds, target)?;
-    let roles = lower_roles(alloc, &parallel.roles, stmt, target)?;
-    Ok(LoweredLoop {
-        around,
-        loops,
-        body,
-        schedule,
-        roles,
-    })
+    lower(alloc, body, depth, stmt, parallel, target, bounds)
+}
+
+// The same with the code of these items in place of its body.
+fn lower_part(
+    alloc: Global,
+    part: &[Item],
+    depth: u64,
+    stmt: &Stmt,
+    parallel: &ParallelLoop,
+    target: Target<'_>,
+    bounds: &VarBox,
+) -> Result<LoweredLoop, Refusal>
+    ensures lowered { IfOk result
+        (IsLowered target.entry.layout.now target.entry.registers bounds.now depth
+        (stmt_of stmt.now) parallel.now.roles) }
+    ensures body { IfOk result (λ l. AreItemsCode target.entry.layout.now target.entry.registers
+        (items_of part.now) l.body) }
+    ensures refusal { IfErr result (λ refusal. refusal ≡ OutOfMemory) }
+{
+    let body = compile_items(alloc, part, target)?;
+    lower(alloc, body, depth, stmt, parallel, target, bounds)
 }
 
 // Whether a loop carries a variable from one iteration to the next (OpenMP 5.2, 5.6).
@@ -146,6 +198,46 @@ fn carries(kept: &LoopRoles) -> bool
     }
 }
 
+// The items in the input phase of a nest's body; None where that is no block without directive lines, with so many items in front.
+fn input_of<'s>(depth: u64, stmt: &'s Stmt, scan: &ScanLoop) -> Option<&'s [Item]>
+    ensures { IfSome result (λ part. IsInputIn scan.now.inclusive scan.now.front depth (stmt_of stmt.now)
+        (items_of part.now)) }
+{
+    let body = body_of(depth, stmt)?;
+    input_among(body, scan)
+}
+
+// The way in which the nest of a parallel loop may be run.
+fn way_of(
+    alloc: Global,
+    loops: Loops<'_>,
+    parallel: &ParallelLoop,
+    depth: u64,
+    stmt: &Stmt,
+    target: Target<'_>,
+    bounds: &VarBox,
+) -> Result<Way, Refusal>
+    ensures way { IfOk result
+        (IsWay target.entry.layout.now target.entry.registers bounds.now (phases_told loops.entry)
+        parallel.now.line.line depth (stmt_of stmt.now) parallel.now.roles) }
+    ensures refusal { IfErr result (λ refusal. refusal ≡ OutOfMemory) }
+{
+    if !carries(&parallel.roles) {
+        return Ok(Way::Chunks);
+    }
+    if !carries_one(&parallel.roles, stmt) {
+        return Ok(Way::Alone);
+    }
+    let Some(scan) = scan_at(loops.scans, parallel.line.line) else {
+        return Ok(Way::Alone);
+    };
+    let Some(part) = input_of(depth, stmt, scan) else {
+        return Ok(Way::Alone);
+    };
+    let first = lower_part(alloc, part, depth, stmt, parallel, target, bounds)?;
+    Ok(Way::Scan(first))
+}
+
 // The loop that a team runs for the statement behind the directive line at this place, inside the loops of a box.
 //
 // # Errors
@@ -154,29 +246,29 @@ fn carries(kept: &LoopRoles) -> bool
 // own among these, and for a variable with a role that is no scalar: a kernel that is accepted has no such one.
 pub(crate) fn loop_for_team<'k>(
     alloc: Global,
-    loops: &[ParallelLoop],
+    loops: Loops<'_>,
     directive: Place,
     stmt: &'k Stmt,
     target: Target<'_>,
     bounds: &VarBox,
 ) -> Result<TeamLoop<'k>, Refusal>
     ensures handed { IfOk result
-        (IsHanded target.entry.layout.now target.entry.registers bounds.now loops.now directive
+        (IsHanded target.entry.layout.now target.entry.registers bounds.now loops.entry directive
         (stmt_of stmt.now)) }
     ensures refusal { IfErr result (λ refusal. refusal ≡ OutOfMemory) }
 {
-    let Some(parallel) = loop_at(loops, directive) else {
+    let Some(parallel) = loop_at(loops.parallel, directive) else {
         return Err(Refusal::OutOfMemory);
     };
     let depth = parallel.directive.associated_loops();
-    let carries = carries(&parallel.roles);
     let code = compile_statement(alloc, stmt, target)?;
-    let lowered = lower(alloc, depth, stmt, parallel, target, bounds)?;
+    let lowered = lower_whole(alloc, depth, stmt, parallel, target, bounds)?;
+    let way = way_of(alloc, loops, parallel, depth, stmt, target, bounds)?;
     Ok(TeamLoop {
         statement: stmt,
         line: directive.line,
         depth,
-        carries,
+        way,
         lowered,
         code,
     })

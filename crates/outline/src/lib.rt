@@ -5,10 +5,12 @@ mod compiling;
 mod handing;
 mod lines;
 mod making;
+mod scanning;
 mod shape;
 mod spots;
 mod targets;
 
 pub use compiling::Target;
+pub use handing::Loops;
 pub use making::outline;
-pub use shape::{LoweredHead, Outline, OutlineItem, TeamLoop};
+pub use shape::{LoweredHead, Outline, OutlineItem, TeamLoop, Way};

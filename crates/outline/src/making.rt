@@ -6,25 +6,24 @@ ghost use Rattle.semantics.specs.Meaning.Agrees.{declared_among};
 ghost use Rattle.ktree.specs.View.{stmt_of, items_of, cond_of, if_of};
 ghost use Rattle.ktree.specs.declared.refusal.Refusal.TheVariants.{OutOfMemory};
 ghost use Rattle.affine.specs.declared.interval.Side.{Side};
-ghost use Rattle.flow.specs.declared.environment.ParallelLoop.{ParallelLoop};
+ghost use Rattle.outline.specs.declared.handing.Loops.{Loops};
 ghost use Rattle.semantics.specs.Tree.{Declaration};
 ghost use Rattle.flow.specs.Phases.{LinePhases};
 ghost use Rattle.flow.specs.Roles.{LineData, ItemsHaveBy};
 ghost use Rattle.law_independence.specs.OrderLaws.{SharesBy};
 ghost use Rattle.law_apart.specs.Apart.{apart_items};
 ghost use Rattle.outline.specs.Given.{ArePrivateLocals};
-ghost use Rattle.outline.specs.Handed.{AreOfText};
+ghost use Rattle.outline.specs.Handed.{AreOfText, phases_told};
 ghost use Rattle.pragma.specs.Plain.{has_line};
 ghost use Rattle.outline.specs.Made.{line_of, loop_with, IsInside, IsMade, IsMadeItem, AreMade};
 ghost use Rattle.outline.specs.Fit.{AllFit, WithLocals};
 ghost use Rattle.outline.specs.View.{items_performed};
 
 use crate::compiling::{Target, compile_item, compile_statement, compile_test, lower_head};
-use crate::handing::loop_for_team;
+use crate::handing::{Loops, loop_for_team};
 use crate::lines::has_line;
 use crate::shape::{Outline, OutlineItem};
 use affine::VarBox;
-use flow::ParallelLoop;
 use ktree::{Cond, Head, Item, Place, Refusal, Stmt};
 use nest_loop::enter;
 use std::alloc::Global;
@@ -44,16 +43,16 @@ fn directive_place(item: &Item) -> Option<Place>
 fn outline_serial<'k>(
     alloc: Global,
     stmt: &'k Stmt,
-    loops: &[ParallelLoop],
+    loops: Loops<'_>,
     target: Target<'_>,
     bounds: &VarBox,
 ) -> Result<Box<Outline<'k>>, Refusal>
     requires { has_line (stmt_of stmt.now) ≡ false }
-    ensures made { IfOk result (λ o. IsMade target.entry.layout.now target.entry.registers loops.now
+    ensures made { IfOk result (λ o. IsMade target.entry.layout.now target.entry.registers loops.entry
         bounds.now None (stmt_of stmt.now) o.value) }
     ensures refusal { IfErr result (λ refusal. refusal ≡ OutOfMemory) }
 {
-    let _places = (loops.len(), bounds.len());
+    let _places = (loops.parallel.len(), bounds.len());
     let code = compile_statement(alloc, stmt, target)?;
     Ok(Box::new(alloc, Outline::Serial(code, stmt))?)
 }
@@ -76,7 +75,7 @@ fn one_armed<'k>(
     then: Box<Outline<'k>>,
     target: Target<'_>,
 ) -> Result<Box<Outline<'k>>, Refusal>
-    ensures made { (loops : List ParallelLoop) (box : List Side) (a : tree.Stmt)
+    ensures made { (loops : Loops) (box : List Side) (a : tree.Stmt)
         → IsMade target.entry.layout.now target.entry.registers loops box None a then.entry.value
         → IfOk result (λ o. IsMade target.entry.layout.now target.entry.registers loops box None
         (if_of (cond_of cond.now) a None) o.value) }
@@ -94,7 +93,7 @@ fn two_armed<'k>(
     other: Box<Outline<'k>>,
     target: Target<'_>,
 ) -> Result<Box<Outline<'k>>, Refusal>
-    ensures made { (loops : List ParallelLoop) (box : List Side) (a b : tree.Stmt)
+    ensures made { (loops : Loops) (box : List Side) (a b : tree.Stmt)
         → IsMade target.entry.layout.now target.entry.registers loops box None a then.entry.value
         → IsMade target.entry.layout.now target.entry.registers loops box None b other.entry.value
         → IfOk result (λ o. IsMade target.entry.layout.now target.entry.registers loops box None
@@ -112,7 +111,7 @@ fn serial_loop<'k>(
     inner: Box<Outline<'k>>,
     target: Target<'_>,
 ) -> Result<Box<Outline<'k>>, Refusal>
-    ensures made { (loops : List ParallelLoop) (box within : List Side) (a : tree.Stmt)
+    ensures made { (loops : Loops) (box within : List Side) (a : tree.Stmt)
         → IsInside head.now box within
         → IsMade target.entry.layout.now target.entry.registers loops within None a
         inner.entry.value
@@ -129,11 +128,11 @@ fn serial_loop<'k>(
 fn outline_inside<'k>(
     alloc: Global,
     stmt: &'k Stmt,
-    loops: &[ParallelLoop],
+    loops: Loops<'_>,
     target: Target<'_>,
     bounds: &mut VarBox,
 ) -> Result<Box<Outline<'k>>, Refusal>
-    ensures made { IfOk result (λ o. IsMade target.entry.layout.now target.entry.registers loops.now
+    ensures made { IfOk result (λ o. IsMade target.entry.layout.now target.entry.registers loops.entry
         bounds.old None (stmt_of stmt.now) o.value) }
     ensures back { OnOk result (bounds.new ≡ bounds.old) }
     ensures refusal { IfErr result (λ refusal. refusal ≡ OutOfMemory) }
@@ -175,11 +174,11 @@ fn outline_behind<'k>(
     alloc: Global,
     stmt: &'k Stmt,
     directive: Option<Place>,
-    loops: &[ParallelLoop],
+    loops: Loops<'_>,
     target: Target<'_>,
     bounds: &mut VarBox,
 ) -> Result<Box<Outline<'k>>, Refusal>
-    ensures made { IfOk result (λ o. IsMade target.entry.layout.now target.entry.registers loops.now
+    ensures made { IfOk result (λ o. IsMade target.entry.layout.now target.entry.registers loops.entry
         bounds.old directive (stmt_of stmt.now) o.value) }
     ensures back { OnOk result (bounds.new ≡ bounds.old) }
     ensures refusal { IfErr result (λ refusal. refusal ≡ OutOfMemory) }
@@ -199,12 +198,12 @@ fn outline_item<'k>(
     alloc: Global,
     item: &'k Item,
     directive: Option<Place>,
-    loops: &[ParallelLoop],
+    loops: Loops<'_>,
     target: Target<'_>,
     bounds: &mut VarBox,
 ) -> Result<OutlineItem<'k>, Refusal>
     ensures made { IfOk result (λ o. IsMadeItem target.entry.layout.now target.entry.registers
-        loops.now bounds.old directive item.now o) }
+        loops.entry bounds.old directive item.now o) }
     ensures back { OnOk result (bounds.new ≡ bounds.old) }
     ensures refusal { IfErr result (λ refusal. refusal ≡ OutOfMemory) }
 {
@@ -221,12 +220,12 @@ fn outline_item<'k>(
 fn outline_items<'k>(
     alloc: Global,
     items: &'k [Item],
-    loops: &[ParallelLoop],
+    loops: Loops<'_>,
     target: Target<'_>,
     bounds: &mut VarBox,
 ) -> Result<Vec<OutlineItem<'k>>, Refusal>
     ensures made { IfOk result (λ os. AreMade target.entry.layout.now target.entry.registers
-        loops.now bounds.old None items.now os.items) }
+        loops.entry bounds.old None items.now os.items) }
     ensures back { OnOk result (bounds.new ≡ bounds.old) }
     ensures refusal { IfErr result (λ refusal. refusal ≡ OutOfMemory) }
 {
@@ -251,14 +250,15 @@ fn outline_items<'k>(
 pub fn outline<'k>(
     alloc: Global,
     items: &'k [Item],
-    loops: &[ParallelLoop],
+    loops: Loops<'_>,
     target: Target<'_>,
 ) -> Result<Vec<OutlineItem<'k>>, Refusal>
     ensures is { IfOk result (λ os. (R : LineData)
         → items_performed R [] os.items ≡ apart_items R [] (items_of items.now)) }
     ensures fits { IfOk result
         (λ os. (text : List ℕ) (ds : List Declaration) (R : LineData) (P : LinePhases)
-        → ArePrivateLocals (length target.entry.layout.now) R → AreOfText text R loops.now
+        → ArePrivateLocals (length target.entry.layout.now) R → AreOfText text R loops.entry.parallel.now
+        → P ≡ phases_told loops.entry
         → ItemsHaveBy text (SharesBy ds R P) [] (items_of items.now)
         → WithLocals target.entry.layout.now target.entry.registers
         (declared_among (items_of items.now))

@@ -5,15 +5,25 @@ use lower::LoweredLoop;
 use lower_block::Compiled;
 use lower_code::Test;
 
+/// How a team may run a loop.
+#[derive(Drop)]
+pub enum Way {
+    /// In chunks: nothing is carried from one iteration to the next.
+    Chunks,
+    /// In chunks, in two passes (OpenMP 5.2, 5.6): this is what the first pass runs.
+    Scan(LoweredLoop),
+    /// By one worker alone.
+    Alone,
+}
+
 /// A loop that a team runs: the statement, the number of the directive line before it, how many loops of it are associated
-/// (OpenMP 5.2, 4.4.3), whether it carries a variable from one iteration to the next (OpenMP 5.2, 5.6), what it is lowered to, and the
-/// code of the whole statement for a team of one thread.
+/// (OpenMP 5.2, 4.4.3), how it may be run, what it is lowered to, and the code of the whole statement for a team of one thread.
 #[derive(Drop)]
 pub struct TeamLoop<'k> {
     pub statement: &'k Stmt,
     pub line: u32,
     pub depth: u64,
-    pub carries: bool,
+    pub way: Way,
     pub lowered: LoweredLoop,
     pub code: Compiled,
 }

@@ -129,7 +129,7 @@ fn lower_lasts(
 }
 
 // Whether an operator takes each operand: neither && nor || does (C11 6.5.13 and 6.5.14).
-fn takes_operands(reduction: Reduction) -> bool
+pub(crate) fn takes_operands(reduction: Reduction) -> bool
     ensures { result ≡ takes_operands (reduction_of reduction) }
 {
     match reduction.operator {

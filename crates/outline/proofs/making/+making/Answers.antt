@@ -12,40 +12,40 @@ pub outline_behind-returns-in_ok-new-in-Some-clause-made : goal.outline_behind-r
 outline_behind-returns-in_ok-new-in-Some-clause-made t c =
     let layout = c.args.target.layout.now in
     let mark = c.args.target.registers in
-    let made = team_made layout mark c.args.loops.now c.args.bounds.now c.in-Some.place (stmt_of c.args.stmt.now) c.in_ok-construct-in-Some.construct c.in_ok-construct-in-Some.ensures.handed in
-    subst (λ d. IsMade layout mark c.args.loops.now c.args.bounds.now d (stmt_of c.args.stmt.now) c.in_ok-new-in-Some.field-0.value) (sym c.in-Some.is)
-    (subst (IsMade layout mark c.args.loops.now c.args.bounds.now (Some c.in-Some.place) (stmt_of c.args.stmt.now)) (sym c.in_ok-new-in-Some.ensures.ok) made)
+    let made = team_made layout mark c.args.loops c.args.bounds.now c.in-Some.place (stmt_of c.args.stmt.now) c.in_ok-construct-in-Some.construct c.in_ok-construct-in-Some.ensures.handed in
+    subst (λ d. IsMade layout mark c.args.loops c.args.bounds.now d (stmt_of c.args.stmt.now) c.in_ok-new-in-Some.field-0.value) (sym c.in-Some.is)
+    (subst (IsMade layout mark c.args.loops c.args.bounds.now (Some c.in-Some.place) (stmt_of c.args.stmt.now)) (sym c.in_ok-new-in-Some.ensures.ok) made)
 
 pub outline_inside-returns-in_ok-inner-in-For-clause-made : goal.outline_inside-returns-in_ok-inner-in-For-clause-made
 outline_inside-returns-in_ok-inner-in-For-clause-made t c =
     let layout = c.args.target.layout.now in
     let mark = c.args.target.registers in
     let made = rw c.deref-in-For-2.ensures at c.in_ok-inner-in-For.ensures.made in
-    rw c.in-For.is (c.serial_loop.ensures.made c.args.loops.now c.args.bounds.now c.go_into.new.bounds (stmt_of c.in-For.body.value) (c.in_ok-go_into-in-For.ensures.ok) made)
+    rw c.in-For.is (c.serial_loop.ensures.made c.args.loops c.args.bounds.now c.go_into.new.bounds (stmt_of c.in-For.body.value) (c.in_ok-go_into-in-For.ensures.ok) made)
 
 pub outline_inside-returns-in_ok-new-in-Block-clause-made : goal.outline_inside-returns-in_ok-new-in-Block-clause-made
 outline_inside-returns-in_ok-new-in-Block-clause-made t c =
     let layout = c.args.target.layout.now in
     let mark = c.args.target.registers in
-    let made = block_made layout mark c.args.loops.now c.args.bounds.now c.deref-in-Block.result.now c.in_ok-outlines-in-Block.outlines c.in_ok-outlines-in-Block.ensures.made in
+    let made = block_made layout mark c.args.loops c.args.bounds.now c.deref-in-Block.result.now c.in_ok-outlines-in-Block.outlines c.in_ok-outlines-in-Block.ensures.made in
     let same = ap (λ is. Tree.Block (items_of is)) c.deref-in-Block.ensures.value ∙ sym (block_items c.in-Block.items) ∙ sym (ap stmt_of c.in-Block.is) in
-    subst (λ a. IsMade layout mark c.args.loops.now c.args.bounds.now None a c.in_ok-new-in-Block.field-0.value) same
-    (subst (IsMade layout mark c.args.loops.now c.args.bounds.now None (Tree.Block (items_of c.deref-in-Block.result.now))) (sym c.in_ok-new-in-Block.ensures.ok) made)
+    subst (λ a. IsMade layout mark c.args.loops c.args.bounds.now None a c.in_ok-new-in-Block.field-0.value) same
+    (subst (IsMade layout mark c.args.loops c.args.bounds.now None (Tree.Block (items_of c.deref-in-Block.result.now))) (sym c.in_ok-new-in-Block.ensures.ok) made)
 
 pub outline_items-loop-item-init : goal.outline_items-loop-item-init
-outline_items-loop-item-init t c = (none_so_far c.args.target.layout.now c.args.target.registers c.args.loops.now c.args.bounds.now c.args.items.now c.in_ok-outlines.outlines.items c.in_ok-outlines.ensures.items, refl)
+outline_items-loop-item-init t c = (none_so_far c.args.target.layout.now c.args.target.registers c.args.loops c.args.bounds.now c.args.items.now c.in_ok-outlines.outlines.items c.in_ok-outlines.ensures.items, refl)
 
 pub outline_items-loop-item-preserved : goal.outline_items-loop-item-preserved
 outline_items-loop-item-preserved t c =
     let layout = c.args.target.layout.now in
     let mark = c.args.target.registers in
-    let made = subst (λ b. IsMadeItem layout mark c.args.loops.now b c.loop-item.directive c.item-item.result c.in_ok-outline.outline) c.loop-item.invariant.1 c.in_ok-outline.ensures.made in
-    let next = next_so_far layout mark c.args.loops.now c.args.bounds.now c.args.items.now c.loop-item.item-index c.loop-item.outlines.items c.loop-item.directive c.directive_place-directive.result c.item-item.result c.in_ok-outline.outline c.loop-item-test.true c.item-item.is c.loop-item.invariant.0 made c.directive_place-directive.ensures in
-    (subst (λ os. SoFar layout mark c.args.loops.now c.args.bounds.now c.args.items.now (c.loop-item.item-index + 1) os c.directive_place-directive.result) (sym c.in_ok-push.ensures.items) next, c.in_ok-outline.ensures.back ∙ c.loop-item.invariant.1)
+    let made = subst (λ b. IsMadeItem layout mark c.args.loops b c.loop-item.directive c.item-item.result c.in_ok-outline.outline) c.loop-item.invariant.1 c.in_ok-outline.ensures.made in
+    let next = next_so_far layout mark c.args.loops c.args.bounds.now c.args.items.now c.loop-item.item-index c.loop-item.outlines.items c.loop-item.directive c.directive_place-directive.result c.item-item.result c.in_ok-outline.outline c.loop-item-test.true c.item-item.is c.loop-item.invariant.0 made c.directive_place-directive.ensures in
+    (subst (λ os. SoFar layout mark c.args.loops c.args.bounds.now c.args.items.now (c.loop-item.item-index + 1) os c.directive_place-directive.result) (sym c.in_ok-push.ensures.items) next, c.in_ok-outline.ensures.back ∙ c.loop-item.invariant.1)
 
 pub outline_items-returns-clause-made : goal.outline_items-returns-clause-made
 outline_items-returns-clause-made t c =
-    all_so_far c.args.target.layout.now c.args.target.registers c.args.loops.now c.args.bounds.now c.args.items.now c.loop-item.item-index c.loop-item.outlines.items c.loop-item.directive c.loop-item-test.false c.loop-item.invariant.0
+    all_so_far c.args.target.layout.now c.args.target.registers c.args.loops c.args.bounds.now c.args.items.now c.loop-item.item-index c.loop-item.outlines.items c.loop-item.directive c.loop-item-test.false c.loop-item.invariant.0
 
 pub outline_items-returns-clause-back : goal.outline_items-returns-clause-back
 outline_items-returns-clause-back t c = c.loop-item.invariant.1
@@ -55,5 +55,5 @@ outline_item-returns-clause-made t c =
     let layout = c.args.target.layout.now in
     let mark = c.args.target.registers in
     let made = rw c.deref.ensures at c.in_ok-inner.ensures.made in
-    subst (λ i. IsMadeItem layout mark c.args.loops.now c.args.bounds.now c.args.directive i (Statement c.in_ok-inner.inner)) (sym c.in-Statement.is)
-    (statement_made layout mark c.args.loops.now c.args.bounds.now c.args.directive _ c.in-Statement.stmt.value c.in_ok-inner.inner made)
+    subst (λ i. IsMadeItem layout mark c.args.loops c.args.bounds.now c.args.directive i (Statement c.in_ok-inner.inner)) (sym c.in-Statement.is)
+    (statement_made layout mark c.args.loops c.args.bounds.now c.args.directive _ c.in-Statement.stmt.value c.in_ok-inner.inner made)

@@ -9,7 +9,7 @@ use Rattle.flow.specs.Roles.{LineData, ItemsHaveBy}
 use Rattle.law_independence.specs.OrderLaws.{SharesBy}
 use Rattle.law_apart.specs.Apart.{apart_items}
 use Rattle.outline.specs.Given.{ArePrivateLocals}
-use Rattle.outline.specs.Handed.{AreOfText}
+use Rattle.outline.specs.Handed.{AreOfText, phases_told}
 use Rattle.outline.specs.Fit.{AllFit, WithLocals}
 use Rattle.outline.specs.Made.{AreMade}
 use Rattle.outline.specs.View.{items_performed}
@@ -20,7 +20,7 @@ pub returns-clause-is : goal.returns-clause-is
 returns-clause-is c =
     let layout = c.args.target.layout.now in
     let mark = c.args.target.registers in
-    let loops = c.args.loops.now in
+    let loops = c.args.loops in
     let items = c.args.items.now in
     let made = subst (λ b. IfOk c.outline_items.result (λ os. AreMade layout mark loops b None items os.items)) c.new-bounds.ensures c.outline_items.ensures.made in
     IfOk-weaker c.outline_items.result (λ os. AreMade layout mark loops [] None items os.items) (λ os. (R : LineData) → items_performed R [] os.items ≡ apart_items R [] (items_of items)) (λ os h R. items_perform layout mark loops [] None items os.items h R []) made
@@ -29,10 +29,10 @@ pub returns-clause-fits : goal.returns-clause-fits
 returns-clause-fits c =
     let layout = c.args.target.layout.now in
     let mark = c.args.target.registers in
-    let loops = c.args.loops.now in
+    let loops = c.args.loops in
     let items = c.args.items.now in
     let made = subst (λ b. IfOk c.outline_items.result (λ os. AreMade layout mark loops b None items os.items)) c.new-bounds.ensures c.outline_items.ensures.made in
     IfOk-weaker c.outline_items.result (λ os. AreMade layout mark loops [] None items os.items)
-    (λ os. (text : List ℕ) (ds : List Declaration) (R : LineData) (P : LinePhases) → ArePrivateLocals (length layout) R → AreOfText text R loops → ItemsHaveBy text (SharesBy ds R P) [] (items_of items)
+    (λ os. (text : List ℕ) (ds : List Declaration) (R : LineData) (P : LinePhases) → ArePrivateLocals (length layout) R → AreOfText text R loops.parallel.now → P ≡ phases_told loops → ItemsHaveBy text (SharesBy ds R P) [] (items_of items)
     → WithLocals layout mark (declared_among (items_of items)) (AllFit layout mark R [] os.items))
     (λ os h. body_fits layout mark loops items os.items h) made

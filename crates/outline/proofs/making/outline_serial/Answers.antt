@@ -9,4 +9,4 @@ pub returns-clause-made : goal.returns-clause-made
 returns-clause-made c =
     let layout = c.args.target.layout.now in
     let mark = c.args.target.registers in
-    subst (IsMade layout mark c.args.loops.now c.args.bounds.now None (stmt_of c.args.stmt.now)) (sym c.in_ok-new.ensures.ok) (serial_made layout mark c.args.loops.now c.args.bounds.now c.in_ok-code.code c.args.stmt c.requires c.in_ok-code.ensures.ok)
+    subst (IsMade layout mark c.args.loops c.args.bounds.now None (stmt_of c.args.stmt.now)) (sym c.in_ok-new.ensures.ok) (serial_made layout mark c.args.loops c.args.bounds.now c.in_ok-code.code c.args.stmt c.requires c.in_ok-code.ensures.ok)
