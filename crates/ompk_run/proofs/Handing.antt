@@ -35,7 +35,8 @@ use Rattle.lower.specs.Lowered.{IsReached}
 use Rattle.lower_run.specs.Walk.{StandFor, Arrives}
 use Rattle.flow.specs.Roles.{LineData}
 use Rattle.outline.specs.declared.shape.TeamLoop.{TeamLoop}
-use Rattle.outline.specs.Fit.{TeamFits}
+use Rattle.outline.specs.declared.shape.Way.TheVariants.{Chunks}
+use Rattle.outline.specs.Fit.{WayFits, TeamFits}
 use Rattle.outline.specs.View.{roles_in}
 use Rattle.team.specs.Together.{LeavesTogether, BeginsTogether}
 use Rattle.ompk_run.proofs.AtHand.{held, at_hand}
@@ -44,6 +45,11 @@ use Rattle.ompk_run.proofs.Behind.{still_outside, local_left, cell_left}
 use Rattle.ompk_run.proofs.Chunks.{cover}
 use Rattle.ompk_run.proofs.Leaving.{keep_numbers}
 use Rattle.ompk_run.proofs.Numbered.{declares}
+
+-- a loop that may be run in chunks carries nothing
+pub nothing_carried : (layout : List Laid) (mark : ℕ) (R : LineData) (serial : List Loop) (l : TeamLoop) (fits : TeamFits layout mark R serial l) → l.way ≡ Chunks → (R l.line).carried ≡ []
+nothing_carried layout mark R serial l fits e =
+    subst (λ w. WayFits layout mark fits.box (roles_in R l) fits.declarations (R l.line) fits.said serial l.depth (stmt_of l.statement.now) fits.nested l.lowered w) e fits.way
 
 module _ (layout : List Laid) (mark : ℕ) (s : State) (rs : List ℕ) (ks : List Kept) (stand : StandFor layout mark s rs ks) (R : LineData) (serial : List Loop) (l : TeamLoop) (fits : TeamFits layout mark R serial l) (plain : (R l.line).carried ≡ []) where
   abbrev roles : Roles

@@ -61,17 +61,17 @@ privates_there : (a : Program) (layout : List Laid) (is : IsAccepted a) → shap
 privates_there a layout is shapes line x h = subst (λ n. n ≤ x) (sym (as_many layout (tree_of a).variables shapes)) (private_locals a.text (kernel_of a.kernel) is.passed line x h)
 
 -- their code fits, since its parallel loops may be shared out
-pub fitted : (a : Program) (items : List OutlineItem) (layout : List Laid) (mark : ℕ) (is : IsAccepted a) (body : List Item) (loops : List ParallelLoop) → body ≡ a.kernel.body.items → shapes_of layout ≡ shapes_in (tree_of a).variables
-    → AreOfText a.text (data_passed is.passed) loops
-    → ((text : List ℕ) (ds : List Declaration) (R : LineData) (P : LinePhases) → ArePrivateLocals (length layout) R → AreOfText text R loops → ItemsHaveBy text (SharesBy ds R P) [] (items_of body)
+pub fitted : (a : Program) (items : List OutlineItem) (layout : List Laid) (mark : ℕ) (is : IsAccepted a) (body : List Item) (loops : List ParallelLoop) (said : LinePhases) → body ≡ a.kernel.body.items → shapes_of layout ≡ shapes_in (tree_of a).variables
+    → AreOfText a.text (data_passed is.passed) loops → phases_passed is.passed ≡ said
+    → ((text : List ℕ) (ds : List Declaration) (R : LineData) (P : LinePhases) → ArePrivateLocals (length layout) R → AreOfText text R loops → P ≡ said → ItemsHaveBy text (SharesBy ds R P) [] (items_of body)
     → WithLocals layout mark (declared_among (items_of body)) (AllFit layout mark R [] items))
     → AreLocals layout mark (declared_among (items_of a.kernel.body.items)) → AllFit layout mark (data_passed is.passed) [] items
-fitted a items layout mark is body loops same shapes listed fits =
+fitted a items layout mark is body loops said same shapes listed told fits =
     let ds = (kernel_of a.kernel).variables in
     let R = data_passed is.passed in
     let P = phases_passed is.passed in
     subst (λ is. AreLocals layout mark (declared_among (items_of is)) → AllFit layout mark R [] items) same
-    (fits a.text ds R P (privates_there a layout is shapes) listed (subst (λ is. ItemsHaveBy a.text (SharesBy ds R P) [] (items_of is)) (sym same) (is.independent.share is.passed)))
+    (fits a.text ds R P (privates_there a layout is shapes) listed told (subst (λ is. ItemsHaveBy a.text (SharesBy ds R P) [] (items_of is)) (sym same) (is.independent.share is.passed)))
 
 pub prepared : (a : Program) (items : List OutlineItem) (registers : List ℕ) (ks : List Kept) (layout : List Laid) (mark : ℕ) (is : IsAccepted a)
     → items_performed (data_passed is.passed) [] items ≡ apart_items (data_passed is.passed) [] (items_of a.kernel.body.items) → IsLaid layout → shapes_of layout ≡ shapes_in (tree_of a).variables → HasLengths (tree_of a).variables ks

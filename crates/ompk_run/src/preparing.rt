@@ -10,7 +10,7 @@ use deptest::Checked;
 use ktree::Refusal;
 use lower_code::{layout_of, mark_among};
 use lower_run::zero_registers;
-use outline::{OutlineItem, Target, outline};
+use outline::{Loops, OutlineItem, Target, outline};
 use std::alloc::Global;
 use store::Store;
 
@@ -40,7 +40,12 @@ pub(crate) fn prepare<'k>(
         layout: layout.as_slice(),
         registers: mark,
     };
-    let outline = outline(alloc, body, checked.loops(), target)?;
+    let parallel = checked.parallel();
+    let loops = Loops {
+        parallel: parallel.loops.as_slice(),
+        scans: parallel.scans.as_slice(),
+    };
+    let outline = outline(alloc, body, loops, target)?;
     let registers = zero_registers(alloc, mark, store)?;
     Ok(Prepared { outline, registers })
 }

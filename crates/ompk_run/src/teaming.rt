@@ -1,6 +1,6 @@
 //! The loops that a team runs.
 
-ghost use Rattle.std.specs.Prelude.{◌≡◌, ℕ, ◌+◌, ◌<◌, ◌^◌, List, OnOk, IfErr, false};
+ghost use Rattle.std.specs.Prelude.{◌≡◌, ℕ, ◌+◌, ◌<◌, ◌^◌, List, OnOk, IfErr};
 ghost use Rattle.semantics.specs.Loops.Chunk.{IsSized};
 ghost use Rattle.semantics.specs.Loops.Nest.{Loop};
 ghost use Rattle.flow.specs.Roles.{LineData};
@@ -8,6 +8,7 @@ ghost use Rattle.schedule.specs.Sched.{kind_of, kind_said};
 ghost use Rattle.outline.specs.Fit.{Fits, ItemFits, AllFit};
 ghost use Rattle.outline.specs.View.{performed, item_performed, items_performed};
 ghost use Rattle.outline.specs.declared.shape.Outline.TheVariants.{Team};
+ghost use Rattle.outline.specs.declared.shape.Way.TheVariants.{Chunks};
 ghost use Rattle.seqrun_io.specs.Told.{Refuses};
 ghost use Rattle.seqrun.specs.Ran.{lengths_of};
 ghost use Rattle.store.specs.Flat.{values_of};
@@ -19,7 +20,7 @@ use crate::single::run_by_one;
 use ktree::{Refusal, Schedule, Workers};
 use lower_code::{Test, truth};
 use lower_run::{confirm_words, perform};
-use outline::{Outline, OutlineItem, TeamLoop};
+use outline::{Outline, OutlineItem, TeamLoop, Way};
 use schedule::{Sched, sched_of};
 use seqrun_io::Sink;
 use std::alloc::Global;
@@ -76,7 +77,7 @@ fn run_team_loop<'l, R: Threads + Wait + Sync, G: Gate, S: Sink>(
     store: &mut Store,
     sink: &mut S,
 ) -> Result<(), Refusal>
-    requires plain { construct.now.carries ≡ false }
+    requires chunks { construct.now.way ≡ Chunks }
     requires room { S.failed sink.old + 1 < 2 ^ 64 }
     ensures ran { OnOk result ((layout : List Laid) (mark : ℕ) (R : LineData) (serial : List Loop)
         → Fits layout mark R serial (Team construct.now)
@@ -109,8 +110,7 @@ fn run_team_loop<'l, R: Threads + Wait + Sync, G: Gate, S: Sink>(
     Ok(())
 }
 
-// Runs a parallel loop: where there is one worker, or something is carried from one iteration to the next, as any other statement, and
-// else by the team.
+// Runs a parallel loop: by the team in the way that it may be run, and as any other statement where there is one worker.
 fn run_parallel_loop<'l, R: Threads + Wait + Sync, G: Gate, S: Sink>(
     construct: &'l TeamLoop<'_>,
     team: &Teaming<'_, '_, '_, 'l, R, G>,
@@ -132,10 +132,13 @@ fn run_parallel_loop<'l, R: Threads + Wait + Sync, G: Gate, S: Sink>(
     ensures refusal { IfErr result (Refuses (S.failed sink.old) (S.failed sink.new)) }
     ensures shape { lengths_of store.new ≡ lengths_of store.old }
 {
-    if construct.carries || team.workers.get() == 1 {
+    if team.workers.get() == 1 {
         return run_by_one(team.alloc, construct, team.gate, registers, store, sink);
     }
-    run_team_loop(construct, team, registers, store, sink)
+    match &construct.way {
+        Way::Chunks => run_team_loop(construct, team, registers, store, sink),
+        _ => run_by_one(team.alloc, construct, team.gate, registers, store, sink),
+    }
 }
 
 // Runs a statement, each parallel loop in it by the team (C11 6.8; OpenMP 5.2, 11.5).

@@ -8,7 +8,7 @@ use Rattle.lower_code.specs.Machine.{Fits, machine}
 use Rattle.lower_code.proofs.Starting.{put_back}
 use Rattle.store.specs.Flat.{values_of}
 use Rattle.lower_run.specs.Walk.{Arrives}
-use Rattle.ompk_run.proofs.Handing.{loop_arrives, loop_begins}
+use Rattle.ompk_run.proofs.Handing.{nothing_carried, loop_arrives, loop_begins}
 use Rattle.ompk_run.proofs.teaming.run_team_loop.Goals as goal
 
 pub returns-clause-ran : goal.returns-clause-ran
@@ -27,7 +27,7 @@ returns-clause-ran g c layout mark R serial fits s stand some =
     let leaves = subst (λ r. LeavesTogether l.lowered r new ks ks' text text' kind c.args.team.now.workers) c.as_mut_slice.ensures.value c.in_ok-share_loop.ensures.leaves in
     let words : Fits (machine new (values_of ks')) = rw (c.as_slice.ensures.value ∙ back) at c.confirm_words.ensures.words in
     subst (λ rs. Arrives layout mark (handed (roles_in R l) serial (stmt_of l.statement.now) s) s rs ks' text text') (sym back)
-    (loop_arrives layout mark s old ks stand R serial l fits (fits.carries c.requires.plain) kind c.args.team.now.workers c.confirm_cut.ensures.sized c.confirm_cut.ensures.some text text' new ks' leaves c.share_loop.ensures.shape words c.confirm_words.ensures.room some)
+    (loop_arrives layout mark s old ks stand R serial l fits (nothing_carried layout mark R serial l fits c.requires.chunks) kind c.args.team.now.workers c.confirm_cut.ensures.sized c.confirm_cut.ensures.some text text' new ks' leaves c.share_loop.ensures.shape words c.confirm_words.ensures.room some)
 
 pub returns-clause-beginning : goal.returns-clause-beginning
 returns-clause-beginning g c layout mark R serial fits s stand some =
@@ -37,7 +37,7 @@ returns-clause-beginning g c layout mark R serial fits s stand some =
     let text = g.S.Sink.told c.args.sink.now in
     let text' = g.S.Sink.told c.share_loop.new.sink in
     let begins = subst (λ r. BeginsTogether l.lowered r ks text text' kind c.args.team.now.workers) c.as_mut_slice.ensures.value c.share_loop.ensures.beginning in
-    loop_begins layout mark s c.args.registers.now.items ks stand R serial l fits (fits.carries c.requires.plain) kind c.args.team.now.workers c.confirm_cut.ensures.sized c.confirm_cut.ensures.some text text' begins some
+    loop_begins layout mark s c.args.registers.now.items ks stand R serial l fits (nothing_carried layout mark R serial l fits c.requires.chunks) kind c.args.team.now.workers c.confirm_cut.ensures.sized c.confirm_cut.ensures.some text text' begins some
 
 pub returns-in_err-share_loop-clause-beginning : goal.returns-in_err-share_loop-clause-beginning
 returns-in_err-share_loop-clause-beginning g c layout mark R serial fits s stand some =
@@ -47,4 +47,4 @@ returns-in_err-share_loop-clause-beginning g c layout mark R serial fits s stand
     let text = g.S.Sink.told c.args.sink.now in
     let text' = g.S.Sink.told c.share_loop.new.sink in
     let begins = subst (λ r. BeginsTogether l.lowered r ks text text' kind c.args.team.now.workers) c.as_mut_slice.ensures.value c.share_loop.ensures.beginning in
-    loop_begins layout mark s c.args.registers.now.items ks stand R serial l fits (fits.carries c.requires.plain) kind c.args.team.now.workers c.confirm_cut.ensures.sized c.confirm_cut.ensures.some text text' begins some
+    loop_begins layout mark s c.args.registers.now.items ks stand R serial l fits (nothing_carried layout mark R serial l fits c.requires.chunks) kind c.args.team.now.workers c.confirm_cut.ensures.sized c.confirm_cut.ensures.some text text' begins some
