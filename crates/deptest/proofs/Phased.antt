@@ -1,5 +1,5 @@
 -- The phases of a kernel that has passed, line by line.
-use Rattle.std.specs.Prelude.{ℕ, suc, Bool, true, false, not, ◌≡◌, ◌⊎◌, ◌==◌, ◌&&◌, ◌||◌, ◌++◌, if◌then◌else◌, List, [], ◌∷◌, map, flat_map, filter, Option, Some, None, Contains, slice_get}
+use Rattle.std.specs.Prelude.{ℕ, suc, Bool, true, false, not, ◌≡◌, ◌⊎◌, ◌==◌, ◌++◌, if◌then◌else◌, List, [], ◌∷◌, map, flat_map, Some}
 use Rattle.std.specs.List.{list_all}
 use Rattle.std.proofs.Common.{refl, sym, ap, ◌∙◌, subst, inl, inr}
 use Rattle.std.proofs.lemmas.Bool.{true≢false, eqb-true, eq-eqb}
@@ -20,7 +20,7 @@ use Rattle.pragma_named.specs.Known.{Lines}
 use Rattle.flow.specs.Private.{all_but}
 use Rattle.flow.specs.Phases as said
 use Rattle.flow.specs.Phases.{item_count, PhasesBy}
-use Rattle.flow.specs.Roles.{LineData, line_data, AskedByLine, KeepsItsRoles, KeepsRolesThere, LoopsHaveBy, ItemsHaveBy, ItemsKeepRoles}
+use Rattle.flow.specs.Roles.{LineData, line_data, AskedByLine, KeepsRolesThere, LoopsHaveBy, ItemsHaveBy, ItemsKeepRoles}
 use Rattle.flow_scan.specs.Lines.{suits_scan, sole_of, scanned}
 use Rattle.flow_scan.specs.Parts.{count}
 use Rattle.flow_scan.specs.Scans.{ScanPart, scans_of}

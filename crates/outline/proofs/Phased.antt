@@ -1,19 +1,17 @@
 -- The input phases of scans, as they stand in the bodies of loops.
-use Rattle.std.specs.Prelude.{ℕ, zero, suc, Bool, true, false, ◌≡◌, ◌+◌, ◌<◌, ◌≤◌, ◌==◌, ◌||◌, if◌then◌else◌, List, [], ◌∷◌, ◌++◌, length, map, take, drop, Some, None}
+use Rattle.std.specs.Prelude.{ℕ, Bool, true, false, ◌≡◌, ◌||◌, if◌then◌else◌, List, [], ◌∷◌, ◌++◌, take, drop, None}
 use Rattle.std.proofs.Common.{refl, sym, ap, ◌∙◌, subst, append_assoc}
 use Rattle.std.proofs.lemmas.Bool.{true≢false}
-use Rattle.std.proofs.lemmas.Option.{same_Some}
 use Rattle.semantics.specs.Tree
 use Rattle.semantics.specs.Tree.{Variable, Stmt}
 use Rattle.semantics.specs.Meaning.Agrees.{declared_in, declared_among}
 use Rattle.semantics.specs.Meaning.Runs.{declared, run, run_items}
-use Rattle.semantics.specs.Loops.Nest.{Loop, nest_of}
-use Rattle.ktree.specs.View.{start_of, stmt_of, items_of}
+use Rattle.ktree.specs.View.{stmt_of, items_of}
 use Rattle.ktree.specs.declared.statement.Item.{Item, Directive, Local, Statement'}
 use Rattle.pragma.specs.Plain.{has_line, has_line_among}
 use Rattle.flow.specs.Phases.{item_count}
-use Rattle.law_scans.specs.Phases.{joined_items, bare, input_of, first_items}
-use Rattle.law_scans.specs.Scanning.{whole_of, first_of}
+use Rattle.law_scans.specs.Phases.{joined_items, bare, input_of}
+use Rattle.law_scans.specs.Scanning.{first_of}
 use Rattle.lower_code.specs.declared.term.Laid.{Laid}
 use Rattle.lower_code.specs.declared.term.Code.{Code, Nothing}
 use Rattle.lower_code.specs.Meaning.{AreLocals, Does}

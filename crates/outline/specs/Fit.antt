@@ -45,14 +45,14 @@ pub record HeadFits (layout : List Laid) (mark : ℕ) (h : Head) (l : LoweredHea
   pub step : StepPerforms layout mark h l.step
 
 -- a loop that carries one variable, by an operator that takes its operands, and assigns it is lowered twice, each time with its loops and roles: for what the first pass of a scan runs, and for the whole (OpenMP 5.2, 5.6)
-pub record ScanFits (layout : List Laid) (mark : ℕ) (box : List Side) (roles : Roles) (ds : List Declaration) (d : LoopData) (said : Option PhasesSaid) (serial : List Loop) (n : ℕ) (s : Stmt) (nested : SharesAsNest ds d said serial n s) (one two : LoweredLoop) : Type 0 where
+pub record ScanFits (layout : List Laid) (mark : ℕ) (box : List Side) (roles : Roles) (ds : List Declaration) (d : LoopData) (said : Option PhasesSaid) (serial : List Loop) (n : ℕ) (s : Stmt) (nested : SharesAsNest ds d said serial n s) (earlier later : LoweredLoop) : Type 0 where
   pub variable : Variable
   pub operator : ReduceOp
   pub sole : d.carried ≡ (variable, operator) ∷ []
   pub takes : takes_operands (variable, operator) ≡ true
   pub assigned : is_among (targets_outside s) variable ≡ true
-  pub first : let its = nested.scans variable operator sole takes assigned in IsLoweredFrom layout mark box roles its.loops (first_of its.inclusive its.front its.back) one
-  pub second : let its = nested.scans variable operator sole takes assigned in IsLoweredFrom layout mark box roles its.loops (whole_of its.front its.back) two
+  pub first : let its = nested.scans variable operator sole takes assigned in IsLoweredFrom layout mark box roles its.loops (first_of its.inclusive its.front its.back) earlier
+  pub second : let its = nested.scans variable operator sole takes assigned in IsLoweredFrom layout mark box roles its.loops (whole_of its.front its.back) later
 
 -- a loop may be run in the way that is said: in chunks where it carries nothing, and in two passes where it is lowered for them
 abbrev pub WayFits : List Laid → ℕ → List Side → Roles → (ds : List Declaration) (d : LoopData) (said : Option PhasesSaid) (serial : List Loop) (n : ℕ) (s : Stmt) → SharesAsNest ds d said serial n s → LoweredLoop → Way → Type 0
