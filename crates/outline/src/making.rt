@@ -240,8 +240,8 @@ fn outline_items<'k>(
 }
 
 /// The outline of a kernel's body: each loop behind a directive line is lowered for a team, whatever its form and its schedule, with those
-/// reduction and lastprivate variables of its line that it assigns from outside (OpenMP 5.2, 5.4.5 and 5.5.8); all else is compiled for one
-/// thread, over registers below that number for the locals.
+/// reduction and lastprivate variables of its line that it assigns from outside (OpenMP 5.2, 5.4.5 and 5.5.8), and that of a scan also for
+/// the first of its two passes (5.6); all else is compiled for one thread, over registers below that number for the locals.
 ///
 /// # Errors
 ///
