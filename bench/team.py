@@ -113,6 +113,19 @@ void kernel(void)
     }
 }
 """
+PREFIX = """uint64_t A[16000000];
+uint64_t s;
+
+void kernel(void)
+{
+    #pragma omp parallel for reduction(inscan, +: s)
+    for (uint64_t i = 0; i < 16000000; i++) {
+        s += i * 3 ^ 5;
+        #pragma omp scan inclusive(s)
+        A[i] = s;
+    }
+}
+"""
 
 
 def reduced(operator, update):
@@ -127,6 +140,7 @@ KERNELS = {
     "sum": reduced("+", "s += A[i] + i;"),
     "max": reduced("max", "if ((A[i] ^ i) > s) s = (A[i] ^ i);"),
     "xor": reduced("^", "s ^= A[i] + i;"),
+    "prefix": PREFIX,
 }
 COMPUTED = ("hash", "product")
 

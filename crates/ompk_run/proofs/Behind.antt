@@ -1,17 +1,14 @@
 -- What registers and cells hold behind a loop that a team ran.
-use Rattle.std.specs.Prelude.{ℕ, Bool, true, false, not, ◌≡◌, ◌<◌, ◌≤◌, List, [], ◌∷◌, length, nat_lt, Option, Some, None, slice_index}
-use Rattle.std.specs.List.{list_all}
-use Rattle.std.proofs.Common.{refl, sym, ap, ◌∙◌, inl, inr}
+use Rattle.std.specs.Prelude.{ℕ, Bool, true, false, not, ◌≡◌, ◌<◌, ◌≤◌, List, [], ◌∷◌, length, nat_lt, Option, Some, None, slice_index, ◌++◌, ◌^◌}
+use Rattle.std.proofs.Common.{refl, sym, ap, ◌∙◌, subst, inl, inr}
 use Rattle.std.proofs.lemmas.Bool.{true≢false, ltb-true, ltb-false}
 use Rattle.semantics.specs.Tree.{Variable, Stmt}
 use Rattle.semantics.specs.Meaning.Agrees.{is_among, declared_in, visible_behind}
 use Rattle.semantics.specs.Meaning.State.{State, Slot, Outside, Empty, Holds, look, look_in, is_there, overwritten}
 use Rattle.semantics.specs.Meaning.Runs.{Effect, run}
-use Rattle.semantics.specs.Loops.Nest.{Loop, Vector, nest_of}
 use Rattle.semantics.specs.Loops.Piece.{Roles, is_outside}
-use Rattle.law_roles.specs.Updates.{is_plain}
-use Rattle.law_roles.specs.Sharing.{assigned_first, role_variables, IsScalar, SharesFrom, changed_from}
-use Rattle.law_starts.specs.Begun.{told_apart, begun}
+use Rattle.law_roles.specs.Sharing.{role_variables, IsScalar}
+use Rattle.law_starts.specs.Begun.{told_apart}
 use Rattle.law_independence.specs.OrderLaws.{AreAtHand}
 use Rattle.law_scopes.proofs.Shared.{there_same}
 use Rattle.law_apart.specs.Apart.{left_slot, left_effect, LeavesApart}
@@ -21,10 +18,11 @@ use Rattle.store.specs.Kept.{Kept}
 use Rattle.store.specs.Flat.{values_of}
 use Rattle.lower_code.specs.declared.term.Laid.{Laid}
 use Rattle.lower_code.specs.Layout.{shapes_of, cell_at}
-use Rattle.lower_run.specs.Walk.{StandFor}
-use Rattle.team.specs.Together.{PutTogether}
+use Rattle.seqrun.specs.Ran.{lengths_of}
+use Rattle.lower_code.specs.Machine.{Fits, machine}
+use Rattle.lower_run.specs.Walk.{StandFor, Arrives}
 use Rattle.ompk_run.proofs.AtHand.{alone}
-use Rattle.ompk_run.proofs.Leaving.{none_told, role_told, IsTold, holds, stays, empty, told_scalar}
+use Rattle.ompk_run.proofs.Leaving.{role_told, IsTold, holds, stays, empty}
 use Rattle.ompk_run.proofs.Numbered.{no_cell}
 
 -- a name that is visible behind a statement is not declared in it
@@ -66,11 +64,15 @@ cell_told layout s after rs rs' ks ks' x lt out out' before (holds v q at) = sym
 cell_told layout s after rs rs' ks ks' x lt out out' before (stays q cell register) = sym (ap (λ l. look_in l after x []) out') ∙ q ∙ ap (λ l. look_in l s x []) out ∙ before ∙ sym cell
 cell_told layout s after rs rs' ks ks' x lt out out' before (empty e q) = absurd (true≢false (ap is_outside (sym out ∙ e)))
 
-module _ (layout : List Laid) (mark : ℕ) (s : State) (rs : List ℕ) (ks : List Kept) (stand : StandFor layout mark s rs ks) (rs' : List ℕ) (ks' : List Kept) (roles : Roles) (n : ℕ) (a : Stmt) (loops : List Loop) (body : Stmt)
-    (nest : nest_of n a ≡ Some (loops, body)) (seen : (x : Variable) → is_among (role_variables roles) x ≡ true → visible_behind a x ≡ true) (hand : AreAtHand roles a s)
-    (plain : list_all (is_plain roles.reductions) (assigned_first roles) ≡ true) (privates : (x : Variable) → is_among roles.privates x ≡ true → length layout ≤ x)
-    (chunks : List (List Vector)) (e : Effect) (ran : run a s ≡ Some e) (shares : SharesFrom (begun roles s) (changed_from (begun roles s)) roles a loops body chunks s e)
-    {text text' : List ℕ} (merged : PutTogether layout roles s (begun roles s) chunks shares.effects rs rs' ks ks' text text') where
+-- what is known of registers and cells behind it: each variable that is told apart is told, no other register has changed, and no object without a role is other than the loop leaves it
+pub record AreBehind (layout : List Laid) (s : State) (rs rs' : List ℕ) (ks ks' : List Kept) (roles : Roles) (e : Effect) : Type 0 where
+  pub told : (x : Variable) → is_among (told_apart roles) x ≡ true → IsTold layout s (overwritten s e.writes) rs rs' ks ks' x
+  pub others : (r : ℕ) → is_among (told_apart roles) r ≡ false → slice_index rs' r ≡ slice_index rs r
+  pub objects : (x : Variable) (is : List ℕ) → is_among (role_variables roles) x ≡ false → cell_at (shapes_of layout) (values_of ks') x is ≡ (overwritten s e.writes).cells x is
+
+module _ (layout : List Laid) (mark : ℕ) (s : State) (rs : List ℕ) (ks : List Kept) (stand : StandFor layout mark s rs ks) (rs' : List ℕ) (ks' : List Kept) (roles : Roles) (a : Stmt)
+    (seen : (x : Variable) → is_among (role_variables roles) x ≡ true → visible_behind a x ≡ true) (hand : AreAtHand roles a s) (privates : (x : Variable) → is_among roles.privates x ≡ true → length layout ≤ x)
+    (e : Effect) (ran : run a s ≡ Some e) (put : AreBehind layout s rs rs' ks ks' roles e) where
   abbrev after : State
   after = overwritten s e.writes
 
@@ -79,9 +81,6 @@ module _ (layout : List Laid) (mark : ℕ) (s : State) (rs : List ℕ) (ks : Lis
 
   law : LeavesApart (told_apart roles) s e
   law = left_apart (told_apart roles) s e
-
-  told : (x : Variable) → is_among (told_apart roles) x ≡ true → IsTold layout s after rs rs' ks ks' x
-  told x h = told_scalar layout s rs rs' ks ks' roles n a loops body nest seen hand plain chunks e shares merged x h
 
   -- a local that did not stand before the loop does not behind it
   pub still_outside : (x : Variable) → s.locals x ≡ Outside → left.locals x ≡ Outside
@@ -98,8 +97,8 @@ module _ (layout : List Laid) (mark : ℕ) (s : State) (rs : List ℕ) (ks : Lis
       inside out = true≢false (ap is_outside (sym (still_outside x out) ∙ h))
 
       go : (b : Bool) → is_among (told_apart roles) x ≡ b → slice_index rs' x ≡ v
-      go true k = register_told layout s after rs rs' ks ks' x v inside (stand.machine.file_scope x) (stand.machine.local x) (told x k) (sym (law.locals x k) ∙ h)
-      go false k = merged.others x k ∙ stand.machine.local x v (sym (law.others x k) ∙ h)
+      go true k = register_told layout s after rs rs' ks ks' x v inside (stand.machine.file_scope x) (stand.machine.local x) (put.told x k) (sym (law.locals x k) ∙ h)
+      go false k = put.others x k ∙ stand.machine.local x v (sym (law.others x k) ∙ h)
 
   cell_after : (x : ℕ) (is : List ℕ) → after.cells x is ≡ cell_at (shapes_of layout) (values_of ks') x is
   cell_after x is = go (nat_lt x (length layout)) refl (is_among (role_variables roles) x) refl
@@ -111,13 +110,13 @@ module _ (layout : List Laid) (mark : ℕ) (s : State) (rs : List ℕ) (ks : Lis
       file : (js : List ℕ) → x < length layout → is_among (told_apart roles) x ≡ true → is_among (role_variables roles) x ≡ true → IsScalar s x → after.cells x js ≡ cell_at (shapes_of layout) (values_of ks') x js
       file js lt k role (inl up) = absurd (true≢false (sym (ap is_outside (stand.machine.file_scope x lt)) ∙ up))
       file [] lt k role (inr scalar) =
-          cell_told layout s after rs rs' ks ks' x lt scalar.outside (runs_outside x a (undeclared (is_among (declared_in a) x) (seen x role)) s e ran scalar.outside) (stand.machine.cell x []) (told x k)
+          cell_told layout s after rs rs' ks ks' x lt scalar.outside (runs_outside x a (undeclared (is_among (declared_in a) x) (seen x role)) s e ran scalar.outside) (stand.machine.cell x []) (put.told x k)
       file (i ∷ js) lt k role (inr scalar) =
           none_behind (s.cells x (i ∷ js)) (after.cells x (i ∷ js)) (there_same e.writes s x (i ∷ js)) (scalar.alone i js) ∙ sym (alone layout mark s rs ks stand x scalar.there (values_of ks') i js)
 
       go : (b : Bool) → nat_lt x (length layout) ≡ b → (c : Bool) → is_among (role_variables roles) x ≡ c → after.cells x is ≡ cell_at (shapes_of layout) (values_of ks') x is
       go false ge c role = past (ltb-false x (length layout) ge)
-      go true lt false none = sym (shares.merge (λ y js. cell_at (shapes_of layout) (values_of ks') y js) (λ y js r. merged.cells y js (none_told roles y r)) x is none)
+      go true lt false none = sym (put.objects x is none)
       go true lt true role = pick (is_among (told_apart roles) x) refl
         where
           pick : (d : Bool) → is_among (told_apart roles) x ≡ d → after.cells x is ≡ cell_at (shapes_of layout) (values_of ks') x is
@@ -126,3 +125,25 @@ module _ (layout : List Laid) (mark : ℕ) (s : State) (rs : List ℕ) (ks : Lis
 
   pub cell_left : (x : ℕ) (is : List ℕ) → left.cells x is ≡ cell_at (shapes_of layout) (values_of ks') x is
   cell_left x is = law.cells x is ∙ cell_after x is
+
+  -- registers and cells stand for what is left
+  pub arrives : {text text' : List ℕ} → length rs' ≡ length rs → lengths_of ks' ≡ lengths_of ks → Fits (machine rs' (values_of ks')) → length (values_of ks') < 2 ^ 64 → text' ≡ text ++ e.text
+      → Arrives layout mark (Some (left_effect (told_apart roles) s e)) s rs' ks' text text'
+  arrives long shape words room printed =
+      record {
+        state = left;
+        stand = record {
+          machine = record {
+            laid = stand.machine.laid;
+            fits = words;
+            width = subst (λ n. mark ≤ n) (sym long) stand.machine.width;
+            room = room;
+            local = local_left;
+            file_scope = λ x lt. still_outside x (stand.machine.file_scope x lt);
+            unmarked = λ x le. still_outside x (stand.machine.unmarked x le);
+            cell = cell_left;
+          };
+          shape = shape ∙ stand.shape;
+        };
+        ran = record { effect = left_effect (told_apart roles) s e; is = refl; left = refl; printed = printed };
+      }

@@ -30,6 +30,7 @@ use Rattle.store.specs.Flat.{values_of}
 use Rattle.seqrun_io.specs.Told.{AddsBeginning}
 use Rattle.seqrun.specs.Ran.{lengths_of, text_of}
 use Rattle.lower_code.specs.declared.term.Laid.{Laid}
+use Rattle.lower_code.specs.Layout.{shapes_of, cell_at}
 use Rattle.lower_code.specs.Machine.{Fits, machine}
 use Rattle.lower.specs.Lowered.{IsReached}
 use Rattle.lower_run.specs.Walk.{StandFor, Arrives}
@@ -41,9 +42,9 @@ use Rattle.outline.specs.View.{roles_in}
 use Rattle.team.specs.Together.{LeavesTogether, BeginsTogether}
 use Rattle.ompk_run.proofs.AtHand.{held, at_hand}
 use Rattle.ompk_run.proofs.AtTurn.{at_turn}
-use Rattle.ompk_run.proofs.Behind.{still_outside, local_left, cell_left}
+use Rattle.ompk_run.proofs.Behind.{AreBehind, arrives}
 use Rattle.ompk_run.proofs.Chunks.{cover}
-use Rattle.ompk_run.proofs.Leaving.{keep_numbers}
+use Rattle.ompk_run.proofs.Leaving.{none_told, keep_numbers, told_scalar}
 use Rattle.ompk_run.proofs.Numbered.{declares}
 
 -- a loop that may be run in chunks carries nothing
@@ -120,23 +121,12 @@ module _ (layout : List Laid) (mark : ℕ) (s : State) (rs : List ℕ) (ks : Lis
           let chunks = chunked h.us (cut kind (length h.us) workers) in
           let merged = leaves layout mark roles fits.loops fits.body s h.us h.shares.effects h.reached h.shares.each
           (keep_numbers layout s rs rs' ks ks' roles l.depth loop fits.loops fits.body fits.nest seen h.hand chunks h.shares.effects h.shares.each h.numbers) in
-          record {
-            state = overwritten s (left_effect (told_apart roles) s e).writes;
-            stand = record {
-              machine = record {
-                laid = stand.machine.laid;
-                fits = words;
-                width = subst (λ n. mark ≤ n) (sym merged.long) stand.machine.width;
-                room = room;
-                local = λ x v q. local_left layout mark s rs ks stand rs' ks' roles l.depth loop fits.loops fits.body fits.nest seen h.hand apart.apart fits.privates chunks e ran h.shares merged x v q;
-                file_scope = λ x lt. still_outside layout mark s rs ks stand rs' ks' roles l.depth loop fits.loops fits.body fits.nest seen h.hand apart.apart fits.privates chunks e ran h.shares merged x (stand.machine.file_scope x lt);
-                unmarked = λ x le. still_outside layout mark s rs ks stand rs' ks' roles l.depth loop fits.loops fits.body fits.nest seen h.hand apart.apart fits.privates chunks e ran h.shares merged x (stand.machine.unmarked x le);
-                cell = λ x is. cell_left layout mark s rs ks stand rs' ks' roles l.depth loop fits.loops fits.body fits.nest seen h.hand apart.apart fits.privates chunks e ran h.shares merged x is;
-              };
-              shape = shape ∙ stand.shape;
-            };
-            ran = record { effect = left_effect (told_apart roles) s e; is = refl; left = refl; printed = merged.printed ∙ ap (λ t. text ++ t) (sym h.shares.text) };
-          }
+          let put : AreBehind layout s rs rs' ks ks' roles e = record {
+            told = λ x k. told_scalar layout s rs rs' ks ks' roles l.depth loop fits.loops fits.body fits.nest seen h.hand apart.apart chunks e h.shares merged x k;
+            others = merged.others;
+            objects = λ x is none. h.shares.merge (λ y js. cell_at (shapes_of layout) (values_of ks') y js) (λ y js r. merged.cells y js (none_told roles y r)) x is none;
+          } in
+          arrives layout mark s rs ks stand rs' ks' roles loop seen h.hand fits.privates e ran put merged.long shape words room (merged.printed ∙ ap (λ t. text ++ t) (sym h.shares.text))
 
       pub loop_arrives : IsSome (handed roles serial loop s) → Arrives layout mark (handed roles serial loop s) s rs' ks' text text'
       loop_arrives there = go (is_at_turn serial s && is_at_hand roles loop s) refl (run loop s) refl there

@@ -63,10 +63,10 @@ last_walk loops body start (us ∷ chunks) (g ∷ es) e f h =
 
 -- ---- lists of variables
 
-abbrev reduced : Roles → List Variable
+abbrev pub reduced : Roles → List Variable
 reduced roles = map (λ r. r.0) roles.reductions
 
-in_two : (x : Variable) (xs ys : List Variable) → is_among (xs ++ ys) x ≡ (is_among xs x || is_among ys x)
+pub in_two : (x : Variable) (xs ys : List Variable) → is_among (xs ++ ys) x ≡ (is_among xs x || is_among ys x)
 in_two x xs ys = list_any-append (λ y. y == x) xs ys
 
 -- what has no role is not told apart
@@ -80,10 +80,10 @@ or_true : (b : Bool) → (b || true) ≡ true
 or_true true = refl
 or_true false = refl
 
-last_first : (roles : Roles) (x : Variable) → is_among roles.lasts x ≡ true → is_among (assigned_first roles) x ≡ true
+pub last_first : (roles : Roles) (x : Variable) → is_among roles.lasts x ≡ true → is_among (assigned_first roles) x ≡ true
 last_first roles x h = in_two x roles.privates roles.lasts ∙ ap (λ b. is_among roles.privates x || b) h ∙ or_true (is_among roles.privates x)
 
-first_role : (roles : Roles) (x : Variable) → is_among (assigned_first roles) x ≡ true → is_among (role_variables roles) x ≡ true
+pub first_role : (roles : Roles) (x : Variable) → is_among (assigned_first roles) x ≡ true → is_among (role_variables roles) x ≡ true
 first_role roles x h = in_two x (assigned_first roles) (reduced roles) ∙ ap (λ b. b || is_among (reduced roles) x) h
 
 reduced_role : (roles : Roles) (x : Variable) → is_among (reduced roles) x ≡ true → is_among (role_variables roles) x ≡ true

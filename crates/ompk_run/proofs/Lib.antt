@@ -6,6 +6,7 @@ pub mod Written
 pub mod Going
 pub mod Chunks
 pub mod Handing
+pub mod Scanning
 pub mod Listed
 pub mod Readied
 pub mod Steps

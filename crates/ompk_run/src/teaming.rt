@@ -8,7 +8,7 @@ ghost use Rattle.schedule.specs.Sched.{kind_of, kind_said};
 ghost use Rattle.outline.specs.Fit.{Fits, ItemFits, AllFit};
 ghost use Rattle.outline.specs.View.{performed, item_performed, items_performed};
 ghost use Rattle.outline.specs.declared.shape.Outline.TheVariants.{Team};
-ghost use Rattle.outline.specs.declared.shape.Way.TheVariants.{Chunks};
+ghost use Rattle.outline.specs.declared.shape.Way.TheVariants.{Chunks, Scan};
 ghost use Rattle.seqrun_io.specs.Told.{Refuses};
 ghost use Rattle.seqrun.specs.Ran.{lengths_of};
 ghost use Rattle.store.specs.Flat.{values_of};
@@ -27,7 +27,8 @@ use std::alloc::Global;
 use std::sync::Wait;
 use std::thread::Threads;
 use store::Store;
-use team::{Gate, LoopCrew, share_loop};
+use lower::LoweredLoop;
+use team::{Gate, LoopCrew, share_loop, share_scan};
 
 // A team of so many workers for each parallel loop, in the threads of a crew; the gate is told of the chunks that they take.
 #[derive(Drop)]
@@ -110,6 +111,47 @@ fn run_team_loop<'l, R: Threads + Wait + Sync, G: Gate, S: Sink>(
     Ok(())
 }
 
+// Runs a scan by the team in two passes: the input phase first, which this loop is (OpenMP 5.2, 5.6).
+fn run_scan_loop<'l, R: Threads + Wait + Sync, G: Gate, S: Sink>(
+    construct: &'l TeamLoop<'_>,
+    first: &'l LoweredLoop,
+    team: &Teaming<'_, '_, '_, 'l, R, G>,
+    registers: &mut Vec<u64>,
+    store: &mut Store,
+    sink: &mut S,
+) -> Result<(), Refusal>
+    requires scan { construct.now.way ≡ Scan first.now }
+    requires room { S.failed sink.old + 1 < 2 ^ 64 }
+    ensures ran { OnOk result ((layout : List Laid) (mark : ℕ) (R : LineData) (serial : List Loop)
+        → Fits layout mark R serial (Team construct.now)
+        → Walks layout mark (performed R serial (Team construct.now))
+        (stage registers.old.items store.old (S.told sink.old))
+        (stage registers.new.items store.new (S.told sink.new))) }
+    ensures beginning { (layout : List Laid) (mark : ℕ) (R : LineData) (serial : List Loop)
+        → Fits layout mark R serial (Team construct.now)
+        → Begins layout mark (performed R serial (Team construct.now))
+        (stage registers.old.items store.old (S.told sink.old)) (S.told sink.new) }
+    ensures sound { OnOk result (S.failed sink.new ≡ S.failed sink.old) }
+    ensures refusal { IfErr result (Refuses (S.failed sink.old) (S.failed sink.new)) }
+    ensures shape { lengths_of store.new ≡ lengths_of store.old }
+{
+    let _workers = team.workers.get();
+    share_scan(
+        team.rt,
+        team.alloc,
+        team.crew,
+        first,
+        &construct.lowered,
+        registers.as_mut_slice(),
+        store,
+        team.workers,
+        team.gate,
+        sink,
+    )?;
+    confirm_words(registers.as_slice(), store);
+    Ok(())
+}
+
 // Runs a parallel loop: by the team in the way that it may be run, and as any other statement where there is one worker.
 fn run_parallel_loop<'l, R: Threads + Wait + Sync, G: Gate, S: Sink>(
     construct: &'l TeamLoop<'_>,
@@ -137,7 +179,8 @@ fn run_parallel_loop<'l, R: Threads + Wait + Sync, G: Gate, S: Sink>(
     }
     match &construct.way {
         Way::Chunks => run_team_loop(construct, team, registers, store, sink),
-        _ => run_by_one(team.alloc, construct, team.gate, registers, store, sink),
+        Way::Scan(first) => run_scan_loop(construct, first, team, registers, store, sink),
+        Way::Alone => run_by_one(team.alloc, construct, team.gate, registers, store, sink),
     }
 }
 

@@ -419,15 +419,6 @@ fn clauses_that_are_not_known_so_far_are_refused(rt: HostRuntime) {
             15,
         ),
         (
-            "\n#pragma omp parallel for reduction(inscan, +: s)\nfor (uint64_t i = 0; i < 3; i++) { s += i;\n#pragma omp scan inclusive(s)\nd[i] = s; }",
-            17,
-        ),
-        ("\n#pragma omp scan inclusive(s)\ns = 1;", 17),
-        (
-            "\n#pragma omp parallel for\nfor (uint64_t i = 0; i < 3; i++) {\n#pragma omp scan exclusive(s)\nd[i] = 1; }",
-            17,
-        ),
-        (
             "\n#pragma omp parallel for ordered\nfor (uint64_t i = 0; i < 3; i++) {\n#pragma omp ordered\nd[i] = i; }",
             18,
         ),
@@ -442,6 +433,66 @@ fn clauses_that_are_not_known_so_far_are_refused(rt: HostRuntime) {
         (
             "\n#pragma omp parallel for\nfor (uint64_t i = 0; i < 3; i++) { d[i] = i;\n#pragma omp ordered doacross(source:)\n}",
             18,
+        ),
+    ];
+    no_other(&rt, first_other_number(rt.alloc(), ROWS));
+}
+
+#[test]
+fn scans_that_are_misused_are_refused(rt: HostRuntime) {
+    const ROWS: &[(&str, u8)] = &[
+        (
+            "\n#pragma omp parallel for reduction(inscan, +: s)\nfor (uint64_t i = 0; i < 3; i++) { d[i] = s;\n#pragma omp scan exclusive(s)\ns += d[i]; }",
+            17,
+        ),
+        (
+            "\n#pragma omp parallel for reduction(inscan, +: s) schedule(static)\nfor (uint64_t i = 0; i < 3; i++) { s += i;\n#pragma omp scan inclusive(s)\nd[i] = s; }",
+            17,
+        ),
+        (
+            "\n#pragma omp parallel for reduction(inscan, +: s) ordered\nfor (uint64_t i = 0; i < 3; i++) { s += i;\n#pragma omp scan inclusive(s)\nd[i] = s; }",
+            17,
+        ),
+        (
+            "\n#pragma omp parallel for reduction(inscan, +: s)\nfor (uint64_t i = 0; i < 3; i++) { s += i; d[i] = s; }",
+            17,
+        ),
+        (
+            "\n#pragma omp parallel for reduction(inscan, +: s)\nfor (uint64_t i = 0; i < 3; i++) { s += i;\n#pragma omp scan inclusive(s)\nd[i] = s;\n#pragma omp scan inclusive(s)\nd[i] = s; }",
+            17,
+        ),
+        (
+            "uint64_t t = 0;\n#pragma omp parallel for reduction(inscan, +: s) reduction(+: t)\nfor (uint64_t i = 0; i < 3; i++) { s += i; t += i;\n#pragma omp scan inclusive(s)\nd[i] = s; }",
+            17,
+        ),
+        (
+            "\n#pragma omp parallel for reduction(inscan, +: s)\nfor (uint64_t i = 0; i < 3; i++) {\n#pragma omp scan inclusive(s)\nd[i] = s; }",
+            17,
+        ),
+        (
+            "\n#pragma omp parallel for reduction(inscan, +: s)\nfor (uint64_t i = 0; i < 3; i++) { s += i;\n#pragma omp scan inclusive(d)\nd[i] = s; }",
+            17,
+        ),
+        (
+            "\n#pragma omp parallel for reduction(inscan, +: s)\nfor (uint64_t i = 0; i < 3; i++) { s += i;\n#pragma omp scan inclusive(s)\ns = s + 1; }",
+            17,
+        ),
+        (
+            "\n#pragma omp parallel for reduction(inscan, +: s)\nfor (uint64_t i = 0; i < 3; i++) { uint64_t x = i; s += x;\n#pragma omp scan inclusive(s)\nd[i] = x; }",
+            17,
+        ),
+        (
+            "\n#pragma omp parallel for reduction(inscan, +: s)\nfor (uint64_t i = 0; i < 3; i++) { s *= 2;\n#pragma omp scan inclusive(s)\nd[i] = s; }",
+            16,
+        ),
+        (
+            "\n#pragma omp parallel for reduction(inscan, +: s)\nfor (uint64_t i = 0; i < 3; i++) { if (i < 2) s += 1;\n#pragma omp scan inclusive(s)\nd[s] = i; }",
+            8,
+        ),
+        ("\n#pragma omp scan inclusive(s)\ns = 1;", 17),
+        (
+            "\n#pragma omp parallel for\nfor (uint64_t i = 0; i < 3; i++) {\n#pragma omp scan exclusive(s)\nd[i] = 1; }",
+            17,
         ),
     ];
     no_other(&rt, first_other_number(rt.alloc(), ROWS));

@@ -102,6 +102,15 @@ fn reductions_are_listed(rt: HostRuntime) {
 }
 
 #[test]
+fn both_passes_of_a_scan_are_listed(rt: HostRuntime) {
+    const ROWS: &[Row] = &[Row {
+        body: "uint64_t s = 0;\n#pragma omp parallel for reduction(inscan, +: s)\nfor (uint64_t i = 0; i < 8; i++) { s += i;\n#pragma omp scan inclusive(s)\nA[i] = s; }",
+        listing: "1.0 __kmpc_fork_call\n1.1 __kmpc_for_static_init_8u static\n1.1 __kmpc_for_static_fini\n1.1 __kmpc_barrier\n1.1 __kmpc_for_static_init_8u static\n1.1 __kmpc_for_static_fini\n1.1 __kmpc_barrier\n",
+    }];
+    no_other(&rt, first_other(rt.alloc(), ROWS));
+}
+
+#[test]
 fn regions_of_several_loops_are_listed(rt: HostRuntime) {
     const ROWS: &[Row] = &[
         Row {

@@ -1,8 +1,9 @@
-//! Parallel loops of many forms under each schedule: teams of 1, 3 and 64 workers write what C writes.
+//! Parallel loops of many forms under each schedule: teams of 1, 2, 3 and 64 workers write what C writes.
 
 mod forms;
 mod ordered;
 mod results;
+mod scans;
 
 use crate::kernels::is_written_by;
 use crate::outcome::no_other;
@@ -48,7 +49,7 @@ fn text(alloc: Global, declarations: &str, row: Row, schedule: &str) -> Result<S
     )
 }
 
-/// Whether 1, 3 and 64 workers write a kernel's output, where a schedule stands for `runtime`.
+/// Whether 1, 2, 3 and 64 workers write a kernel's output, where a schedule stands for `runtime`.
 fn is_written_by_all<R: Threads + Wait + Sync>(
     rt: &R,
     alloc: Global,
@@ -56,7 +57,7 @@ fn is_written_by_all<R: Threads + Wait + Sync>(
     runtime: &Sched,
     output: &[u8],
 ) -> bool {
-    for count in [1, 3, 64] {
+    for count in [1, 2, 3, 64] {
         if !is_written_by(rt, alloc, checked, count, runtime, output) {
             return false;
         }
@@ -142,5 +143,11 @@ fn loops_leave_their_results_under_each_schedule(rt: HostRuntime) {
 #[test]
 fn loops_print_in_order_under_each_schedule(rt: HostRuntime) {
     let found = first_other_by_any(&rt, rt.alloc(), ordered::DECLARATIONS, ordered::ROWS);
+    no_other(&rt, found);
+}
+
+#[test]
+fn scans_run_in_two_passes(rt: HostRuntime) {
+    let found = first_other(&rt, rt.alloc(), scans::DECLARATIONS, scans::ROWS, "");
     no_other(&rt, found);
 }
