@@ -216,7 +216,7 @@ module _ (layout : List Laid) (mark : ℕ) (s : State) (rs : List ℕ) (ks : Lis
           after = overwritten s e.writes
 
           counted : length partials ≡ length chunks
-          counted = length-map (λ f. changed_from (begun roles s) f x) h.shares.firsts ∙ sym (length-map Some h.shares.firsts) ∙ sym (ap length h.shares.first_pass) ∙ length-map (λ us. walk its.loops front us (begun roles s)) chunks
+          counted = length-map h.shares.firsts (λ f. changed_from (begun roles s) f x) ∙ sym (length-map h.shares.firsts Some) ∙ sym (ap (λ os. length os) h.shares.first_pass) ∙ length-map chunks (λ us. walk its.loops front us (begun roles s))
 
           told_scan : IsTold layout s after rs rs' ks ks' x
           told_scan =
