@@ -56,6 +56,9 @@ done
 expect 0 "$all" '' seq examples/increment.c --input examples/increment.in
 expect 0 "$all" '' run examples/increment.c --input examples/increment.in
 expect 0 $'A = 0 1 2 3 4 5 6 7\n' '' run examples/increment.c
+for workers in 1 2 3 4 64; do
+    expect 0 $'A = 3 1 4 1 5 9 2 6 5 3\nbefore = 0 3 4 8 9 14 23 25 31 36\nmost = 3 3 4 4 5 9 9 9 9 9\nsum = 39\ngreatest = 9\n' '' run examples/prefix.c --input examples/prefix.in --workers "$workers"
+done
 expect 0 $'1.0 __kmpc_fork_call\n1.1 __kmpc_dispatch_init_8u dynamic,3\n1.1 __kmpc_dispatch_next_8u\n1.1 __kmpc_barrier\n' '' lower examples/increment.c
 expect 3 '' $'K19 9:9 conflict: A at 9:9 and 9:16, iterations 0 and 1, element A[1]\n' lower examples/shift.c
 printf 'uint64_t x;\nuint64_t B[2][2];\nvoid kernel(void)\n{\n}\n' >"$work/empty.c"

@@ -136,9 +136,9 @@ uint64_t x;
 for (uint64_t i = 0; i < 8; i++) {
 s += i; x = i;
 }",
-            number: 17,
+            number: 15,
             line: 3,
-            column: 47,
+            column: 75,
         },
         Row {
             text: "
