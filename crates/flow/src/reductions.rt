@@ -57,12 +57,7 @@ pub(crate) fn second_fault(
 }
 
 /// The first of some names whose variable is private or lastprivate by a directive line.
-fn first_assigned(
-    names: &[Named],
-    line: u32,
-    lines: &LineClauses,
-    files: usize,
-) -> Option<Place>
+fn first_assigned(names: &[Named], line: u32, lines: &LineClauses, files: usize) -> Option<Place>
     ensures { is_none result ≡ list_all
         (all_but (assigned_first (roles_known (kept lines.now) files line)))
         (map variable_named names.now) }

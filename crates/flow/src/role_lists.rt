@@ -103,11 +103,7 @@ fn add_scanned(clause: &Clause<Named>, carried: &mut Vec<Reduction>) -> Result<(
 }
 
 /// The variable of a directive line's scan with its operator, if it is one (OpenMP 5.2, 5.6).
-fn line_carried(
-    alloc: Global,
-    line: u32,
-    lines: &LineClauses,
-) -> Result<Vec<Reduction>, AllocError>
+fn line_carried(alloc: Global, line: u32, lines: &LineClauses) -> Result<Vec<Reduction>, AllocError>
     ensures { IfOk result (λ found. reduced found.items
         ≡ flat_map inscan_of (lines_known (kept lines.now) line)) }
 {

@@ -18,6 +18,7 @@ ghost use Rattle.lower_run.specs.Walk.{Walks, Begins, stage};
 
 use crate::single::run_by_one;
 use ktree::{Refusal, Schedule, Workers};
+use lower::LoweredLoop;
 use lower_code::{Test, truth};
 use lower_run::{confirm_words, perform};
 use outline::{Outline, OutlineItem, TeamLoop, Way};
@@ -27,7 +28,6 @@ use std::alloc::Global;
 use std::sync::Wait;
 use std::thread::Threads;
 use store::Store;
-use lower::LoweredLoop;
 use team::{Gate, LoopCrew, share_loop, share_scan};
 
 // A team of so many workers for each parallel loop, in the threads of a crew; the gate is told of the chunks that they take.
