@@ -200,7 +200,7 @@ if (A[i] > s) s = A[i];
 }",
             number: 17,
             line: 8,
-            column: 40,
+            column: 1,
         },
         Row {
             text: "
