@@ -21,20 +21,23 @@ use pragma_named::{LineClauses, Named, clauses_known};
 /// What a `scan` directive says (OpenMP 5.2, 5.6).
 #[derive(Clone, Copy)]
 pub(crate) struct ScanLine<'d> {
+    pub place: Place,
     pub inclusive: bool,
     pub name: &'d Written,
 }
 
-/// What a directive says, where it is a `scan`.
-fn said_by(directive: &Directive<Written>) -> Option<ScanLine<'_>>
+/// What a directive at a place says, where it is a `scan`.
+fn said_by(directive: &Directive<Written>, place: Place) -> Option<ScanLine<'_>>
     ensures { option_map line_said result ≡ scan_said (Some (directive_of name_of directive.now)) }
 {
     match directive {
         Directive::ScanInclusive(name) => Some(ScanLine {
+            place,
             inclusive: true,
             name,
         }),
         Directive::ScanExclusive(name) => Some(ScanLine {
+            place,
             inclusive: false,
             name,
         }),
@@ -50,7 +53,7 @@ pub(crate) fn scan_line<'d>(directives: &'d Directives<'_>, place: Place) -> Opt
     let Ok(directive) = directives.directive(place) else {
         return None;
     };
-    said_by(directive)
+    said_by(directive, place)
 }
 
 /// Whether a directive is a loop's.

@@ -111,12 +111,11 @@ fn use_fault(alloc: Global, scan: Reduction, parts: &Parts) -> Result<Option<Sca
     Ok(earliest(earliest(scalar, behind), before))
 }
 
-/// What is wrong with the phases of a body behind the directive line at a place.
+/// What is wrong with the phases of a body.
 fn phases_fault(
     alloc: Global,
     kernel: &Kernel,
     directives: &Directives,
-    line: Place,
     scan: Reduction,
     parts: &Parts,
 ) -> Result<Option<ScanFault>, AllocError>
@@ -124,7 +123,7 @@ fn phases_fault(
         (kernel_of kernel.now) (Some (reduction_of scan)) (Some (parts_cut parts.now))) }
 {
     if !has_statement(parts.front) || !has_statement(parts.back) {
-        return Ok(Some(ScanFault::Scan(line)));
+        return Ok(Some(ScanFault::Scan(parts.said.place)));
     }
     let name = name_fault(kernel, scan.variable, &parts.said);
     let first = earliest(name, line_fault(directives, parts.front));
@@ -155,5 +154,5 @@ pub(crate) fn loop_fault(
     let Some(parts) = body_parts(directives, statement) else {
         return Ok(Some(ScanFault::Scan(line)));
     };
-    phases_fault(alloc, kernel, directives, line, scan, &parts)
+    phases_fault(alloc, kernel, directives, scan, &parts)
 }

@@ -163,15 +163,6 @@ fn loops_of_scans_are_judged_at_their_directives(rt: HostRuntime) {
             "#pragma omp parallel for reduction(inscan, +: s) reduction(inscan, +: x)\nfor (uint64_t i = 0; i < 3; i++) { s += i;\n#pragma omp scan inclusive(s)\nA[i] = s; }",
             Some(ScanFault::Scan(at(2, 1))),
         ),
-        // No statement on a side: a declaration is none.
-        (
-            "#pragma omp parallel for reduction(inscan, +: s)\nfor (uint64_t i = 0; i < 3; i++) { uint64_t t;\n#pragma omp scan inclusive(s)\nA[i] = s; }",
-            Some(ScanFault::Scan(at(2, 1))),
-        ),
-        (
-            "#pragma omp parallel for reduction(inscan, +: s)\nfor (uint64_t i = 0; i < 3; i++) { s += i;\n#pragma omp scan inclusive(s)\n}",
-            Some(ScanFault::Scan(at(2, 1))),
-        ),
     ];
     no_other(&rt, first_other(rt.alloc(), &rows));
 }
@@ -191,6 +182,15 @@ fn scan_lines_out_of_place_are_told(rt: HostRuntime) {
         (
             "#pragma omp scan inclusive(s)\nA[0] = 1;",
             Some(ScanFault::Scan(at(2, 1))),
+        ),
+        // No statement on a side: a declaration is none.
+        (
+            "#pragma omp parallel for reduction(inscan, +: s)\nfor (uint64_t i = 0; i < 3; i++) { uint64_t t;\n#pragma omp scan inclusive(s)\nA[i] = s; }",
+            Some(ScanFault::Scan(at(4, 1))),
+        ),
+        (
+            "#pragma omp parallel for reduction(inscan, +: s)\nfor (uint64_t i = 0; i < 3; i++) { s += i;\n#pragma omp scan inclusive(s)\n}",
+            Some(ScanFault::Scan(at(4, 1))),
         ),
         // A second one, on each side, in an inner statement too.
         (
