@@ -1,5 +1,5 @@
 -- Lists of names and of variables, one after another.
-use Rattle.std.specs.Prelude.{Bool, true, false, not, ◌==◌, ◌&&◌, ◌||◌, ◌≡◌, List, [], ◌∷◌, ◌++◌, map, filter, flat_map, if◌then◌else◌, Some, is_none}
+use Rattle.std.specs.Prelude.{Bool, true, false, not, ◌==◌, ◌&&◌, ◌||◌, ◌≡◌, List, [], ◌∷◌, ◌++◌, map, flat_map, if◌then◌else◌, Some, is_none}
 use Rattle.std.specs.List.{list_all}
 use Rattle.std.proofs.Common.{refl, sym, ap, ◌∙◌}
 use Rattle.std.proofs.Math.Path.{fun_ext}
@@ -13,9 +13,9 @@ use Rattle.semantics.specs.Loops.Operator.{ReduceOp}
 use Rattle.semantics.specs.Meaning.Agrees.{is_among}
 use Rattle.semantics.proofs.EraseTokenLaw.{first_of, second_of}
 use Rattle.law_roles.specs.Updates.{operator_of, is_plain}
-use Rattle.law_roles.specs.Sharing.{role_variables}
+use Rattle.law_roles.specs.Sharing.{assigned_first, role_variables}
 use Rattle.flow.specs.Private.{all_but}
-use Rattle.flow.specs.Roles.{LoopData, takes_operands, left_roles}
+use Rattle.flow.specs.Roles.{LoopData, left_roles}
 use Rattle.flow.proofs.PrivateLemmas.{among_both}
 
 -- ---- all of a list
@@ -82,52 +82,17 @@ pub scanned_among : (cs : List (Clause Variable)) → flat_map (λ c. map (λ r.
 scanned_among [] = refl
 scanned_among (c ∷ cs) = ap (λ ys. map (λ r. r.0) (inscan_of c) ++ ys) (scanned_among cs) ∙ sym (map-append (λ r. r.0) (inscan_of c) (flat_map inscan_of cs))
 
--- some of a list, and the others of it
-either_kept : (p : Variable × ReduceOp → Bool) (rs : List (Variable × ReduceOp)) (x : Variable)
-    → (is_among (map (λ r. r.0) (filter (λ r. not (p r)) rs)) x || is_among (map (λ r. r.0) (filter p rs)) x) ≡ is_among (map (λ r. r.0) rs) x
-either_kept p [] x = refl
-either_kept p (r ∷ rs) x = go (p r) (either_kept p rs x)
-  where
-    others : List Variable
-    others = map (λ r. r.0) (filter (λ q. not (p q)) rs)
-
-    kept : List Variable
-    kept = map (λ r. r.0) (filter p rs)
-
-    go : (b : Bool) → (is_among others x || is_among kept x) ≡ is_among (map (λ r. r.0) rs) x
-        → (is_among (map (λ r. r.0) (if not b then r ∷ filter (λ q. not (p q)) rs else filter (λ q. not (p q)) rs)) x || is_among (map (λ r. r.0) (if b then r ∷ filter p rs else filter p rs)) x)
-        ≡ ((r.0 == x) || is_among (map (λ r. r.0) rs) x)
-    go true h = swapped (is_among others x) (r.0 == x) (is_among kept x) ∙ ap (λ b. (r.0 == x) || b) h
-      where
-        swapped : (a b c : Bool) → (a || (b || c)) ≡ (b || (a || c))
-        swapped true true c = refl
-        swapped true false c = refl
-        swapped false b c = refl
-    go false h = grouped (r.0 == x) (is_among others x) (is_among kept x) ∙ ap (λ b. (r.0 == x) || b) h
-      where
-        grouped : (a b c : Bool) → ((a || b) || c) ≡ (a || (b || c))
-        grouped true b c = refl
-        grouped false b c = refl
-
 -- the variables with a role, and those that are carried
 pub left_among : (d : LoopData) (x : Variable) → is_among (role_variables (left_roles d)) x ≡ (is_among (role_variables d.roles) x || is_among (map (λ r. r.0) d.carried) x)
 left_among d x =
-    let firsts = d.roles.privates in
-    let lasts = d.roles.lasts in
-    let skipped = map (λ r. r.0) (filter (λ r. not (takes_operands r)) d.carried) in
-    let taken = map (λ r. r.0) (filter takes_operands d.carried) in
+    let firsts = assigned_first d.roles in
     let reduced = map (λ r. r.0) d.roles.reductions in
-    among_both (firsts ++ (lasts ++ skipped)) (map (λ r. r.0) (d.roles.reductions ++ filter takes_operands d.carried)) x
-    ∙ ap (λ b. b || is_among (map (λ r. r.0) (d.roles.reductions ++ filter takes_operands d.carried)) x) (among_both firsts (lasts ++ skipped) x ∙ ap (λ b. is_among firsts x || b) (among_both lasts skipped x))
-    ∙ ap (λ b. (is_among firsts x || (is_among lasts x || is_among skipped x)) || b) (ap (λ ys. is_among ys x) (map-append (λ r. r.0) d.roles.reductions (filter takes_operands d.carried)) ∙ among_both reduced taken x)
-    ∙ exchanged (is_among firsts x) (is_among lasts x) (is_among skipped x) (is_among reduced x) (is_among taken x)
-    ∙ ap (λ b. ((is_among firsts x || is_among lasts x) || is_among reduced x) || b) (either_kept takes_operands d.carried x)
-    ∙ sym (ap (λ b. b || is_among (map (λ r. r.0) d.carried) x) (among_both (firsts ++ lasts) reduced x ∙ ap (λ b. b || is_among reduced x) (among_both firsts lasts x)))
+    let carried = map (λ r. r.0) d.carried in
+    among_both firsts (map (λ r. r.0) (d.roles.reductions ++ d.carried)) x
+    ∙ ap (λ b. is_among firsts x || b) (ap (λ ys. is_among ys x) (map-append (λ r. r.0) d.roles.reductions d.carried) ∙ among_both reduced carried x)
+    ∙ grouped (is_among firsts x) (is_among reduced x) (is_among carried x)
+    ∙ sym (ap (λ b. b || is_among carried x) (among_both firsts reduced x))
   where
-    exchanged : (a b c e f : Bool) → ((a || (b || c)) || (e || f)) ≡ (((a || b) || e) || (c || f))
-    exchanged true b c e f = refl
-    exchanged false true c e f = refl
-    exchanged false false true true f = refl
-    exchanged false false true false f = refl
-    exchanged false false false true f = refl
-    exchanged false false false false f = refl
+    grouped : (a b c : Bool) → (a || (b || c)) ≡ ((a || b) || c)
+    grouped true b c = refl
+    grouped false b c = refl

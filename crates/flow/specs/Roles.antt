@@ -1,5 +1,5 @@
 -- What the clauses of parallel loops say of their scalars, and loops that keep to it. (OpenMP 5.2, 5.1.1, 5.4.3, 5.4.5 and 5.5.8)
-use Rattle.std.specs.Prelude.{ℕ, Bool, true, not, ◌≡◌, List, [], ◌∷◌, ◌++◌, map, filter, flat_map, Some, IsSome}
+use Rattle.std.specs.Prelude.{ℕ, Bool, true, ◌≡◌, List, [], ◌∷◌, ◌++◌, map, filter, flat_map, Some, IsSome}
 use Rattle.std.specs.List.{list_all}
 use Rattle.semantics.specs.Tree.{Variable, Stmt, Assign, Update, If, IfElse, For, Block, Print, Items, no_items, mark, local, stmt}
 use Rattle.semantics.specs.Meaning.Definite.{Privates, no_privates, definite}
@@ -8,7 +8,6 @@ use Rattle.semantics.specs.Loops.Piece.{Roles}
 use Rattle.semantics.specs.Directives.Directive.{Clause}
 use Rattle.semantics.specs.Loops.Operator.{ReduceOp}
 use Rattle.semantics.specs.Directives.Clauses.{private_of, last_of, reduction_of, inscan_of}
-use Rattle.law_roles.specs.Reducing.{takes_all}
 use Rattle.law_roles.specs.Updates.{is_plain, reduces}
 use Rattle.law_roles.specs.Sharing.{assigned_first, role_variables, are_different, AssignsAll}
 use Rattle.pragma.specs.Parallel.{AskedOfLoop, LineHas}
@@ -25,17 +24,9 @@ pub record LoopData : Type 0 where
 abbrev pub LineData : Type 0
 LineData = ℕ → LoopData
 
--- each operand of an operator is taken: it is neither && nor || (C11 6.5.13 and 6.5.14)
-abbrev pub takes_operands : Variable × ReduceOp → Bool
-takes_operands r = takes_all (r ∷ [])
-
--- the roles by which a loop leaves its scalars: a carried variable is left as a reduction variable, and by an operator that may leave operands out as a lastprivate one
+-- the roles by which a loop leaves its scalars: a carried variable is left as a reduction variable
 abbrev pub left_roles : LoopData → Roles
-left_roles d =
-    record d.roles {
-      lasts = d.roles.lasts ++ map (λ r. r.0) (filter (λ r. not (takes_operands r)) d.carried);
-      reductions = d.roles.reductions ++ filter takes_operands d.carried;
-    }
+left_roles d = record d.roles { reductions = d.roles.reductions ++ d.carried }
 
 -- what the clauses of a line say of the scalars that their loop assigns, where so many variables stand at file scope: the locals in private lists, the lastprivate variables and those that are reduced (OpenMP 5.2, 5.4.3, 5.4.5 and 5.5.8)
 abbrev pub line_roles : ℕ → List (Clause Variable) → Roles
