@@ -120,7 +120,7 @@ module _ (layout : List Laid) (mark : ℕ) (s : State) (rs : List ℕ) (ks : Lis
           let h = is_handed kind workers sized some guard e ran in
           let chunks = chunked h.us (cut kind (length h.us) workers) in
           let merged = leaves layout mark roles fits.loops fits.body s h.us h.shares.effects h.reached h.shares.each
-          (keep_numbers layout s rs rs' ks ks' roles l.depth loop fits.loops fits.body fits.nest seen h.hand chunks h.shares.effects h.shares.each h.numbers) in
+          (keep_numbers s roles l.depth loop fits.loops fits.body fits.nest seen chunks h.shares.effects h.shares.each h.numbers) in
           let put : AreBehind layout s rs rs' ks ks' roles e = record {
             told = λ x k. told_scalar layout s rs rs' ks ks' roles l.depth loop fits.loops fits.body fits.nest seen h.hand apart.apart chunks e h.shares merged x k;
             others = merged.others;

@@ -107,14 +107,16 @@ pub data IsTold (layout : List Laid) (s after : State) (rs rs' : List ℕ) (ks k
   stays : look after x [] ≡ look s x [] → cell_at (shapes_of layout) (values_of ks') x [] ≡ cell_at (shapes_of layout) (values_of ks) x [] → slice_index rs' x ≡ slice_index rs x → IsTold layout s after rs rs' ks ks' x
   empty : s.locals x ≡ Empty → look after x [] ≡ None → IsTold layout s after rs rs' ks ks' x
 
+-- behind each chunk the reduction variables hold numbers
+pub keep_numbers : (s : State) (roles : Roles) (n : ℕ) (a : Stmt) (loops : List Loop) (body : Stmt) → nest_of n a ≡ Some (loops, body) → ((x : Variable) → is_among (role_variables roles) x ≡ true → visible_behind a x ≡ true)
+    → (chunks : List (List Vector)) (effects : List Effect) → AreOf loops body (begun roles s) chunks effects → AreHeld roles.reductions s → All (λ f. AreHeld roles.reductions (overwritten (begun roles s) f.writes)) effects
+keep_numbers s roles n a loops body nest seen chunks effects each held =
+    each_effect loops body (begun roles s) (λ f. AreHeld roles.reductions (overwritten (begun roles s) f.writes)) (λ us f w. chunks_keep roles n a loops body us s f nest seen held w) chunks effects each
+
 module _ (layout : List Laid) (s : State) (rs rs' : List ℕ) (ks ks' : List Kept) (roles : Roles) (n : ℕ) (a : Stmt) (loops : List Loop) (body : Stmt) (nest : nest_of n a ≡ Some (loops, body))
     (seen : (x : Variable) → is_among (role_variables roles) x ≡ true → visible_behind a x ≡ true) (hand : AreAtHand roles a s) where
   abbrev start : State
   start = begun roles s
-
-  pub keep_numbers : (chunks : List (List Vector)) (effects : List Effect) → AreOf loops body start chunks effects → AreHeld roles.reductions s → All (λ f. AreHeld roles.reductions (overwritten start f.writes)) effects
-  keep_numbers chunks effects each held =
-      each_effect loops body start (λ f. AreHeld roles.reductions (overwritten start f.writes)) (λ us f w. chunks_keep roles n a loops body us s f nest seen held w) chunks effects each
 
   module _ (plain : list_all (is_plain roles.reductions) (assigned_first roles) ≡ true) (chunks : List (List Vector)) (e : Effect) (shares : SharesFrom start (changed_from start) roles a loops body chunks s e)
       {text text' : List ℕ} (merged : PutTogether layout roles s start chunks shares.effects rs rs' ks ks' text text') where

@@ -23,7 +23,7 @@ use Rattle.law_nests.proofs.Joined.{visible_more, nest_declares}
 use Rattle.law_roles.specs.Following.{variables_of}
 use Rattle.law_roles.proofs.Chunked.{nest_variables}
 use Rattle.law_roles.specs.Updates.{operator_of, is_plain}
-use Rattle.law_roles.specs.Reducing.{AreHeld, takes_all}
+use Rattle.law_roles.specs.Reducing.{AreHeld}
 use Rattle.law_roles.specs.Sharing.{assigned_first, role_variables, are_different, last_filled, IsScalar, changed_from}
 use Rattle.law_starts.specs.Begun.{told_apart, begun}
 use Rattle.law_starts.proofs.Holding.{walks_keep}
@@ -109,7 +109,7 @@ module _ (layout : List Laid) (mark : ℕ) (s : State) (rs : List ℕ) (ks : Lis
   op = way.operator
 
   abbrev its : ScansInChunks fits.said x op roles serial l.depth loop
-  its = fits.nested.scans x op way.sole way.takes way.assigned
+  its = fits.nested.scans x op way.sole way.assigned
 
   abbrev front : Stmt
   front = law.first_of its.inclusive its.front its.back
@@ -171,8 +171,7 @@ module _ (layout : List Laid) (mark : ℕ) (s : State) (rs : List ℕ) (ks : Lis
           first_reached = reached here us.0 us.1 numbers front first way.first;
           second_reached = reached here us.0 us.1 numbers whole l.lowered way.second;
           first_pass = shares.first_pass;
-          held = keep_numbers layout s rs rs ks ks roles (length its.loops) (nested its.loops front) its.loops front (nested_is its.loops front) front_seen
-              (record { scalars = hand.scalars; numbers = hand.numbers; taken = inl (ap takes_all its.only ∙ way.takes) }) chunks shares.firsts shares.first_pass numbers;
+          held = keep_numbers s roles (length its.loops) (nested its.loops front) its.loops front (nested_is its.loops front) front_seen chunks shares.firsts shares.first_pass numbers;
           second_pass = shares.second_pass;
         };
       }

@@ -1,5 +1,5 @@
 -- Outlines made of parts that are made right.
-use Rattle.std.specs.Prelude.{filter, not, ℕ, zero, suc, Bool, true, false, ◌≡◌, ◌+◌, ◌<◌, ◌≤◌, ◌==◌, List, [], ◌∷◌, ◌++◌, length, map, take, Option, Some, None, All, Contains, option_and_then}
+use Rattle.std.specs.Prelude.{filter, ℕ, zero, suc, Bool, true, false, ◌≡◌, ◌+◌, ◌<◌, ◌≤◌, ◌==◌, List, [], ◌∷◌, ◌++◌, length, map, take, Option, Some, None, All, Contains, option_and_then}
 use Rattle.std.proofs.Common.{Vec, Box, Bor, Global, refl, sym, ap, ◌∙◌, subst, cond, arith, get_or, append-nil}
 use Rattle.std.proofs.lemmas.Bool.{eqb-true}
 use Rattle.std.proofs.lemmas.List.{take_more, take_all}
@@ -33,7 +33,7 @@ use Rattle.pragma.specs.Parallel.{associated, LineHas}
 use Rattle.pragma.specs.Views.{scheduled}
 use Rattle.pragma.proofs.LoopLaw.{read_once}
 use Rattle.flow.specs.Phases.{PhasesSaid, LinePhases, item_count}
-use Rattle.flow.specs.Roles.{LoopData, LineData, takes_operands, left_roles, ItemsHaveBy}
+use Rattle.flow.specs.Roles.{LoopData, LineData, left_roles, ItemsHaveBy}
 use Rattle.flow_reduction.specs.Reduced.{reduced}
 use Rattle.flow.specs.Parallel.{AreRolesOf}
 use Rattle.flow.specs.declared.environment.LoopRoles.{LoopRoles}
@@ -144,16 +144,11 @@ module _ (layout : List Laid) (mark : ℕ) (loops : Loops) where
   roles_by_line : (roles : LoopRoles) (R : LineData) (line : ℕ) (s : Stmt) (ls : LoweredRoles) → AreRolesOf (R line) roles → AreRolesAt layout mark (used_roles s (roles_of roles)) ls → AreRolesAt layout mark (used_roles s (left_roles (R line))) ls
   roles_by_line roles R line s ls e at = record {
     reductions = subst (λ rs. AreReduced layout mark (filter (λ r. is_among (targets_outside s) r.0) rs) ls.reductions.items) reduces at.reductions;
-    lasts = subst (λ xs. StandEach layout mark (filter (is_among (targets_outside s)) xs) ls.lasts.items) left at.lasts;
+    lasts = subst (λ xs. StandEach layout mark (filter (is_among (targets_outside s)) xs) ls.lasts.items) e.lasts at.lasts;
   }
     where
-      left : (roles_of roles).lasts ≡ (left_roles (R line)).lasts
-      left =
-          ap (λ xs. xs ++ map (λ r. r.0) (filter (λ r. not (takes_operands r)) (reduced roles.carried.items))) e.lasts
-          ∙ ap (λ (cs : List (Variable × ReduceOp)). (R line).roles.lasts ++ map (λ r. r.0) (filter (λ r. not (takes_operands r)) cs)) e.carried
-
       reduces : (roles_of roles).reductions ≡ (left_roles (R line)).reductions
-      reduces = ap (λ rs. rs ++ filter takes_operands (reduced roles.carried.items)) e.reductions ∙ ap (λ (cs : List (Variable × ReduceOp)). (R line).roles.reductions ++ filter takes_operands cs) e.carried
+      reduces = ap (λ rs. rs ++ reduced roles.carried.items) e.reductions ∙ ap (λ (cs : List (Variable × ReduceOp)). (R line).roles.reductions ++ cs) e.carried
 
   body_performs : (n : ℕ) (s : Stmt) (loops : List Loop) (body : Stmt) (code : Compiled) → nest_of n s ≡ Some (loops, body) → IsBodyCode layout mark n s code → AreLocals layout mark (declared_in body) → Performs layout mark (run body) code
   body_performs n s loops body code nest h =
@@ -181,7 +176,7 @@ module _ (layout : List Laid) (mark : ℕ) (loops : Loops) where
     scan_fits nested phases line first second same carried round all at lowered body w =
         let c = w.carries in
         let sole = sym carried ∙ c.sole in
-        let its = nested.scans c.variable c.operator sole c.takes c.assigned in
+        let its = nested.scans c.variable c.operator sole c.assigned in
         let whole = whole_of its.front its.back in
         let told = same_phases said (w.inclusive, w.count) (its.inclusive, item_count its.front) (same ∙ w.told) its.told in
         let body_is = ap (λ (p : List Loop × Stmt). p.1) (same_nest n s (w.input.1.0, w.input.0) (its.loops, whole) w.input.1.1 its.nest) in
@@ -192,7 +187,6 @@ module _ (layout : List Laid) (mark : ℕ) (loops : Loops) where
           variable = c.variable;
           operator = c.operator;
           sole = sole;
-          takes = c.takes;
           assigned = c.assigned;
           first = lowered_from box serial roles n s kept first w.lowered round nested.steps all (at first.roles w.lowered.roles) its.loops whole (first_of its.inclusive its.front its.back) its.nest
               (first_performs layout mark its.inclusive its.front its.back w.part first.body there w.code locals);

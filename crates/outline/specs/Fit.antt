@@ -13,7 +13,7 @@ use Rattle.affine.specs.declared.interval.Side.{Side}
 use Rattle.affine_expr.specs.Forms.{is_counter}
 use Rattle.nest.specs.Heads.{head_of}
 use Rattle.flow.specs.Phases.{PhasesSaid}
-use Rattle.flow.specs.Roles.{LoopData, LineData, takes_operands}
+use Rattle.flow.specs.Roles.{LoopData, LineData}
 use Rattle.law_commute.specs.Targets.{targets_outside}
 use Rattle.law_scans.specs.Scanning.{whole_of, first_of}
 use Rattle.law_independence.specs.OrderLaws.{SharesAsNest}
@@ -44,15 +44,14 @@ pub record HeadFits (layout : List Laid) (mark : ℕ) (h : Head) (l : LoweredHea
   pub test : MeansTest layout (cond_of h.test) l.test
   pub step : StepPerforms layout mark h l.step
 
--- a loop that carries one variable, by an operator that takes its operands, and assigns it is lowered twice, each time with its loops and roles: for what the first pass of a scan runs, and for the whole (OpenMP 5.2, 5.6)
+-- a loop that carries one variable and assigns it is lowered twice, each time with its loops and roles: for what the first pass of a scan runs, and for the whole (OpenMP 5.2, 5.6)
 pub record ScanFits (layout : List Laid) (mark : ℕ) (box : List Side) (roles : Roles) (ds : List Declaration) (d : LoopData) (said : Option PhasesSaid) (serial : List Loop) (n : ℕ) (s : Stmt) (nested : SharesAsNest ds d said serial n s) (earlier later : LoweredLoop) : Type 0 where
   pub variable : Variable
   pub operator : ReduceOp
   pub sole : d.carried ≡ (variable, operator) ∷ []
-  pub takes : takes_operands (variable, operator) ≡ true
   pub assigned : is_among (targets_outside s) variable ≡ true
-  pub first : let its = nested.scans variable operator sole takes assigned in IsLoweredFrom layout mark box roles its.loops (first_of its.inclusive its.front its.back) earlier
-  pub second : let its = nested.scans variable operator sole takes assigned in IsLoweredFrom layout mark box roles its.loops (whole_of its.front its.back) later
+  pub first : let its = nested.scans variable operator sole assigned in IsLoweredFrom layout mark box roles its.loops (first_of its.inclusive its.front its.back) earlier
+  pub second : let its = nested.scans variable operator sole assigned in IsLoweredFrom layout mark box roles its.loops (whole_of its.front its.back) later
 
 -- a loop may be run in the way that is said: in chunks where it carries nothing, and in two passes where it is lowered for them
 abbrev pub WayFits : List Laid → ℕ → List Side → Roles → (ds : List Declaration) (d : LoopData) (said : Option PhasesSaid) (serial : List Loop) (n : ℕ) (s : Stmt) → SharesAsNest ds d said serial n s → LoweredLoop → Way → Type 0

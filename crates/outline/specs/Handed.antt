@@ -1,5 +1,5 @@
 -- Which statements are handed to a team, and as what. (OpenMP 5.2, 4.4.3 and 11.5)
-use Rattle.std.specs.Prelude.{ℕ, Bool, ◌≡◌, ◌<◌, true, List, [], ◌∷◌, ◌++◌, map, filter, not, All, Contains, Some}
+use Rattle.std.specs.Prelude.{ℕ, Bool, ◌≡◌, ◌<◌, true, List, [], ◌∷◌, ◌++◌, map, All, Contains, Some}
 use Rattle.semantics.specs.Tree.{Variable, Stmt, Items}
 use Rattle.semantics.specs.Source.Text.{line_at}
 use Rattle.semantics.specs.Meaning.Runs.{run, run_items}
@@ -18,7 +18,7 @@ use Rattle.pragma.specs.Views.{scheduled}
 use Rattle.nest.specs.Perfect.{AreRectangular}
 use Rattle.flow_reduction.specs.Reduced.{reduced}
 use Rattle.flow.specs.Phases.{LinePhases, item_count}
-use Rattle.flow.specs.Roles.{LineData, takes_operands}
+use Rattle.flow.specs.Roles.{LineData}
 use Rattle.flow.specs.Parallel.{numbers, AreRolesOf}
 use Rattle.flow.specs.declared.environment.LoopRoles.{LoopRoles}
 use Rattle.flow.specs.declared.environment.ParallelLoop.{ParallelLoop}
@@ -73,15 +73,15 @@ pub record IsBodyCode (layout : List Laid) (mark : ℕ) (n : ℕ) (s : Stmt) (co
   pub is : IsBodyOf n s body
   pub performs : AreLocals layout mark (declared_in body) → Performs layout mark (run body) code
 
--- the roles by which a loop leaves its scalars, of those that are kept: a carried variable is left as a reduction variable, and by an operator that may leave operands out as a lastprivate one
+-- the roles by which a loop leaves its scalars, of those that are kept: a carried variable is left as a reduction variable
 abbrev pub roles_of : LoopRoles → Roles
 roles_of l =
     record {
       privates = [];
       firsts = [];
-      lasts = numbers l.lasts.items ++ map (λ r. r.0) (filter (λ r. not (takes_operands r)) (reduced l.carried.items));
+      lasts = numbers l.lasts.items;
       conditionals = [];
-      reductions = reduced l.reductions.items ++ filter takes_operands (reduced l.carried.items);
+      reductions = reduced l.reductions.items ++ reduced l.carried.items;
     }
 
 -- of a body with so many items in front of its `scan` line, this is what stands in its input phase (OpenMP 5.2, 5.6)
@@ -96,12 +96,11 @@ IsInputIn inclusive count n s part = (body : Stmt) × IsBodyOf n s body × IsInp
 abbrev pub AreItemsCode : List Laid → ℕ → Items → Compiled → Type 0
 AreItemsCode layout mark part code = AreLocals layout mark (declared_among part) → Performs layout mark (run_items part) code
 
--- one variable is carried, by an operator that takes its operands, and the loop assigns it from outside
+-- one variable is carried, and the loop assigns it from outside
 pub record CarriesOne (carried : List (Variable × ReduceOp)) (s : Stmt) : Type 0 where
   pub variable : Variable
   pub operator : ReduceOp
   pub sole : carried ≡ (variable, operator) ∷ []
-  pub takes : takes_operands (variable, operator) ≡ true
   pub assigned : is_among (targets_outside s) variable ≡ true
 
 -- a lowered loop is this nest inside the loops of a box: its loops in their canonical form, and where those of its variables stand that it assigns from outside and that leave something behind it

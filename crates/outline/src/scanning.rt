@@ -7,7 +7,6 @@ ghost use Rattle.flow_scan.specs.Views.{scan_part, phases_at};
 ghost use Rattle.outline.specs.Handed.{CarriesOne, IsInputOf};
 
 use crate::lines::has_line;
-use crate::spots::takes_operands;
 use crate::targets::assigns_outside;
 use flow::LoopRoles;
 use flow_scan::ScanLoop;
@@ -26,12 +25,12 @@ pub(crate) fn scan_at(scans: &[ScanLoop], line: u32) -> Option<&ScanLoop>
     None
 }
 
-// Whether a loop carries one variable, by an operator that takes its operands, and assigns it.
+// Whether a loop carries one variable, and assigns it.
 pub(crate) fn carries_one(kept: &LoopRoles, stmt: &Stmt) -> bool
     ensures { result ≡ true → CarriesOne (reduced kept.now.carried.items) (stmt_of stmt.now) }
 {
     match kept.carried.as_slice() {
-        [sole] => takes_operands(*sole) && assigns_outside(stmt, sole.variable),
+        [sole] => assigns_outside(stmt, sole.variable),
         _ => false,
     }
 }

@@ -6,8 +6,7 @@ ghost use Rattle.semantics.specs.Meaning.Places.{size};
 ghost use Rattle.law_commute.specs.Targets.{targets_outside};
 ghost use Rattle.ktree.specs.View.{stmt_of};
 ghost use Rattle.ktree.specs.declared.refusal.Refusal.TheVariants.{OutOfMemory};
-ghost use Rattle.flow_reduction.specs.Reduced.{reduced, reduction_of};
-ghost use Rattle.flow.specs.Roles.{takes_operands};
+ghost use Rattle.flow_reduction.specs.Reduced.{reduced};
 ghost use Rattle.flow.specs.Parallel.{numbers};
 ghost use Rattle.law_independence.specs.OrderLaws.{used_roles};
 ghost use Rattle.lower_code.specs.Layout as cells;
@@ -19,7 +18,7 @@ use crate::compiling::Target;
 use crate::targets::assigns_outside;
 use flow::LoopRoles;
 use flow_reduction::Reduction;
-use ktree::{ReductionOperator, Refusal, Stmt, VarId};
+use ktree::{Refusal, Stmt, VarId};
 use lower::{LoweredReduction, LoweredRoles, Spot};
 use lower_code::Laid;
 use std::alloc::{AllocError, Global};
@@ -128,39 +127,13 @@ fn lower_lasts(
     Ok(spots)
 }
 
-// Whether an operator takes each operand: neither && nor || does (C11 6.5.13 and 6.5.14).
-pub(crate) fn takes_operands(reduction: Reduction) -> bool
-    ensures { result ≡ takes_operands (reduction_of reduction) }
-{
-    match reduction.operator {
-        ReductionOperator::LogicalAnd | ReductionOperator::LogicalOr => false,
-        _ => true,
-    }
-}
-
-// The variables in which a loop leaves what its last iteration does: the lastprivate ones, and that of a scan by an operator that may leave
-// operands out (OpenMP 5.2, 5.4.5 and 5.6).
-fn left_variables(alloc: Global, kept: &LoopRoles) -> Result<Vec<VarId>, AllocError>
-    ensures { IfOk result (λ left. numbers left.items ≡ (roles_of kept.now).lasts) }
-{
-    let mut left = Vec::from_slice(alloc, kept.lasts.as_slice())?;
-    for reduction in &kept.carried {
-        if !takes_operands(*reduction) {
-            left.push(reduction.variable)?;
-        }
-    }
-    Ok(left)
-}
-
-// The variables that a loop reduces: those of `reduction`, and that of a scan by any other operator (OpenMP 5.2, 5.5.8 and 5.6).
+// The variables that a loop reduces: those of `reduction`, and that of a scan (OpenMP 5.2, 5.5.8 and 5.6).
 fn left_reductions(alloc: Global, kept: &LoopRoles) -> Result<Vec<Reduction>, AllocError>
     ensures { IfOk result (λ left. reduced left.items ≡ (roles_of kept.now).reductions) }
 {
     let mut left = Vec::from_slice(alloc, kept.reductions.as_slice())?;
     for reduction in &kept.carried {
-        if takes_operands(*reduction) {
-            left.push(*reduction)?;
-        }
+        left.push(*reduction)?;
     }
     Ok(left)
 }
@@ -179,7 +152,6 @@ pub(crate) fn lower_roles(
 {
     let reduced = left_reductions(alloc, kept)?;
     let reductions = lower_reductions(alloc, &reduced, stmt, target)?;
-    let left = left_variables(alloc, kept)?;
-    let lasts = lower_lasts(alloc, &left, stmt, target)?;
+    let lasts = lower_lasts(alloc, kept.lasts.as_slice(), stmt, target)?;
     Ok(LoweredRoles { reductions, lasts })
 }
