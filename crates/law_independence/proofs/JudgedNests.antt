@@ -1,11 +1,11 @@
 -- Nests by what their lines say of their data and of their phases.
-use Rattle.std.specs.Prelude.{ℕ, Bool, None, is_none, true, false, not, ◌≡◌, ◌⊎◌, ◌==◌, ◌&&◌, ◌||◌, List, [], ◌∷◌, ◌++◌, length, map, filter, if◌then◌else◌, Some, Option, IsSome}
+use Rattle.std.specs.Prelude.{ℕ, Bool, None, is_none, true, false, not, ◌≡◌, ◌⊎◌, ◌==◌, ◌||◌, List, [], ◌∷◌, ◌++◌, length, map, if◌then◌else◌, Some, Option, IsSome}
 use Rattle.std.specs.List.{list_all}
 use Rattle.std.proofs.Common.{refl, sym, ap, ◌∙◌, subst, inl, inr}
 use Rattle.std.proofs.lemmas.Bool.{true≢false, and_from, eqb-true, eq-eqb}
 use Rattle.std.proofs.lemmas.List.{append-nil}
 use Rattle.std.proofs.lemmas.Option.{same_Some}
-use Rattle.semantics.specs.Tree.{Variable, Stmt, Items, Declaration}
+use Rattle.semantics.specs.Tree.{Variable, Stmt, Declaration}
 use Rattle.semantics.specs.Meaning.Agrees.{is_among}
 use Rattle.semantics.specs.Meaning.Definite.{no_privates, definite}
 use Rattle.semantics.specs.Loops.Nest.{Loop}
@@ -20,7 +20,6 @@ use Rattle.flow.specs.Roles.{LoopData, left_roles, KeepsItsRoles}
 use Rattle.deptest_verdict.specs.Shown.{IsShownLoop, no_loops}
 use Rattle.law_turns.specs.Turns.{AreEntered}
 use Rattle.law_commute.specs.Targets.{targets_outside}
-use Rattle.law_commute.proofs.Values.{first_of, second_of}
 use Rattle.law_roles.specs.Updates.{is_plain, reduces}
 use Rattle.law_roles.specs.Reducing.{takes_all}
 use Rattle.law_roles.specs.Sharing.{assigned_first, role_variables, are_different, AssignsAll}

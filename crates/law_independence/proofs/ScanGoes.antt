@@ -3,15 +3,15 @@ use Rattle.std.specs.Prelude.{ℕ, zero, suc, Bool, true, false, ◌≡◌, ◌=
 use Rattle.std.proofs.Common.{refl, sym, ap, ◌∙◌, subst, cond, arith}
 use Rattle.std.proofs.lemmas.Bool.{eqb-true, or_parts}
 use Rattle.std.proofs.lemmas.Option.{same_Some, none-some}
-use Rattle.semantics.specs.Tree.{Name, Variable, Source, Stmt, For, Block, Items, no_items, mark, local, stmt, Declaration}
+use Rattle.semantics.specs.Tree.{Variable, Source, Stmt, For, Items, no_items, mark, local, stmt, Declaration}
 use Rattle.semantics.specs.Source.Token.{Token}
 use Rattle.semantics.specs.Source.Scope.{Scope, AVariable}
 use Rattle.semantics.specs.Source.Statements.{ReadsStmt, for_loop, block, ReadsItems, no_more, line, empty_local, first_local, statement}
 use Rattle.semantics.specs.Meaning.State.{State, Slot, Empty, Holds, Declared, with_local}
 use Rattle.semantics.specs.Meaning.Value.{source_value}
-use Rattle.semantics.specs.Meaning.Runs.{Effect, declares, declared, then_from, run, run_items}
+use Rattle.semantics.specs.Meaning.Runs.{Effect, declares, declared, run, run_items}
 use Rattle.semantics.specs.Meaning.Definite.{DefinitelyAssigned, known_with, may_take, declared_known, no_privates, definite, definite_items}
-use Rattle.semantics.specs.Meaning.Agrees.{names_source, names_start}
+use Rattle.semantics.specs.Meaning.Agrees.{names_source}
 use Rattle.semantics.specs.Loops.Nest.{Loop, nest_of}
 use Rattle.semantics.specs.Loops.Operator.{ReduceOp}
 use Rattle.semantics.proofs.EraseTokenLaw.{first_of, second_of}
@@ -23,7 +23,6 @@ use Rattle.nest_loop.proofs.Heads.{head_of}
 use Rattle.nest.specs.Nests.{Has, Have, StaysInside}
 use Rattle.law_nests.proofs.Joined.{first_loop}
 use Rattle.law_roles.specs.Updates.{is_plain, reduces, all_reduce, operands, all_operands}
-use Rattle.law_runs.proofs.Assigning.{still_known}
 use Rattle.law_runs.proofs.Going.{stands, is_held, Ran, ran_nothing, ran_same, ran_then, ran_write, local_later, local_known}
 use Rattle.law_runs.proofs.Growing.{loop_known_is, grows, known_below, visible_behind}
 use Rattle.law_runs.proofs.Loops.{loop_ran}

@@ -1,5 +1,5 @@
 -- The operands of a scan's phases: the phase that does not write the scan variable goes as it is, and no phase reads more by its operands.
-use Rattle.std.specs.Prelude.{Bool, true, false, not, ◌≡◌, ◌⊎◌, ◌==◌, ◌&&◌, ◌||◌, List, [], ◌∷◌, ◌++◌, Option, Some, None}
+use Rattle.std.specs.Prelude.{Bool, true, false, not, ◌≡◌, ◌⊎◌, ◌==◌, ◌&&◌, List, [], ◌∷◌, ◌++◌, Option, Some, None}
 use Rattle.std.proofs.Common.{refl, sym, ap, ◌∙◌, cond, inl, inr}
 use Rattle.std.proofs.lemmas.Bool.{true≢false, or_left, or_right, or_cases, or_parts}
 use Rattle.std.proofs.lemmas.List.Folds.{list_any-append}

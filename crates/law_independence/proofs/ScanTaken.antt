@@ -1,8 +1,7 @@
 -- The operands of a scan have values wherever it is met at a turn of the loops round it.
-use Rattle.std.specs.Prelude.{ℕ, Bool, true, ◌≡◌, List, [], ◌∷◌, is_some}
+use Rattle.std.specs.Prelude.{ℕ, Bool, true, ◌≡◌, List, [], ◌∷◌, Some, is_some}
 use Rattle.std.proofs.Common.{sym, ap, subst, inr}
 use Rattle.semantics.specs.Tree.{Variable, Stmt, Items, Declaration}
-use Rattle.semantics.specs.Meaning.State.{State}
 use Rattle.semantics.specs.Meaning.Definite.{no_privates, definite}
 use Rattle.semantics.specs.Loops.Nest.{Loop, nest_of}
 use Rattle.semantics.specs.Loops.Operator.{ReduceOp}
