@@ -27,7 +27,7 @@ use Rattle.pragma.specs.Parallel.{associated, LineHas}
 use Rattle.nest.specs.Nests.{Has, Have, StaysInside}
 use Rattle.flow.proofs.PrivateLemmas.{among_both}
 use Rattle.flow.specs.Phases.{LinePhases, HasPhases}
-use Rattle.flow.specs.Roles.{takes_operands, left_roles, LineData, privates_by, KeepsItsRoles, KeepsRolesThere, LoopsHaveBy, ItemsHaveBy, LoopsKeepRoles, ItemsKeepRoles}
+use Rattle.flow.specs.Roles.{left_roles, LineData, privates_by, KeepsItsRoles, KeepsRolesThere, LoopsHaveBy, ItemsHaveBy, LoopsKeepRoles, ItemsKeepRoles}
 use Rattle.law_runs.proofs.Going.{known_with_less}
 use Rattle.law_runs.proofs.Growing.{grows, known_below, visible_behind as also_visible, visible_later}
 use Rattle.law_runs.proofs.Points.{rises, IsBelow, allowed, tested_known, branches, and_then}
@@ -174,32 +174,28 @@ module _ (text : List ℕ) (ds : List Declaration) (R : LineData) (S : LinePhase
       reduced x h =
           let t = first_of (is_among (targets_outside a) x) (is_among (map (λ r. r.0) (left_roles (R at)).reductions) x) h in
           let among = second_of (is_among (targets_outside a) x) (is_among (map (λ r. r.0) (left_roles (R at)).reductions) x) h in
-          at_either x t nest.phases (or_cases (is_among (map (λ r. r.0) (R at).roles.reductions) x) (is_among (map (λ r. r.0) (filter takes_operands (R at).carried)) x)
-          (sym (ap (λ ys. is_among ys x) (map-append (λ r. r.0) (R at).roles.reductions (filter takes_operands (R at).carried)) ∙ among_both (map (λ r. r.0) (R at).roles.reductions) (map (λ r. r.0) (filter takes_operands (R at).carried)) x) ∙ among))
+          at_either x t nest.phases (or_cases (is_among (map (λ r. r.0) (R at).roles.reductions) x) (is_among (map (λ r. r.0) (R at).carried) x)
+          (sym (ap (λ ys. is_among ys x) (map-append (λ r. r.0) (R at).roles.reductions (R at).carried) ∙ among_both (map (λ r. r.0) (R at).roles.reductions) (map (λ r. r.0) (R at).carried) x) ∙ among))
         where
-          sole_kept : (r : Variable × ReduceOp) (x : Variable) → is_among (map (λ q. q.0) (filter takes_operands (r ∷ []))) x ≡ true → r.0 ≡ x
-          sole_kept r x q = go (takes_operands r) q
+          sole_kept : (r : Variable × ReduceOp) (x : Variable) → ((r.0 == x) || false) ≡ true → r.0 ≡ x
+          sole_kept r x q = eqb-true r.0 x (either_false (r.0 == x) q)
             where
-              go : (b : Bool) → is_among (map (λ (q : Variable × ReduceOp). q.0) (if b then r ∷ [] else [])) x ≡ true → r.0 ≡ x
-              go true h = eqb-true r.0 x (either_false (r.0 == x) h)
-                where
-                  either_false : (c : Bool) → (c || false) ≡ true → c ≡ true
-                  either_false true g = refl
-                  either_false false g = absurd (true≢false (sym g))
-              go false h = absurd (true≢false (sym h))
+              either_false : (c : Bool) → (c || false) ≡ true → c ≡ true
+              either_false true g = refl
+              either_false false g = absurd (true≢false (sym g))
 
           not_from : (b : Bool) → not b ≡ true → b ≡ false
           not_from true h = absurd (true≢false (sym h))
           not_from false h = refl
 
           at_either : (x : Variable) → is_among (targets_outside a) x ≡ true → ((R at).carried ≡ []) ⊎ HasPhases (R at) (S at) depth a
-              → (is_among (map (λ r. r.0) (R at).roles.reductions) x ≡ true) ⊎ (is_among (map (λ r. r.0) (filter takes_operands (R at).carried)) x ≡ true) → k x ≡ true
+              → (is_among (map (λ r. r.0) (R at).roles.reductions) x ≡ true) ⊎ (is_among (map (λ r. r.0) (R at).carried) x ≡ true) → k x ≡ true
           at_either x t phases (inl q) =
               let op = reduced_of (R at).roles.reductions x q in
               known_before P (R at).roles.reductions x op.0 op.1 a k k' kept.updates d (outside_target a x t)
-          at_either x t (inl none) (inr q) = absurd (true≢false (sym q ∙ ap (λ (cs : List (Variable × ReduceOp)). is_among (map (λ r. r.0) (filter takes_operands cs)) x) none))
+          at_either x t (inl none) (inr q) = absurd (true≢false (sym q ∙ ap (λ (cs : List (Variable × ReduceOp)). is_among (map (λ r. r.0) cs) x) none))
           at_either x t (inr its) (inr q) =
-              let same : its.variable ≡ x = sole_kept (its.variable, its.operator) x (sym (ap (λ (cs : List (Variable × ReduceOp)). is_among (map (λ r. r.0) (filter takes_operands cs)) x) its.sole) ∙ q) in
+              let same : its.variable ≡ x = sole_kept (its.variable, its.operator) x (sym (ap (λ (cs : List (Variable × ReduceOp)). is_among (map (λ r. r.0) cs) x) its.sole) ∙ q) in
               subst (λ y. k y ≡ true) same
               (known_before_scan P (R at) (S at) depth a its k k' (not_from (is_among (declared_in a) its.variable) (subst (λ y. visible_behind a y ≡ true) (sym same) (outside_visible a x t))) d
               (subst (λ y. is_among (targets a) y ≡ true) (sym same) (outside_target a x t)))

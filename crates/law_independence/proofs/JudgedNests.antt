@@ -1,11 +1,11 @@
 -- Nests by what their lines say of their data and of their phases.
-use Rattle.std.specs.Prelude.{ℕ, Bool, None, is_none, true, false, not, ◌≡◌, ◌⊎◌, ◌==◌, ◌&&◌, ◌||◌, List, [], ◌∷◌, ◌++◌, length, map, filter, if◌then◌else◌, Some, Option, IsSome}
+use Rattle.std.specs.Prelude.{ℕ, Bool, None, is_none, true, false, not, ◌≡◌, ◌⊎◌, ◌==◌, ◌||◌, List, [], ◌∷◌, ◌++◌, length, map, if◌then◌else◌, Some, Option, IsSome}
 use Rattle.std.specs.List.{list_all}
 use Rattle.std.proofs.Common.{refl, sym, ap, ◌∙◌, subst, inl, inr}
 use Rattle.std.proofs.lemmas.Bool.{true≢false, and_from, eqb-true, eq-eqb}
 use Rattle.std.proofs.lemmas.List.{append-nil}
 use Rattle.std.proofs.lemmas.Option.{same_Some}
-use Rattle.semantics.specs.Tree.{Variable, Stmt, Items, Declaration}
+use Rattle.semantics.specs.Tree.{Variable, Stmt, Declaration}
 use Rattle.semantics.specs.Meaning.Agrees.{is_among}
 use Rattle.semantics.specs.Meaning.Definite.{no_privates, definite}
 use Rattle.semantics.specs.Loops.Nest.{Loop}
@@ -16,12 +16,11 @@ use Rattle.nest.specs.Nests.{Has, StaysInside}
 use Rattle.pairtest_access.specs.Found.{inner_loops}
 use Rattle.flow.specs.Private.{is_private_body}
 use Rattle.flow.specs.Phases.{PhasesSaid, HasPhases}
-use Rattle.flow.specs.Roles.{LoopData, takes_operands, left_roles, KeepsItsRoles}
+use Rattle.flow.specs.Roles.{LoopData, left_roles, KeepsItsRoles}
 use Rattle.deptest_verdict.specs.Shown.{IsShownLoop, no_loops}
 use Rattle.law_turns.specs.Turns.{AreEntered}
 use Rattle.law_commute.specs.Targets.{targets_outside}
-use Rattle.law_commute.proofs.Values.{first_of, second_of}
-use Rattle.law_roles.specs.Updates.{is_and_also, is_or_else, is_plain, reduces}
+use Rattle.law_roles.specs.Updates.{is_plain, reduces}
 use Rattle.law_roles.specs.Reducing.{takes_all}
 use Rattle.law_roles.specs.Sharing.{assigned_first, role_variables, are_different, AssignsAll}
 use Rattle.law_independence.specs.Inside.{LoopsAreRead, HaveShort}
@@ -32,45 +31,20 @@ use Rattle.law_independence.proofs.ReorderedBodies.{IsStmtRead, IsNestRead, nest
 use Rattle.law_independence.proofs.ReorderedNests.{assigned, leaves_others, have_turns, steps_are_read, iterates, takes_updated, in_chunks}
 use Rattle.law_independence.proofs.RoleNests.{used_updates, used_apart}
 use Rattle.law_independence.proofs.ScanNests.{in_passes}
+use Rattle.law_independence.proofs.ScanTaken.{takes_scanned}
 
 -- ---- what is left
 
 -- of a loop that carries nothing
 nothing_carried : (d : LoopData) → d.carried ≡ [] → left_roles d ≡ d.roles
-nothing_carried d none =
-    ap (λ xs. record d.roles { lasts = xs; reductions = d.roles.reductions ++ filter takes_operands d.carried }) (ap (λ (cs : List (Variable × ReduceOp)). d.roles.lasts ++ map (λ r. r.0) (filter (λ r. not (takes_operands r)) cs)) none ∙ append-nil d.roles.lasts)
-    ∙ ap (λ rs. record d.roles { reductions = rs }) (ap (λ (cs : List (Variable × ReduceOp)). d.roles.reductions ++ filter takes_operands cs) none ∙ append-nil d.roles.reductions)
+nothing_carried d none = ap (λ rs. record d.roles { reductions = rs }) (ap (λ (cs : List (Variable × ReduceOp)). d.roles.reductions ++ cs) none ∙ append-nil d.roles.reductions)
 
--- the roles of a scan by an operator that takes its operands
+-- the roles of a scan
 abbrev scan_roles : LoopData → Variable → ReduceOp → Roles
 scan_roles d x op = record d.roles { reductions = (x, op) ∷ [] }
 
-one_carried : (d : LoopData) (x : Variable) (op : ReduceOp) → d.carried ≡ (x, op) ∷ [] → d.roles.reductions ≡ [] → takes_operands (x, op) ≡ true → left_roles d ≡ scan_roles d x op
-one_carried d x op sole alone takes =
-    ap (λ xs. record d.roles { lasts = xs; reductions = d.roles.reductions ++ filter takes_operands d.carried })
-    (ap (λ (cs : List (Variable × ReduceOp)). d.roles.lasts ++ map (λ r. r.0) (filter (λ r. not (takes_operands r)) cs)) sole
-    ∙ ap (λ b. d.roles.lasts ++ map (λ (r : Variable × ReduceOp). r.0) (if not b then (x, op) ∷ [] else [])) takes ∙ append-nil d.roles.lasts)
-    ∙ ap (λ rs. record d.roles { reductions = rs })
-    (ap (λ (rs : List (Variable × ReduceOp)). rs ++ filter takes_operands d.carried) alone ∙ ap (filter takes_operands) sole ∙ ap (λ b. if b then (x, op) ∷ [] else []) takes)
-
--- ---- operands
-
--- some of those that take all operands take all
-some_take : (p : Variable × ReduceOp → Bool) (rs : List (Variable × ReduceOp)) → takes_all rs ≡ true → takes_all (filter p rs) ≡ true
-some_take p [] h = refl
-some_take p (r ∷ rs) h = go (p r) (some_take p rs (second_of (not (is_and_also r.1) && not (is_or_else r.1)) (takes_all rs) h))
-  where
-    go : (b : Bool) → takes_all (filter p rs) ≡ true → takes_all (if b then r ∷ filter p rs else filter p rs) ≡ true
-    go true rest = and_from (not (is_and_also r.1) && not (is_or_else r.1)) (takes_all (filter p rs)) (first_of (not (is_and_also r.1) && not (is_or_else r.1)) (takes_all rs) h) rest
-    go false rest = rest
-
-kept_take : (rs : List (Variable × ReduceOp)) → takes_all (filter takes_operands rs) ≡ true
-kept_take [] = refl
-kept_take (r ∷ rs) = go (takes_operands r) refl (kept_take rs)
-  where
-    go : (b : Bool) → takes_operands r ≡ b → takes_all (filter takes_operands rs) ≡ true → takes_all (if b then r ∷ filter takes_operands rs else filter takes_operands rs) ≡ true
-    go true e rest = and_from (not (is_and_also r.1) && not (is_or_else r.1)) (takes_all (filter takes_operands rs)) (first_of (not (is_and_also r.1) && not (is_or_else r.1)) true e) rest
-    go false e rest = rest
+one_carried : (d : LoopData) (x : Variable) (op : ReduceOp) → d.carried ≡ (x, op) ∷ [] → d.roles.reductions ≡ [] → left_roles d ≡ scan_roles d x op
+one_carried d x op sole alone = ap (λ rs. record d.roles { reductions = rs }) (ap (λ (rs : List (Variable × ReduceOp)). rs ++ d.carried) alone ∙ sole)
 
 -- a variable that is none of these is apart from them
 plain_each : (x : Variable) (op : ReduceOp) (xs : List Variable) → is_among xs x ≡ false → list_all (is_plain ((x, op) ∷ [])) xs ≡ true
@@ -128,14 +102,18 @@ module _ (ds : List Declaration) (around : List Loop) (round : Nesting) (n : ℕ
       (subst (λ (roles : Roles). (roles.lasts ≡ [] → ⊥) → AssignsAll (assigned_first roles) roles.lasts found.nest.body) same last)
       (updates none) around entered independent
 
-  -- a scan
-  scanned : (said : Option PhasesSaid) (its : HasPhases d said n s) → takes_operands (its.variable, its.operator) ≡ true → is_among (targets_outside s) its.variable ≡ true → ScansInChunks said its.variable its.operator used around n s
-  scanned said its takes target =
+  -- a scan: its variable alone is reduced where it is assigned, and else none is
+  scan_reduces : (said : Option PhasesSaid) (its : HasPhases d said n s) (b : Bool) → is_among (targets_outside s) its.variable ≡ b → used.reductions ≡ (if b then (its.variable, its.operator) ∷ [] else [])
+  scan_reduces said its b target =
+      ap (λ (roles : Roles). (used_roles s roles).reductions) (one_carried d its.variable its.operator its.sole its.alone) ∙ ap (λ b. if b then (its.variable, its.operator) ∷ [] else []) target
+
+  scanned : (said : Option PhasesSaid) (its : HasPhases d said n s) → is_among (targets_outside s) its.variable ≡ true → ScansInChunks said its.variable its.operator used around n s
+  scanned said its target =
       let x = its.variable in
       let op = its.operator in
-      let same = one_carried d x op its.sole its.alone takes in
+      let same = one_carried d x op its.sole its.alone in
       let back = sym same in
-      let only : used.reductions ≡ (x, op) ∷ [] = ap (λ (roles : Roles). (used_roles s roles).reductions) same ∙ ap (λ b. if b then (x, op) ∷ [] else []) target in
+      let only : used.reductions ≡ (x, op) ∷ [] = scan_reduces said its true target in
       let apart = subst (λ (roles : Roles). list_all (is_plain roles.reductions) (assigned_first roles) ≡ true) back (plain_each x op (assigned_first d.roles) its.plain) in
       record {
         only = only;
@@ -150,7 +128,7 @@ module _ (ds : List Declaration) (around : List Loop) (round : Nesting) (n : ℕ
             (subst (λ (roles : Roles). are_different (map (λ r. r.0) roles.reductions) ≡ true) back refl) apart
             (subst (λ (roles : Roles). IsSome (definite no_privates s (λ y. not (is_among (assigned_first roles) y)))) back kept.first)
             (subst (λ (roles : Roles). (roles.lasts ≡ [] → ⊥) → AssignsAll (assigned_first roles) roles.lasts found.nest.body) back last)
-            around entered independent x op its.inclusive its.front its.back its.loops only its.nest its.keeps takes;
+            around entered independent x op its.inclusive its.front its.back its.loops only its.nest its.keeps;
       }
 
   sole_same : (a b : Variable × ReduceOp) → (d.carried ≡ a ∷ []) → (d.carried ≡ b ∷ []) → a ≡ b
@@ -168,21 +146,21 @@ module _ (ds : List Declaration) (around : List Loop) (round : Nesting) (n : ℕ
         takes = takes phases;
         phases = phases;
         shares = plain_shares;
-        scans = λ x op sole taken target. scans phases x op sole taken target;
+        scans = λ x op sole target. scans phases x op sole target;
       }
     where
       takes : (d.carried ≡ []) ⊎ HasPhases d said n s → TakesAtTurns ds used around s
       takes (inl none) = takes_updated ds short round outer serial n s found stmt stays (left_roles d) private around entered (updates none)
-      takes (inr its) = λ scope order next next' tokens known outside reads turn met determined. inl all
+      takes (inr its) = at (is_among (targets_outside s) its.variable) refl
         where
-          all : takes_all used.reductions ≡ true
-          all =
-              some_take (λ r. is_among (targets_outside s) r.0) (d.roles.reductions ++ filter takes_operands d.carried)
-              (ap (λ (rs : List (Variable × ReduceOp)). takes_all (rs ++ filter takes_operands d.carried)) its.alone ∙ kept_take d.carried)
+          at : (b : Bool) → is_among (targets_outside s) its.variable ≡ b → TakesAtTurns ds used around s
+          at true target =
+              takes_scanned ds short round outer serial n s found stmt stays (left_roles d) private around entered its.variable its.operator its.inclusive its.front its.back its.loops its.nest its.keeps (scan_reduces said its true target)
+          at false other = λ scope order next next' tokens known outside reads turn met determined. inl (ap takes_all (scan_reduces said its false other))
 
-      scans : (d.carried ≡ []) ⊎ HasPhases d said n s → (x : Variable) (op : ReduceOp) → d.carried ≡ (x, op) ∷ [] → takes_operands (x, op) ≡ true → is_among (targets_outside s) x ≡ true → ScansInChunks said x op used around n s
-      scans (inl none) x op sole taken target = absurd (cc (none, sole))
-      scans (inr its) x op sole taken target =
+      scans : (d.carried ≡ []) ⊎ HasPhases d said n s → (x : Variable) (op : ReduceOp) → d.carried ≡ (x, op) ∷ [] → is_among (targets_outside s) x ≡ true → ScansInChunks said x op used around n s
+      scans (inl none) x op sole target = absurd (cc (none, sole))
+      scans (inr its) x op sole target =
           let same = sole_same (x, op) (its.variable, its.operator) sole its.sole in
           subst (λ (r : Variable × ReduceOp). ScansInChunks said r.0 r.1 used around n s) (sym same)
-          (scanned said its (subst (λ (r : Variable × ReduceOp). takes_operands r ≡ true) same taken) (subst (λ (r : Variable × ReduceOp). is_among (targets_outside s) r.0 ≡ true) same target))
+          (scanned said its (subst (λ (r : Variable × ReduceOp). is_among (targets_outside s) r.0 ≡ true) same target))

@@ -28,8 +28,9 @@ pub mod PrivateNests
 pub mod RoleNests
 pub mod Taking
 pub mod Hiding
+pub mod ScanOperands
+pub mod ScanGoes
+pub mod ScanTaken
+pub mod ScanWalks
 pub mod ScanNests
 pub mod JudgedNests
-pub mod ScanParts
-pub mod ScanInputs
-pub mod ScanTaken

@@ -1,5 +1,5 @@
 -- The iterations of a nest that is shown to be independent commute, and its chunks share out what it does.
-use Rattle.std.specs.Prelude.{ℕ, Bool, true, false, not, ◌≡◌, ◌≢◌, ◌&&◌, ◌||◌, ℤ, pos, List, [], ◌∷◌, ◌++◌, length, map, Contains, Some, IsSome}
+use Rattle.std.specs.Prelude.{ℕ, Bool, true, false, not, ◌≡◌, ◌≢◌, ◌&&◌, ◌||◌, ℤ, pos, List, [], ◌∷◌, ◌++◌, map, Contains, Some, IsSome}
 use Rattle.std.specs.List.{AllPairs, list_all}
 use Rattle.std.proofs.Common.{refl, sym, ap, ◌∙◌, subst}
 use Rattle.std.proofs.lemmas.Bool.{true≢false, and_from}
@@ -16,10 +16,9 @@ use Rattle.semantics.specs.Theorems.{IsTurn}
 use Rattle.nest_loop.specs.Turn.{AtTurn}
 use Rattle.pairtest_counter.specs.Levels.{Nesting, values_at}
 use Rattle.nest.specs.Nests.{Has, StaysInside}
-use Rattle.pairtest_access.specs.Found.{inner_loops}
 use Rattle.flow.specs.Private.{is_private_body}
 use Rattle.flow.proofs.PrivateLemmas.{among_both}
-use Rattle.deptest_verdict.specs.Shown.{IsShownLoop, no_loops}
+use Rattle.deptest_verdict.specs.Shown.{no_loops}
 use Rattle.law_turns.specs.Turns.{AreEntered}
 use Rattle.law_turns.proofs.Laws.{outside_is_a_turn, iterations_are_there, iterations_are_turns, iterations_differ}
 use Rattle.law_commute.specs.Commuting.{InnerLoopsTurn}
@@ -33,14 +32,14 @@ use Rattle.law_roles.specs.Updates.{is_plain, reduces}
 use Rattle.law_roles.specs.Sharing.{assigned_first, role_variables, are_different, AssignsAll, KeepsRoles}
 use Rattle.law_roles.proofs.Joining.{join_in_place}
 use Rattle.law_roles.proofs.Keeping.{steady_keeps}
-use Rattle.law_independence.specs.Inside.{LoopsAreRead, HaveShort}
+use Rattle.law_independence.specs.Inside.{HaveShort}
 use Rattle.law_independence.specs.IndependenceLaws.{IsIndependentNest}
 use Rattle.law_independence.specs.OrderLaws.{used_roles, AreStepsRead, AreAtHand, HaveTurns, HasStepsRead, IterateAtTurns, LeavesOthers, TakesAtTurns, SharesInChunks}
-use Rattle.law_independence.proofs.IndependentNests.{IsNestThere, shown_loops_are_independent}
+use Rattle.law_independence.proofs.IndependentNests.{IsNestThere}
 use Rattle.law_independence.proofs.Links.{linked_site, linked}
 use Rattle.law_independence.proofs.PrivateNests.{private_nest, private_target, nest_first, body_first}
-use Rattle.law_independence.proofs.ReorderedBodies.{IsStmtRead, AreItsOwn, body_keeps, IsNestRead, nest_read}
-use Rattle.law_independence.proofs.RoleNests.{used_variables, used_first, used_last, used_different, used_apart, used_updates, scalar_assigned}
+use Rattle.law_independence.proofs.ReorderedBodies.{IsStmtRead, AreItsOwn, body_keeps, IsNestRead}
+use Rattle.law_independence.proofs.RoleNests.{used_variables, used_first, used_last, used_different, used_apart, scalar_assigned}
 use Rattle.law_independence.proofs.Steadiness.{IsArray}
 use Rattle.law_independence.proofs.Taking.{operands_taken}
 use Rattle.law_independence.proofs.Targeted.{no_target, is_outside_target, outside_visible, outside_target, no_outside_target, nest_targets}

@@ -3,4 +3,3 @@ pub mod IndependenceLaws
 pub mod OrderLaws
 pub mod Parallel
 pub mod ConflictLaws
-pub mod ScanLaws

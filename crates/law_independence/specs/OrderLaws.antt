@@ -23,7 +23,7 @@ use Rattle.nest.specs.Nests.{IsInRange}
 use Rattle.deptest_verdict.specs.Shown.{AreShownLoops}
 use Rattle.flow.specs.Phases.{PhasesSaid, LinePhases, item_count, HasPhases, PhasesBy}
 use Rattle.law_scans.specs.Scanning.{whole_of, first_of, ScansFrom}
-use Rattle.flow.specs.Roles.{LoopData, LineData, takes_operands, left_roles, privates_by, AskedByLine, ItemsHaveBy, ItemsKeepRoles}
+use Rattle.flow.specs.Roles.{LoopData, LineData, left_roles, privates_by, AskedByLine, ItemsHaveBy, ItemsKeepRoles}
 
 -- at each turn of the serial loops round a nest of so many loops at which the scalars that its body assigns from outside are locals, its iterations leave the same elements in any order
 abbrev pub CommutesAtTurns : List Loop → ℕ → Stmt → Type 0
@@ -140,7 +140,7 @@ pub record ScansInChunks (said : Option PhasesSaid) (x : Variable) (op : ReduceO
   pub nest : nest_of n s ≡ Some (loops, whole_of front back)
   pub passes : ScansAtTurns roles x op serial loops (first_of inclusive front back) (whole_of front back) s
 
--- a statement is a nest of so many loops that assigns of scalars those alone that have the roles of its line; where its iterations carry nothing from one to the next, they may be run in chunks, and as a scan where they carry one variable that they assign, by an operator that takes its operands
+-- a statement is a nest of so many loops that assigns of scalars those alone that have the roles of its line; where its iterations carry nothing from one to the next, they may be run in chunks, and as a scan where they carry one variable that they assign
 pub record SharesAsNest (ds : List Declaration) (d : LoopData) (said : Option PhasesSaid) (serial : List Loop) (n : ℕ) (s : Stmt) : Type 0 where
   pub nest : IsSome (nest_of n s)
   pub round : HaveTurns serial
@@ -151,8 +151,7 @@ pub record SharesAsNest (ds : List Declaration) (d : LoopData) (said : Option Ph
   pub takes : TakesAtTurns ds (used_roles s (left_roles d)) serial s
   pub phases : (d.carried ≡ []) ⊎ HasPhases d said n s
   pub shares : d.carried ≡ [] → SharesInChunks (used_roles s (left_roles d)) serial n s
-  pub scans : (x : Variable) (op : ReduceOp) → d.carried ≡ (x, op) ∷ [] → takes_operands (x, op) ≡ true → is_among (targets_outside s) x ≡ true
-      → ScansInChunks said x op (used_roles s (left_roles d)) serial n s
+  pub scans : (x : Variable) (op : ReduceOp) → d.carried ≡ (x, op) ∷ [] → is_among (targets_outside s) x ≡ true → ScansInChunks said x op (used_roles s (left_roles d)) serial n s
 
 -- so the loop behind each directive line, with the roles and the phases that are said of it
 abbrev pub SharesBy : List Declaration → LineData → LinePhases → AskedByLine

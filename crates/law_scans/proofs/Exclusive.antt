@@ -79,7 +79,7 @@ bare_reduces (local y name start rest) back x op free h =
 bare_reduces (stmt a rest) back x op free h = bare_reduces rest back x op free h
 
 -- what may be named behind it
-names_back : (front back : Items) (V : Variable → Bool) → names_items V (joined_items front back) ≡ true → names_items (λ y. V y || is_among (tops front) y) back ≡ true
+pub names_back : (front back : Items) (V : Variable → Bool) → names_items V (joined_items front back) ≡ true → names_items (λ y. V y || is_among (tops front) y) back ≡ true
 names_back no_items back V h = names_more (Block back) V (λ y. V y || false) (λ y k. or_left (V y) false k) h
 names_back (mark line rest) back V h = names_back rest back V h
 names_back (local x name start rest) back V h =
@@ -105,7 +105,7 @@ abbrev pub empties : List Variable → List Write
 empties [] = []
 empties (z ∷ zs) = Declared z None ∷ empties zs
 
-bare_runs : (front : Items) (q : State) → run_items (bare front) q ≡ Some (record { writes = empties (tops front); text = [] })
+pub bare_runs : (front : Items) (q : State) → run_items (bare front) q ≡ Some (record { writes = empties (tops front); text = [] })
 bare_runs no_items q = refl
 bare_runs (mark line rest) q = bare_runs rest q
 bare_runs (local x name start rest) q = ap (map_option (joined (one_write (Declared x None)))) (bare_runs rest (with_local q x Empty))
@@ -226,6 +226,36 @@ spared_reads x front back only_read apart y r = at (is_among (written_among fron
         end (inl k) = true≢false (sym e ∙ ap (is_among (written_among front)) (eqb-true y x k) ∙ only_read)
         end (inr k) = true≢false (sym r ∙ not_true (R y) k)
 
+-- ---- behind a part that writes nothing that is read
+
+not_top : (front : Items) (y : Variable) → is_among (declared_among front) y ≡ false → is_among (tops front) y ≡ false
+not_top front y h = at (is_among (tops front) y) refl
+  where
+    at : (b : Bool) → is_among (tops front) y ≡ b → is_among (tops front) y ≡ false
+    at true e = absurd (true≢false (sym (tops_declared front y e) ∙ h))
+    at false e = e
+
+module _ (R V F : Variable → Bool) (front : Items) (steady : AreSteady F front) (free : (y : Variable) → R y ≡ true → is_among (written_among front) y ≡ false)
+    (none : (y : Variable) → V y ≡ true → is_among (declared_among front) y ≡ false) where
+  -- a state behind it, and one behind its declarations alone
+  pub met_bare : (s t : State) (e : Effect) → Meets R V s t → run_items front s ≡ Some e → Meets R (λ y. V y || is_among (tops front) y) (overwritten s e.writes) (overwritten t (empties (tops front)))
+  met_bare s t e m ran = record {
+    kinds = λ y h. kind y (or_cases (V y) (is_among (tops front) y) h);
+    there = λ y is. there_stays e.writes s y is ∙ m.there y is ∙ sym (there_stays (empties (tops front)) t y is);
+    slots = λ y h r. slot y r (or_cases (V y) (is_among (tops front) y) h);
+    cells = λ y is r. spared_cells y false e.writes s is (items_spare false true refl y front F steady (free y r) refl s e ran) ∙ m.cells y is r ∙ sym (empties_cells (tops front) t y is);
+  }
+    where
+      kind : (y : Variable) → (V y ≡ true) ⊎ (is_among (tops front) y ≡ true) → is_outside ((overwritten s e.writes).locals y) ≡ is_outside ((overwritten t (empties (tops front))).locals y)
+      kind y (inl v) =
+          kept_kinds y e.writes s (items_spare true false refl y front F steady refl (none y v) s e ran) ∙ m.kinds y v ∙ sym (ap is_outside (empties_other (tops front) t y (not_top front y (none y v))))
+      kind y (inr o) = tops_inside front F steady s e y o ran ∙ sym (ap is_outside (empties_own (tops front) t y o))
+
+      slot : (y : Variable) → R y ≡ true → (V y ≡ true) ⊎ (is_among (tops front) y ≡ true) → (overwritten s e.writes).locals y ≡ (overwritten t (empties (tops front))).locals y
+      slot y r (inl v) =
+          spared_local y e.writes s (items_spare true true refl y front F steady (free y r) (none y v) s e ran) ∙ m.slots y v r ∙ sym (empties_other (tops front) t y (not_top front y (none y v)))
+      slot y r (inr o) = tops_empty front F steady s e y (free y r) o ran ∙ sym (empties_own (tops front) t y o)
+
 -- ---- the part
 
 module _ (x : Variable) (op : ReduceOp) (ps : List Variable) (front back : Items) (keeps : KeepsApart (x ∷ ps) (Block (joined_items front back))) (none : DeclaresNone (x ∷ ps) (Block (joined_items front back)))
@@ -256,13 +286,6 @@ module _ (x : Variable) (op : ReduceOp) (ps : List Variable) (front back : Items
       or_parts (is_among (declared_among front) y) (is_among (declared_among back) y)
       (sym (list_any-append (λ z. z == y) (declared_among front) (declared_among back)) ∙ ap (λ ds. is_among ds y) (sym (declared_joined front back)) ∙ not_true (is_among (declared_among (joined_items front back)) y) h)
 
-  not_top : (y : Variable) → V y ≡ true → is_among (tops front) y ≡ false
-  not_top y h = at (is_among (tops front) y) refl
-    where
-      at : (b : Bool) → is_among (tops front) y ≡ b → is_among (tops front) y ≡ false
-      at true e = absurd (true≢false (sym (tops_declared front y e) ∙ (declared_parts y h).0))
-      at false e = e
-
   -- the scan phase writes nothing that is read
   free : (y : Variable) → R y ≡ true → is_among (written_among front) y ≡ false
   free = spared_reads x front back only_read apart
@@ -270,28 +293,7 @@ module _ (x : Variable) (op : ReduceOp) (ps : List Variable) (front back : Items
   -- ---- both runs
 
   met_states : (q : State) (e : Effect) → run_items front q ≡ Some e → Meets R (λ y. V y || is_among (tops front) y) (overwritten q e.writes) (overwritten q (empties (tops front)))
-  met_states q e ran = record {
-    kinds = λ y h. kind y (or_cases (V y) (is_among (tops front) y) h);
-    there = λ y is. there_stays e.writes q y is ∙ sym (there_stays (empties (tops front)) q y is);
-    slots = λ y h r. slot y r (or_cases (V y) (is_among (tops front) y) h);
-    cells = λ y is r. spared_cells y false e.writes q is (items_spare false true refl y front F front_steady (free y r) refl q e ran) ∙ sym (empties_cells (tops front) q y is);
-  }
-    where
-      q1 : State
-      q1 = overwritten q e.writes
-
-      q2 : State
-      q2 = overwritten q (empties (tops front))
-
-      kind : (y : Variable) → (V y ≡ true) ⊎ (is_among (tops front) y ≡ true) → is_outside ((overwritten q e.writes).locals y) ≡ is_outside ((overwritten q (empties (tops front))).locals y)
-      kind y (inl v) =
-          kept_kinds y e.writes q (items_spare true false refl y front F front_steady refl (declared_parts y v).0 q e ran) ∙ sym (ap is_outside (empties_other (tops front) q y (not_top y v)))
-      kind y (inr t) = tops_inside front F front_steady q e y t ran ∙ sym (ap is_outside (empties_own (tops front) q y t))
-
-      slot : (y : Variable) → R y ≡ true → (V y ≡ true) ⊎ (is_among (tops front) y ≡ true) → (overwritten q e.writes).locals y ≡ (overwritten q (empties (tops front))).locals y
-      slot y r (inl v) =
-          spared_local y e.writes q (items_spare true true refl y front F front_steady (free y r) (declared_parts y v).0 q e ran) ∙ sym (empties_other (tops front) q y (not_top y v))
-      slot y r (inr t) = tops_empty front F front_steady q e y (free y r) t ran ∙ sym (empties_own (tops front) q y t)
+  met_states q e ran = met_bare R V F front front_steady free (λ y v. (declared_parts y v).0) q q e (record { kinds = λ y v. refl; there = λ y is. refl; slots = λ y v r. refl; cells = λ y is r. refl }) ran
 
   runs : (q : State) (v : ℕ) (e : Effect) → q.locals x ≡ Holds v → run body q ≡ Some e
       → (f : Effect) × (run input q ≡ Some f) × ((overwritten q f.writes).locals x ≡ (overwritten q e.writes).locals x)
@@ -304,7 +306,7 @@ module _ (x : Variable) (op : ReduceOp) (ps : List Variable) (front back : Items
       let both : Both (Meets R W) q1 q2 (run_items back q1) (run_items back q2) = items_same R back W (names_back front back V keeps.names) (λ y k. k) q1 q2 (met_states q p.one p.one_is) in
       let two : run_items back q2 ≡ Some p.two = sym both.same ∙ p.two_is in
       let one : q1.locals x ≡ q.locals x = spared_local x p.one.writes q (items_spare true true refl x front F front_steady only_read (declared_parts x mine).0 q p.one p.one_is) in
-      let other : q2.locals x ≡ q.locals x = empties_other (tops front) q x (not_top x mine) in (
+      let other : q2.locals x ≡ q.locals x = empties_other (tops front) q x (not_top front x (declared_parts x mine).0) in (
         joined b p.two,
         runs_joined (bare front) back q ∙ ap (λ o. then_from q o (run_items back)) (bare_runs front q) ∙ ap (map_option (joined b)) two,
         ap (λ (t : State). t.locals x) (overwritten-append q (empties (tops front)) p.two.writes) ∙ same_slot x p.two.writes q2 q1 (other ∙ sym one)
@@ -321,7 +323,7 @@ module _ (x : Variable) (op : ReduceOp) (ps : List Variable) (front back : Items
         subst (λ (found : List Access). Contains found a) (sym (accesses_joined front back))
         (Contains-append_right (items_accesses [] front) (items_accesses [] back) a
         (subst (λ (found : List Access). Contains found a) (accesses_joined (bare front) back ∙ ap (λ found. found ++ items_accesses [] back) (bare_accesses front)) h));
-    updates = bare_reduces front back x op (not_top x mine) updates;
+    updates = bare_reduces front back x op (not_top front x (declared_parts x mine).0) updates;
     runs = runs;
   }
     where

@@ -92,7 +92,7 @@ module _ (R : Variable → Bool) where
     pub slots : (y : Variable) → V y ≡ true → R y ≡ true → s.locals y ≡ t.locals y
     pub cells : (y : Variable) (is : List ℕ) → R y ≡ true → s.cells y is ≡ t.cells y is
 
-  meets_less : (V : Variable → Bool) (x : Variable) (s t : State) → Meets (also V x) s t → Meets V s t
+  pub meets_less : (V : Variable → Bool) (x : Variable) (s t : State) → Meets (also V x) s t → Meets V s t
   meets_less V x s t m = record {
     kinds = λ y v. m.kinds y (or_right (y == x) (V y) v);
     there = m.there;
@@ -100,7 +100,7 @@ module _ (R : Variable → Bool) where
     cells = m.cells;
   }
 
-  meets_local : (V : Variable → Bool) (x : Variable) (l : Slot) (s t : State) → Meets V s t → Meets (also V x) (with_local s x l) (with_local t x l)
+  pub meets_local : (V : Variable → Bool) (x : Variable) (l : Slot) (s t : State) → Meets V s t → Meets (also V x) (with_local s x l) (with_local t x l)
   meets_local V x l s t m = record {
     kinds = λ y v. kind y (y == x) v (m.kinds y);
     there = m.there;
