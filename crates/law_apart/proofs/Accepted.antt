@@ -1,5 +1,5 @@
 -- The parallel loops of accepted kernels leave what is visible round them as it was but for private scalars, and nothing assigns the variables of serial loops inside these.
-use Rattle.std.specs.Prelude.{ℕ, suc, Bool, true, false, not, filter, if◌then◌else◌, ◌⊎◌, ◌≡◌, ◌<◌, ◌≤◌, ◌==◌, ◌&&◌, ◌||◌, nat_lt, List, [], ◌∷◌, ◌++◌, length, map, is_some, Option, Some, IsSome}
+use Rattle.std.specs.Prelude.{ℕ, suc, Bool, true, false, not, ◌⊎◌, ◌≡◌, ◌<◌, ◌≤◌, ◌==◌, ◌&&◌, ◌||◌, nat_lt, List, [], ◌∷◌, ◌++◌, length, map, is_some, Option, Some, IsSome}
 use Rattle.std.specs.List.{AllByRecursion}
 use Rattle.std.proofs.Common.{refl, sym, ap, ◌∙◌, subst, arith, inl, inr}
 use Rattle.std.proofs.lemmas.Bool.{true≢false, eqb-true, eq-eqb, ltb-true, lt-ltb, or_cases, or_right, or_parts, not_from_false}

@@ -1,5 +1,5 @@
 -- Runs in which each parallel loop leaves the locals as they were but for lastprivate and reduction variables, as a team does. (C11 6.2.1 and 6.2.4; OpenMP 5.2, 5.4.5, 5.5.8 and 11.5)
-use Rattle.std.specs.Prelude.{ℕ, Bool, true, false, not, ◌≡◌, ◌&&◌, ◌||◌, if◌then◌else◌, List, [], ◌∷◌, ◌++◌, map, flat_map, is_some, Option, Some, None}
+use Rattle.std.specs.Prelude.{ℕ, Bool, true, false, not, ◌≡◌, ◌&&◌, ◌||◌, if◌then◌else◌, List, [], ◌∷◌, ◌++◌, flat_map, is_some, Option, Some, None}
 use Rattle.std.specs.List.{list_all}
 use Rattle.semantics.specs.Tree.{Variable, Stmt, If, IfElse, For, Block, Items, no_items, mark, local, stmt}
 use Rattle.semantics.specs.Meaning.Agrees.{is_among}
