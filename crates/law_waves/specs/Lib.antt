@@ -1,0 +1,3 @@
+pub mod Silent
+pub mod Doacross
+pub mod Rising
