@@ -1,19 +1,19 @@
 -- Chunks of iterations that do not conflict, each walked from the state before all of them.
-use Rattle.std.specs.Prelude.{ℕ, zero, suc, Bool, true, false, ◌≡◌, ◌==◌, ◌&&◌, ◌||◌, ◌⊎◌, List, [], ◌∷◌, ◌++◌, map, flat_map, Option, Some, None, slice_get}
+use Rattle.std.specs.Prelude.{ℕ, zero, suc, Bool, true, false, ◌≡◌, ◌==◌, ◌&&◌, ◌||◌, ◌⊎◌, List, [], ◌∷◌, ◌++◌, map, flat_map, Option, Some, slice_get}
 use Rattle.std.specs.List.{AllByRecursion as Each}
 use Rattle.std.proofs.Common.{refl, sym, ap, ◌∙◌, subst, inl, inr}
 use Rattle.std.proofs.lemmas.Bool.{true≢false, or_cases}
 use Rattle.std.proofs.lemmas.Option.{same_Some, none-some}
 use Rattle.semantics.specs.Tree.{Variable, Stmt}
 use Rattle.semantics.specs.Meaning.State.{State, Write, Declared, Assigned, same_indexes, overwritten}
-use Rattle.semantics.specs.Meaning.Runs.{Effect, nothing, joined, run}
+use Rattle.semantics.specs.Meaning.Runs.{Effect, nothing, run}
 use Rattle.semantics.specs.Loops.Nest.{Loop, Vector, at_vector}
 use Rattle.semantics.specs.Loops.Access.{Mode, Writes}
 use Rattle.law_commute.specs.Commuting.{KeepsToItself}
 use Rattle.law_commute.proofs.Lists.{each_left, each_right}
 use Rattle.law_commute.proofs.Changes.{acted, hit, not_hit}
 use Rattle.law_commute.proofs.Joining.{acted-append}
-use Rattle.law_nests.specs.Walks.{walk, entered, enters}
+use Rattle.law_nests.specs.Walks.{walk, entered}
 use Rattle.law_nests.specs.Merging.{Cells, left_by, NoneChanges, OneChanges}
 use Rattle.law_scans.proofs.Walking.{walk_cons, left_cons, split_of, halves}
 use Rattle.law_waves.proofs.Steps.{TouchesAt, Clear, Good, Steady, runs_same, stepped, same_scalar}

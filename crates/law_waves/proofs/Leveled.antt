@@ -1,7 +1,7 @@
 -- Levels of a nest's iterations: what conflicts with one that stands earlier has a higher level.
-use Rattle.std.specs.Prelude.{ℕ, zero, suc, Bool, true, false, ◌≡◌, ◌≢◌, ◌==◌, ◌&&◌, ◌||◌, ◌<◌, ◌≤◌, ◌+◌, ◌⊎◌, nat_eq, List, [], ◌∷◌, ◌++◌, length, Contains, slice_index_or}
+use Rattle.std.specs.Prelude.{ℕ, zero, suc, true, ◌≡◌, ◌≢◌, ◌&&◌, ◌||◌, ◌<◌, ◌≤◌, ◌+◌, ◌⊎◌, nat_eq, List, [], ◌∷◌, ◌++◌, length, Contains, slice_index_or}
 use Rattle.std.specs.List.{AllPairs, AllByRecursion as Each, list_all}
-use Rattle.std.proofs.Common.{refl, sym, ap, ◌∙◌, subst, inl, inr, arith}
+use Rattle.std.proofs.Common.{refl, sym, ap, ◌∙◌, inl, inr, arith}
 use Rattle.std.proofs.lemmas.Bool.{eq-eqb, or_right, cases_lt}
 use Rattle.std.proofs.lemmas.List.{append_assoc, length-append, get_or-append-add}
 use lib.Pointwise.{pointwise}
@@ -26,7 +26,7 @@ same_found : (u : Vector) → pointwise nat_eq u u ≡ true
 same_found [] = refl
 same_found (x ∷ xs) = λ i. eq-eqb x x refl i && same_found xs i
 
-weaker : (P Q : Vector → Type 0) (us : List Vector) → ((u : Vector) → P u → Q u) → Each P us → Each Q us
+pub weaker : (P Q : Vector → Type 0) (us : List Vector) → ((u : Vector) → P u → Q u) → Each P us → Each Q us
 weaker P Q [] h k = tt
 weaker P Q (u ∷ us) h k = (h u k.0, weaker P Q us h k.1)
 

@@ -6,3 +6,7 @@ pub mod Tied
 pub mod Sorting
 pub mod Leveled
 pub mod Chunks
+pub mod Waved
+pub mod Grounded
+pub mod Joined
+pub mod Doacross

@@ -1,10 +1,10 @@
 -- Statements without printf print nothing.
-use Rattle.std.specs.Prelude.{ℕ, zero, suc, Bool, true, false, ◌≡◌, ◌&&◌, List, [], ◌∷◌, ◌++◌, Option, Some, None}
+use Rattle.std.specs.Prelude.{ℕ, zero, suc, Bool, true, false, ◌≡◌, List, [], ◌∷◌, ◌++◌, Option, Some, None}
 use Rattle.std.proofs.Common.{refl, sym, ap, ◌∙◌, cond}
 use Rattle.std.proofs.lemmas.Bool.{true≢false}
 use Rattle.std.proofs.lemmas.Option.{same_Some, none-some}
-use Rattle.semantics.specs.Tree.{Variable, Exprs, no_exprs, Plus, Minus, Literal, Bare, Object, Source, Cond, Increment, Up, Down, Set, Change, Stmt, Assign, Update, If, IfElse, For, Block, Print, Items, no_items, mark, local, stmt}
-use Rattle.semantics.specs.Meaning.State.{State, Write, Declared, Assigned, overwritten, is_object}
+use Rattle.semantics.specs.Tree.{Variable, no_exprs, Plus, Minus, Literal, Bare, Object, Source, Cond, Increment, Up, Down, Set, Change, Stmt, Assign, Update, If, IfElse, For, Block, Print, Items, no_items, mark, local, stmt}
+use Rattle.semantics.specs.Meaning.State.{State, Declared, Assigned, overwritten, is_object}
 use Rattle.semantics.specs.Meaning.Value.{value, values, holds, source_value, by_test, both_then, map_option, operate}
 use Rattle.semantics.specs.Meaning.Runs.{Effect, nothing, one_write, joined, then_from, declares, declared, assigned, incremented, turns, greatest_trip_count, run, run_items}
 use Rattle.semantics.specs.Loops.Nest.{Loop, Vector}

@@ -1,11 +1,11 @@
 -- Iterations sorted by a number.
-use Rattle.std.specs.Prelude.{ℕ, zero, suc, Bool, true, false, ◌≡◌, ◌==◌, ◌<◌, ◌≤◌, ◌+◌, ◌⊎◌, List, [], ◌∷◌, ◌++◌, filter, flat_map}
+use Rattle.std.specs.Prelude.{ℕ, zero, suc, Bool, true, false, ◌≡◌, ◌==◌, ◌<◌, ◌≤◌, ◌⊎◌, List, [], ◌∷◌, ◌++◌, filter, flat_map}
 use Rattle.std.specs.List.{AllByRecursion as Each}
 use Rattle.std.proofs.Common.{refl, sym, ap, ◌∙◌, subst, cond, inl, inr, arith}
 use Rattle.std.proofs.lemmas.Bool.{eqb-true, eq-eqb, true≢false, cases_lt}
 use Rattle.std.proofs.lemmas.List.{append-nil, append_assoc}
 use Rattle.semantics.specs.Meaning.Places.{below}
-use Rattle.law_commute.proofs.Lists.{each_join, each_left, each_right}
+use Rattle.law_commute.proofs.Lists.{each_join}
 
 flat-append : {A B : Type 0} (g : A → List B) (xs ys : List A) → flat_map g (xs ++ ys) ≡ flat_map g xs ++ flat_map g ys
 flat-append g [] ys = refl
@@ -28,10 +28,10 @@ module _ {A : Type 0} (f : A → ℕ) where
   sorted_none zero = refl
   sorted_none (suc k) = sorted_more [] k ∙ append-nil (sorted [] k) ∙ sorted_none k
 
-  picked_other : (u : A) (us : List A) (i : ℕ) → (f u == i) ≡ false → picked_at (u ∷ us) i ≡ picked_at us i
+  pub picked_other : (u : A) (us : List A) (i : ℕ) → (f u == i) ≡ false → picked_at (u ∷ us) i ≡ picked_at us i
   picked_other u us i h = ap (λ b. cond b (u ∷ picked_at us i) (picked_at us i)) h
 
-  picked_first : (u : A) (us : List A) (i : ℕ) → (f u == i) ≡ true → picked_at (u ∷ us) i ≡ u ∷ picked_at us i
+  pub picked_first : (u : A) (us : List A) (i : ℕ) → (f u == i) ≡ true → picked_at (u ∷ us) i ≡ u ∷ picked_at us i
   picked_first u us i h = ap (λ b. cond b (u ∷ picked_at us i) (picked_at us i)) h
 
   differs : (a b : ℕ) → (a ≡ b → ⊥) → (a == b) ≡ false

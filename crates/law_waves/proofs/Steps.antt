@@ -1,5 +1,5 @@
 -- One iteration of a body that keeps to itself, from states that are the same for it.
-use Rattle.std.specs.Prelude.{ℕ, Bool, true, false, ◌≡◌, List, [], ◌∷◌, length, Option, Some, None}
+use Rattle.std.specs.Prelude.{ℕ, Bool, true, false, ◌≡◌, List, [], ◌∷◌, length, Some, None}
 use Rattle.std.proofs.Common.{refl, sym, ap, ◌∙◌}
 use Rattle.semantics.specs.Tree.{Variable, Stmt}
 use Rattle.semantics.specs.Meaning.State.{State, Write, overwritten}

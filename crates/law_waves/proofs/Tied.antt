@@ -1,6 +1,6 @@
 -- A walk over a body beside one over a body that declares its private variables itself, as locals.
-use Rattle.std.specs.Prelude.{ℕ, Bool, true, false, not, ◌≡◌, List, Option, Some}
-use Rattle.std.proofs.Common.{refl, sym, ap, ◌∙◌}
+use Rattle.std.specs.Prelude.{ℕ, true, false, not, ◌≡◌, List, Some}
+use Rattle.std.proofs.Common.{sym, ap, ◌∙◌}
 use Rattle.semantics.specs.Tree.{Variable, Stmt}
 use Rattle.semantics.specs.Meaning.State.{State, overwritten}
 use Rattle.semantics.specs.Meaning.Runs.{Effect}

@@ -4,12 +4,11 @@ use Rattle.std.specs.List.{AllByRecursion as Each}
 use Rattle.std.proofs.Common.{refl, sym, ap, ◌∙◌, subst}
 use Rattle.std.proofs.lemmas.Option.{same_Some}
 use Rattle.semantics.specs.Tree.{Variable, Stmt}
-use Rattle.semantics.specs.Meaning.State.{State, Write, overwritten}
+use Rattle.semantics.specs.Meaning.State.{State, overwritten}
 use Rattle.semantics.specs.Meaning.Runs.{Effect, nothing, joined, run}
 use Rattle.semantics.specs.Loops.Nest.{Loop, Vector, at_vector}
 use Rattle.semantics.specs.Loops.Access.{Mode, Writes}
 use Rattle.law_commute.specs.Commuting.{KeepsToItself}
-use Rattle.law_commute.proofs.Lists.{each_right}
 use Rattle.law_commute.proofs.Changes.{acted, hit, not_hit}
 use Rattle.law_nests.specs.Walks.{walk, enters}
 use Rattle.law_scans.proofs.Walking.{walk_cons, left_cons, split_of}
@@ -48,8 +47,7 @@ module _ (loops : List Loop) (own : Stmt) (o : State) (keeps : KeepsToItself own
       let next : IsSame (after u a p.one) (after u b p.one) =
       same_of loops own o keeps (after u a p.one) (after u b p.one) one.steady two.steady (λ y j js. one.cells y j js ∙ ap (acted y (j ∷ js) p.one.writes) (same.cells y (j ∷ js)) ∙ sym (two.cells y j js)) in
       let rest = along us (after u a p.one) (after u b p.one) p.two good.1 next p.two_is in
-      subst (λ (g : Effect). (walk loops own (u ∷ us) b ≡ Some g) × IsSame (overwritten a g.writes) (overwritten b g.writes)) p.whole
-      (
+      subst (λ (g : Effect). (walk loops own (u ∷ us) b ≡ Some g) × IsSame (overwritten a g.writes) (overwritten b g.writes)) p.whole (
         walk_cons loops own u us b p.one p.two is rest.0,
         subst (λ t. IsSame t (overwritten b (joined (enters loops u) (joined p.one p.two)).writes)) (sym (left_cons loops u a p.one p.two))
             (subst (λ t. IsSame (overwritten (after u a p.one) p.two.writes) t) (sym (left_cons loops u b p.one p.two)) rest.1),

@@ -2,7 +2,15 @@
 //! behind another leave what the nest leaves. Each law is the contract of a function that does nothing.
 #![tactic(auto)]
 
+ghost use Rattle.law_waves.specs.Doacross.{WaveChunksJoin};
 ghost use Rattle.law_waves.specs.Rising.{RisingOrdersRespect};
+
+/// A doacross nest with private variables, of whose iterations any two that conflict are ordered by its sinks, may be run wave by wave, each
+/// wave in chunks begun behind the waves before it: chunks have a run each, and what they leave, put together, wave after wave, is what the
+/// nest leaves (OpenMP 5.2, 5.4.3, 11.5.3, 15.9.6 and 15.10.1).
+pub fn wave_chunks_join()
+    ensures { WaveChunksJoin }
+{}
 
 /// Where each loop rises, the order of a nest's iterations puts each sink that lies ahead before the iteration that names it (OpenMP 5.2,
 /// 15.9.6).
