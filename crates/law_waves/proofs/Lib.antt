@@ -10,3 +10,4 @@ pub mod Waved
 pub mod Grounded
 pub mod Joined
 pub mod Doacross
+pub mod Iterating

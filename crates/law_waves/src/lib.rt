@@ -3,7 +3,7 @@
 #![tactic(auto)]
 
 ghost use Rattle.law_waves.specs.Doacross.{WaveChunksJoin};
-ghost use Rattle.law_waves.specs.Rising.{RisingOrdersRespect};
+ghost use Rattle.law_waves.specs.Rising.{RisingLoopsRise, RisingOrdersRespect};
 
 /// A doacross nest with private variables, of whose iterations any two that conflict are ordered by its sinks, may be run wave by wave, each
 /// wave in chunks begun behind the waves before it: chunks have a run each, and what they leave, put together, wave after wave, is what the
@@ -16,4 +16,9 @@ pub fn wave_chunks_join()
 /// 15.9.6).
 pub fn rising_orders_respect()
     ensures { RisingOrdersRespect }
+{}
+
+/// Iterations of loops whose values rise at each turn of the loops round them stand in that order (C11 6.8.5.3; OpenMP 5.2, 4.4.2).
+pub fn rising_loops_rise()
+    ensures { RisingLoopsRise }
 {}
