@@ -11,3 +11,4 @@ pub mod Grounded
 pub mod Joined
 pub mod Doacross
 pub mod Iterating
+pub mod Rows

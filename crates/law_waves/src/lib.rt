@@ -4,6 +4,7 @@
 
 ghost use Rattle.law_waves.specs.Doacross.{WaveChunksJoin};
 ghost use Rattle.law_waves.specs.Rising.{RisingLoopsRise, RisingOrdersRespect};
+ghost use Rattle.law_waves.specs.Rows.{WaveRows};
 
 /// A doacross nest with private variables, of whose iterations any two that conflict are ordered by its sinks, may be run wave by wave, each
 /// wave in chunks begun behind the waves before it: chunks have a run each, and what they leave, put together, wave after wave, is what the
@@ -21,4 +22,9 @@ pub fn rising_orders_respect()
 /// Iterations of loops whose values rise at each turn of the loops round them stand in that order (C11 6.8.5.3; OpenMP 5.2, 4.4.2).
 pub fn rising_loops_rise()
     ensures { RisingLoopsRise }
+{}
+
+/// Worked rows: the waves of a square, and a chain with a private variable, which is such a nest.
+pub fn wave_rows()
+    ensures { WaveRows }
 {}
