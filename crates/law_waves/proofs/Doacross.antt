@@ -1,15 +1,18 @@
 -- A doacross nest wave by wave.
-use Rattle.std.specs.Prelude.{ℕ, suc, Bool, true, false, ◌≡◌, ◌<◌, List, [], Some}
+use Rattle.std.specs.Prelude.{ℕ, suc, Bool, true, false, ◌≡◌, ◌<◌, List, [], Some, not, ◌&&◌}
 use Rattle.std.specs.List.{AllByRecursion as Each}
 use Rattle.std.proofs.Common.{refl, sym, ap, ◌∙◌}
 use Rattle.semantics.specs.Tree.{Variable, Stmt}
 use Rattle.semantics.specs.Meaning.State.{State, overwritten}
 use Rattle.semantics.specs.Meaning.Runs.{Effect, nothing}
 use Rattle.semantics.specs.Meaning.Agrees.{is_among, visible_behind}
-use Rattle.semantics.specs.Loops.Nest.{Loop, Vector}
+use Rattle.semantics.specs.Loops.Nest.{Loop, Vector, iterations}
 use Rattle.semantics.specs.Loops.Order.{Distance, wave, wave_count}
 use Rattle.semantics.specs.Loops.Piece.{Roles}
+use Rattle.law_commute.proofs.Values.{first_of, second_of}
 use Rattle.law_nests.specs.Walks.{walk}
+use Rattle.law_nests.proofs.Steadied.{SameFixed, same_iterations}
+use Rattle.law_private.proofs.Chunks.{not_true}
 use Rattle.law_roles.specs.Following.{IsWalked}
 use Rattle.law_roles.proofs.Chunked.{nest_variables}
 use Rattle.law_roles.proofs.Joining.{localized}
@@ -101,6 +104,22 @@ module _ (roles : Roles) (ds : List Distance) (n : ℕ) (s : Stmt) (loops : List
     same : IsSame q p
     same = record { first = q_steady; second = p_steady; cells = same_cells }
 
+    -- bounds and steps are as before the nest, and so are its iterations
+    abbrev fixed : Variable → Bool
+    fixed x = visible_behind s x && not (is_among vars x)
+
+    same_fixed : SameFixed fixed state outer
+    same_fixed y h =
+        let seen = first_of (visible_behind s y) (not (is_among vars y)) h in
+        let free = not_true (is_among vars y) (second_of (visible_behind s y) (not (is_among vars y)) h) in
+        record {
+          locals = st.left.locals y seen free;
+          cells = λ out. sym (localized_cell vars state y [] free) ∙ p_steady.scalars y (ground.own_visible roles ds n s loops body outer us e is y seen free) ∙ localized_cell vars outer y [] free;
+        }
+
+    same_are : iterations loops state ≡ Some us
+    same_are = same_iterations loops fixed state outer same_fixed (ground.nest_fixed n s loops body fixed is.nest is.keeps.whole.steady) ∙ is.are
+
     abbrev AllNext : Type 0
     AllNext =
         Next loops own o (ground.keeps_own roles ds n s loops body outer us e is) (ground.leveled roles ds n s loops body outer us e is) us (wave_count us ds) (ground.lower roles ds n s loops body outer us e is)
@@ -141,6 +160,7 @@ module _ (roles : Roles) (ds : List Distance) (n : ℕ) (s : Stmt) (loops : List
 
     one_wave : SharesWave roles ds s loops body us outer i state
     one_wave = record {
+      are = same_are;
       here = here.effect;
       ran = here.ran;
       text = silent_walk loops body is.silent (wave us ds i) state here.effect here.ran;

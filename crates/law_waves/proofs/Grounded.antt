@@ -8,15 +8,17 @@ use Rattle.std.proofs.lemmas.Option.{same_Some, none-some}
 use Rattle.semantics.specs.Tree.{Variable, Stmt, For, Block, no_items, stmt}
 use Rattle.semantics.specs.Meaning.State.{State}
 use Rattle.semantics.specs.Meaning.Runs.{Effect}
-use Rattle.semantics.specs.Meaning.Agrees.{is_among, declared_in, names_only, visible_behind}
+use Rattle.semantics.specs.Meaning.Agrees.{also, is_among, declared_in, names_only, visible_behind}
 use Rattle.semantics.specs.Loops.Nest.{Loop, Vector, as_loop, nest_of, at_vector}
 use Rattle.semantics.specs.Loops.Access.{Access, Mode, Writes, Touches, Conflict}
 use Rattle.semantics.specs.Loops.Order.{Distance, level, wave_count}
 use Rattle.semantics.specs.Loops.Piece.{Roles}
+use Rattle.law_commute.specs.Steady.{IsFixedSource, IsFixedCond, IsFixedStep, IsSteady}
 use Rattle.law_commute.specs.Targets.{AssignsFirst}
 use Rattle.law_commute.specs.Commuting.{KeepsToItself}
 use Rattle.law_commute.proofs.Values.{first_of, second_of}
 use Rattle.law_nests.proofs.Joined.{first_loop, nest_declares, visible_more}
+use Rattle.law_nests.proofs.Steadied.{AreFixedLoops}
 use Rattle.law_private.proofs.Own.{own_body, others, DeclaresNone, innermost, HasReplaced, replaced, fixed_is, own_accesses, replaced_keeps, KnownInside, known_inside}
 use Rattle.law_private.proofs.Chunks.{not_true, own_conflict}
 use Rattle.law_roles.specs.Following.{variables_of, IsWalked}
@@ -61,6 +63,24 @@ nest_own (suc n) s loops body h y =
 -- what its body does not declare, and is no loop's variable, the nest does not declare
 pub seen_behind : (n : ℕ) (s : Stmt) (loops : List Loop) (body : Stmt) → nest_of n s ≡ Some (loops, body) → (y : Variable) → visible_behind body y ≡ true → is_among (variables_of loops) y ≡ false → visible_behind s y ≡ true
 seen_behind n s loops body h y seen free = ap not (nest_own n s loops body h y ∙ ap (λ b. b || is_among (declared_in body) y) free) ∙ seen
+
+-- ---- bounds and steps
+
+-- those of a loop are fixed, where its statement is steady
+loop_fixed : (s : Stmt) (l : Loop) (b : Stmt) (F : Variable → Bool) → as_loop s ≡ Some (l, b) → IsSteady F s
+    → IsFixedSource F l.start × IsFixedCond (also F l.variable) l.test × IsFixedStep (also F l.variable) l.variable l.step × IsSteady (also F l.variable) b
+loop_fixed (For x name start test step inner) l b F h k =
+    subst (λ (p : Loop × Stmt). IsFixedSource F p.0.start × IsFixedCond (also F p.0.variable) p.0.test × IsFixedStep (also F p.0.variable) p.0.variable p.0.step × IsSteady (also F p.0.variable) p.1)
+    (same_Some (record { variable = x; start = start; test = test; step = step }, inner) (l, b) h) (k.1, k.2, k.3, k.4)
+loop_fixed (Block (stmt a no_items)) l b F h k = loop_fixed a l b F h k.0
+loop_fixed _ l b F h k = absurd (none-some (l, b) h)
+
+pub nest_fixed : (n : ℕ) (s : Stmt) (loops : List Loop) (body : Stmt) (F : Variable → Bool) → nest_of n s ≡ Some (loops, body) → IsSteady F s → AreFixedLoops F loops
+nest_fixed zero s loops body F h k = subst (AreFixedLoops F) (ap (λ (p : List Loop × Stmt). p.0) (same_Some ([], s) (loops, body) h)) tt
+nest_fixed (suc n) s loops body F h k =
+    let first = first_loop n s loops body h in
+    let one = loop_fixed s first.loop first.inside F first.is k in
+    subst (AreFixedLoops F) first.all_are (one.0, one.1, one.2, nest_fixed n first.inside first.loops body (also F first.loop.variable) first.rest one.3)
 
 -- ---- the ground
 

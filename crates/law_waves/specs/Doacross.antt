@@ -66,8 +66,9 @@ pub record StandsBehind (roles : Roles) (ds : List Distance) (s : Stmt) (loops :
 
 -- ---- the waves
 
--- a wave from such a state has a walk, which prints nothing; chunks of it, begun as chunks may be, leave together what it leaves; and where that is left, a state stands behind one wave more
+-- the nest has its iterations in such a state too, and the next wave has a walk from there, which prints nothing; chunks of it, begun as chunks may be, leave together what it leaves; and where that is left, a state stands behind one wave more
 pub record SharesWave (roles : Roles) (ds : List Distance) (s : Stmt) (loops : List Loop) (body : Stmt) (us : List Vector) (outer : State) (i : ℕ) (state : State) : Type 0 where
+  pub are : iterations loops state ≡ Some us
   pub here : Effect
   pub ran : walk loops body (wave us ds i) state ≡ Some here
   pub text : here.text ≡ []
