@@ -11,7 +11,7 @@ use crate::beginning::{Start, begin, confirm_word};
 use crate::ending::{Told, put_roles_back, tell};
 use crate::walking::{copy_registers, end_of, run_iterations};
 use crate::worker::Work;
-use lower::LoweredLoop;
+use lower::{LoweredLoop, LoweredReduction, Spot};
 use nest_space::Space;
 use overlay_pages::Chunk;
 use std::alloc::{AllocError, Global};
@@ -22,6 +22,17 @@ fn has_last(space: &Space, work: Work) -> bool
     ensures { result ≡ (work.first + work.count == length (vectors space.now)) }
 {
     end_of(space, work) == space.count()
+}
+
+// Has the first reduction variable, if it stands at file scope, where its cell is read and written soonest.
+fn bring_near(reductions: &[LoweredReduction], cells: &mut Chunk<'_>)
+    ensures { cells.new ≡ cells.old }
+{
+    if let Some(first) = reductions.first()
+        && let Spot::Cell(place) = first.spot
+    {
+        cells.bring_near(place);
+    }
 }
 
 // Runs a chunk over registers that hold what others did before the loop.
@@ -44,7 +55,9 @@ fn run_from(
     ensures store { cells.new.store ≡ cells.old.store }
 {
     confirm_word(start);
-    begin(lowered.roles.reductions.as_slice(), start, registers, cells);
+    let reductions = lowered.roles.reductions.as_slice();
+    begin(reductions, start, registers, cells);
+    bring_near(reductions, cells);
     let text = run_iterations(alloc, lowered, space, work, registers, cells)?;
     let has_last = has_last(space, work);
     let told = tell(

@@ -1,4 +1,5 @@
 pub mod Gathered
 pub mod Lent
+pub mod Near
 pub mod Overlays
 pub mod Tables

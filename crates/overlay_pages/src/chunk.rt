@@ -64,6 +64,13 @@ impl<'s> Chunk<'s> {
         self.store.cell(place)
     }
 
+    /// Has the value that the chunk wrote at a place, if it did, stand where it is read and written soonest. Nothing else changes.
+    pub fn bring_near(&mut self, place: u64)
+        ensures { self.new ≡ self.old }
+    {
+        self.own.bring_near(place);
+    }
+
     /// Ends a chunk: what it changed, which is each place where it wrote another number than the store holds. Nothing is written then, and the next chunk may run. This takes time for the pages with written cells alone.
     ///
     /// # Errors

@@ -1,6 +1,6 @@
 //! What a worker writes.
 
-ghost use Rattle.std.specs.Prelude.{◌≡◌, ℕ, ◌<◌, ◌^◌, length, replicate, slice_set, IfOk, None, Some};
+ghost use Rattle.std.specs.Prelude.{◌≡◌, ℕ, ◌<◌, ◌^◌, List, Option, length, replicate, slice_set, IfOk, None, Some};
 ghost use Rattle.store.specs.Flat.{values_of};
 ghost use Rattle.overlay_pages.specs.Over.{or_else, writes_of, writes_in, changing, AreOnce};
 ghost use Rattle.overlay_pages.specs.Table.{table_of, slots, IsRoomy};
@@ -15,18 +15,24 @@ use store::Store;
 /// What a worker wrote in its chunk so far: for each place among the cells of a store its value, if it is written. A worker keeps it from chunk to chunk.
 ///
 /// It has memory for pages of 64 cells that were written once, and room for all of them from the start: so writing takes no memory that can be wanting.
+/// The value of one place may stand beside the pages, where it is found without them.
 #[derive(Drop)]
 pub struct Own {
     pages: Pages,
+    near: u64,
+    value: u64,
 }
 
+/// No place: it is behind that of each cell.
+const NOWHERE: u64 = u64::MAX;
+
 impl Model for Own {
-    ghost use Rattle.std.specs.Prelude.{ℕ, List, Option};
+    ghost use Rattle.std.specs.Prelude.{ℕ, List, Option, Some, slice_set};
     ghost use Rattle.overlay_pages.specs.Table.{table_of, slots, IsRoomy};
 
     ghost Value = { List (Option ℕ) };
 
-    ghost view = { λ o. slots (table_of o.pages) };
+    ghost view = { λ o. slice_set (slots (table_of o.pages)) o.near (Some o.value) };
 
     ghost invariant = { λ o. IsRoomy o.pages };
 }
@@ -49,6 +55,20 @@ fn take(alloc: Global, store: &Store, pages: &mut Pages) -> Result<Changes, Allo
     }
 }
 
+// The value of a place, where this is one of so many cells.
+#[inline]
+fn near_value(near: u64, value: u64, size: u64) -> Option<u64>
+    ensures { (slots : List (Option ℕ)) → length slots ≡ size
+        → result ≡ writes_in (slice_set slots near (Some value)) near }
+{
+    if near < size { Some(value) } else { None }
+}
+
+// A number has 64 bits, as its type says.
+fn is_word(_value: u64)
+    ensures { _value < 2 ^ 64 }
+{}
+
 impl Own {
     /// Nothing is written yet, over the cells of this store.
     ///
@@ -59,7 +79,11 @@ impl Own {
         ensures { IfOk result (λ own. own ≡ replicate (length (values_of store.now)) None) }
     {
         let pages = empty_pages(alloc, store.cells().len() as u64)?;
-        Ok(Own { pages })
+        Ok(Own {
+            pages,
+            near: NOWHERE,
+            value: 0,
+        })
     }
 
     /// Of how many cells it is.
@@ -74,7 +98,11 @@ impl Own {
     pub(crate) fn read(&self, place: u64) -> Option<u64>
         ensures { result ≡ writes_in self.now place }
     {
-        slot_at(&self.pages, place)
+        if place == self.near {
+            near_value(self.near, self.value, self.pages.size)
+        } else {
+            slot_at(&self.pages, place)
+        }
     }
 
     // Writes at a place, and nothing outside.
@@ -82,13 +110,32 @@ impl Own {
     pub(crate) fn write(&mut self, place: u64, n: u64)
         ensures { self.new ≡ slice_set self.old place (Some n) }
     {
-        write_at(&mut self.pages, place, n);
+        if place == self.near {
+            self.value = n;
+        } else {
+            write_at(&mut self.pages, place, n);
+        }
+    }
+
+    // Has the value that is written at a place, if one is, stand beside the pages, and no other.
+    pub(crate) fn bring_near(&mut self, place: u64)
+        ensures { self.new ≡ self.old }
+    {
+        write_at(&mut self.pages, self.near, self.value);
+        match slot_at(&self.pages, place) {
+            Some(value) => {
+                self.near = place;
+                self.value = value;
+            }
+            None => self.near = NOWHERE,
+        }
     }
 
     // What is written is a number of 64 bits at each place.
     pub(crate) fn are_words(&self)
         ensures { (place : ℕ) → or_else (writes_in self.now place) 0 < 2 ^ 64 }
     {
+        is_word(self.value);
         written_words(&self.pages);
     }
 
@@ -99,6 +146,8 @@ impl Own {
         ensures once { IfOk result AreOnce }
         ensures none { self.new ≡ replicate (length self.old) None }
     {
+        write_at(&mut self.pages, self.near, self.value);
+        self.near = NOWHERE;
         take(alloc, store, &mut self.pages)
     }
 
@@ -106,6 +155,7 @@ impl Own {
     pub(crate) fn clear(&mut self)
         ensures { self.new ≡ replicate (length self.old) None }
     {
+        self.near = NOWHERE;
         clear(&mut self.pages);
     }
 }
