@@ -2,4 +2,5 @@ pub mod Gathered
 pub mod Lent
 pub mod Near
 pub mod Overlays
+pub mod Runs
 pub mod Tables

@@ -161,20 +161,7 @@ filled_twice ms ns (k ∷ ks) e =
     (λ i. record { lengths = k.lengths; values = take (same i) ms } ∷ filled (drop (same i) ms) (filled (drop (length k.values) ns) ks))
     ∙ ap (λ l. record { lengths = k.lengths; values = take (length k.values) ms } ∷ l) (filled_twice (drop (length k.values) ms) (drop (length k.values) ns) ks rest)
 
--- one more change of a store
-pub changed_on : (ks now later : List Kept) (cs : List Change) (i : ℕ) (d : Change) → i < length cs → now ≡ filled (written_over (writes_of (take i cs)) (values_of ks)) ks → later ≡ filled (slice_set (values_of now) (get_or cs i d).place (get_or cs i d).value) now → later ≡ filled (written_over (writes_of (take (i + 1) cs)) (values_of ks)) ks
-changed_on ks now later cs i d lt e f =
-    let c = get_or cs i d in
-    let over = written_over (writes_of (take i cs)) (values_of ks) in
-    let long = length_over (writes_of (take i cs)) (values_of ks) in
-    f
-    ∙ ap (λ s. filled (slice_set (values_of s) c.place c.value) s) e
-    ∙ ap (λ l. filled (slice_set l c.place c.value) (filled over ks)) (filled_values over ks long)
-    ∙ filled_twice (slice_set over c.place c.value) over ks long
-    ∙ ap (λ l. filled l ks) (sym (over_and_at (writes_of (take i cs)) (values_of ks) c.place c.value))
-    ∙ ap (λ l. filled l ks) (over_same (and_at (writes_of (take i cs)) c.place c.value) (writes_of (take i cs ++ c ∷ [])) (values_of ks) (λ p. sym (writes_push (take i cs) c p)))
-    ∙ ap (λ l. filled (written_over (writes_of l) (values_of ks)) ks) (sym (take_more cs i d lt))
-
+-- no change leaves a store as it was
 pub changed_none : (ks : List Kept) → ks ≡ filled (written_over (writes_of []) (values_of ks)) ks
 changed_none ks = sym (ap (λ l. filled l ks) (over_nothing (writes_of []) (values_of ks) (λ p. refl)) ∙ filled_self ks)
 

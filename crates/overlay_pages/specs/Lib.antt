@@ -1,3 +1,4 @@
 pub mod Over
+pub mod Runs
 pub mod Seen
 pub mod Table

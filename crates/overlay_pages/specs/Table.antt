@@ -1,11 +1,12 @@
 -- The tables of a worker: which cells are written, a mask of 64 bits for each page of 64 cells, and the values of the pages that were entered.
-use Rattle.std.specs.Prelude.{ℕ, zero, suc, ◌≡◌, ◌+◌, ◌-◌, ◌*◌, ◌/◌, ◌%◌, ◌^◌, ◌<◌, ◌≤◌, ◌==◌, if◌then◌else◌, nat_lt, List, [], ◌∷◌, ◌++◌, map, length, replicate, Option, Some, None, slice_index, slice_set, bit_or}
+use Rattle.std.specs.Prelude.{ℕ, zero, suc, ◌≡◌, ◌+◌, ◌-◌, ◌*◌, ◌/◌, ◌%◌, ◌^◌, ◌<◌, ◌≤◌, ◌==◌, if◌then◌else◌, nat_lt, List, [], ◌∷◌, ◌++◌, map, take, drop, length, replicate, Option, Some, None, slice_index, slice_set, bit_or}
 use Rattle.std.specs.List.{range_with_len}
 use Rattle.std.specs.Int.{bit_at}
 use Rattle.std.specs.Vec.{vec_capacity}
 use Rattle.overlay_pages.specs.declared.changes.Change.{Change}
 use Rattle.overlay_pages.specs.declared.pages.Pages.{Pages}
 use Rattle.overlay_pages.specs.Over.{Writes, writes_of, changing, AreOnce}
+use Rattle.overlay_pages.specs.Runs.{AllDiffer}
 
 -- how many cells there are; for each page its mask, and the number of its values from 1, or 0 where it was not entered; the pages in the order in which they
 -- were entered; and the values, 64 for each of them behind 64 that no cell has, and what is left behind those
@@ -99,3 +100,9 @@ up_to cells t m place = if nat_lt (spot t place) m then changing (slot t) cells 
 pub record Gathers (cells : List ℕ) (t : Table) (m : ℕ) (cs : List Change) : Type 0 where
   pub each : (place : ℕ) → writes_of cs place ≡ up_to cells t m place
   pub once : AreOnce cs
+
+-- these are the values of an entered page, by its number, of which each cell is written and takes another number than it holds
+pub record IsWhole (cells : List ℕ) (t : Table) (k : ℕ) (vs : List ℕ) : Type 0 where
+  pub mask : slice_index t.masks (slice_index t.entered k) ≡ 2 ^ 64 - 1
+  pub values : vs ≡ take 64 (drop (64 * suc k) t.values)
+  pub differ : AllDiffer cells (64 * slice_index t.entered k) vs

@@ -1,8 +1,9 @@
 //! The changes of a finished chunk.
 
-ghost use Rattle.std.specs.Prelude.{◌≡◌, ◌++◌, [], length, OnOk, IfErr};
+ghost use Rattle.std.specs.Prelude.{◌≡◌, ◌<◌, ◌≤◌, ◌^◌, ◌+◌, ◌/◌, ◌%◌, ◌++◌, ◌∷◌, [], length, OnOk, IfErr, IfOk, IfSome};
 ghost use Rattle.store.specs.Flat.{values_of, filled};
 ghost use Rattle.overlay_pages.specs.Over.{written_over, writes_of};
+ghost use Rattle.overlay_pages.specs.Runs.{row};
 
 use smallvec::SmallVec;
 use std::alloc::{AllocError, Global};
@@ -16,46 +17,106 @@ pub struct Change {
     pub value: u64,
 }
 
-/// Changes one after another. Few of them take no memory beside the value.
-pub(crate) type ChangeList = SmallVec<Change, 4>;
+/// Numbers one after another. Few of them take no memory beside the value.
+type Numbers = SmallVec<u64, 4>;
 
-/// The changes of a chunk, without the store that the chunk ran over.
+/// The changes of a chunk, without the store that the chunk ran over: runs of cells side by side, of each its head, and the new
+/// values, run by run. A head is 64 times the place of the first cell, and one less than the number of the cells above that.
 #[derive(Drop)]
 pub struct Changes {
-    writes: ChangeList,
+    heads: Numbers,
+    values: Numbers,
 }
 
 impl Model for Changes {
-    ghost use Rattle.std.specs.Prelude.{List};
+    ghost use Rattle.std.specs.Prelude.{◌≡◌, List, length};
     ghost use Rattle.overlay_pages.specs.declared.changes.Change.{Change};
+    ghost use Rattle.overlay_pages.specs.Runs.{cells_in, changes_in};
 
     ghost Value = { List Change };
 
-    ghost view = { λ c. c.writes.items };
+    ghost view = { λ c. changes_in c.heads.items c.values.items };
+
+    ghost invariant = { λ c. length c.values.items ≡ cells_in c.heads.items };
+}
+
+// The head of a run of so many cells from a place on.
+fn head_of(place: u64, count: u64) -> Option<u64>
+    requires some { 1 ≤ count }
+    requires few { count ≤ 64 }
+    ensures { IfSome result (λ head. (head / 64 ≡ place) × (head % 64 + 1 ≡ count)) }
+{
+    let first = place.checked_mul(64)?;
+    first.checked_add(count - 1)
+}
+
+// Puts the values of a run into the cells from a place on.
+fn apply_run(store: &mut Store, place: u64, values: &[u64])
+    requires { place + length values.now < 2 ^ 64 }
+    ensures { store.new
+        ≡ filled (written_over (writes_of (row place values.now)) (values_of store.old)) store.old }
+{
+    for (k, value) in values.iter().enumerate() {
+        store.put(place + k as u64, *value);
+    }
 }
 
 impl Changes {
-    /// These writes.
-    pub(crate) fn of(writes: ChangeList) -> Changes
-        ensures { result ≡ writes.items }
-    {
-        Changes { writes }
-    }
-
     /// No changes.
     pub fn none(alloc: Global) -> Changes
         ensures { result ≡ [] }
     {
         Changes {
-            writes: ChangeList::new(alloc),
+            heads: Numbers::new(alloc),
+            values: Numbers::new(alloc),
         }
+    }
+
+    // No changes, with room for so many values.
+    pub(crate) fn with_room(alloc: Global, count: usize) -> Result<Changes, AllocError>
+        ensures { IfOk result (λ changes. changes ≡ []) }
+    {
+        let values = Numbers::with_capacity(alloc, count)?;
+        Ok(Changes {
+            heads: Numbers::new(alloc),
+            values,
+        })
     }
 
     /// How many there are.
     pub fn len(&self) -> u64
         ensures { result ≡ length self.now }
     {
-        self.writes.len() as u64
+        self.values.len() as u64
+    }
+
+    // Adds a change.
+    pub(crate) fn push(&mut self, change: Change) -> Result<(), AllocError>
+        ensures { OnOk result (self.new ≡ self.old ++ change ∷ []) }
+    {
+        let Some(head) = head_of(change.place, 1) else {
+            return Err(AllocError);
+        };
+        self.heads.reserve(1)?;
+        self.values.reserve(1)?;
+        self.values.push_reserved(change.value);
+        self.heads.push_reserved(head);
+        Ok(())
+    }
+
+    // Adds the changes of cells side by side, of 64 at most, from a place on.
+    pub(crate) fn push_row(&mut self, place: u64, values: &[u64]) -> Result<(), AllocError>
+        requires some { 1 ≤ length values.now }
+        requires few { length values.now ≤ 64 }
+        ensures { OnOk result (self.new ≡ self.old ++ row place values.now) }
+    {
+        let Some(head) = head_of(place, values.len() as u64) else {
+            return Err(AllocError);
+        };
+        self.heads.reserve(1)?;
+        self.values.extend_from_slice(values)?;
+        self.heads.push_reserved(head);
+        Ok(())
     }
 
     /// Adds later changes.
@@ -67,18 +128,16 @@ impl Changes {
         ensures added { OnOk result (self.new ≡ self.old ++ later) }
         ensures kept { IfErr result (λ refusal. self.new ≡ self.old) }
     {
-        if self.writes.is_empty() {
+        if self.values.is_empty() {
             *self = later;
             return Ok(());
         }
-        self.writes.append(&mut later.writes)
-    }
-
-    /// The changes, in no order that is told.
-    pub fn writes(&self) -> &[Change]
-        ensures { result.now ≡ self.now }
-    {
-        self.writes.as_slice()
+        self.heads.reserve(later.heads.len())?;
+        self.values.append(&mut later.values)?;
+        match self.heads.append(&mut later.heads) {
+            Ok(()) => Ok(()),
+            Err(AllocError) => unreachable!(),
+        }
     }
 
     /// Overwrites the cells of a store by these writes, and changes nothing else.
@@ -86,8 +145,11 @@ impl Changes {
         ensures { store.new
             ≡ filled (written_over (writes_of self.now) (values_of store.old)) store.old }
     {
-        for change in self.writes.as_slice() {
-            store.put(change.place, change.value);
+        let mut values = self.values.as_slice();
+        for head in self.heads.as_slice() {
+            let (run, rest) = values.split_at((head % 64 + 1) as usize);
+            apply_run(store, head / 64, run);
+            values = rest;
         }
     }
 }

@@ -1,40 +1,50 @@
 //! The writes that tables hold and that change cells, gathered.
 
-ghost use Rattle.std.specs.Prelude.{suc, ◌≡◌, ◌==◌, ◌*◌, ◌<◌, ◌++◌, ◌∷◌, [], cond, length, slice_index, IfOk, OnOk};
+ghost use Rattle.std.specs.Prelude.{suc, ◌≡◌, ◌==◌, ◌*◌, ◌+◌, ◌<◌, ◌^◌, ◌++◌, ◌∷◌, [], true, cond, length, slice_index, IfOk, IfSome, OnOk};
 ghost use Rattle.store.specs.Flat.{values_of};
-ghost use Rattle.overlay_pages.specs.Table.{table_of, IsSound, Gathers};
+ghost use Rattle.overlay_pages.specs.Runs.{AllDiffer};
+ghost use Rattle.overlay_pages.specs.Table.{table_of, IsSound, IsWhole, Gathers};
 
-use crate::changes::{Change, ChangeList};
+use crate::changes::{Change, Changes};
 use crate::pages::Pages;
 use std::alloc::{AllocError, Global};
 use store::Store;
 
 // Adds a write where the cell holds another number.
-fn add(store: &Store, change: Change, changes: &mut ChangeList) -> Result<(), AllocError>
-    ensures { OnOk result (changes.new.items
+fn add(store: &Store, change: Change, changes: &mut Changes) -> Result<(), AllocError>
+    ensures { OnOk result (changes.new
         ≡ cond (change.value == slice_index (values_of store.now) change.place)
-        changes.old.items (changes.old.items ++ change ∷ [])) }
+        changes.old (changes.old ++ change ∷ [])) }
 {
     if change.value == store.cell(change.place) {
         return Ok(());
     }
-    changes.push(change)?;
-    Ok(())
+    changes.push(change)
 }
 
-// Adds the changes of a page that was entered.
-fn gather_page(
+// Whether each of these values is another one than the cell from a place on holds.
+fn all_differ(store: &Store, place: u64, values: &[u64]) -> bool
+    requires { place + length values.now < 2 ^ 64 }
+    ensures { result ≡ true → AllDiffer (values_of store.now) place values.now }
+{
+    let Some((value, rest)) = values.split_first() else {
+        return true;
+    };
+    *value != store.cell(place) && all_differ(store, place + 1, rest)
+}
+
+// Adds the writes of a page by the bits of its mask.
+fn gather_bits(
     store: &Store,
     pages: &Pages,
     k: usize,
-    changes: &mut ChangeList,
+    changes: &mut Changes,
 ) -> Result<(), AllocError>
     requires sound { IsSound (table_of pages.now) }
     requires there { k < length pages.now.entered.items }
-    requires so_far { Gathers (values_of store.now) (table_of pages.now) (64 * suc k)
-        changes.old.items }
+    requires so_far { Gathers (values_of store.now) (table_of pages.now) (64 * suc k) changes.old }
     ensures { OnOk result (Gathers (values_of store.now) (table_of pages.now) (64 * suc (suc k))
-        changes.new.items) }
+        changes.new) }
 {
     let page = pages.entered[k];
     let start = 64 * (k as u64 + 1);
@@ -52,6 +62,44 @@ fn gather_page(
     Ok(())
 }
 
+// The values of a page of which each cell is written, and takes another number than it holds.
+fn whole_page<'p>(store: &Store, pages: &'p Pages, k: usize) -> Option<&'p [u64]>
+    requires sound { IsSound (table_of pages.now) }
+    requires there { k < length pages.now.entered.items }
+    ensures { IfSome result (λ values. IsWhole (values_of store.now) (table_of pages.now) k values.now) }
+{
+    let page = pages.entered[k];
+    if pages.masks[page as usize] != u64::MAX {
+        return None;
+    }
+    let start = 64 * (k + 1);
+    let values = &pages.values[start..start + 64];
+    if all_differ(store, 64 * page, values) {
+        Some(values)
+    } else {
+        None
+    }
+}
+
+// Adds the changes of a page that was entered.
+fn gather_page(
+    store: &Store,
+    pages: &Pages,
+    k: usize,
+    changes: &mut Changes,
+) -> Result<(), AllocError>
+    requires sound { IsSound (table_of pages.now) }
+    requires there { k < length pages.now.entered.items }
+    requires so_far { Gathers (values_of store.now) (table_of pages.now) (64 * suc k) changes.old }
+    ensures { OnOk result (Gathers (values_of store.now) (table_of pages.now) (64 * suc (suc k))
+        changes.new) }
+{
+    match whole_page(store, pages, k) {
+        Some(values) => changes.push_row(64 * pages.entered[k], values),
+        None => gather_bits(store, pages, k, changes),
+    }
+}
+
 // How many writes there are; memory is taken for so many, and no promise rests on it.
 fn count(pages: &Pages) -> usize {
     let mut count = 0usize;
@@ -67,12 +115,12 @@ fn count(pages: &Pages) -> usize {
 /// # Errors
 ///
 /// Where memory runs out.
-pub fn gather(alloc: Global, store: &Store, pages: &Pages) -> Result<ChangeList, AllocError>
+pub fn gather(alloc: Global, store: &Store, pages: &Pages) -> Result<Changes, AllocError>
     requires { IsSound (table_of pages.now) }
     ensures { IfOk result (λ changes. Gathers (values_of store.now) (table_of pages.now)
-        (64 * suc (length pages.now.entered.items)) changes.items) }
+        (64 * suc (length pages.now.entered.items)) changes) }
 {
-    let mut changes = ChangeList::with_capacity(alloc, count(pages))?;
+    let mut changes = Changes::with_room(alloc, count(pages))?;
     for k in 0..pages.entered.len() {
         gather_page(store, pages, k, &mut changes)?;
     }

@@ -49,10 +49,7 @@ fn take(alloc: Global, store: &Store, pages: &mut Pages) -> Result<Changes, Allo
 {
     let gathered = gather(alloc, store, pages);
     clear(pages);
-    match gathered {
-        Ok(writes) => Ok(Changes::of(writes)),
-        Err(want) => Err(want),
-    }
+    gathered
 }
 
 // The value of a place, where this is one of so many cells.

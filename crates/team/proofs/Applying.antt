@@ -11,6 +11,7 @@ use Rattle.lower_code.proofs.Keeping.{filled_values}
 use Rattle.overlay_pages.specs.declared.changes.Change.{Change}
 use Rattle.overlay_pages.specs.Over.{writes_of, written_over, last_of}
 use Rattle.overlay_pages.proofs.Overlays.{length_over}
+use Rattle.overlay_pages.proofs.Runs.{writes_both}
 use Rattle.team.specs.declared.log.EndedChunk.{EndedChunk}
 use Rattle.team.specs.Applied.{NoneWrites, OneWrites, AreApplied}
 use Rattle.team.specs.Logged.{Leaving, changes_in, logged}
@@ -44,21 +45,6 @@ applied_both before now later cs ds first second =
           writes = one.writes;
           holds = same ∙ one.holds;
         })
-
--- the later changes win
-writes_both : (xs ys : List Change) (p : ℕ) → writes_of (xs ++ ys) p ≡ last_of (writes_of ys p) (writes_of xs p)
-writes_both [] ys p = none (writes_of ys p)
-  where
-    none : (o : Option ℕ) → o ≡ last_of o None
-    none None = refl
-    none (Some n) = refl
-writes_both (x ∷ xs) ys p =
-    let own : Option ℕ = if p == x.place then Some x.value else None in
-    ap (λ o. last_of o own) (writes_both xs ys p) ∙ three (writes_of ys p) (writes_of xs p) own
-  where
-    three : (a b c : Option ℕ) → last_of (last_of a b) c ≡ last_of a (last_of b c)
-    three None b c = refl
-    three (Some n) b c = refl
 
 -- a chunk among those that are logged
 record IsWritten (cs : List Leaving) (p n : ℕ) : Type 0 where

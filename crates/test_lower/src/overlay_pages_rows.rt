@@ -97,11 +97,11 @@ fn twice(alloc: Global, compiled: &Compiled, store: &Store, seen: u64) -> Option
 }
 
 /// Whether two chunks change so many places each, and leave cells of this digest.
-fn are_left(both: &Both, store: &mut Store, seen: u64, count: usize) -> bool {
+fn are_left(both: &Both, store: &mut Store, seen: u64, count: u64) -> bool {
     let (first, second) = both;
     first.apply(store);
     second.apply(store);
-    digest(store) == seen && first.writes().len() == count && second.writes().len() == count
+    digest(store) == seen && first.len() == count && second.len() == count
 }
 
 /// Whether chunks of this code over a store see cells of this digest and leave them, and how many places they change.
@@ -110,7 +110,7 @@ fn are_right_over(
     compiled: &Compiled,
     store: &mut Store,
     seen: u64,
-    count: usize,
+    count: u64,
 ) -> bool {
     match twice(alloc, compiled, store, seen) {
         Some(both) => are_left(&both, store, seen, count),
@@ -119,7 +119,7 @@ fn are_right_over(
 }
 
 /// Whether chunks of this code see what code sees that runs over plain cells, and leave that, and how many places they change.
-fn are_chunks_right(alloc: Global, compiled: &Compiled, count: usize) -> bool {
+fn are_chunks_right(alloc: Global, compiled: &Compiled, count: u64) -> bool {
     let Some(seen) = left(alloc, compiled) else {
         return false;
     };
@@ -130,7 +130,7 @@ fn are_chunks_right(alloc: Global, compiled: &Compiled, count: usize) -> bool {
 }
 
 /// Whether chunks of these lines are right.
-fn is_right(alloc: Global, lines: &str, count: usize) -> bool {
+fn is_right(alloc: Global, lines: &str, count: u64) -> bool {
     match code(alloc, lines) {
         Some(compiled) => are_chunks_right(alloc, &compiled, count),
         None => false,
@@ -138,7 +138,7 @@ fn is_right(alloc: Global, lines: &str, count: usize) -> bool {
 }
 
 /// The first lines of a table, each with how many places a chunk of them changes, whose chunks are not right.
-fn first_other<'r>(alloc: Global, rows: &[(&'r str, usize)]) -> Option<&'r str> {
+fn first_other<'r>(alloc: Global, rows: &[(&'r str, u64)]) -> Option<&'r str> {
     for (lines, count) in rows {
         if !is_right(alloc, *lines, *count) {
             return Some(*lines);
@@ -149,7 +149,7 @@ fn first_other<'r>(alloc: Global, rows: &[(&'r str, usize)]) -> Option<&'r str> 
 
 #[test]
 fn chunks_leave_what_plain_cells_hold(rt: HostRuntime) {
-    const ROWS: &[(&str, usize)] = &[
+    const ROWS: &[(&str, u64)] = &[
         ("if (s > 0) s = 1;", 0),
         ("A[3] = 0; A[4] = 2; A[4] = 0; s = 1;", 1),
         ("A[7] = 5; A[7] = A[7] * 3; s = A[7] + A[8];", 2),
@@ -170,8 +170,8 @@ fn chunks_leave_what_plain_cells_hold(rt: HostRuntime) {
     assert_eq!(rt; first_other(rt.alloc(), ROWS), None);
 }
 
-/// The last change of a chunk over a store in which this code runs.
-fn last_change(alloc: Global, compiled: &Compiled, store: &Store) -> Option<Change> {
+/// The changes of a chunk over a store in which this code runs.
+fn changes_over(alloc: Global, compiled: &Compiled, store: &Store) -> Option<Changes> {
     let Ok(own) = Own::new(alloc, store) else {
         return None;
     };
@@ -179,23 +179,26 @@ fn last_change(alloc: Global, compiled: &Compiled, store: &Store) -> Option<Chan
     if !runs(alloc, compiled, &mut chunk) {
         return None;
     }
-    let changes = chunk.finish(alloc).ok()?;
-    changes.writes().last().copied()
+    chunk.finish(alloc).ok()
 }
 
-/// The last change of a chunk in which this code runs.
-fn last_change_of(alloc: Global, compiled: &Compiled) -> Option<Change> {
-    match long_array_and_a_scalar(alloc) {
-        Ok(store) => last_change(alloc, compiled, &store),
-        Err(_error) => None,
-    }
+/// Whether a chunk in which this code runs has one change, that of this place to this value.
+fn changes_one(alloc: Global, compiled: &Compiled, store: &mut Store, change: Change) -> bool {
+    let Some(changes) = changes_over(alloc, compiled, store) else {
+        return false;
+    };
+    changes.apply(store);
+    changes.len() == 1 && store.cell(change.place) == change.value
 }
 
-/// Whether the last change of a chunk of these lines is that of this place to this value.
+/// Whether a chunk of these lines has one change, that of this place to this value.
 fn changes_to(alloc: Global, lines: &str, place: u64, value: u64) -> bool {
-    match code(alloc, lines) {
-        Some(compiled) => last_change_of(alloc, &compiled) == Some(Change { place, value }),
-        None => false,
+    let Some(compiled) = code(alloc, lines) else {
+        return false;
+    };
+    match long_array_and_a_scalar(alloc) {
+        Ok(mut store) => changes_one(alloc, &compiled, &mut store, Change { place, value }),
+        Err(_error) => false,
     }
 }
 

@@ -1,70 +1,30 @@
-use Rattle.std.proofs.Common.{w64, suc, ◌≡◌, ◌*◌, ◌<◌, ℕ, ◌+◌, ◌^◌, ap, ◌∙◌, arith}
+use Rattle.std.proofs.Common.{suc, ◌≡◌, ◌*◌, ◌++◌, ap, sym, ◌∙◌, subst, arith}
 use Rattle.std.specs.Prelude.{slice_index}
 use Rattle.std.proofs.lemmas.List.{get_or_read}
-use Rattle.std.proofs.lemmas.Nat.Bits.{bit_at-trailing_zeros}
+use Rattle.std.proofs.lemmas.Result.{on_ok_weaker}
 use Rattle.store.specs.Flat.{values_of}
-use Rattle.overlay_pages.specs.declared.changes.Change.{Change}
-use Rattle.overlay_pages.specs.Table.{table_of}
-use Rattle.overlay_pages.proofs.Tables.{page_there}
-use Rattle.overlay_pages.proofs.Gathered.{gathering_from, gathering_on}
+use Rattle.overlay_pages.specs.Runs.{row}
+use Rattle.overlay_pages.specs.Table.{table_of, Gathers}
+use Rattle.overlay_pages.proofs.Runs.{whole_long, gathers_row}
 use Rattle.overlay_pages.proofs.gathering.gather_page.Goals as goal
 
-pub index-rest-requires : goal.index-rest-requires
-index-rest-requires c =
-    let p = c.args.pages.now in
-    let page : c.index-page.result.now ≡ slice_index p.entered.items c.args.k = get_or_read p.entered.items c.args.k _ c.requires.there c.index-page.ensures 0 in
-    let there = page_there (table_of p) c.requires.sound c.args.k c.requires.there in
-    let masked = c.requires.sound.masked in
-    let o = p.masks.ok.0 in
+pub push_row-requires-clause-few : goal.push_row-requires-clause-few
+push_row-requires-clause-few c =
+    let long = whole_long (values_of c.args.store.now) (table_of c.args.pages.now) c.requires.sound c.args.k c.requires.there c.in-Some.values.now c.in-Some.ensures in
     omega arith
 
-pub loop-turn-init : goal.loop-turn-init
-loop-turn-init c =
-    let p = c.args.pages.now in
-    let page : c.index-page.result.now ≡ slice_index p.entered.items c.args.k = get_or_read p.entered.items c.args.k _ c.requires.there c.index-page.ensures 0 in
-    let there = page_there (table_of p) c.requires.sound c.args.k c.requires.there in
-    let masked = c.requires.sound.masked in
-    gathering_from (values_of c.args.store.now) (table_of p) c.args.k c.index-rest.result.now c.args.changes.now.items
-    (get_or_read p.masks.items c.index-page.result.now _ (omega arith) c.index-rest.ensures 0 ∙ ap (slice_index p.masks.items) page)
-    c.requires.so_far
-
-pub overflow_mul-place : goal.overflow_mul-place
-overflow_mul-place c =
-    let p = c.args.pages.now in
-    let page : c.index-page.result.now ≡ slice_index p.entered.items c.args.k = get_or_read p.entered.items c.args.k _ c.requires.there c.index-page.ensures 0 in
-    let there = page_there (table_of p) c.requires.sound c.args.k c.requires.there in
-    let small = c.requires.sound.small in
+pub push_row-requires-clause-some : goal.push_row-requires-clause-some
+push_row-requires-clause-some c =
+    let long = whole_long (values_of c.args.store.now) (table_of c.args.pages.now) c.requires.sound c.args.k c.requires.there c.in-Some.values.now c.in-Some.ensures in
     omega arith
 
-pub overflow_add-place : goal.overflow_add-place
-overflow_add-place c =
-    let p = c.args.pages.now in
-    let page : c.index-page.result.now ≡ slice_index p.entered.items c.args.k = get_or_read p.entered.items c.args.k _ c.requires.there c.index-page.ensures 0 in
-    let there = page_there (table_of p) c.requires.sound c.args.k c.requires.there in
-    let small = c.requires.sound.small in
-    let some = c.if-rest-eq0.false in
-    let fits : c.loop-turn.rest < 2 ^ 64 = (let f = c.loop-turn.auto.rest-fits in omega arith) in
-    let more : 0 < c.loop-turn.rest = omega arith in
-    let within : c.from-bit.result < 64 = (let z = bit_at-trailing_zeros w64 c.loop-turn.rest more fits in let z0 = z.0 in let e = c.from-bit.ensures in omega arith) in
-    omega arith
-
-pub loop-turn-preserved : goal.loop-turn-preserved
-loop-turn-preserved c =
-    let p = c.args.pages.now in
-    let page : c.index-page.result.now ≡ slice_index p.entered.items c.args.k = get_or_read p.entered.items c.args.k _ c.requires.there c.index-page.ensures 0 in
-    let rest = c.loop-turn.rest in
-    let at : Change = record { place = 64 * c.index-page.result.now + c.from-bit.result; value = c.index-value.result.now } in
-    let some = c.if-rest-eq0.false in
-    let fits : c.loop-turn.rest < 2 ^ 64 = (let f = c.loop-turn.auto.rest-fits in omega arith) in
-    let more : 0 < c.loop-turn.rest = omega arith in
-    let within : c.from-bit.result < 64 = (let z = bit_at-trailing_zeros w64 c.loop-turn.rest more fits in let z0 = z.0 in let e = c.from-bit.ensures in omega arith) in
-    let sized = c.requires.sound.sized in
-    let there = c.requires.there in
-    let spot : 64 * (c.args.k + 1) + c.from-bit.result ≡ 64 * suc c.args.k + c.from-bit.result = omega arith in
-    let value : c.index-value.result.now ≡ slice_index p.values.items (64 * suc c.args.k + c.from-bit.result) =
-    get_or_read p.values.items (64 * (c.args.k + 1) + c.from-bit.result) _ (omega arith) c.index-value.ensures 0 ∙ ap (slice_index p.values.items) spot in
-    rw c.in_ok-add.ensures
-    (gathering_on (values_of c.args.store.now) (table_of p) c.requires.sound c.args.k c.requires.there c.loop-turn._turn rest c.loop-turn.changes.items c.loop-turn.invariant
-    more fits c.from-bit.result c.from-bit.ensures at
-    (ap (λ (n : ℕ). 64 * n + c.from-bit.result) page)
-    value)
+pub returns-in-Some : goal.returns-in-Some
+returns-in-Some c =
+    let cells = values_of c.args.store.now in
+    let t = table_of c.args.pages.now in
+    let vs = c.in-Some.values.now in
+    let page : c.index.result.now ≡ slice_index t.entered c.args.k = get_or_read t.entered c.args.k _ c.requires.there c.index.ensures 0 in
+    on_ok_weaker c.push_row.result
+    (λ e. subst (Gathers cells t (64 * suc (suc c.args.k))) (sym (e ∙ ap (λ n. c.args.changes.now ++ row (64 * n) vs) page))
+    (gathers_row cells t c.requires.sound c.args.k c.requires.there vs c.in-Some.ensures c.args.changes.now c.requires.so_far))
+    c.push_row.ensures

@@ -1,4 +1,4 @@
-use Rattle.std.proofs.Common.{ℕ, ◌<◌, ◌^◌, Option, sym, ap, ◌∙◌, subst}
+use Rattle.std.proofs.Common.{ℕ, ◌<◌, ◌^◌, Option, sym, ap, subst}
 use Rattle.overlay_pages.specs.Over.{or_else, writes_in}
 use Rattle.overlay_pages.specs.Table.{table_of, slots}
 use Rattle.overlay_pages.proofs.Tables.{slots_say}

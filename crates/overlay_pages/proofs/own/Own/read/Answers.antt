@@ -1,5 +1,5 @@
-use Rattle.std.proofs.Common.{ℕ, Option, Some, sym, ap, ◌∙◌, subst}
-use Rattle.std.specs.Prelude.{◌≡◌, slice_set}
+use Rattle.std.proofs.Common.{Some, sym, ap, ◌∙◌}
+use Rattle.std.specs.Prelude.{slice_set}
 use Rattle.overlay_pages.specs.Over.{writes_in}
 use Rattle.overlay_pages.specs.Table.{table_of, slots}
 use Rattle.overlay_pages.proofs.Tables.{slots_say, length_slots}

@@ -1,0 +1,25 @@
+use Rattle.std.proofs.Common.{ℕ, ◌≡◌, ◌++◌, ◌∷◌, [], List, length, ap, sym, ◌∙◌, arith}
+use Rattle.std.proofs.lemmas.List.{length-append}
+use Rattle.overlay_pages.specs.Runs.{row, cells_in, changes_in}
+use Rattle.overlay_pages.proofs.Runs.{run_added, cells_added}
+use Rattle.overlay_pages.proofs.changes.Changes.push_row.Goals as goal
+
+pub invariant_of-self-2 : goal.invariant_of-self-2
+invariant_of-self-2 c =
+    let hs = c.self.inside.heads.items in
+    let vs = c.self.inside.values.items in
+    let head = c.in-Some.ensures.1 in
+    let before : length vs ≡ cells_in hs = c.self.invariant in
+    let added = cells_added hs c.in-Some.head in
+    let long = length-append vs c.args.values.now in
+    ap (λ (l : List ℕ). length l) c.in_ok-extend_from_slice.ensures.ok
+    ∙ omega arith
+    ∙ ap cells_in (sym (c.push_reserved.ensures.items ∙ ap (λ l. l ++ c.in-Some.head ∷ []) c.in_ok-reserve.ensures.items))
+
+pub returns : goal.returns
+returns c =
+    let hs = c.self.inside.heads.items in
+    let vs = c.self.inside.values.items in
+    (λ i. changes_in ((c.push_reserved.ensures.items ∙ ap (λ l. l ++ c.in-Some.head ∷ []) c.in_ok-reserve.ensures.items) i) (c.in_ok-extend_from_slice.ensures.ok i))
+    ∙ run_added hs vs c.in-Some.head c.args.place c.args.values.now c.self.invariant c.in-Some.ensures.0 c.in-Some.ensures.1
+    ∙ ap (λ l. l ++ row c.args.place c.args.values.now) c.self.view_is
