@@ -1,0 +1,5 @@
+pub mod LinesLaw
+pub mod NestLaw
+pub mod LastLaw
+pub mod FrontLaw
+pub mod NamesLaw

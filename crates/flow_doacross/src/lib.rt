@@ -1,0 +1,14 @@
+//! Doacross nests: their clauses, their loops, their sinks and their source (OpenMP 5.2, 4.4.4, 15.9.6 and 15.10.2).
+#![tactic(auto)]
+
+mod clauses;
+mod cutting;
+mod fault;
+mod finding;
+mod heads;
+mod judging;
+mod sinks;
+mod walking;
+
+pub use fault::DoacrossFault;
+pub use walking::first_misuse;
