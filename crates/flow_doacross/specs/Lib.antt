@@ -1,4 +1,5 @@
 pub mod Lines
 pub mod Bodies
 pub mod Nests
+pub mod Listed
 pub mod Views

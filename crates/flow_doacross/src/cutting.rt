@@ -18,7 +18,10 @@ pub(crate) struct Front<'k> {
 }
 
 /// The elements of an item, where it is the line of a sink.
-fn item_sink<'d>(directives: &'d Directives<'_>, item: &Item) -> Option<&'d [SinkElement<Written>]>
+pub(crate) fn item_sink<'d>(
+    directives: &'d Directives<'_>,
+    item: &Item,
+) -> Option<&'d [SinkElement<Written>]>
     ensures { option_map (λ es. elements_of es.now) result ≡ item_sink directives.now item.now }
 {
     match item {

@@ -3,12 +3,15 @@
 
 mod clauses;
 mod cutting;
+mod distances;
 mod fault;
 mod finding;
 mod heads;
 mod judging;
+mod listing;
 mod sinks;
 mod walking;
 
 pub use fault::DoacrossFault;
+pub use listing::{DoacrossLoop, doacross_of};
 pub use walking::first_misuse;
