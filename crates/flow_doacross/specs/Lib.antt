@@ -3,3 +3,4 @@ pub mod Bodies
 pub mod Nests
 pub mod Listed
 pub mod Views
+pub mod Laws
