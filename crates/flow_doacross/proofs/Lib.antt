@@ -1,0 +1,11 @@
+pub mod LinesLaw
+pub mod NestLaw
+pub mod LastLaw
+pub mod FrontLaw
+pub mod NamesLaw
+pub mod WithoutLaw
+pub mod StandLaw
+pub mod TellLaw
+pub mod EarlierLaw
+pub mod FarLaw
+pub mod CountLaw

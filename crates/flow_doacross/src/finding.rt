@@ -1,0 +1,126 @@
+//! The lines of sinks and sources.
+
+ghost use Rattle.std.specs.Prelude.{◌≡◌, ◌||◌, is_some, option_map};
+ghost use Rattle.semantics.specs.Tree.{Items};
+ghost use Rattle.ktree.specs.View.{stmt_of, with_item, items_of};
+ghost use Rattle.ktree.specs.DirectiveView.{name_of, directive_of};
+ghost use Rattle.flow_doacross.specs.Lines.{sink_said, sink_on, is_source, is_source_line, is_doacross_line, is_passed, has_doacross, have_doacross};
+ghost use Rattle.flow_doacross.specs.Views.{elements_of};
+
+use ktree::{Directive, Item, Place, SinkElement, Stmt, Written};
+use pragma::Directives;
+use pragma_region::is_left_out;
+
+/// The elements of a directive, where it is a sink (OpenMP 5.2, 15.9.6).
+fn sink_said(directive: &Directive<Written>) -> Option<&[SinkElement<Written>]>
+    ensures { option_map (λ es. elements_of es.now) result
+        ≡ sink_said (Some (directive_of name_of directive.now)) }
+{
+    match directive {
+        Directive::DoacrossSink(elements) => Some(elements.as_slice()),
+        _ => None,
+    }
+}
+
+/// Those of the sink on the line at a place.
+#[tactic(auto, using(crate::proofs::LinesLaw::sink_none))]
+pub(crate) fn sink_at<'d>(
+    directives: &'d Directives<'_>,
+    place: Place,
+) -> Option<&'d [SinkElement<Written>]>
+    ensures { option_map (λ es. elements_of es.now) result ≡ sink_on directives.now place.line }
+{
+    let Ok(directive) = directives.directive(place) else {
+        return None;
+    };
+    sink_said(directive)
+}
+
+/// Whether a directive is a source (OpenMP 5.2, 15.10.2).
+fn is_source_directive(directive: &Directive<Written>) -> bool
+    ensures { result ≡ is_source (Some (directive_of name_of directive.now)) }
+{
+    match directive {
+        Directive::DoacrossSource => true,
+        _ => false,
+    }
+}
+
+/// Whether the line at a place is one.
+#[tactic(auto, using(crate::proofs::LinesLaw::source_none))]
+pub(crate) fn is_source(directives: &Directives, place: Place) -> bool
+    ensures { result ≡ is_source_line directives.now place.line }
+{
+    let Ok(directive) = directives.directive(place) else {
+        return false;
+    };
+    is_source_directive(directive)
+}
+
+/// Whether the line at a place is a sink or a source.
+pub(crate) fn is_doacross(directives: &Directives, place: Place) -> bool
+    ensures { result ≡ is_doacross_line directives.now place.line }
+{
+    sink_at(directives, place).is_some() || is_source(directives, place)
+}
+
+/// Whether it stands before no loop.
+pub(crate) fn is_passed(directives: &Directives, place: Place) -> bool
+    ensures { result ≡ is_passed directives.now place.line }
+{
+    is_left_out(directives, place) || is_doacross(directives, place)
+}
+
+/// The first sink or source in a statement.
+#[cycle(finding)]
+#[tactic(auto, using(ktree::proofs::Trees::block_items))]
+pub(crate) fn line_in(directives: &Directives, statement: &Stmt) -> Option<Place>
+    ensures { is_some result ≡ has_doacross directives.now (stmt_of statement.now) }
+{
+    match statement {
+        Stmt::Assign(_, _) => None,
+        Stmt::Update(_, _, _) => None,
+        Stmt::If(_, then, other) => {
+            let first = line_in(directives, then);
+            match other {
+                None => first,
+                Some(other) => first.or(line_in(directives, other)),
+            }
+        }
+        Stmt::For(_, body) => line_in(directives, body),
+        Stmt::Block(items) => line_among(directives, items),
+        Stmt::Print(_, _) => None,
+    }
+}
+
+/// The first that an item is or has in it.
+#[cycle(finding)]
+fn item_line(directives: &Directives, item: &Item) -> Option<Place>
+    ensures { (rest : Items) → have_doacross directives.now (with_item item.now rest)
+        ≡ (is_some result || have_doacross directives.now rest) }
+{
+    match item {
+        Item::Directive(place) => {
+            if is_doacross(directives, *place) {
+                Some(*place)
+            } else {
+                None
+            }
+        }
+        Item::Local(_) => None,
+        Item::Statement(statement) => line_in(directives, statement),
+    }
+}
+
+/// The first among items.
+#[cycle(finding)]
+pub(crate) fn line_among(directives: &Directives, items: &[Item]) -> Option<Place>
+    ensures { is_some result ≡ have_doacross directives.now (items_of items.now) }
+{
+    for item in items {
+        if let Some(place) = item_line(directives, item) {
+            return Some(place);
+        }
+    }
+    None
+}

@@ -1,0 +1,22 @@
+//! Doacross nests: their clauses, their loops, their sinks and their source (OpenMP 5.2, 4.4.4, 15.9.6 and 15.10.2).
+#![tactic(auto)]
+
+mod clauses;
+mod cutting;
+mod distances;
+mod fault;
+mod finding;
+mod heads;
+mod judging;
+mod laws;
+mod listing;
+mod sinks;
+mod walking;
+
+pub use fault::DoacrossFault;
+pub use laws::{
+    far_sinks_are_outside, lines_tell_nests, loops_count_up_anywhere, nests_stand_alone,
+    sinks_are_earlier,
+};
+pub use listing::{DoacrossLoop, doacross_of};
+pub use walking::first_misuse;
