@@ -1,0 +1,14 @@
+pub mod Steps
+pub mod Turned
+pub mod Rising
+pub mod Silent
+pub mod Tied
+pub mod Sorting
+pub mod Leveled
+pub mod Chunks
+pub mod Waved
+pub mod Grounded
+pub mod Joined
+pub mod Doacross
+pub mod Iterating
+pub mod Rows

@@ -1,0 +1,4 @@
+pub mod Silent
+pub mod Doacross
+pub mod Rising
+pub mod Rows
