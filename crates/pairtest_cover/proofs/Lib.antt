@@ -1,0 +1,5 @@
+pub mod Products
+pub mod Zipped
+pub mod Written
+pub mod Sides
+pub mod Covering
