@@ -1,12 +1,12 @@
 -- What a team leaves of a scan in two passes is what the loop leaves. (OpenMP 5.2, 5.6)
-use Rattle.std.specs.Prelude.{ℕ, zero, suc, Bool, true, false, not, ◌≡◌, ◌<◌, ◌≤◌, ◌^◌, ◌==◌, ◌&&◌, ◌||◌, if◌then◌else◌, List, [], ◌∷◌, ◌++◌, length, map, flat_map, take, Option, Some, None, IsSome, is_some}
+use Rattle.std.specs.Prelude.{ℕ, zero, suc, Bool, true, false, not, ◌≡◌, ◌<◌, ◌≤◌, ◌^◌, ◌==◌, ◌&&◌, ◌||◌, if◌then◌else◌, ◌⊎◌, List, [], ◌∷◌, ◌++◌, length, map, flat_map, take, Option, Some, None, IsSome, is_some}
 use Rattle.std.specs.List.{list_all}
 use Rattle.std.proofs.Common.{refl, sym, ap, ◌∙◌, subst, inl, inr, arith}
-use Rattle.std.proofs.lemmas.Bool.{true≢false, eqb-true, eq-eqb, or_parts}
+use Rattle.std.proofs.lemmas.Bool.{true≢false, eqb-true, eq-eqb, or_left, or_right, or_cases, or_parts}
 use Rattle.std.proofs.lemmas.List.{append-nil, length-map, take_all}
-use Rattle.std.proofs.lemmas.List.Folds.{list_all-append}
-use Rattle.semantics.specs.Tree.{Variable, Stmt, For}
-use Rattle.semantics.specs.Meaning.Agrees.{is_among, declared_in, visible_behind}
+use Rattle.std.proofs.lemmas.List.Folds.{list_any-append, list_all-append}
+use Rattle.semantics.specs.Tree.{Variable, Stmt, For, Items}
+use Rattle.semantics.specs.Meaning.Agrees.{is_among, declared_in, declared_among, visible_behind}
 use Rattle.semantics.specs.Meaning.State.{State, Slot, Outside, Empty, Holds, look, look_in, is_there, overwritten}
 use Rattle.semantics.specs.Meaning.Runs.{Effect, nothing, joined, then_from, run}
 use Rattle.semantics.specs.Meaning.Value.{map_option}
@@ -27,10 +27,12 @@ use Rattle.law_roles.specs.Reducing.{AreHeld}
 use Rattle.law_roles.specs.Sharing.{assigned_first, role_variables, are_different, last_filled, IsScalar, changed_from}
 use Rattle.law_starts.specs.Begun.{told_apart, begun}
 use Rattle.law_starts.proofs.Holding.{walks_keep}
+use Rattle.law_scans.specs.Phases.{joined_items, bare}
 use Rattle.law_scans.specs.Scanning as law
 use Rattle.law_scans.specs.Scanning.{ScansFrom}
+use Rattle.law_scans.proofs.Phased.{declared_joined}
+use Rattle.law_scans.proofs.Exclusive.{tops, tops_declared}
 use Rattle.law_independence.specs.OrderLaws.{AreAtHand, ScansInChunks}
-use Rattle.law_independence.proofs.ScanParts.{first_part}
 use Rattle.law_independence.proofs.Targeted.{outside_visible}
 use Rattle.law_scopes.specs.Apart.{is_at_turn}
 use Rattle.law_scopes.proofs.Turning.{at_turns}
@@ -75,6 +77,18 @@ nested_declares [] b y h g = g
 nested_declares (l ∷ ls) b y h g =
     let parts = or_parts (l.variable == y) (is_among (variables_of ls) y) h in
     ap (λ c. c || is_among (declared_in (nested ls b)) y) parts.0 ∙ nested_declares ls b y parts.1 g
+
+-- what the first pass runs declares nothing that the whole does not
+joined_declared : (front back : Items) (y : Variable) → is_among (declared_among (joined_items front back)) y ≡ (is_among (declared_among front) y || is_among (declared_among back) y)
+joined_declared front back y = ap (λ ds. is_among ds y) (declared_joined front back) ∙ list_any-append (λ z. z == y) (declared_among front) (declared_among back)
+
+first_declared : (inclusive : Bool) (front back : Items) (y : Variable) → is_among (declared_in (law.first_of inclusive front back)) y ≡ true → is_among (declared_in (law.whole_of front back)) y ≡ true
+first_declared true front back y h = joined_declared front back y ∙ or_left (is_among (declared_among front) y) (is_among (declared_among back) y) h
+first_declared false front back y h = joined_declared front back y ∙ at (or_cases (is_among (tops front) y) (is_among (declared_among back) y) (sym (joined_declared (bare front) back y) ∙ h))
+  where
+    at : (is_among (tops front) y ≡ true) ⊎ (is_among (declared_among back) y ≡ true) → (is_among (declared_among front) y || is_among (declared_among back) y) ≡ true
+    at (inl h) = or_left (is_among (declared_among front) y) (is_among (declared_among back) y) (tops_declared front y h)
+    at (inr h) = or_right (is_among (declared_among front) y) (is_among (declared_among back) y) h
 
 -- ---- what the variables hold behind it
 
@@ -132,7 +146,7 @@ module _ (layout : List Laid) (mark : ℕ) (s : State) (rs : List ℕ) (ks : Lis
   front_seen y h =
       ap not
       (nested_declares its.loops front y (nest_variables l.depth loop its.loops whole its.nest y (seen y h))
-      (not_among (is_among (declared_in front) y) (is_among (declared_in whole) y) ((first_part its.inclusive its.front its.back).declared y)
+      (not_among (is_among (declared_in front) y) (is_among (declared_in whole) y) (first_declared its.inclusive its.front its.back y)
       (not_so (is_among (declared_in whole) y) (visible_more loop whole (nest_declares l.depth loop its.loops whole its.nest) y (seen y h)))))
     where
       not_among : (b c : Bool) → (b ≡ true → c ≡ true) → c ≡ false → b ≡ false
