@@ -1,5 +1,5 @@
 -- Kernels whose parallel loops are shown to be independent, and what is kept of an accepted text. (OpenMP 5.2, 1.4.1 and 11.5; C11 5.1.2.4)
-use Rattle.std.specs.Prelude.{ℕ, ◌≡◌, true, List, [], map, length, Some}
+use Rattle.std.specs.Prelude.{ℕ, ◌≡◌, true, List, [], map, length, Some, None}
 use Rattle.semantics.specs.Tree.{Kernel, strip}
 use Rattle.semantics.specs.Source.Grammar.{ReadsText}
 use Rattle.law_lines.specs.Without.{IsTreeOf}
@@ -15,6 +15,7 @@ use Rattle.nest.specs.Perfect.{AreRightNests}
 use Rattle.pragma_named.specs.Known.{Lines, known_clauses}
 use Rattle.pragma_region.specs.Regions.{alone}
 use Rattle.pragma_region.specs.Counted.{counted_in}
+use Rattle.pragma_region.specs.NotKnown.{unknown_among}
 use Rattle.pragma_region.specs.Listed.{regions_of, parts_of, part_said}
 use Rattle.pragma_region.specs.declared.listing.RegionPart.{RegionPart}
 use Rattle.flow.specs.Roles.{LineData, line_data, privates_by, ItemsHaveBy, ItemsKeepRoles}
@@ -55,11 +56,12 @@ data_counted text k ds line = line_data (length k.variables) (clauses_counted te
 abbrev pub scans_counted : List ℕ → Kernel → Directives → List ScanPart
 scans_counted text k ds = scans_of text (clauses_counted text k ds) k
 
--- what is known before the dependence test: the tree is one of the text, whose directives are attached to the whole of it; its loops are canonical and never wrap, no subscript leaves its array, each directive line left in it is that of a loop directly behind it that holds no other, with a right nest, that writes no scalar but its own and those with a role, and keeps their roles, and no local is read before it is assigned; the roles are those of the clauses that count for a loop, and these name what they may; parallel loops print in ordered regions alone, and scans have their two phases
+-- what is known before the dependence test: the tree is one of the text, whose directives are attached to the whole of it, and none of these is one that is not known so far; its loops are canonical and never wrap, no subscript leaves its array, each directive line left in it is that of a loop directly behind it that holds no other, with a right nest, that writes no scalar but its own and those with a role, and keeps their roles, and no local is read before it is assigned; the roles are those of the clauses that count for a loop, and these name what they may; parallel loops print in ordered regions alone, and scans have their two phases
 pub record HasPassed (text : List ℕ) (k : Kernel) : Type 0 where
   pub reads : IsTreeOf text k
   pub directives : Directives
   pub attached : IsAttached text reads.whole directives
+  pub known : unknown_among text reads.whole.body ≡ None
   pub in_range : IsInRange k
   pub directed : IsDirected text k
   pub nested : AreRightNests text k
@@ -89,11 +91,12 @@ pub record IsAccepted (p : Program) : Type 0 where
   pub passed : HasPassed p.text (kernel_of p.kernel)
   pub independent : AreIndependent p.text (kernel_of p.kernel)
 
--- the parts of a text's parallel regions, where the tree is that of the text with these regions dissolved
+-- the parts of a text's parallel regions, where the tree is that of the text with these regions dissolved, and no directive of it is one that is not known so far
 pub record AreRegions (text : List ℕ) (k : Kernel) (parts : List RegionPart) : Type 0 where
   pub whole : Kernel
   pub reads : ReadsText text whole
   pub dissolved : k ≡ alone text whole
+  pub known : unknown_among text whole.body ≡ None
   pub are : map part_said parts ≡ parts_of (regions_of text whole)
 
 -- a kernel has passed, and these are its parallel loops and those of its scans, in the order of the text

@@ -13,7 +13,7 @@ use Rattle.law_lines.specs.Without.{without_in, without_among}
 use Rattle.law_roles.specs.Updates.{operator_of, is_plain, is_selected, is_choice, assigns, sole, reduces, all_reduce}
 use Rattle.law_scans.specs.Phases.{joined_items, written_in, written_among, read_in, read_among, spares, keeps_phases}
 use Rattle.pragma_attach.specs.Standing.{directive_on}
-use Rattle.pragma_region.specs.Regions.{is_region_line, is_ordered_line, is_scan, is_scan_line, is_left_out}
+use Rattle.pragma_region.specs.Regions.{is_region_line, is_ordered_line, is_scan, is_scan_line, is_doacross_line, is_left_out}
 use Rattle.flow_scan.specs.Lines.{ScanSaid, scan_said, scan_on}
 use Rattle.flow_scan.specs.Parts.{Parts, behind_item, cut_here, cut, count}
 
@@ -167,7 +167,7 @@ is_scan_said text n said e = go (directive_on text n) refl
 
 -- it is left out
 scan_is_out : (text : List ℕ) (n : ℕ) → is_scan_line text n ≡ true → is_left_out text n ≡ true
-scan_is_out text n e = or_right (is_region_line text n || is_ordered_line text n) (is_scan_line text n) e
+scan_is_out text n e = or_left (is_region_line text n || is_ordered_line text n || is_scan_line text n) (is_doacross_line text n) (or_right (is_region_line text n || is_ordered_line text n) (is_scan_line text n) e)
 
 record Further (item : Items → Items) (o : Option Parts) (p : Parts) : Type 0 where
   parts : Parts

@@ -1,21 +1,24 @@
--- A loop's directive associates at least one loop. (OpenMP 5.2, 4.4.3)
-use Rattle.std.specs.Prelude.{ℕ, zero, suc, true, ◌≡◌, nat_le, List, [], ◌∷◌, Option, Some, None}
+-- A loop's directive associates at least one loop. (OpenMP 5.2, 4.4.3 and 4.4.4)
+use Rattle.std.specs.Prelude.{ℕ, zero, suc, true, ◌≡◌, nat_le, max, List, [], ◌∷◌, Option, Some, None}
 use Rattle.std.specs.List.{AllByRecursion as Each}
-use Rattle.std.proofs.Common.{refl, subst}
+use Rattle.std.proofs.Common.{refl, subst, arith}
+use Rattle.std.proofs.Math.Nat.{le-max_left}
+use Rattle.std.proofs.lemmas.Bool.Decides.{nat_tests}
 use Rattle.std.proofs.lemmas.Option.{same_Some, none-some}
 use Rattle.semantics.specs.Tree.{Name}
 use Rattle.semantics.specs.Source.Token.{Token}
-use Rattle.semantics.specs.Directives.Directive.{Schedule, Clause, DefaultShared, DefaultNone, Nowait, Ordered, Shared, Private, Firstprivate, Lastprivate, Reduction, Inscan, ScheduledBy, Collapse, Directive, ParallelFor, Parallel, Worksharing, ScanInclusive, ScanExclusive, OrderedRegion, DoacrossSource, DoacrossSink}
+use Rattle.semantics.specs.Directives.Directive.{Schedule, Clause, DefaultShared, DefaultNone, Nowait, Ordered, Shared, Private, Firstprivate, Lastprivate, Reduction, Inscan, ScheduledBy, Collapse, OrderedLoops, Directive, ParallelFor, Parallel, Worksharing, ScanInclusive, ScanExclusive, OrderedRegion, DoacrossSource, DoacrossSink}
 use Rattle.semantics.specs.Directives.DirectiveGrammar as grammar
 use Rattle.semantics.specs.Directives.DirectiveGrammar.{ReadsNumber, ReadsClause, ReadsFurther, ReadsClauses, ReadsDirective}
 use Rattle.cparse_grammar.specs.Reading.{◌>>=◌}
-use Rattle.pragma.specs.Clauses.{Said, with_clause, said_by, loop_of, ReadsLoop}
+use Rattle.pragma.specs.Clauses.{Said, greater, with_clause, said_by, loop_of, ReadsLoop}
 use Rattle.pragma.specs.Parallel.{associated}
 use Rattle.law_commute.proofs.Values.{first_of}
 
--- `collapse(c)` is of one loop at least
+-- `collapse(c)` is of one loop at least, and so is `ordered(n)`
 abbrev Counts : Clause Name → Type 0
 Counts (Collapse c) = nat_le 1 c ≡ true
+Counts (OrderedLoops n) = nat_le 1 n ≡ true
 Counts _ = Unit {0}
 
 number_counts : {most : ℕ} {ds : List ℕ} {c : ℕ} → ReadsNumber most ds c → nat_le 1 c ≡ true
@@ -34,7 +37,7 @@ clause_counts (grammar.inscan op h) = tt
 clause_counts (grammar.schedule r) = tt
 clause_counts (grammar.collapse r) = number_counts r
 clause_counts grammar.ordered = tt
-clause_counts (grammar.ordered_loops r) = tt
+clause_counts (grammar.ordered_loops r) = number_counts r
 clause_counts grammar.nowait = tt
 
 further_count : {ts : List Token} {cs : List (Clause Name)} → ReadsFurther ts cs → Each Counts cs
@@ -65,9 +68,17 @@ abbrev AtLeastOne : Option ℕ → Type 0
 AtLeastOne None = Unit {0}
 AtLeastOne (Some c) = nat_le 1 c ≡ true
 
+-- the greater of two numbers is one at least, where the first is
+greater_counts : (n : ℕ) (o : Option ℕ) → nat_le 1 n ≡ true → nat_le 1 (greater n o) ≡ true
+greater_counts n None h = h
+greater_counts n (Some m) h =
+    let more = le-max_left n m in
+    grind (arith, nat_tests)
+
 with_counts : (c : Clause Name) (s s' : Said) → Counts c → AtLeastOne s.1 → with_clause c s ≡ Some s' → AtLeastOne s'.1
 with_counts (ScheduledBy k) (None, c) s' h g e = subst (λ (t : Said). AtLeastOne t.1) (same_Some (Some k, c) s' e) g
-with_counts (Collapse c) (k, None) s' h g e = subst (λ (t : Said). AtLeastOne t.1) (same_Some (k, Some c) s' e) h
+with_counts (Collapse c) (k, d) s' h g e = subst (λ (t : Said). AtLeastOne t.1) (same_Some (k, Some (greater c d)) s' e) (greater_counts c d h)
+with_counts (OrderedLoops n) (k, d) s' h g e = subst (λ (t : Said). AtLeastOne t.1) (same_Some (k, Some (greater n d)) s' e) (greater_counts n d h)
 with_counts DefaultShared s s' h g e = subst (λ (t : Said). AtLeastOne t.1) (same_Some s s' e) g
 with_counts DefaultNone s s' h g e = subst (λ (t : Said). AtLeastOne t.1) (same_Some s s' e) g
 with_counts (Shared xs) s s' h g e = subst (λ (t : Said). AtLeastOne t.1) (same_Some s s' e) g

@@ -10,7 +10,7 @@ use Rattle.semantics.specs.Source.Scope.{Scope, AVariable}
 use Rattle.semantics.specs.Meaning.Value.{map_option}
 use Rattle.semantics.specs.Loops.Nest.{Loop, as_loop, only_loop, holds_none, nest_of}
 use Rattle.semantics.specs.Source.Grammar.{ReadsText}
-use Rattle.semantics.specs.Directives.Directive.{Schedule, StaticPlain, Clause, DefaultShared, DefaultNone, Nowait, Ordered, Shared, Private, Firstprivate, Lastprivate, Reduction, Inscan, ScheduledBy, Collapse, Directive, ParallelFor, Parallel, Worksharing, ScanInclusive, ScanExclusive, OrderedRegion, DoacrossSource, DoacrossSink}
+use Rattle.semantics.specs.Directives.Directive.{Schedule, StaticPlain, Clause, DefaultShared, DefaultNone, Nowait, Ordered, Shared, Private, Firstprivate, Lastprivate, Reduction, Inscan, ScheduledBy, Collapse, OrderedLoops, Directive, ParallelFor, Parallel, Worksharing, ScanInclusive, ScanExclusive, OrderedRegion, DoacrossSource, DoacrossSink}
 use Rattle.semantics.specs.Directives.Annotated.{Directives, directive_at, file_scope, lines_in, lines_among, lines_of, ReadsDirectives}
 use Rattle.semantics.specs.Directives.Clauses.{depth_of, schedule_of, doacross_of, reduction_of, is_scan}
 use Rattle.semantics.specs.Directives.Regions as meant
@@ -22,11 +22,12 @@ use Rattle.pragma_clause.proofs.DirectiveComplete.{line_read}
 use Rattle.law_lines.specs.Without.{without_in, without_among}
 use Rattle.pragma.specs.Clauses.{Said, with_clause, said_by, loop_of}
 use Rattle.pragma.specs.Parallel.{LineHas, LoopsHave, ItemsHave}
-use Rattle.pragma.specs.Plain.{has_line, has_line_among, IsPlainFor, IsPlainLoop, IsDirected}
+use Rattle.pragma.specs.Plain.{IsPlainLoop, IsDirected}
 use Rattle.pragma_attach.specs.Standing.{directive_on}
 use Rattle.pragma_attach.specs.Attached.{directives_of}
 use Rattle.pragma_attach.proofs.LinesLaw.{Read, AllRead, both_read, Found, AllFound, found_first, found_second, all_found, are_read}
-use Rattle.pragma_region.specs.Regions.{is_ordered, is_scan as is_scan_said, is_left_out, alone}
+use Rattle.pragma_region.specs.Regions.{is_ordered, is_scan as is_scan_said, is_doacross, is_left_out, alone}
+use Rattle.pragma_region.specs.NotKnown.{first_told, ordering_number, value_number, first_number, loop_number, directive_number, number_there, unknown_in, unknown_among}
 use Rattle.pragma_region.specs.Listed.{one_loop, line_loop, shared_line, shared_behind, shared_among, shared_in, region_line, region_behind, regions_in, regions_among, regions_of, part_said}
 use Rattle.pragma_region.specs.declared.listing.RegionPart.{RegionPart}
 use Rattle.deptest.specs.Accepted.{AreRegions}
@@ -35,87 +36,62 @@ use Rattle.listing.proofs.Printed.{printed_regions}
 
 -- ---- what known clauses say
 
-record IsPlain (cs : List (Clause Name)) (k : Option Schedule) : Type 0 where
-  schedule : schedule_of cs ≡ unwrap_or k StaticPlain
-  doacross : doacross_of cs ≡ None
-
 first_said : {s t : Said} → Some s ≡ Some t → s.0 ≡ t.0
 first_said e = ap (λ (s : Said). s.0) (same e)
   where
     same : {s t : Said} → Some s ≡ Some t → s ≡ t
     same f = cc f
 
-one_more : (c : Clause Name) (cs : List (Clause Name)) (j : Option Schedule) (d : Option ℕ) (k : Option Schedule) (e : Option ℕ) → IsPlain cs j → with_clause c (j, d) ≡ Some (k, e) → IsPlain (c ∷ cs) k
-one_more (ScheduledBy s) cs None d k e p f = record {
-  schedule = ap (λ o. unwrap_or o StaticPlain) (first_said f);
-  doacross = p.doacross;
-}
+-- of the schedule
+abbrev IsScheduled : List (Clause Name) → Option Schedule → Type 0
+IsScheduled cs k = schedule_of cs ≡ unwrap_or k StaticPlain
+
+-- where a clause leaves it
+left_so : {j k : Option Schedule} (cs : List (Clause Name)) → IsScheduled cs j → j ≡ k → IsScheduled cs k
+left_so cs p f = p ∙ ap (λ o. unwrap_or o StaticPlain) f
+
+one_more : (c : Clause Name) (cs : List (Clause Name)) (j : Option Schedule) (d : Option ℕ) (k : Option Schedule) (e : Option ℕ) → IsScheduled cs j → with_clause c (j, d) ≡ Some (k, e) → IsScheduled (c ∷ cs) k
+one_more (ScheduledBy s) cs None d k e p f = ap (λ o. unwrap_or o StaticPlain) (first_said f)
 one_more (ScheduledBy s) cs (Some t) d k e p f = absurd (cc f)
-one_more (Collapse n) cs j None k e p f = record {
-  schedule = p.schedule ∙ ap (λ o. unwrap_or o StaticPlain) (first_said f);
-  doacross = p.doacross;
-}
-one_more (Collapse n) cs j (Some m) k e p f = absurd (cc f)
-one_more DefaultShared cs j d k e p f = record {
-  schedule = p.schedule ∙ ap (λ o. unwrap_or o StaticPlain) (first_said f);
-  doacross = p.doacross;
-}
-one_more DefaultNone cs j d k e p f = record {
-  schedule = p.schedule ∙ ap (λ o. unwrap_or o StaticPlain) (first_said f);
-  doacross = p.doacross;
-}
-one_more (Shared xs) cs j d k e p f = record {
-  schedule = p.schedule ∙ ap (λ o. unwrap_or o StaticPlain) (first_said f);
-  doacross = p.doacross;
-}
-one_more (Private xs) cs j d k e p f = record {
-  schedule = p.schedule ∙ ap (λ o. unwrap_or o StaticPlain) (first_said f);
-  doacross = p.doacross;
-}
-one_more (Firstprivate xs) cs j d k e p f = record {
-  schedule = p.schedule ∙ ap (λ o. unwrap_or o StaticPlain) (first_said f);
-  doacross = p.doacross;
-}
-one_more (Lastprivate xs) cs j d k e p f = record {
-  schedule = p.schedule ∙ ap (λ o. unwrap_or o StaticPlain) (first_said f);
-  doacross = p.doacross;
-}
-one_more (Reduction op xs) cs j d k e p f = record {
-  schedule = p.schedule ∙ ap (λ o. unwrap_or o StaticPlain) (first_said f);
-  doacross = p.doacross;
-}
-one_more (Inscan op x) cs j d k e p f = record {
-  schedule = p.schedule ∙ ap (λ o. unwrap_or o StaticPlain) (first_said f);
-  doacross = p.doacross;
-}
-one_more Ordered cs j d k e p f = record {
-  schedule = p.schedule ∙ ap (λ o. unwrap_or o StaticPlain) (first_said f);
-  doacross = p.doacross;
-}
-one_more Nowait cs j d k e p f = record {
-  schedule = p.schedule ∙ ap (λ o. unwrap_or o StaticPlain) (first_said f);
-  doacross = p.doacross;
-}
+one_more (Collapse n) cs j d k e p f = left_so cs p (first_said f)
+one_more (OrderedLoops n) cs j d k e p f = left_so cs p (first_said f)
+one_more DefaultShared cs j d k e p f = left_so cs p (first_said f)
+one_more DefaultNone cs j d k e p f = left_so cs p (first_said f)
+one_more (Shared xs) cs j d k e p f = left_so cs p (first_said f)
+one_more (Private xs) cs j d k e p f = left_so cs p (first_said f)
+one_more (Firstprivate xs) cs j d k e p f = left_so cs p (first_said f)
+one_more (Lastprivate xs) cs j d k e p f = left_so cs p (first_said f)
+one_more (Reduction op xs) cs j d k e p f = left_so cs p (first_said f)
+one_more (Inscan op x) cs j d k e p f = left_so cs p (first_said f)
+one_more Ordered cs j d k e p f = left_so cs p (first_said f)
+one_more Nowait cs j d k e p f = left_so cs p (first_said f)
 one_more c cs j d k e p f = absurd (cc f)
 
-are_plain : (cs : List (Clause Name)) (k : Option Schedule) (c : Option ℕ) → said_by cs ≡ Some (k, c) → IsPlain cs k
-are_plain [] k c e = record { schedule = ap (λ o. unwrap_or o StaticPlain) (first_said e); doacross = refl }
-are_plain (x ∷ cs) k c e = go (said_by cs) refl (are_plain cs) e
+are_scheduled : (cs : List (Clause Name)) (k : Option Schedule) (c : Option ℕ) → said_by cs ≡ Some (k, c) → IsScheduled cs k
+are_scheduled [] k c e = ap (λ o. unwrap_or o StaticPlain) (first_said e)
+are_scheduled (x ∷ cs) k c e = go (said_by cs) refl (are_scheduled cs) e
   where
-    go : (o : Option Said) → said_by cs ≡ o → ((j : Option Schedule) (d : Option ℕ) → said_by cs ≡ Some (j, d) → IsPlain cs j)
-        → (o >>= λ said. with_clause x said) ≡ Some (k, c) → IsPlain (x ∷ cs) k
+    go : (o : Option Said) → said_by cs ≡ o → ((j : Option Schedule) (d : Option ℕ) → said_by cs ≡ Some (j, d) → IsScheduled cs j)
+        → (o >>= λ said. with_clause x said) ≡ Some (k, c) → IsScheduled (x ∷ cs) k
     go None f before g = absurd (cc g)
     go (Some (j, d)) f before g = one_more x cs j d k c (before j d f) g
 
+-- nothing is told first or behind it
+none_first : (a b : Option ℕ) → first_told a b ≡ None → a ≡ None
+none_first None b e = refl
+none_first (Some n) b e = absurd (cc e)
+
+none_behind : (a b : Option ℕ) → first_told a b ≡ None → b ≡ None
+none_behind None b e = e
+none_behind (Some n) b e = absurd (cc e)
+
+-- where none is told to be that of a doacross nest, none is
+none_across : (cs : List (Clause Name)) → first_number ordering_number cs ≡ None → doacross_of cs ≡ None
+none_across [] e = refl
+none_across (OrderedLoops n ∷ cs) e = absurd (cc e)
+none_across (c ∷ cs) e = none_across cs e
+
 -- ---- a statement in which no directive line is a sink's
-
-left_of : (x y : Bool) → (x || y) ≡ false → x ≡ false
-left_of true y e = absurd (cc e)
-left_of false y e = refl
-
-right_of : (x y : Bool) → (x || y) ≡ false → y ≡ false
-right_of true y e = absurd (cc e)
-right_of false y e = e
 
 module _ (ds : Directives) where
   abbrev mutual
@@ -192,15 +168,6 @@ module _ (ds : Directives) where
 
 -- ---- the regions
 
-plain_for : (s : Stmt) → IsPlainFor s → has_line s ≡ false
-plain_for (For x name start test step body) p = p
-plain_for (Assign x is v) p = absurd p
-plain_for (Update x is op v) p = absurd p
-plain_for (If c a) p = absurd p
-plain_for (IfElse c a b) p = absurd p
-plain_for (Block items) p = absurd p
-plain_for (Print parts) p = absurd p
-
 same_directive : {d e : Directive Name} → Some d ≡ Some e → d ≡ e
 same_directive p = cc p
 
@@ -210,46 +177,48 @@ module _ (text : List ℕ) (ds : Directives) where
 
   -- whether the line of such a directive is left out
   abbrev is_out : Option (Directive Name) → Bool
-  is_out o = is_team o || is_ordered o || is_scan_said o
+  is_out o = is_team o || is_ordered o || is_scan_said o || is_doacross o
 
-  -- one that is has no offsets
-  region_quiet : (n : ℕ) (o : Option (Directive Name)) → directive_on text n ≡ o → directive_at ds n ≡ o → out n ≡ true → offsets_of (directive_at ds n) ≡ []
-  region_quiet n (Some (Parallel cs)) e f t = ap offsets_of f
-  region_quiet n None e f t = absurd (cc (sym (ap is_out e) ∙ t))
-  region_quiet n (Some (ParallelFor cs)) e f t = absurd (cc (sym (ap is_out e) ∙ t))
-  region_quiet n (Some (Worksharing cs)) e f t = absurd (cc (sym (ap is_out e) ∙ t))
-  region_quiet n (Some (ScanInclusive x)) e f t = ap offsets_of f
-  region_quiet n (Some (ScanExclusive x)) e f t = ap offsets_of f
-  region_quiet n (Some OrderedRegion) e f t = ap offsets_of f
-  region_quiet n (Some DoacrossSource) e f t = absurd (cc (sym (ap is_out e) ∙ t))
-  region_quiet n (Some (DoacrossSink es)) e f t = absurd (cc (sym (ap is_out e) ∙ t))
+  -- nothing is told of a line
+  abbrev IsKnown : ℕ → Type 0
+  IsKnown n = number_there (directive_on text n) ≡ None
+
+  -- then it has no offsets
+  line_quiet : (n : ℕ) (o : Option (Directive Name)) → directive_on text n ≡ o → directive_at ds n ≡ o → IsKnown n → offsets_of (directive_at ds n) ≡ []
+  line_quiet n None e f t = ap offsets_of f
+  line_quiet n (Some (ParallelFor cs)) e f t = ap offsets_of f
+  line_quiet n (Some (Parallel cs)) e f t = ap offsets_of f
+  line_quiet n (Some (Worksharing cs)) e f t = ap offsets_of f
+  line_quiet n (Some (ScanInclusive x)) e f t = ap offsets_of f
+  line_quiet n (Some (ScanExclusive x)) e f t = ap offsets_of f
+  line_quiet n (Some OrderedRegion) e f t = ap offsets_of f
+  line_quiet n (Some DoacrossSource) e f t = ap offsets_of f
+  line_quiet n (Some (DoacrossSink es)) e f t = absurd (cc (sym (ap number_there e) ∙ t))
 
   mutual
-    -- where no line is left but those of regions
-    quiet_in : (scope : Scope) (s : Stmt) → AllFound text ds (lines_in scope s) → has_line (without_in out s) ≡ false → Quiet ds s
+    -- where nothing is told of any line
+    quiet_in : (scope : Scope) (s : Stmt) → AllFound text ds (lines_in scope s) → unknown_in text s ≡ None → Quiet ds s
     quiet_in scope (Assign x is v) f e = tt
     quiet_in scope (Update x is op v) f e = tt
     quiet_in scope (If c a) f e = quiet_in scope a f e
     quiet_in scope (IfElse c a b) f e = (
-      quiet_in scope a (found_first text ds (lines_in scope a) (lines_in scope b) f) (left_of (has_line (without_in out a)) (has_line (without_in out b)) e),
-      quiet_in scope b (found_second text ds (lines_in scope a) (lines_in scope b) f) (right_of (has_line (without_in out a)) (has_line (without_in out b)) e),
+      quiet_in scope a (found_first text ds (lines_in scope a) (lines_in scope b) f) (none_first (unknown_in text a) (unknown_in text b) e),
+      quiet_in scope b (found_second text ds (lines_in scope a) (lines_in scope b) f) (none_behind (unknown_in text a) (unknown_in text b) e),
     )
     quiet_in scope (For x name start test step body) f e = quiet_in ((name, AVariable x 0) ∷ scope) body f e
     quiet_in scope (Block items) f e = quiet_among scope items f e
     quiet_in scope (Print parts) f e = tt
 
-    quiet_among : (scope : Scope) (items : Items) → AllFound text ds (lines_among scope items) → has_line_among (without_among out items) ≡ false → AllQuiet ds items
+    quiet_among : (scope : Scope) (items : Items) → AllFound text ds (lines_among scope items) → unknown_among text items ≡ None → AllQuiet ds items
     quiet_among scope no_items f e = tt
-    quiet_among scope (mark n rest) (found, f) e = go (out n) refl e (λ q. quiet_among scope rest f q)
-      where
-        go : (b : Bool) → out n ≡ b → has_line_among (if b then without_among out rest else mark n (without_among out rest)) ≡ false
-            → (has_line_among (without_among out rest) ≡ false → AllQuiet ds rest) → AllQuiet ds (mark n rest)
-        go true t q later = (region_quiet n (Some found.0) found.1 found.2 t, later q)
-        go false t q later = absurd (cc q)
+    quiet_among scope (mark n rest) (found, f) e = (
+      line_quiet n (Some found.0) found.1 found.2 (none_first (number_there (directive_on text n)) (unknown_among text rest) e),
+      quiet_among scope rest f (none_behind (number_there (directive_on text n)) (unknown_among text rest) e),
+    )
     quiet_among scope (local x name start rest) f e = quiet_among ((name, AVariable x 0) ∷ scope) rest f e
     quiet_among scope (stmt s rest) f e = (
-      quiet_in scope s (found_first text ds (lines_in scope s) (lines_among scope rest) f) (left_of (has_line (without_in out s)) (has_line_among (without_among out rest)) e),
-      quiet_among scope rest (found_second text ds (lines_in scope s) (lines_among scope rest) f) (right_of (has_line (without_in out s)) (has_line_among (without_among out rest)) e),
+      quiet_in scope s (found_first text ds (lines_in scope s) (lines_among scope rest) f) (none_first (unknown_in text s) (unknown_among text rest) e),
+      quiet_among scope rest (found_second text ds (lines_in scope s) (lines_among scope rest) f) (none_behind (unknown_in text s) (unknown_among text rest) e),
     )
 
   -- the line before, and its directive
@@ -257,22 +226,24 @@ module _ (text : List ℕ) (ds : Directives) where
   Before None o = o ≡ None
   Before (Some n) o = o ≡ directive_on text n
 
-  -- what is known of the items behind it, where it is left in the tree
+  -- nothing is told of it, and this is known of the items behind it, where it is left in the tree
   abbrev Behind : Option ℕ → Items → Type 0
   Behind None items = Unit {0}
-  Behind (Some n) items = out n ≡ false → (serial : List Loop) × LineHas text IsPlainLoop serial n (without_among out items)
+  Behind (Some n) items = IsKnown n × (out n ≡ false → (serial : List Loop) × LineHas text IsPlainLoop serial n (without_among out items))
 
   -- the loop behind a line of these clauses
-  one_listed : (n : ℕ) (d : Directive Name) (cs : List (Clause Name)) (scope : Scope) (s : Stmt) (rest : Items) → directive_on text n ≡ Some d → loop_of d ≡ said_by cs → AllFound text ds (lines_in scope s)
+  one_listed : (n : ℕ) (d : Directive Name) (cs : List (Clause Name)) (scope : Scope) (s : Stmt) (rest : Items) → directive_on text n ≡ Some d → loop_of d ≡ said_by cs → directive_number d ≡ loop_number cs → IsKnown n
+      → unknown_in text s ≡ None → AllFound text ds (lines_in scope s)
       → (serial : List Loop) × LineHas text IsPlainLoop serial n (stmt (without_in out s) (without_among out rest)) → map listed_loop (line_loop cs) ≡ meant.listed ds cs s ∷ []
-  one_listed n d cs scope s rest on is found (serial, (k, c, r, first)) =
+  one_listed n d cs scope s rest on is number told still found (serial, (k, c, r, first)) =
       let same = same_directive (sym (line_read (line_at text n) r.directive r.reads) ∙ on) in
       let says : said_by cs ≡ Some (k, c) = sym is ∙ ap loop_of (sym same) ∙ r.says in
-      let plain = are_plain cs k c says in
-      let quiet = quiet_in scope s found (plain_for (without_in out s) first) in
+      let scheduled = are_scheduled cs k c says in
+      let across = none_across cs (none_first (first_number ordering_number cs) (first_number value_number cs) (sym number ∙ sym (ap number_there on) ∙ told)) in
+      let quiet = quiet_in scope s found still in
       let sinks : sinks_in ds (nest_of (depth_of cs) s) ≡ [] = alone (nest_of (depth_of cs) s) ∙ no_sinks_of ds (depth_of cs) (λ ls. ls) s quiet in
       ap (λ o. map listed_loop (one_loop o (flat_map reduction_of cs) (is_scan cs))) says
-      ∙ (λ i. record { schedule = sym plain.schedule i; doacross = sym plain.doacross i; sinks = sym sinks i; reductions = flat_map reduction_of cs; scan = is_scan cs } ∷ [])
+      ∙ (λ i. record { schedule = sym scheduled i; doacross = sym across i; sinks = sym sinks i; reductions = flat_map reduction_of cs; scan = is_scan cs } ∷ [])
     where
       alone : (o : Option (List Loop × Stmt)) → sinks_in ds o ≡ sinks_in ds (map_option (λ (inner : List Loop × Stmt). (inner.0, inner.1)) o)
       alone None = refl
@@ -283,14 +254,14 @@ module _ (text : List ℕ) (ds : Directives) where
   left_in n o e t = ap is_out e ∙ t
 
   -- a loop of a `parallel` block
-  one_shared : (before : Option ℕ) (o : Option (Directive Name)) (scope : Scope) (s : Stmt) (rest : Items) → Before before o → Behind before (stmt s rest) → AllFound text ds (lines_in scope s)
+  one_shared : (before : Option ℕ) (o : Option (Directive Name)) (scope : Scope) (s : Stmt) (rest : Items) → Before before o → Behind before (stmt s rest) → unknown_in text s ≡ None → AllFound text ds (lines_in scope s)
       → map listed_loop (shared_behind text before) ≡ meant.shared_by ds o s
-  one_shared None o scope s rest b h found = ap (λ p. meant.shared_by ds p s) (sym b)
-  one_shared (Some n) o scope s rest b h found = go (directive_on text n) refl ∙ ap (λ p. meant.shared_by ds p s) (sym b)
+  one_shared None o scope s rest b h still found = ap (λ p. meant.shared_by ds p s) (sym b)
+  one_shared (Some n) o scope s rest b h still found = go (directive_on text n) refl ∙ ap (λ p. meant.shared_by ds p s) (sym b)
     where
       go : (p : Option (Directive Name)) → directive_on text n ≡ p → map listed_loop (shared_line (directive_on text n)) ≡ meant.shared_by ds (directive_on text n) s
       go (Some (Worksharing cs)) e =
-          ap (λ p. map listed_loop (shared_line p)) e ∙ one_listed n (Worksharing cs) cs scope s rest e refl found (h (left_in n (Some (Worksharing cs)) e refl)) ∙ ap (λ p. meant.shared_by ds p s) (sym e)
+          ap (λ p. map listed_loop (shared_line p)) e ∙ one_listed n (Worksharing cs) cs scope s rest e refl refl h.0 still found (h.1 (left_in n (Some (Worksharing cs)) e refl)) ∙ ap (λ p. meant.shared_by ds p s) (sym e)
       go None e = ap (λ p. map listed_loop (shared_line p)) e ∙ ap (λ p. meant.shared_by ds p s) (sym e)
       go (Some (ParallelFor cs)) e = ap (λ p. map listed_loop (shared_line p)) e ∙ ap (λ p. meant.shared_by ds p s) (sym e)
       go (Some (Parallel cs)) e = ap (λ p. map listed_loop (shared_line p)) e ∙ ap (λ p. meant.shared_by ds p s) (sym e)
@@ -301,46 +272,46 @@ module _ (text : List ℕ) (ds : Directives) where
       go (Some (DoacrossSink es)) e = ap (λ p. map listed_loop (shared_line p)) e ∙ ap (λ p. meant.shared_by ds p s) (sym e)
 
   -- what is known of a block's items behind a line that is passed
-  behind_mark : (serial : List Loop) (n : ℕ) (rest : Items) → ItemsHave text IsPlainLoop serial (without_among out (mark n rest)) → Behind (Some n) rest × ItemsHave text IsPlainLoop serial (without_among out rest)
-  behind_mark serial n rest h = go (out n) refl h
+  behind_mark : (serial : List Loop) (n : ℕ) (rest : Items) → IsKnown n → ItemsHave text IsPlainLoop serial (without_among out (mark n rest)) → Behind (Some n) rest × ItemsHave text IsPlainLoop serial (without_among out rest)
+  behind_mark serial n rest told h = go (out n) refl h
     where
       wrong : true ≡ false → ⊥
       wrong e = cc e
 
       go : (b : Bool) → out n ≡ b → ItemsHave text IsPlainLoop serial (if b then without_among out rest else mark n (without_among out rest)) → Behind (Some n) rest × ItemsHave text IsPlainLoop serial (without_among out rest)
-      go true t g = (λ f. absurd (wrong (sym t ∙ f)), g)
-      go false t g = (λ f. (serial, g.0), g.1)
+      go true t g = ((told, λ f. absurd (wrong (sym t ∙ f))), g)
+      go false t g = ((told, λ f. (serial, g.0)), g.1)
 
   found_before : (n : ℕ) → Found text ds n → directive_at ds n ≡ directive_on text n
   found_before n f = f.2 ∙ sym f.1
 
   shared_listed : (scope : Scope) (serial : List Loop) (before : Option ℕ) (o : Option (Directive Name)) (items : Items) → Before before o → Behind before items → ItemsHave text IsPlainLoop serial (without_among out items)
-      → AllFound text ds (lines_among scope items) → map listed_loop (shared_among text before items) ≡ meant.loops_among ds o items
-  shared_listed scope serial before o no_items b h have f = refl
-  shared_listed scope serial before o (mark n rest) b h have (found, f) =
-      let p = behind_mark serial n rest have in
-      shared_listed scope serial (Some n) (directive_at ds n) rest (found_before n found) p.0 p.1 f
-  shared_listed scope serial before o (local x name start rest) b h have f = shared_listed ((name, AVariable x 0) ∷ scope) serial None None rest refl tt have f
-  shared_listed scope serial before o (stmt s rest) b h have f =
+      → unknown_among text items ≡ None → AllFound text ds (lines_among scope items) → map listed_loop (shared_among text before items) ≡ meant.loops_among ds o items
+  shared_listed scope serial before o no_items b h have told f = refl
+  shared_listed scope serial before o (mark n rest) b h have told (found, f) =
+      let p = behind_mark serial n rest (none_first (number_there (directive_on text n)) (unknown_among text rest) told) have in
+      shared_listed scope serial (Some n) (directive_at ds n) rest (found_before n found) p.0 p.1 (none_behind (number_there (directive_on text n)) (unknown_among text rest) told) f
+  shared_listed scope serial before o (local x name start rest) b h have told f = shared_listed ((name, AVariable x 0) ∷ scope) serial None None rest refl tt have told f
+  shared_listed scope serial before o (stmt s rest) b h have told f =
       map-append listed_loop (shared_behind text before) (shared_among text None rest)
-      ∙ ap (λ xs. xs ++ map listed_loop (shared_among text None rest)) (one_shared before o scope s rest b h (found_first text ds (lines_in scope s) (lines_among scope rest) f))
-      ∙ ap (λ xs. meant.shared_by ds o s ++ xs) (shared_listed scope serial None None rest refl tt have.1 (found_second text ds (lines_in scope s) (lines_among scope rest) f))
+      ∙ ap (λ xs. xs ++ map listed_loop (shared_among text None rest)) (one_shared before o scope s rest b h (none_first (unknown_in text s) (unknown_among text rest) told) (found_first text ds (lines_in scope s) (lines_among scope rest) f))
+      ∙ ap (λ xs. meant.shared_by ds o s ++ xs) (shared_listed scope serial None None rest refl tt have.1 (none_behind (unknown_in text s) (unknown_among text rest) told) (found_second text ds (lines_in scope s) (lines_among scope rest) f))
 
-  block_listed : (scope : Scope) (serial : List Loop) (s : Stmt) → LoopsHave text IsPlainLoop serial (without_in out s) → AllFound text ds (lines_in scope s) → map listed_loop (shared_in text s) ≡ meant.loops_in ds s
-  block_listed scope serial (Block items) have f = shared_listed scope serial None None items refl tt have f
-  block_listed scope serial (Assign x is v) have f = refl
-  block_listed scope serial (Update x is op v) have f = refl
-  block_listed scope serial (If c a) have f = refl
-  block_listed scope serial (IfElse c a b) have f = refl
-  block_listed scope serial (For x name start test step body) have f = refl
-  block_listed scope serial (Print parts) have f = refl
+  block_listed : (scope : Scope) (serial : List Loop) (s : Stmt) → LoopsHave text IsPlainLoop serial (without_in out s) → unknown_in text s ≡ None → AllFound text ds (lines_in scope s) → map listed_loop (shared_in text s) ≡ meant.loops_in ds s
+  block_listed scope serial (Block items) have told f = shared_listed scope serial None None items refl tt have told f
+  block_listed scope serial (Assign x is v) have told f = refl
+  block_listed scope serial (Update x is op v) have told f = refl
+  block_listed scope serial (If c a) have told f = refl
+  block_listed scope serial (IfElse c a b) have told f = refl
+  block_listed scope serial (For x name start test step body) have told f = refl
+  block_listed scope serial (Print parts) have told f = refl
 
   -- a region behind a line, or those inside the statement
   one_region : (before : Option ℕ) (o : Option (Directive Name)) (scope : Scope) (serial : List Loop) (s : Stmt) (rest : Items) → Before before o → Behind before (stmt s rest)
-      → LoopsHave text IsPlainLoop serial (without_in out s) → AllFound text ds (lines_in scope s) → map (map listed_loop) (regions_in text s) ≡ meant.regions_in ds s
+      → LoopsHave text IsPlainLoop serial (without_in out s) → unknown_in text s ≡ None → AllFound text ds (lines_in scope s) → map (map listed_loop) (regions_in text s) ≡ meant.regions_in ds s
       → map (map listed_loop) (region_behind text before s (regions_in text s)) ≡ meant.region_by ds o s (meant.regions_in ds s)
-  one_region None o scope serial s rest b h have found inside = inside ∙ ap (λ p. meant.region_by ds p s (meant.regions_in ds s)) (sym b)
-  one_region (Some n) o scope serial s rest b h have found inside = go (directive_on text n) refl ∙ ap (λ p. meant.region_by ds p s (meant.regions_in ds s)) (sym b)
+  one_region None o scope serial s rest b h have still found inside = inside ∙ ap (λ p. meant.region_by ds p s (meant.regions_in ds s)) (sym b)
+  one_region (Some n) o scope serial s rest b h have still found inside = go (directive_on text n) refl ∙ ap (λ p. meant.region_by ds p s (meant.regions_in ds s)) (sym b)
     where
       mine : Option (Directive Name) → List (List ListedLoop)
       mine p = map (map listed_loop) (region_line p (shared_in text s) (regions_in text s))
@@ -349,8 +320,8 @@ module _ (text : List ℕ) (ds : Directives) where
       theirs p = meant.region_by ds p s (meant.regions_in ds s)
 
       go : (p : Option (Directive Name)) → directive_on text n ≡ p → mine (directive_on text n) ≡ theirs (directive_on text n)
-      go (Some (ParallelFor cs)) e = ap mine e ∙ ap (λ (l : List ListedLoop). l ∷ []) (one_listed n (ParallelFor cs) cs scope s rest e refl found (h (left_in n (Some (ParallelFor cs)) e refl))) ∙ ap theirs (sym e)
-      go (Some (Parallel cs)) e = ap mine e ∙ ap (λ (l : List ListedLoop). l ∷ []) (block_listed scope serial s have found) ∙ ap theirs (sym e)
+      go (Some (ParallelFor cs)) e = ap mine e ∙ ap (λ (l : List ListedLoop). l ∷ []) (one_listed n (ParallelFor cs) cs scope s rest e refl refl h.0 still found (h.1 (left_in n (Some (ParallelFor cs)) e refl))) ∙ ap theirs (sym e)
+      go (Some (Parallel cs)) e = ap mine e ∙ ap (λ (l : List ListedLoop). l ∷ []) (block_listed scope serial s have still found) ∙ ap theirs (sym e)
       go None e = ap mine e ∙ inside ∙ ap theirs (sym e)
       go (Some (Worksharing cs)) e = ap mine e ∙ inside ∙ ap theirs (sym e)
       go (Some (ScanInclusive x)) e = ap mine e ∙ inside ∙ ap theirs (sym e)
@@ -360,38 +331,39 @@ module _ (text : List ℕ) (ds : Directives) where
       go (Some (DoacrossSink es)) e = ap mine e ∙ inside ∙ ap theirs (sym e)
 
   mutual
-    of_stmt : (scope : Scope) (serial : List Loop) (s : Stmt) → LoopsHave text IsPlainLoop serial (without_in out s) → AllFound text ds (lines_in scope s) → map (map listed_loop) (regions_in text s) ≡ meant.regions_in ds s
-    of_stmt scope serial (Assign x is v) have f = refl
-    of_stmt scope serial (Update x is op v) have f = refl
-    of_stmt scope serial (If c a) have f = of_stmt scope serial a have f
-    of_stmt scope serial (IfElse c a b) have f =
+    of_stmt : (scope : Scope) (serial : List Loop) (s : Stmt) → LoopsHave text IsPlainLoop serial (without_in out s) → unknown_in text s ≡ None → AllFound text ds (lines_in scope s) → map (map listed_loop) (regions_in text s) ≡ meant.regions_in ds s
+    of_stmt scope serial (Assign x is v) have told f = refl
+    of_stmt scope serial (Update x is op v) have told f = refl
+    of_stmt scope serial (If c a) have told f = of_stmt scope serial a have told f
+    of_stmt scope serial (IfElse c a b) have told f =
         map-append (map listed_loop) (regions_in text a) (regions_in text b)
-        ∙ ap (λ xs. xs ++ map (map listed_loop) (regions_in text b)) (of_stmt scope serial a have.0 (found_first text ds (lines_in scope a) (lines_in scope b) f))
-        ∙ ap (λ xs. meant.regions_in ds a ++ xs) (of_stmt scope serial b have.1 (found_second text ds (lines_in scope a) (lines_in scope b) f))
-    of_stmt scope serial (For x name start test step body) have f =
-        of_stmt ((name, AVariable x 0) ∷ scope) (serial ++ record { variable = x; start = start; test = test; step = step } ∷ []) body have f
-    of_stmt scope serial (Block items) have f = of_items scope serial None None items refl tt have f
-    of_stmt scope serial (Print parts) have f = refl
+        ∙ ap (λ xs. xs ++ map (map listed_loop) (regions_in text b)) (of_stmt scope serial a have.0 (none_first (unknown_in text a) (unknown_in text b) told) (found_first text ds (lines_in scope a) (lines_in scope b) f))
+        ∙ ap (λ xs. meant.regions_in ds a ++ xs) (of_stmt scope serial b have.1 (none_behind (unknown_in text a) (unknown_in text b) told) (found_second text ds (lines_in scope a) (lines_in scope b) f))
+    of_stmt scope serial (For x name start test step body) have told f =
+        of_stmt ((name, AVariable x 0) ∷ scope) (serial ++ record { variable = x; start = start; test = test; step = step } ∷ []) body have told f
+    of_stmt scope serial (Block items) have told f = of_items scope serial None None items refl tt have told f
+    of_stmt scope serial (Print parts) have told f = refl
 
     of_items : (scope : Scope) (serial : List Loop) (before : Option ℕ) (o : Option (Directive Name)) (items : Items) → Before before o → Behind before items → ItemsHave text IsPlainLoop serial (without_among out items)
-        → AllFound text ds (lines_among scope items) → map (map listed_loop) (regions_among text before items) ≡ meant.regions_among ds o items
-    of_items scope serial before o no_items b h have f = refl
-    of_items scope serial before o (mark n rest) b h have (found, f) =
-        let p = behind_mark serial n rest have in
-        of_items scope serial (Some n) (directive_at ds n) rest (found_before n found) p.0 p.1 f
-    of_items scope serial before o (local x name start rest) b h have f = of_items ((name, AVariable x 0) ∷ scope) serial None None rest refl tt have f
-    of_items scope serial before o (stmt s rest) b h have f =
+        → unknown_among text items ≡ None → AllFound text ds (lines_among scope items) → map (map listed_loop) (regions_among text before items) ≡ meant.regions_among ds o items
+    of_items scope serial before o no_items b h have told f = refl
+    of_items scope serial before o (mark n rest) b h have told (found, f) =
+        let p = behind_mark serial n rest (none_first (number_there (directive_on text n)) (unknown_among text rest) told) have in
+        of_items scope serial (Some n) (directive_at ds n) rest (found_before n found) p.0 p.1 (none_behind (number_there (directive_on text n)) (unknown_among text rest) told) f
+    of_items scope serial before o (local x name start rest) b h have told f = of_items ((name, AVariable x 0) ∷ scope) serial None None rest refl tt have told f
+    of_items scope serial before o (stmt s rest) b h have told f =
         let first = found_first text ds (lines_in scope s) (lines_among scope rest) f in
+        let still = none_first (unknown_in text s) (unknown_among text rest) told in
         map-append (map listed_loop) (region_behind text before s (regions_in text s)) (regions_among text None rest)
-        ∙ ap (λ xs. xs ++ map (map listed_loop) (regions_among text None rest)) (one_region before o scope serial s rest b h have.0 first (of_stmt scope serial s have.0 first))
-        ∙ ap (λ xs. meant.region_by ds o s (meant.regions_in ds s) ++ xs) (of_items scope serial None None rest refl tt have.1 (found_second text ds (lines_in scope s) (lines_among scope rest) f))
+        ∙ ap (λ xs. xs ++ map (map listed_loop) (regions_among text None rest)) (one_region before o scope serial s rest b h have.0 still first (of_stmt scope serial s have.0 still first))
+        ∙ ap (λ xs. meant.region_by ds o s (meant.regions_in ds s) ++ xs) (of_items scope serial None None rest refl tt have.1 (none_behind (unknown_in text s) (unknown_among text rest) told) (found_second text ds (lines_in scope s) (lines_among scope rest) f))
 
 -- ---- each line is read
 
 module _ (text : List ℕ) where
   -- that of a region
   region_is_read : (n : ℕ) (o : Option (Directive Name)) → directive_on text n ≡ o → is_left_out text n ≡ true → Read text n
-  region_is_read n None e t = absurd (cc (sym (ap (λ o. is_team o || is_ordered o || is_scan_said o) e) ∙ t))
+  region_is_read n None e t = absurd (cc (sym (ap (λ o. is_team o || is_ordered o || is_scan_said o || is_doacross o) e) ∙ t))
   region_is_read n (Some d) e t = (d, e)
 
   mutual
@@ -425,7 +397,7 @@ listed text k parts a b directed are is =
     let have : ItemsHave text IsPlainLoop [] (alone text whole).body = subst (λ (j : Kernel). IsDirected text j) are.dissolved directed in
     let read = read_among text (file_scope whole) [] whole.body have in
     let ds = directives_of text whole in
-    let regions = of_items text ds (file_scope whole) [] None None whole.body refl tt have (all_found text (lines_of whole) read) in
+    let regions = of_items text ds (file_scope whole) [] None None whole.body refl tt have are.known (all_found text (lines_of whole) read) in
     (whole, ds, are.reads, are_read text whole read, is ∙ ap (λ l. a ++ printed 0 0 l) are.are ∙ ap (λ l. a ++ l) (printed_regions 0 0 (regions_of text whole)) ∙ ap (λ l. a ++ listing l) regions)
 
 pub listed_ok : {T E : Type 0} (q : Result T E) (t : Bool) (text : List ℕ) (k : Kernel) (parts : List RegionPart) (a b : List ℕ) → t ≡ is_err q → t ≡ false → IsDirected text k → AreRegions text k parts

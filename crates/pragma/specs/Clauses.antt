@@ -1,18 +1,24 @@
 -- What a `parallel for`, or a `for` inside a `parallel`, says, of the clauses that are known so far. (OpenMP 5.2, 4.4.3, 4.4.4, 11.5.1 and 11.5.3)
-use Rattle.std.specs.Prelude.{ℕ, ◌≡◌, List, [], ◌∷◌, Option, Some, None}
+use Rattle.std.specs.Prelude.{ℕ, ◌≡◌, max, List, [], ◌∷◌, Option, Some, None}
 use Rattle.semantics.specs.Tree.{Name}
-use Rattle.semantics.specs.Directives.Directive.{Schedule, Clause, DefaultShared, DefaultNone, Nowait, Ordered, Shared, Private, Firstprivate, Lastprivate, Reduction, Inscan, ScheduledBy, Collapse, Directive, ParallelFor, Worksharing}
+use Rattle.semantics.specs.Directives.Directive.{Schedule, Clause, DefaultShared, DefaultNone, Nowait, Ordered, Shared, Private, Firstprivate, Lastprivate, Reduction, Inscan, ScheduledBy, Collapse, OrderedLoops, Directive, ParallelFor, Worksharing}
 use Rattle.semantics.specs.Directives.DirectiveGrammar.{ReadsLine}
 use Rattle.cparse_grammar.specs.Reading.{◌>>=◌}
 
--- what `schedule(..)` says and the number of loops of `collapse(c)`, where they stand
+-- what `schedule(..)` says, and the number of associated loops, where `collapse(c)` or `ordered(n)` stands
 abbrev pub Said : Type 0
 Said = Option Schedule × Option ℕ
 
--- one more clause, where it is known and none of its kind is there; a clause about variables says nothing of these two, nor does `ordered`, nor `nowait`, behind which the barrier is kept
+-- the greater of a number of loops and one that was there (4.4.3 and 4.4.4)
+abbrev pub greater : ℕ → Option ℕ → ℕ
+greater n None = n
+greater n (Some m) = max n m
+
+-- one more clause, where it is known and no other `schedule` is there; `collapse` and `ordered(n)` may both stand in a directive, each once by the grammar; a clause about variables says nothing of these two, nor does `ordered`, nor `nowait`, behind which the barrier is kept
 abbrev pub with_clause : Clause Name → Said → Option Said
 with_clause (ScheduledBy k) (None, c) = Some (Some k, c)
-with_clause (Collapse c) (k, None) = Some (k, Some c)
+with_clause (Collapse c) (k, d) = Some (k, Some (greater c d))
+with_clause (OrderedLoops n) (k, d) = Some (k, Some (greater n d))
 with_clause DefaultShared said = Some said
 with_clause DefaultNone said = Some said
 with_clause (Shared xs) said = Some said

@@ -6,7 +6,7 @@ use Rattle.semantics.specs.Loops.Nest.{Loop}
 use Rattle.semantics.specs.Directives.Directive.{Schedule}
 use Rattle.pragma.specs.Clauses.{ReadsLoop}
 
--- how many loops a directive associates, without and with `collapse(c)` (OpenMP 5.2, 4.4.3)
+-- how many loops a directive associates: one where neither `collapse(c)` nor `ordered(n)` stands (OpenMP 5.2, 4.4.3 and 4.4.4)
 abbrev pub associated : Option ℕ → ℕ
 associated None = 1
 associated (Some c) = c

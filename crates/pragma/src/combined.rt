@@ -1,8 +1,8 @@
 //! Directives of the form `parallel for`, with a schedule and collapsed loops, or without.
 
-ghost use Rattle.std.specs.Prelude.{◌≡◌, map, option_map};
+ghost use Rattle.std.specs.Prelude.{◌≡◌, Some, map, option_map};
 ghost use Rattle.pragma_clause.specs.Views.{written_clause, written_directive};
-ghost use Rattle.pragma.specs.Clauses.{with_clause, said_by, loop_of};
+ghost use Rattle.pragma.specs.Clauses.{greater, with_clause, said_by, loop_of};
 ghost use Rattle.pragma.specs.Parallel.{associated};
 ghost use Rattle.pragma.specs.Views.{said_of};
 
@@ -13,12 +13,13 @@ use ktree::{AssociatedLoops, Clause, Directive, Schedule, Written};
 pub struct ParallelFor {
     /// What `schedule` says (OpenMP 5.2, 11.5.3).
     pub schedule: Option<Schedule>,
-    /// The number of loops of `collapse(c)` (OpenMP 5.2, 4.4.3).
+    /// The number of associated loops, where `collapse(c)` or `ordered(n)` stands: the greater where both do (OpenMP 5.2, 4.4.3 and
+    /// 4.4.4).
     pub collapse: Option<AssociatedLoops>,
 }
 
 impl ParallelFor {
-    /// How many loops the directive associates: one where no `collapse` stands (OpenMP 5.2, 4.4.3).
+    /// How many loops the directive associates: one where neither clause stands (OpenMP 5.2, 4.4.3 and 4.4.4).
     pub fn associated_loops(self) -> u64
         ensures { result ≡ associated self.collapse }
     {
@@ -29,7 +30,27 @@ impl ParallelFor {
     }
 }
 
-/// What a clause and others behind it say, where it is known and none of its kind is among them.
+/// The greater of a number of loops and one that was said, where one was.
+fn greater(loops: AssociatedLoops, said: Option<AssociatedLoops>) -> AssociatedLoops
+    ensures { result ≡ greater loops said }
+{
+    match said {
+        Some(other) if loops.get() < other.get() => other,
+        _ => loops,
+    }
+}
+
+/// What a clause says that associates so many loops, and others behind it.
+fn with_loops(loops: AssociatedLoops, said: ParallelFor) -> ParallelFor
+    ensures { said_of result ≡ ((said_of said).0, Some (greater loops said.collapse)) }
+{
+    ParallelFor {
+        schedule: said.schedule,
+        collapse: Some(greater(loops, said.collapse)),
+    }
+}
+
+/// What a clause and others behind it say, where it is known and no two say how the iterations are shared out.
 fn with_clause(clause: &Clause<Written>, said: ParallelFor) -> Option<ParallelFor>
     ensures { option_map said_of result ≡ with_clause (written_clause clause.now) (said_of said) }
 {
@@ -38,10 +59,8 @@ fn with_clause(clause: &Clause<Written>, said: ParallelFor) -> Option<ParallelFo
             schedule: Some(*schedule),
             collapse: said.collapse,
         }),
-        Clause::Collapse(loops) if said.collapse.is_none() => Some(ParallelFor {
-            schedule: said.schedule,
-            collapse: Some(*loops),
-        }),
+        Clause::Collapse(loops) => Some(with_loops(*loops, said)),
+        Clause::OrderedLoops(loops) => Some(with_loops(*loops, said)),
         Clause::DefaultShared
         | Clause::DefaultNone
         | Clause::Shared(_)
@@ -56,7 +75,7 @@ fn with_clause(clause: &Clause<Written>, said: ParallelFor) -> Option<ParallelFo
     }
 }
 
-/// What the clauses of a loop's directive say, where each is known and stands once (OpenMP 5.2, 11.5 and 17).
+/// What the clauses of a loop's directive say, where each is known and one `schedule` stands at most (OpenMP 5.2, 11.5 and 17).
 pub fn said_by(clauses: &[Clause<Written>]) -> Option<ParallelFor>
     ensures { option_map said_of result ≡ said_by (map written_clause clauses.now) }
 {

@@ -14,7 +14,7 @@ use Rattle.pragma_clause.proofs.DirectiveComplete.{line_read}
 use Rattle.pragma_clause.proofs.DirectiveSound.{line_sound}
 use Rattle.pragma.specs.Reading.{ReadsNone}
 use Rattle.law_lines.specs.Without.{without_among}
-use Rattle.pragma_region.specs.Regions.{is_region_line, is_ordered, is_ordered_line, is_scan, is_scan_line}
+use Rattle.pragma_region.specs.Regions.{is_region_line, is_ordered, is_ordered_line, is_scan, is_scan_line, is_doacross, is_doacross_line}
 
 -- a line that is read as a directive
 pub line_on : (text : List ℕ) (n : ℕ) (d : Directive Name) → ReadsLine (line_at text n) d → directive_on text n ≡ Some d
@@ -45,6 +45,12 @@ scan_read text n d b read is = is ∙ ap is_scan (sym (line_on text n d read))
 
 pub scan_none : (text : List ℕ) (n : ℕ) → ReadsNone (line_at text n) → false ≡ is_scan_line text n
 scan_none text n none = ap is_scan (sym (none_on text n none))
+
+pub doacross_read : (text : List ℕ) (n : ℕ) (d : Directive Name) (b : Bool) → ReadsLine (line_at text n) d → b ≡ is_doacross (Some d) → b ≡ is_doacross_line text n
+doacross_read text n d b read is = is ∙ ap is_doacross (sym (line_on text n d read))
+
+pub doacross_none : (text : List ℕ) (n : ℕ) → ReadsNone (line_at text n) → false ≡ is_doacross_line text n
+doacross_none text n none = ap is_doacross (sym (none_on text n none))
 
 -- these items in front of others
 abbrev pub with_items : List Item → Items → Items

@@ -1,11 +1,11 @@
-//! Kernels without the directive lines of their parallel regions, of their ordered ones and of their scans.
+//! Kernels without the directive lines of their parallel regions, of their ordered ones, of their scans and of their doacross nests.
 
 ghost use Rattle.std.specs.Prelude.{◌≡◌, Some, IfOk};
 ghost use Rattle.semantics.specs.Directives.Placed.{is_team};
 ghost use Rattle.ktree.specs.DirectiveView.{name_of, directive_of};
 ghost use Rattle.ktree.specs.View.{stmt_of, items_of, kernel_of};
 ghost use Rattle.law_lines.specs.Without.{without_in, without_among};
-ghost use Rattle.pragma_region.specs.Regions.{is_region_line, is_ordered, is_ordered_line, is_scan, is_scan_line, is_left_out, alone};
+ghost use Rattle.pragma_region.specs.Regions.{is_region_line, is_ordered, is_ordered_line, is_scan, is_scan_line, is_doacross, is_doacross_line, is_left_out, alone};
 
 use ktree::{Directive, Item, Kernel, Place, Stmt, Written};
 use pragma::Directives;
@@ -75,11 +75,36 @@ pub fn is_scan(directives: &Directives, place: Place) -> bool
     is_scan_directive(directive)
 }
 
+/// Whether a directive is a sink or a source of a doacross nest (OpenMP 5.2, 15.9.6).
+fn is_doacross_directive(directive: &Directive<Written>) -> bool
+    ensures { result ≡ is_doacross (Some (directive_of name_of directive.now)) }
+{
+    match directive {
+        Directive::DoacrossSource => true,
+        Directive::DoacrossSink(_) => true,
+        _ => false,
+    }
+}
+
+/// Whether the line at a place is a sink or a source of a doacross nest (OpenMP 5.2, 15.9.6).
+#[tactic(auto, using(crate::proofs::Lines::doacross_none))]
+pub fn is_doacross(directives: &Directives, place: Place) -> bool
+    ensures { result ≡ is_doacross_line directives.now place.line }
+{
+    let Ok(directive) = directives.directive(place) else {
+        return false;
+    };
+    is_doacross_directive(directive)
+}
+
 /// Whether the line at a place is one of those that [`dissolve_regions`] leaves out.
 pub fn is_left_out(directives: &Directives, place: Place) -> bool
     ensures { result ≡ is_left_out directives.now place.line }
 {
-    is_region(directives, place) || is_ordered(directives, place) || is_scan(directives, place)
+    is_region(directives, place)
+        || is_ordered(directives, place)
+        || is_scan(directives, place)
+        || is_doacross(directives, place)
 }
 
 /// A statement without these lines.
@@ -156,8 +181,9 @@ fn items_without(
     Ok(kept)
 }
 
-/// The kernel with each region dissolved: without the lines of its `parallel` directives, those of its ordered regions and those of its
-/// scans, so that each of its loops stands behind its own line alone (OpenMP 5.2, 5.6, 10.1, 11.5 and 15.10).
+/// The kernel with each region dissolved: without the lines of its `parallel` directives, those of its ordered regions, those of its
+/// scans and those of its doacross nests, so that each of its loops stands behind its own line alone (OpenMP 5.2, 5.6, 10.1, 11.5, 15.9
+/// and 15.10).
 ///
 /// # Errors
 ///

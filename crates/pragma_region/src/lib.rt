@@ -7,6 +7,6 @@ mod listing;
 mod unknown;
 
 pub use counting::count_clauses;
-pub use dissolving::{dissolve_regions, is_left_out, is_ordered, is_scan};
+pub use dissolving::{dissolve_regions, is_doacross, is_left_out, is_ordered, is_scan};
 pub use listing::{NamedReduction, RegionLoop, RegionPart, regions_of};
 pub use unknown::{Unknown, first_unknown};

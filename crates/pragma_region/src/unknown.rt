@@ -1,11 +1,10 @@
 //! The first directive line of a kernel that the grammar has and that is not known so far.
 
-ghost use Rattle.std.specs.Prelude.{◌≡◌, ℕ, map, option_map, IfSome};
+ghost use Rattle.std.specs.Prelude.{◌≡◌, ℕ, map, option_map};
 ghost use Rattle.semantics.specs.Tree.{Items};
 ghost use Rattle.ktree.specs.Numbers.{number_of};
 ghost use Rattle.ktree.specs.View.{stmt_of, with_item, items_of, kernel_of};
 ghost use Rattle.ktree.specs.DirectiveView.{name_of, directive_of};
-ghost use Rattle.pragma.specs.Plain.{IsDirected};
 ghost use Rattle.pragma_clause.specs.Views.{written_clause};
 ghost use Rattle.pragma_attach.specs.Standing.{directive_on};
 ghost use Rattle.pragma_region.specs.NotKnown.{first_told, ordering_number, value_number, first_number, loop_number, directive_number, number_there, unknown_in, unknown_among, number_told};
@@ -184,12 +183,11 @@ fn item_unknown(directives: &Directives, item: &Item) -> Option<Unknown>
 }
 
 /// What is told of the first directive line of a kernel that is not known so far, in the order of the text: a doacross nest where the line
-/// begins, `lastprivate(conditional: )` where it names a variable (OpenMP 5.2, 4.4.4, 5.4.5 and 15.10). Where one is
-/// told, not every line of the kernel is that of a loop of known clauses.
+/// begins, `lastprivate(conditional: )` where it names a variable (OpenMP 5.2, 4.4.4, 5.4.5 and 15.10). Where none is told, no line of the
+/// kernel has such a directive or clause.
 pub fn first_unknown(kernel: &Kernel, directives: &Directives) -> Option<Unknown>
-    ensures number { option_map number_told result
+    ensures { option_map number_told result
         ≡ unknown_among directives.now (kernel_of kernel.now).body }
-    ensures refused { IfSome result (λ _. IsDirected directives.now (kernel_of kernel.now) → ⊥) }
 {
     items_unknown(directives, kernel.body.as_slice())
 }
