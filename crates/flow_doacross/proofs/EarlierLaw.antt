@@ -13,7 +13,7 @@ use Rattle.pragma_named.specs.Known.{Lines}
 use Rattle.flow.specs.Private.{nest_body_of}
 use Rattle.flow_doacross.specs.Lines.{Elements, is_doacross_line, line_before}
 use Rattle.flow_doacross.specs.Bodies.{loop_names, in_order, distance_of, is_sink_of, cut_front, ends_in_source}
-use Rattle.flow_doacross.specs.Nests.{is_doacross, nest_by, nest_behind, nests_in, nests_among}
+use Rattle.flow_doacross.specs.Nests.{is_doacross_nest, nest_by, nest_behind, nests_in, nests_among}
 use Rattle.flow_doacross.specs.Listed.{is_near, near, distances_in, NestPart, parts_by, parts_behind, parts_in, parts_among}
 use Rattle.flow_doacross.specs.Laws.{is_earlier, SinksAreEarlier}
 use Rattle.flow_doacross.proofs.StandLaw.{nest_is}
@@ -54,7 +54,7 @@ module _ (text : List ℕ) (lines : Lines) where
   joined_right : (xs ys : List NestPart) → all_right xs ≡ true → all_right ys ≡ true → all_right (xs ++ ys) ≡ true
   joined_right xs ys p q = list_all-append right xs ys ∙ both_true p q
 
-  nest_right : (n d : ℕ) (s : Stmt) (inside : List NestPart) → ordered_loops (lines n) ≡ Some d → is_doacross text d (lines n) s ≡ true → all_right (parts_by text n (Some d) s inside) ≡ true
+  nest_right : (n d : ℕ) (s : Stmt) (inside : List NestPart) → ordered_loops (lines n) ≡ Some d → is_doacross_nest text d (lines n) s ≡ true → all_right (parts_by text n (Some d) s inside) ≡ true
   nest_right n d s inside e h =
       let found = nest_is text d (lines n) s h in
       let cut = cut_front text found.items in

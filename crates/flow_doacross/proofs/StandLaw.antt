@@ -16,7 +16,7 @@ use Rattle.flow.specs.Private.{nest_body_of}
 use Rattle.flow.specs.Roles.{LoopsHaveBy, ItemsHaveBy}
 use Rattle.flow_doacross.specs.Lines.{is_doacross_line, is_passed, line_before, suits_doacross}
 use Rattle.flow_doacross.specs.Bodies.{loop_names, cut_front, are_ordered, is_ordered_body}
-use Rattle.flow_doacross.specs.Nests.{counts_up, all_count_up, is_doacross, nest_by, nest_behind, nests_in, nests_among}
+use Rattle.flow_doacross.specs.Nests.{counts_up, all_count_up, is_doacross_nest, nest_by, nest_behind, nests_in, nests_among}
 use Rattle.flow_doacross.specs.Listed.{NestPart, distances_in, parts_by, parts_behind, parts_in, parts_among, doacross_of}
 use Rattle.flow_doacross.specs.Laws.{HasNest, NestThere, NestsStandAlone}
 use Rattle.flow_doacross.proofs.WithoutLaw.{nest_kept}
@@ -55,7 +55,7 @@ module _ (text : List ℕ) (d : ℕ) (cs : List (Clause Variable)) (s : Stmt) wh
   block_nest loops (For x name start test step body) e h i = absurd (cc i)
   block_nest loops (Print parts) e h i = absurd (cc i)
 
-  pub nest_is : is_doacross text d cs s ≡ true → IsNest text d cs s
+  pub nest_is : is_doacross_nest text d cs s ≡ true → IsNest text d cs s
   nest_is h = go (nest_of d s) refl h
     where
       go : (o : Option (List Loop × Stmt)) → nest_of d s ≡ o → judged o ≡ true → IsNest text d cs s
@@ -77,7 +77,7 @@ module _ (text : List ℕ) (lines : Lines) (k : Kernel) where
   told_right xs ys told t h = told t (Contains-append_right xs ys t h)
 
   -- a nest
-  nest_there : (n d : ℕ) (s : Stmt) (inside : List NestPart) → is_doacross text d (lines n) s ≡ true → Told (parts_by text n (Some d) s inside) → HasNest text lines k n d (without_in (is_passed text) s)
+  nest_there : (n d : ℕ) (s : Stmt) (inside : List NestPart) → is_doacross_nest text d (lines n) s ≡ true → Told (parts_by text n (Some d) s inside) → HasNest text lines k n d (without_in (is_passed text) s)
   nest_there n d s inside h told =
       let found = nest_is text d (lines n) s h in
       let part : NestPart = record { line = n; distances = distances_in text (nest_body_of d s) } in

@@ -35,15 +35,15 @@ all_count_up None = false
 all_count_up (Some nest) = list_all counts_up nest.0
 
 -- a statement is a nest of d loops, as `ordered(d)` among these clauses asks for
-abbrev pub is_doacross : List ℕ → ℕ → List (Clause Variable) → Stmt → Bool
-is_doacross text d cs s = list_all suits_doacross cs && all_count_up (nest_of d s) && is_ordered_body text d (loop_names s) (nest_body_of d s)
+abbrev pub is_doacross_nest : List ℕ → ℕ → List (Clause Variable) → Stmt → Bool
+is_doacross_nest text d cs s = list_all suits_doacross cs && all_count_up (nest_of d s) && is_ordered_body text d (loop_names s) (nest_body_of d s)
 
 -- ---- the nests of a kernel
 
 -- a statement by what the clauses of the line before say; inside: what is judged where they make no nest of it
 abbrev pub nest_by : List ℕ → Option ℕ → List (Clause Variable) → Stmt → Bool → Bool
 nest_by text None cs s inside = inside
-nest_by text (Some d) cs s inside = is_doacross text d cs s
+nest_by text (Some d) cs s inside = is_doacross_nest text d cs s
 
 -- behind a line, or behind none
 abbrev pub nest_behind : List ℕ → Lines → Option ℕ → Stmt → Bool → Bool

@@ -13,8 +13,8 @@ pub enum DoacrossFault {
     /// A sink that is none of the first items of a nest's body, or a source that is not its last one: the place of its `#` (OpenMP 5.2,
     /// 15.10.2).
     Line(Place),
-    /// A nest with a clause that does not go with `ordered(n)`, with a loop that does not rise by 1 between two numbers, without a sink, or
-    /// without a source: the place of the `#` of its directive (OpenMP 5.2, 4.4.4).
+    /// A loop with `ordered(n)` that is no nest of n loops, has a clause that does not go with it, a loop that does not rise by 1 between two
+    /// numbers, no sink, or no source: the place of the `#` of its directive (OpenMP 5.2, 4.4.4).
     Nest(Place),
     /// A sink with fewer or more elements than the nest has loops, or of an iteration that is no earlier one: the place of its `#` (OpenMP
     /// 5.2, 15.9.6).

@@ -5,7 +5,7 @@ ghost use Rattle.std.specs.List.{list_all};
 ghost use Rattle.ktree.specs.View.{stmt_of, items_of};
 ghost use Rattle.pragma_named.specs.Views.{resolved_clause};
 ghost use Rattle.flow_doacross.specs.Bodies.{loop_names, is_sink_of, cut_front, are_ordered, is_ordered_body};
-ghost use Rattle.flow_doacross.specs.Nests.{is_doacross};
+ghost use Rattle.flow_doacross.specs.Nests.{is_doacross_nest};
 ghost use Rattle.flow_doacross.specs.Views.{item_sink, is_right_sink, sinks_on};
 
 use crate::clauses::suit_doacross;
@@ -129,7 +129,7 @@ pub(crate) fn nest_fault(
     clauses: &[Clause<Named>],
     statement: &Stmt,
 ) -> Result<Option<DoacrossFault>, AllocError>
-    ensures { IfOk result (λ found. is_none found ≡ is_doacross directives.now depth
+    ensures { IfOk result (λ found. is_none found ≡ is_doacross_nest directives.now depth
         (map resolved_clause clauses.now) (stmt_of statement.now)) }
 {
     let Some(body) = nest_body(statement, depth) else {
