@@ -39,10 +39,13 @@ steps m ds = map (λ d. m *ℤ d) ds
 
 -- a sink of the nest orders the accesses: they have one distance vector, which is so many times that of the sink, forwards or backwards
 pub record IsCoveredBy (nest : Nest) (ds : List Distance) (x y : Access) : Type 0 where
+  -- each dimension has the same coefficients on both sides, with at most one counter of the nest and none of the body's loops
   pub uniform : All (λ d. IsUniform nest d.0 d.1) (dimensions x y)
+  -- the distance vector: where the accesses meet, each counter of the nest is so much greater in the second one's iteration
   pub far : Distance
   pub loops : length far ≡ length nest.loops.items
   pub apart : (k : ℕ) → k < length nest.loops.items → IsApart nest x y k (slice_index_or far k (pos 0))
+  -- it is some number of steps of a sink, or the opposite of that
   pub sink : Distance
   pub named : Contains ds sink
   pub times : ℕ

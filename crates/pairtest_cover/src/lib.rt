@@ -4,6 +4,8 @@
 mod cover;
 mod distance;
 mod laws;
+#[cfg(test)]
+mod rows;
 mod uniform;
 
 pub use cover::ordered;
