@@ -1,5 +1,5 @@
 -- A loop's directive associates at least one loop. (OpenMP 5.2, 4.4.3 and 4.4.4)
-use Rattle.std.specs.Prelude.{ℕ, zero, suc, true, ◌≡◌, nat_le, max, List, [], ◌∷◌, Option, Some, None}
+use Rattle.std.specs.Prelude.{ℕ, zero, suc, true, ◌≡◌, nat_le, List, [], ◌∷◌, Option, Some, None}
 use Rattle.std.specs.List.{AllByRecursion as Each}
 use Rattle.std.proofs.Common.{refl, subst, arith}
 use Rattle.std.proofs.Math.Nat.{le-max_left}

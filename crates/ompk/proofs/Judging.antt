@@ -1,5 +1,5 @@
 -- What the passes before the dependence test find out together, and which of them refuses.
-use Rattle.std.specs.Prelude.{ℕ, ◌≡◌, ◌⊎◌, List, [], length, map, Some}
+use Rattle.std.specs.Prelude.{ℕ, ◌≡◌, ◌⊎◌, List, [], length, map, Some, None}
 use Rattle.std.proofs.Common.{sym, ap, ◌∙◌, subst, inl, inr}
 use Rattle.std.proofs.Math.Path.{fun_ext}
 use Rattle.semantics.specs.Tree.{Kernel, strip}
@@ -15,6 +15,7 @@ use Rattle.ktree.specs.declared.refusal.Refusal.{Refusal}
 use Rattle.pragma_named.specs.Known.{Known, Lines, known_clauses, lines_known}
 use Rattle.pragma_region.specs.Regions.{is_left_out, alone}
 use Rattle.pragma_region.specs.Counted.{counted_in}
+use Rattle.pragma_region.specs.NotKnown.{unknown_among}
 use Rattle.flow.specs.Roles.{LineData, line_data, data_known, privates_by, ItemsKeepRoles}
 use Rattle.flow.specs.Parallel.{AreParallelLoops}
 use Rattle.flow.specs.declared.environment.ParallelLoop.{ParallelLoop}
@@ -25,7 +26,7 @@ use Rattle.flow_scan.specs.Views.{scan_part}
 use Rattle.flow_scan.specs.declared.listing.ScanLoop.{ScanLoop}
 use Rattle.flow_scan.proofs.Different.{scan_lines_differ}
 use Rattle.ompk.specs.Judged.{Whole, whole_found, IsLineKernel, IsScannedKernel, IsOfKernel}
-use Rattle.ompk.specs.Refused.{IsJudged, RefusesScalars, RefusesClauses, RefusesWhole, RefusesData, RefusesAlone, RefusesKernel}
+use Rattle.ompk.specs.Refused.{IsJudged, RefusesScalars, RefusesClauses, RefusesWhole, RefusesData, RefusesAlone, RefusesUnknown, RefusesKernel}
 
 -- what is said of each line is what the table knows
 pub clauses_are : (k : Kernel) (ds : Directives) (known : Known) → ((n : ℕ) → clauses_at k ds n ≡ Some (lines_known known n)) → clauses_said k ds ≡ lines_known known
@@ -48,6 +49,7 @@ has_passed text k known whole stands judged =
       reads = stands.reads;
       directives = stands.directives;
       attached = stands.attached;
+      known = stands.all_known;
       in_range = judged.in_range;
       directed = judged.right.0;
       nested = judged.right.1;
@@ -69,13 +71,14 @@ has_loops text k known whole loops scans stands judged listed are =
     record { passed = has_passed text k known whole stands judged; listed = subst (λ (R : LineData). AreParallelLoops text R k loops) (sym stands.roles) listed; scans_are = are }
 
 -- a kernel whose directives are attached, with its regions dissolved
-pub line_kernel : (text : List ℕ) (tree k : Kernel) (ds : Directives) (known : Known) (whole : Whole) → ReadsText text tree → IsAttached text tree ds → clauses_counted text tree ds ≡ lines_known known
+pub line_kernel : (text : List ℕ) (tree k : Kernel) (ds : Directives) (known : Known) (whole : Whole) → ReadsText text tree → IsAttached text tree ds → unknown_among text tree.body ≡ None → clauses_counted text tree ds ≡ lines_known known
     → data_counted text tree ds ≡ data_known known (length tree.variables) → k ≡ alone text tree → whole ≡ whole_found text (lines_known known) tree → IsLineKernel text k known whole
-line_kernel text tree k ds known whole reads attached clauses roles is found =
+line_kernel text tree k ds known whole reads attached told clauses roles is found =
     record {
       reads = record { whole = tree; reads = reads; left_out = is_left_out text; is = is };
       directives = ds;
       attached = attached;
+      all_known = told;
       clauses = clauses;
       roles = roles ∙ ap (λ (j : Kernel). data_known known (length j.variables)) (sym is);
       dissolved = is;
@@ -83,22 +86,27 @@ line_kernel text tree k ds known whole reads attached clauses roles is found =
     }
 
 -- and the loops of its scans
-pub scanned_kernel : (text : List ℕ) (tree k : Kernel) (ds : Directives) (known : Known) (whole : Whole) (scans : List ScanLoop) → ReadsText text tree → IsAttached text tree ds → clauses_counted text tree ds ≡ lines_known known
+pub scanned_kernel : (text : List ℕ) (tree k : Kernel) (ds : Directives) (known : Known) (whole : Whole) (scans : List ScanLoop) → ReadsText text tree → IsAttached text tree ds → unknown_among text tree.body ≡ None → clauses_counted text tree ds ≡ lines_known known
     → data_counted text tree ds ≡ data_known known (length tree.variables) → k ≡ alone text tree → whole ≡ whole_found text (lines_known known) tree → map scan_part scans ≡ scans_of text (lines_known known) tree
     → IsScannedKernel text k known whole scans
 unfolding line_kernel
-scanned_kernel text tree k ds known whole scans reads attached clauses roles is found are =
-    record { stands = line_kernel text tree k ds known whole reads attached clauses roles is found; scans_are = are ∙ ap (λ (lines : Lines). scans_of text lines tree) (sym clauses) }
+scanned_kernel text tree k ds known whole scans reads attached told clauses roles is found are =
+    record { stands = line_kernel text tree k ds known whole reads attached told clauses roles is found; scans_are = are ∙ ap (λ (lines : Lines). scans_of text lines tree) (sym clauses) }
 
 -- it is refused
-pub alone_refused : (text : List ℕ) (tree k : Kernel) (ds : Directives) (known : Known) (whole : Whole) (r : Refusal) → IsAttached text tree ds → clauses_counted text tree ds ≡ lines_known known
+pub alone_refused : (text : List ℕ) (tree k : Kernel) (ds : Directives) (known : Known) (whole : Whole) (r : Refusal) → IsAttached text tree ds → unknown_among text tree.body ≡ None → clauses_counted text tree ds ≡ lines_known known
     → data_counted text tree ds ≡ data_known known (length tree.variables) → k ≡ alone text tree → whole ≡ whole_found text (lines_known known) tree
     → RefusesAlone text k (data_known known (length k.variables)) (lines_known known) whole r → RefusesKernel text tree r
-alone_refused text tree k ds known whole r attached clauses roles is found refused =
+alone_refused text tree k ds known whole r attached told clauses roles is found refused =
     let there = subst (λ (j : Kernel). RefusesAlone text j (data_known known (length j.variables)) (lines_known known) whole r) is refused in
     let by_lines = subst (λ (lines : Lines). RefusesAlone text (alone text tree) (data_known known (length tree.variables)) lines whole r) (sym clauses) there in
     let by_roles = subst (λ (R : LineData). RefusesAlone text (alone text tree) R (clauses_counted text tree ds) whole r) (sym roles) by_lines in
-    inr (ds, attached, subst (λ (w : Whole). RefusesAlone text (alone text tree) (data_counted text tree ds) (clauses_counted text tree ds) w r) (found ∙ ap (λ (lines : Lines). whole_found text lines tree) (sym clauses)) by_roles)
+    let by_whole = subst (λ (w : Whole). RefusesAlone text (alone text tree) (data_counted text tree ds) (clauses_counted text tree ds) w r) (found ∙ ap (λ (lines : Lines). whole_found text lines tree) (sym clauses)) by_roles in
+    inr (ds, attached, inr (told, by_whole))
+
+-- one of its directives is not known
+pub unknown_refused : (text : List ℕ) (tree : Kernel) (ds : Directives) (r : Refusal) → IsAttached text tree ds → RefusesUnknown text tree r → RefusesKernel text tree r
+unknown_refused text tree ds r attached refused = inr (ds, attached, inl refused)
 
 -- data that are wrong, or the whole, whichever is told
 pub either_refused : (text : List ℕ) (tree : Kernel) (R : LineData) (lines : Lines) (whole : Whole) (one other r : Refusal) → RefusesWhole whole one

@@ -1,5 +1,5 @@
 -- The kernel that the passes behind the directives judge. (OpenMP 5.2, 10.1)
-use Rattle.std.specs.Prelude.{ℕ, Bool, true, ◌≡◌, is_none, List, map, length}
+use Rattle.std.specs.Prelude.{ℕ, Bool, true, ◌≡◌, is_none, List, None, map, length}
 use Rattle.semantics.specs.Tree.{Kernel}
 use Rattle.semantics.specs.Directives.Annotated.{Directives}
 use Rattle.semantics.specs.Directives.Naming.{IsAttached}
@@ -7,6 +7,7 @@ use Rattle.law_lines.specs.Without.{IsTreeOf}
 use Rattle.ktree.specs.View.{kernel_of}
 use Rattle.pragma_named.specs.Known.{Known, Lines, lines_known}
 use Rattle.pragma_region.specs.Regions.{alone}
+use Rattle.pragma_region.specs.NotKnown.{unknown_among}
 use Rattle.flow.specs.Roles.{data_known}
 use Rattle.flow_ordered.specs.Ordered.{prints_in_order}
 use Rattle.flow_scan.specs.Scans.{scans_rightly}
@@ -32,11 +33,12 @@ whole_found text lines k = record { ordered = prints_in_order text k; phased = s
 abbrev pub IsRight : Whole → Type 0
 IsRight w = (w.ordered ≡ true) × (w.phased ≡ true)
 
--- a tree of a text, whose directives are attached to the whole of it and dissolved in it; this is known of the clauses that count for each line, and of the whole
+-- a tree of a text, whose directives are attached to the whole of it, are known so far, and are dissolved in it; this is known of the clauses that count for each line, and of the whole
 pub record IsLineKernel (text : List ℕ) (tree : Kernel) (known : Known) (whole : Whole) : Type 0 where
   pub reads : IsTreeOf text tree
   pub directives : Directives
   pub attached : IsAttached text reads.whole directives
+  pub all_known : unknown_among text reads.whole.body ≡ None
   pub clauses : clauses_counted text reads.whole directives ≡ lines_known known
   pub roles : data_counted text reads.whole directives ≡ data_known known (length tree.variables)
   pub dissolved : tree ≡ alone text reads.whole

@@ -47,17 +47,13 @@ RefusesDirectives text tree r = IsOfDirectives r × ((ds : Directives) → IsAtt
 abbrev pub RefusesLines : List ℕ → Kernel → Refusal → Type 0
 RefusesLines text tree r = (r ≡ OutOfMemory) ⊎ RefusesDirectives text tree r
 
--- the first directive or clause that is not known so far has this number (K15, K17, K18)
+-- the first directive or clause that is not known so far has this number (K15, K18)
 abbrev pub RefusesUnknown : List ℕ → Kernel → Refusal → Type 0
 RefusesUnknown text tree r = unknown_among text tree.body ≡ Some (number_of r)
 
--- there is none, and a line is none of a loop before a loop, or stands inside a parallel loop (K11, K21)
-abbrev pub RefusesPlaced : List ℕ → Kernel → Refusal → Type 0
-RefusesPlaced text tree r = (unknown_among text tree.body ≡ None) × ((f : line_faults.Fault) × (r ≡ lines.refusal_of f))
-
--- not each directive line is that of a loop, with known clauses, before a loop and inside no parallel loop, for one of these causes
+-- not each directive line is that of a loop, with known clauses, before a loop and inside no parallel loop (K11, K21)
 abbrev pub RefusesPlaces : List ℕ → Kernel → Refusal → Type 0
-RefusesPlaces text tree r = (IsDirected text tree → ⊥) × (RefusesUnknown text tree r ⊎ RefusesPlaced text tree r)
+RefusesPlaces text tree r = (IsDirected text tree → ⊥) × ((f : line_faults.Fault) × (r ≡ lines.refusal_of f))
 
 -- memory was refused, or a local may be read before it is assigned; or a parallel loop writes a shared scalar, or does not keep the roles of its scalars, or a line has no nest, whichever is told
 abbrev pub RefusesScalars : List ℕ → Kernel → LineData → Refusal → Type 0
@@ -109,9 +105,14 @@ RefusesPairs text tree r = HasPassed text tree × RefusesLoops text tree r
 abbrev pub RefusesAlone : List ℕ → Kernel → LineData → Lines → Whole → Refusal → Type 0
 RefusesAlone text tree R lines whole r = RefusesPasses text tree R lines whole r ⊎ RefusesPairs text tree r
 
--- the directives are attached, and the tree with its regions dissolved is refused, by the clauses that count for its lines
+-- each directive is known so far, and the tree with its regions dissolved is refused, by the clauses that count for its lines
+abbrev pub RefusesKnown : List ℕ → Kernel → Directives → Refusal → Type 0
+RefusesKnown text tree ds r =
+    (unknown_among text tree.body ≡ None) × RefusesAlone text (alone text tree) (data_counted text tree ds) (clauses_counted text tree ds) (whole_found text (clauses_counted text tree ds) tree) r
+
+-- the directives are attached, and one is not known so far, or the tree is refused though all are
 abbrev pub RefusesAttached : List ℕ → Kernel → Refusal → Type 0
-RefusesAttached text tree r = (ds : Directives) × IsAttached text tree ds × RefusesAlone text (alone text tree) (data_counted text tree ds) (clauses_counted text tree ds) (whole_found text (clauses_counted text tree ds) tree) r
+RefusesAttached text tree r = (ds : Directives) × IsAttached text tree ds × (RefusesUnknown text tree r ⊎ RefusesKnown text tree ds r)
 
 -- the tree is none that is run
 abbrev pub RefusesKernel : List ℕ → Kernel → Refusal → Type 0

@@ -1,6 +1,6 @@
 //! Which texts are accepted.
 
-ghost use Rattle.std.specs.Prelude.{◌≡◌, ◌⊎◌, [], true, length, MatchOption, OnOk, IfOk, IfErr};
+ghost use Rattle.std.specs.Prelude.{◌≡◌, ◌⊎◌, [], true, None, length, MatchOption, OnOk, IfOk, IfErr};
 ghost use Rattle.flow_clauses.specs.Fitting.{fit_clauses};
 ghost use Rattle.flow.specs.Roles.{data_known, privates_by, ItemsKeepRoles};
 ghost use Rattle.pragma_named.specs.Known.{kept, lines_known};
@@ -13,12 +13,13 @@ ghost use Rattle.semantics.specs.Source.Grammar.{ReadsText};
 ghost use Rattle.semantics.specs.Theorems.{StandsFor};
 ghost use Rattle.semantics.specs.Meaning.Definite.{IsDefinite};
 ghost use Rattle.pragma.specs.Plain.{IsDirected};
+ghost use Rattle.pragma_region.specs.NotKnown.{unknown_among};
 ghost use Rattle.nest.specs.Nests.{IsInRange};
 ghost use Rattle.nest.specs.Perfect.{AreRightNests};
 ghost use Rattle.nest.specs.Judged.{IsTableOf};
 ghost use Rattle.deptest.specs.Accepted.{tree_of, clauses_counted, data_counted, AreRegions, IsAccepted};
 ghost use Rattle.ompk.specs.Judged.{whole_of, whole_found, IsRight, IsScannedKernel, IsOfKernel};
-ghost use Rattle.ompk.specs.Refused.{IsJudged, RefusesLines, RefusesPlaces, RefusesNests, RefusesRanges, RefusesScalars, RefusesClauses, RefusesWhole, HasRightData, RefusesData, RefusesPasses, RefusesAlone, RefusesKernel, RefusesText};
+ghost use Rattle.ompk.specs.Refused.{IsJudged, RefusesLines, RefusesUnknown, RefusesPlaces, RefusesNests, RefusesRanges, RefusesScalars, RefusesClauses, RefusesWhole, HasRightData, RefusesData, RefusesPasses, RefusesAlone, RefusesKernel, RefusesText};
 
 use cparse::parse;
 use deptest::{Checked, Parallel, accept};
@@ -56,15 +57,22 @@ fn judge_lines(
     Ok(lines)
 }
 
-// Refuses a kernel with a directive or a clause that is not known so far, or a line that is none of a loop before a loop, or stands
-// inside a parallel loop.
+// Refuses a kernel with a directive or a clause that is not known so far.
+fn judge_known(kernel: &Kernel, directives: &Directives) -> Result<(), Refusal>
+    ensures ok { OnOk result (unknown_among directives.now (kernel_of kernel.now).body ≡ None) }
+    ensures refusal { IfErr result (RefusesUnknown directives.now (kernel_of kernel.now)) }
+{
+    match first_unknown(kernel, directives) {
+        None => Ok(()),
+        Some(unknown) => Err(unknown.refusal()),
+    }
+}
+
+// Refuses a kernel with a line that is none of a loop before a loop, or stands inside a parallel loop.
 fn judge_places(kernel: &Kernel, directives: &Directives) -> Result<(), Refusal>
     ensures ok { OnOk result (IsDirected directives.now (kernel_of kernel.now)) }
     ensures refusal { IfErr result (RefusesPlaces directives.now (kernel_of kernel.now)) }
 {
-    if let Some(unknown) = first_unknown(kernel, directives) {
-        return Err(unknown.refusal());
-    }
     match first_fault(kernel, directives) {
         None => Ok(()),
         Some(fault) => Err(fault.refusal()),
@@ -345,6 +353,7 @@ fn accept_directed(
     ensures refusal { IfErr result (RefusesKernel text.now (kernel_of kernel)) }
 {
     let lines = judge_lines(alloc, &kernel, directives)?;
+    judge_known(&kernel, directives)?;
     let faults = whole_faults(alloc, &kernel, directives, &lines)?;
     let regions = regions_of(alloc, directives, &kernel)?;
     let scans = scans_of(alloc, &kernel, directives, &lines)?;

@@ -1,6 +1,6 @@
 //! The first directive line of a kernel that the grammar has and that is not known so far.
 
-ghost use Rattle.std.specs.Prelude.{◌≡◌, ℕ, map, option_map};
+ghost use Rattle.std.specs.Prelude.{◌≡◌, map, option_map};
 ghost use Rattle.semantics.specs.Tree.{Items};
 ghost use Rattle.ktree.specs.Numbers.{number_of};
 ghost use Rattle.ktree.specs.View.{stmt_of, with_item, items_of, kernel_of};

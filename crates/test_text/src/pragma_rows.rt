@@ -98,7 +98,23 @@ fn clauses_stand_in_any_order(rt: HostRuntime) {
             "#pragma omp parallel for ordered schedule(dynamic, 2)",
             Ok((2, 0)),
         ),
-        ("#pragma omp parallel for ordered(1)", Err(11)),
+        ("#pragma omp parallel for ordered(1)", Ok((0, 1))),
+        (
+            "#pragma omp for ordered(3) schedule(dynamic, 2)",
+            Ok((2, 3)),
+        ),
+        (
+            "#pragma omp parallel for collapse(2) ordered(3)",
+            Ok((0, 3)),
+        ),
+        (
+            "#pragma omp parallel for collapse(4) ordered(3)",
+            Ok((0, 4)),
+        ),
+        (
+            "#pragma omp parallel for ordered(2) collapse(2)",
+            Ok((0, 2)),
+        ),
     ];
     no_other(&rt, other_outcome(rt.alloc(), ROWS));
 }
@@ -107,6 +123,8 @@ fn clauses_stand_in_any_order(rt: HostRuntime) {
 fn each_clause_stands_once(rt: HostRuntime) {
     const ROWS: &[(&str, Result<(u64, u64), u8>)] = &[
         ("#pragma omp parallel for collapse(2) collapse(2)", Err(11)),
+        ("#pragma omp parallel for ordered(2) ordered(2)", Err(11)),
+        ("#pragma omp parallel for ordered ordered(2)", Err(11)),
         (
             "#pragma omp parallel for schedule(dynamic) collapse(2) schedule(dynamic)",
             Err(11),
