@@ -3,6 +3,8 @@
 
 mod cover;
 mod distance;
+mod laws;
 mod uniform;
 
 pub use cover::ordered;
+pub use laws::{counters_are_ordered, covered_pairs_lie_apart, sinks_lead_there};
