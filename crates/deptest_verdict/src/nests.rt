@@ -66,9 +66,7 @@ fn pair_refused(
     ensures { OrMemory (PairRefused (map declaration_of variables.now) chain.old outer
         (distances_of sinks.now) (stmt_of body.now) pair) result }
 {
-    match verdict_on(
-        alloc, chain, outer, loops, body, pair, sinks, variables,
-    ) {
+    match verdict_on(alloc, chain, outer, loops, body, pair, sinks, variables) {
         Ok(refusal) => refusal,
         Err(fault) => fault.refusal(),
     }
