@@ -3,6 +3,7 @@ use Rattle.std.specs.Prelude.{ℕ, ◌≡◌, ◌⊎◌, List, []}
 use Rattle.semantics.specs.Tree.{Kernel}
 use Rattle.ktree.specs.declared.refusal.Refusal.{Refusal}
 use Rattle.ktree.specs.declared.refusal.Refusal.TheVariants.{OutOfMemory}
+use Rattle.deptest_verdict.specs.Sinks.{no_sinks}
 use Rattle.deptest_verdict.specs.Refused.{IsRefused}
 use Rattle.law_independence.specs.Parallel.{FirstItemHas}
 use Rattle.law_independence.specs.IndependenceLaws.{IsIndependentNest}
@@ -14,4 +15,4 @@ TellsOfFirst text k r = (r ≡ OutOfMemory) ⊎ FirstItemHas text IsIndependentN
 
 -- that loop is refused by its first pair, and what is told of it is so
 abbrev pub RefusesLoops : List ℕ → Kernel → Refusal → Type 0
-RefusesLoops text k r = IsRefused text k r × TellsOfFirst text k r
+RefusesLoops text k r = IsRefused text no_sinks k r × TellsOfFirst text k r

@@ -66,7 +66,7 @@ pub fn check<'k>(
     ensures is { IfOk result (λ i. i ≡ record { text = directives.now; kernel = kernel.now }) }
     ensures err { IfErr result (RefusesLoops directives.now (kernel_of kernel.now)) }
 {
-    match judge(alloc, kernel, directives, table) {
+    match judge(alloc, kernel, directives, table, &[]) {
         Ok(()) => Ok(Independent { kernel, directives }),
         Err(refusal) => Err(refusal),
     }

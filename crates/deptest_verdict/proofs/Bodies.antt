@@ -4,6 +4,7 @@ use Rattle.std.proofs.Common.{inl, inr, refl, sym, ap, ◌∙◌, subst, arith}
 use Rattle.std.proofs.lemmas.Option.{same_Some}
 use Rattle.semantics.specs.Tree.{Stmt, Declaration}
 use Rattle.semantics.specs.Loops.Nest.{Loop, as_loop}
+use Rattle.semantics.specs.Loops.Order.{Distance}
 use Rattle.ktree.specs.declared.place.Place.{Place}
 use Rattle.ktree.specs.declared.refusal.Refusal.{Refusal}
 use Rattle.ktree.specs.declared.refusal.Refusal.TheVariants as refusals
@@ -56,9 +57,9 @@ told_by : (now : Nesting) (body : Stmt) (ss : List Site) (i : ℕ) (t : Touched)
 told_by now body ss i t are h = subst (λ (ts : List Site). IsTold (length now.levels) (slice_get ts i) (Some t)) (sites_are_unique now body h.sites ss h.are are) h.told
 
 -- the pair that is told is the first that is not shown
-abbrev first_of : (ds : List Declaration) (now : Nesting) (outer : ℕ) (serial : List ℕ) (body : Stmt) (found : List Access) (nest : Nest) (pair : Pair) (a : not_shown.NotShown)
-    → Tested now outer serial body found nest → IsFirstPair nest found pair.first pair.second → AreNamed found pair → IsPairTold ds now body pair a → IsFirstOf ds now outer serial body a
-first_of ds now outer serial body found nest pair a t is named p = record {
+abbrev first_of : (ds : List Declaration) (now : Nesting) (outer : ℕ) (serial : List ℕ) (sinks : List Distance) (body : Stmt) (found : List Access) (nest : Nest) (pair : Pair) (a : not_shown.NotShown)
+    → Tested now outer serial body found nest → IsFirstPair nest sinks found pair.first pair.second → AreNamed found pair → IsPairTold ds now body pair a → IsFirstOf ds now outer serial sinks body a
+first_of ds now outer serial sinks body found nest pair a t is named p = record {
   sites = t.sites;
   found = found;
   nest = nest;
@@ -79,47 +80,47 @@ first_of ds now outer serial body found nest pair a t is named p = record {
   other_touches = told_by now body t.sites pair.second p.other_touched t.are p.other_touches;
 }
 
-verdict_of : (ds : List Declaration) (now : Nesting) (outer : ℕ) (serial : List ℕ) (body : Stmt) (found : List Access) (nest : Nest) (pair : Pair) (r : Refusal) → Tested now outer serial body found nest
-    → IsFirstPair nest found pair.first pair.second → AreNamed found pair → IsPairVerdict ds now outer body pair r → IsVerdict ds now outer serial body r
-verdict_of ds now outer serial body found nest pair r t is named (inl (c, e, p, at, entered, first)) =
-    subst (IsVerdict ds now outer serial body) (sym e) (first_of ds now outer serial body found nest pair c.accesses t is named p, at, entered, first)
-verdict_of ds now outer serial body found nest pair r t is named (inr (a, e, p, never)) =
-    subst (IsVerdict ds now outer serial body) (sym e) (first_of ds now outer serial body found nest pair a t is named p, never)
+verdict_of : (ds : List Declaration) (now : Nesting) (outer : ℕ) (serial : List ℕ) (sinks : List Distance) (body : Stmt) (found : List Access) (nest : Nest) (pair : Pair) (r : Refusal) → Tested now outer serial body found nest
+    → IsFirstPair nest sinks found pair.first pair.second → AreNamed found pair → IsPairVerdict ds now outer sinks body pair r → IsVerdict ds now outer serial sinks body r
+verdict_of ds now outer serial sinks body found nest pair r t is named (inl (c, no_sink, e, p, at, entered, first)) =
+    subst (IsVerdict ds now outer serial sinks body) (sym e) (no_sink, first_of ds now outer serial sinks body found nest pair c.accesses t is named p, at, entered, first)
+verdict_of ds now outer serial sinks body found nest pair r t is named (inr (a, e, p, never)) =
+    subst (IsVerdict ds now outer serial sinks body) (sym e) (first_of ds now outer serial sinks body found nest pair a t is named p, never)
 
 -- the answer of the search of pairs
-pub the_first : (nest : Nest) (xs : List Access) (o : Option Pair) (pair : Pair) → MatchOption o (AreShown nest xs) (λ p. IsFirstPair nest xs p.first p.second) → o ≡ Some pair
-    → IsFirstPair nest xs pair.first pair.second
-the_first nest xs None pair h e = absurd (cc e)
-the_first nest xs (Some p) pair h e = subst (λ (q : Pair). IsFirstPair nest xs q.first q.second) (same_Some p pair e) h
+pub the_first : (nest : Nest) (sinks : List Distance) (xs : List Access) (o : Option Pair) (pair : Pair) → MatchOption o (AreShown nest sinks xs) (λ p. IsFirstPair nest sinks xs p.first p.second) → o ≡ Some pair
+    → IsFirstPair nest sinks xs pair.first pair.second
+the_first nest sinks xs None pair h e = absurd (cc e)
+the_first nest sinks xs (Some p) pair h e = subst (λ (q : Pair). IsFirstPair nest sinks xs q.first q.second) (same_Some p pair e) h
 
 pub the_named : (xs : List Access) (o : Option Pair) (pair : Pair) → IfSome o (AreNamed xs) → o ≡ Some pair → AreNamed xs pair
 the_named xs None pair h e = absurd (cc e)
 the_named xs (Some p) pair h e = subst (AreNamed xs) (same_Some p pair e) h
 
-pub pair_refused : (ds : List Declaration) (now then : Nesting) (outer : ℕ) (serial : List ℕ) (body : Stmt) (found : List Access) (nest : Nest) (pair : Pair) (r : Refusal) → then ≡ now
-    → Tested now outer serial body found nest → IsFirstPair nest found pair.first pair.second → AreNamed found pair → OrMemory (PairRefused ds then outer body pair) r
-    → OrMemory (BodyRefused ds now outer serial body) r
-pair_refused ds now then outer serial body found nest pair r same t is named h = go (subst (λ (n : Nesting). OrMemory (PairRefused ds n outer body pair) r) same h)
+pub pair_refused : (ds : List Declaration) (now then : Nesting) (outer : ℕ) (serial : List ℕ) (sinks : List Distance) (body : Stmt) (found : List Access) (nest : Nest) (pair : Pair) (r : Refusal) → then ≡ now
+    → Tested now outer serial body found nest → IsFirstPair nest sinks found pair.first pair.second → AreNamed found pair → OrMemory (PairRefused ds then outer sinks body pair) r
+    → OrMemory (BodyRefused ds now outer serial sinks body) r
+pair_refused ds now then outer serial sinks body found nest pair r same t is named h = go (subst (λ (n : Nesting). OrMemory (PairRefused ds n outer sinks body pair) r) same h)
   where
-    go : OrMemory (PairRefused ds now outer body pair) r → OrMemory (BodyRefused ds now outer serial body) r
+    go : OrMemory (PairRefused ds now outer sinks body pair) r → OrMemory (BodyRefused ds now outer serial sinks body) r
     go (inl m) = inl m
-    go (inr (inl v)) = inr (inl (verdict_of ds now outer serial body found nest pair r t is named v))
+    go (inr (inl v)) = inr (inl (verdict_of ds now outer serial sinks body found nest pair r t is named v))
     go (inr (inr f)) = inr (inr (inr f))
 
-pub pair_too_large : (ds : List Declaration) (now : Nesting) (outer : ℕ) (serial : List ℕ) (body : Stmt) (found : List Access) (nest : Nest) (place : Place) (r : Refusal)
-    → Tested now outer serial body found nest → IsTooLarge nest found place → r ≡ refusals.Limit place → OrMemory (BodyRefused ds now outer serial body) r
-pair_too_large ds now outer serial body found nest place r t large e = inr (inr (inl (t.sites, found, nest, place, are_tested now outer serial body found nest t, large, e)))
+pub pair_too_large : (ds : List Declaration) (now : Nesting) (outer : ℕ) (serial : List ℕ) (sinks : List Distance) (body : Stmt) (found : List Access) (nest : Nest) (place : Place) (r : Refusal)
+    → Tested now outer serial body found nest → IsTooLarge nest sinks found place → r ≡ refusals.Limit place → OrMemory (BodyRefused ds now outer serial sinks body) r
+pair_too_large ds now outer serial sinks body found nest place r t large e = inr (inr (inl (t.sites, found, nest, place, are_tested now outer serial body found nest t, large, e)))
 
 -- ---- a nest
 
-pub nest_inner : (ds : List Declaration) (now inner : Nesting) (outer : ℕ) (serial : List ℕ) (n : ℕ) (s : Stmt) (h : Loop) (body : Stmt) (r : Refusal) → 0 < n → as_loop s ≡ Some (h, body)
-    → IsInside now h.variable h.start h.test h.step body inner → OrMemory (NestRefused ds inner outer serial (n - 1) body) r → OrMemory (NestRefused ds now outer serial n s) r
-nest_inner ds now inner outer serial zero s h body r l e i k = absurd (omega (arith, l))
-nest_inner ds now inner outer serial (suc n) s h body r l e i k = go (subst (λ (m : ℕ). OrMemory (NestRefused ds inner outer serial m body) r) (one_less n) k)
+pub nest_inner : (ds : List Declaration) (now inner : Nesting) (outer : ℕ) (serial : List ℕ) (sinks : List Distance) (n : ℕ) (s : Stmt) (h : Loop) (body : Stmt) (r : Refusal) → 0 < n → as_loop s ≡ Some (h, body)
+    → IsInside now h.variable h.start h.test h.step body inner → OrMemory (NestRefused ds inner outer serial sinks (n - 1) body) r → OrMemory (NestRefused ds now outer serial sinks n s) r
+nest_inner ds now inner outer serial sinks zero s h body r l e i k = absurd (omega (arith, l))
+nest_inner ds now inner outer serial sinks (suc n) s h body r l e i k = go (subst (λ (m : ℕ). OrMemory (NestRefused ds inner outer serial sinks m body) r) (one_less n) k)
   where
     one_less : (m : ℕ) → suc m - 1 ≡ m
     one_less m = omega arith
 
-    go : OrMemory (NestRefused ds inner outer serial n body) r → OrMemory (NestRefused ds now outer serial (suc n) s) r
+    go : OrMemory (NestRefused ds inner outer serial sinks n body) r → OrMemory (NestRefused ds now outer serial sinks (suc n) s) r
     go (inl m) = inl m
     go (inr k) = inr (inr (h, body, e, inner, i, k))

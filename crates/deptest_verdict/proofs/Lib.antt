@@ -5,3 +5,4 @@ pub mod Verdicts
 pub mod Bodies
 pub mod Refusals
 mod Writes
+mod Lookup

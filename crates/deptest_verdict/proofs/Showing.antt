@@ -8,47 +8,49 @@ use Rattle.std.proofs.lemmas.Bool.Decides.{Decides-ltb, nat_tests}
 use Rattle.std.proofs.Common.{inl, inr, refl, sym, ap, ◌∙◌, subst, arith}
 use Rattle.std.specs.declared.result.Result.{Result}
 use Rattle.std.proofs.lemmas.Result.{IfOk-weaker}
+use Rattle.semantics.specs.Loops.Order.{Distance}
 use Rattle.pairtest.specs.declared.access.Access.{Access}
 use Rattle.pairtest.specs.declared.access.Nest.{Nest}
 use Rattle.ktree.specs.declared.place.Place.{Place}
-use Rattle.pairtest.specs.DirectionVectors.{AllRefuted, AllWithin}
+use Rattle.pairtest.specs.DirectionVectors.{AllWithin}
+use Rattle.pairtest_cover.specs.Covered.{IsOrdered}
 use Rattle.deptest_verdict.specs.declared.pairs.Behind.{Behind}
 use Rattle.deptest_verdict.specs.declared.pairs.Pair.{Pair}
 use Rattle.deptest_verdict.specs.Pairs.{IsPair, IsShown, AreShownBefore, IsFirstBehind, IsFirstPair, IsLargeBehind, AreNamed, StandsAt}
 use Rattle.deptest_verdict.specs.Refused.{IsTooLarge}
 
-pub shown_of_pair : {E : Type 0} (nest : Nest) (x y : Access) (r : Result Bool E) → IsPair x y → IfOk r (λ b. IsTrue b ↔ AllRefuted nest x y) → IfOk r (λ b. IsTrue b ↔ IsShown nest x y)
-shown_of_pair nest x y r pair h =
-    IfOk-weaker r (λ b. IsTrue b ↔ AllRefuted nest x y) (λ b. IsTrue b ↔ IsShown nest x y)
-    (λ b k. (λ (t : IsTrue b). λ (p : IsPair x y). k.0 t, λ (s : IsShown nest x y). k.1 (s pair))) h
+pub shown_of_pair : {E : Type 0} (nest : Nest) (sinks : List Distance) (x y : Access) (r : Result Bool E) → IsPair x y → IfOk r (λ b. IsTrue b ↔ IsOrdered nest sinks x y) → IfOk r (λ b. IsTrue b ↔ IsShown nest sinks x y)
+shown_of_pair nest sinks x y r pair h =
+    IfOk-weaker r (λ b. IsTrue b ↔ IsOrdered nest sinks x y) (λ b. IsTrue b ↔ IsShown nest sinks x y)
+    (λ b k. (λ (t : IsTrue b). λ (p : IsPair x y). k.0 t, λ (s : IsShown nest sinks x y). k.1 (s pair))) h
 
 -- one access more is shown to be independent
-pub one_more : (nest : Nest) (x y : Access) (ys : List Access) (j : ℕ) → slice_get ys j ≡ Some y → All (IsShown nest x) (take j ys) → IsShown nest x y → All (IsShown nest x) (take (j + 1) ys)
-one_more nest x y ys j e h s =
-    subst (All (IsShown nest x)) (sym (take_more ys j y (slice_get_within ys j y e) ∙ ap (λ (z : Access). take j ys ++ z ∷ []) (get_or_from_slice_get ys j y y e)))
-    (All-push (IsShown nest x) (take j ys) y h s)
+pub one_more : (nest : Nest) (sinks : List Distance) (x y : Access) (ys : List Access) (j : ℕ) → slice_get ys j ≡ Some y → All (IsShown nest sinks x) (take j ys) → IsShown nest sinks x y → All (IsShown nest sinks x) (take (j + 1) ys)
+one_more nest sinks x y ys j e h s =
+    subst (All (IsShown nest sinks x)) (sym (take_more ys j y (slice_get_within ys j y e) ∙ ap (λ (z : Access). take j ys ++ z ∷ []) (get_or_from_slice_get ys j y y e)))
+    (All-push (IsShown nest sinks x) (take j ys) y h s)
 
 -- all of them are
-pub all_behind : (nest : Nest) (x : Access) (ys : List Access) (j : ℕ) → j ≡ length ys → All (IsShown nest x) (take j ys) → All (IsShown nest x) ys
-all_behind nest x ys j e h = subst (All (IsShown nest x)) (take-length ys) (subst (λ (n : ℕ). All (IsShown nest x) (take n ys)) e h)
+pub all_behind : (nest : Nest) (sinks : List Distance) (x : Access) (ys : List Access) (j : ℕ) → j ≡ length ys → All (IsShown nest sinks x) (take j ys) → All (IsShown nest sinks x) ys
+all_behind nest sinks x ys j e h = subst (All (IsShown nest sinks x)) (take-length ys) (subst (λ (n : ℕ). All (IsShown nest sinks x) (take n ys)) e h)
 
-pub found_behind : (nest : Nest) (x y : Access) (ys : List Access) (j : ℕ) → slice_get ys j ≡ Some y → All (IsShown nest x) (take j ys) → (IsShown nest x y → ⊥) → IsFirstBehind nest x ys j
-found_behind nest x y ys j e h s = record { before = h; access = y; there = e; not_shown = s }
+pub found_behind : (nest : Nest) (sinks : List Distance) (x y : Access) (ys : List Access) (j : ℕ) → slice_get ys j ≡ Some y → All (IsShown nest sinks x) (take j ys) → (IsShown nest sinks x y → ⊥) → IsFirstBehind nest sinks x ys j
+found_behind nest sinks x y ys j e h s = record { before = h; access = y; there = e; not_shown = s }
 
 -- one access more is shown to be independent of itself and those behind it
-pub shown_more : (nest : Nest) (x : Access) (xs : List Access) (i : ℕ) → slice_get xs i ≡ Some x → AreShownBefore nest xs i → IsTrue x.is_counted → All (IsShown nest x) (drop i xs) → AreShownBefore nest xs (i + 1)
-shown_more nest x xs i e h counted s k y l f = go (nat_lt k i) refl
+pub shown_more : (nest : Nest) (sinks : List Distance) (x : Access) (xs : List Access) (i : ℕ) → slice_get xs i ≡ Some x → AreShownBefore nest sinks xs i → IsTrue x.is_counted → All (IsShown nest sinks x) (drop i xs) → AreShownBefore nest sinks xs (i + 1)
+shown_more nest sinks x xs i e h counted s k y l f = go (nat_lt k i) refl
   where
-    go : (b : Bool) → nat_lt k i ≡ b → IsTrue y.is_counted × All (IsShown nest y) (drop k xs)
+    go : (b : Bool) → nat_lt k i ≡ b → IsTrue y.is_counted × All (IsShown nest sinks y) (drop k xs)
     go true t = h k y ((Decides-ltb k i).0 t) f
     go false t =
         let same : i ≡ k = grind (arith, nat_tests) in
         let found : Some x ≡ Some y = sym e ∙ ap (slice_get xs) same ∙ f in
-        subst (λ (n : ℕ). IsTrue y.is_counted × All (IsShown nest y) (drop n xs)) same
-        (subst (λ (z : Access). IsTrue z.is_counted × All (IsShown nest z) (drop i xs)) (same_Some x y found) (counted, s))
+        subst (λ (n : ℕ). IsTrue y.is_counted × All (IsShown nest sinks y) (drop n xs)) same
+        (subst (λ (z : Access). IsTrue z.is_counted × All (IsShown nest sinks z) (drop i xs)) (same_Some x y found) (counted, s))
 
-pub pair_found : (nest : Nest) (x : Access) (xs : List Access) (i j : ℕ) → slice_get xs i ≡ Some x → AreShownBefore nest xs i → IsFirstBehind nest x (drop i xs) j → IsFirstPair nest xs i (i + j)
-pair_found nest x xs i j e h f = record { before = h; access = x; there = e; behind = j; second = refl; first = f }
+pub pair_found : (nest : Nest) (sinks : List Distance) (x : Access) (xs : List Access) (i j : ℕ) → slice_get xs i ≡ Some x → AreShownBefore nest sinks xs i → IsFirstBehind nest sinks x (drop i xs) j → IsFirstPair nest sinks xs i (i + j)
+pair_found nest sinks x xs i j e h f = record { before = h; access = x; there = e; behind = j; second = refl; first = f }
 
 -- the accesses from one on, as a part of the list
 pub rest_is : (xs : List Access) (i : ℕ) → i ≤ length xs → take (length xs - i) (drop i xs) ≡ drop i xs
@@ -78,16 +80,16 @@ stands_from xs i j place (x, there, at) = (x, sym (from_on xs i j (i + j) refl) 
 
 -- ---- too large numbers
 
-pub large_behind : (nest : Nest) (x y : Access) (ys : List Access) (j : ℕ) → slice_get ys j ≡ Some y → All (IsShown nest x) (take j ys) → IsPair x y → (AllWithin nest x y → ⊥) → IsLargeBehind nest x ys
-large_behind nest x y ys j e h p l = record { behind = j; other = y; there = e; shown = h; pair = p; large = l }
+pub large_behind : (nest : Nest) (sinks : List Distance) (x y : Access) (ys : List Access) (j : ℕ) → slice_get ys j ≡ Some y → All (IsShown nest sinks x) (take j ys) → IsPair x y → (AllWithin nest x y → ⊥) → IsLargeBehind nest sinks x ys
+large_behind nest sinks x y ys j e h p l = record { behind = j; other = y; there = e; shown = h; pair = p; large = l }
 
-pub too_large : (nest : Nest) (x : Access) (xs : List Access) (i : ℕ) (place : Place) → slice_get xs i ≡ Some x → AreShownBefore nest xs i → IsLargeBehind nest x (drop i xs) → place ≡ x.place
-    → IsTooLarge nest xs place
-too_large nest x xs i place e h k at =
+pub too_large : (nest : Nest) (sinks : List Distance) (x : Access) (xs : List Access) (i : ℕ) (place : Place) → slice_get xs i ≡ Some x → AreShownBefore nest sinks xs i → IsLargeBehind nest sinks x (drop i xs) → place ≡ x.place
+    → IsTooLarge nest sinks xs place
+too_large nest sinks x xs i place e h k at =
     record { first = i; before = h; one = x; one_is = e; large = inr k; at = at }
 
-pub not_counted : (nest : Nest) (x : Access) (xs : List Access) (i : ℕ) (place : Place) → slice_get xs i ≡ Some x → AreShownBefore nest xs i → x.is_counted ≡ false → place ≡ x.place → IsTooLarge nest xs place
-not_counted nest x xs i place e h k at = record { first = i; before = h; one = x; one_is = e; large = inl k; at = at }
+pub not_counted : (nest : Nest) (sinks : List Distance) (x : Access) (xs : List Access) (i : ℕ) (place : Place) → slice_get xs i ≡ Some x → AreShownBefore nest sinks xs i → x.is_counted ≡ false → place ≡ x.place → IsTooLarge nest sinks xs place
+not_counted nest sinks x xs i place e h k at = record { first = i; before = h; one = x; one_is = e; large = inl k; at = at }
 
 -- ---- a pair's array and places
 

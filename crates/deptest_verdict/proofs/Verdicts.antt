@@ -1,9 +1,10 @@
 -- What is told of a pair of accesses, from what was found of both.
-use Rattle.std.specs.Prelude.{ℕ, ◌≡◌, ◌-◌, List, length, map, reverse, take, drop, slice_get, Option, Some, None, IfNone, IfSome}
-use Rattle.std.proofs.Common.{inl, inr, refl, ap, ◌∙◌, subst, arith}
+use Rattle.std.specs.Prelude.{ℕ, ℤ, ◌≡◌, ◌-◌, List, [], ◌∷◌, length, map, reverse, take, drop, slice_get, Option, Some, None, IfNone, IfSome}
+use Rattle.std.proofs.Common.{inl, inr, refl, ap, ◌∙◌, subst, arith, Vec, Global}
 use Rattle.std.proofs.Math.Seq.{take-length}
 use Rattle.std.proofs.lemmas.Option.{same_Some}
 use Rattle.semantics.specs.Tree.{Stmt, Declaration}
+use Rattle.semantics.specs.Loops.Order.{Distance}
 use Rattle.ktree.specs.declared.refusal.Refusal.TheVariants as refusals
 use Rattle.ktree.specs.declared.refusal.NotShown as not_shown
 use Rattle.affine.specs.Affine.{Affine}
@@ -18,6 +19,7 @@ use Rattle.deptest_witness.specs.declared.meeting.Meeting.{Meeting}
 use Rattle.deptest_witness.specs.Touching.{Access, NestAt, IsEntered, TouchesAt}
 use Rattle.deptest_witness.specs.Pairs.{IsFirst, NeverMeet}
 use Rattle.deptest_verdict.specs.declared.pairs.Pair.{Pair}
+use Rattle.deptest_verdict.specs.Sinks.{distances_of}
 use Rattle.deptest_verdict.specs.Refused.{serial_loops, nest_loops, touch_of}
 use Rattle.deptest_verdict.specs.Telling.{HasSite, IsNamed, IsTouchedBy, IsPairTold, IsPairVerdict}
 use Rattle.deptest_verdict.proofs.Same.{sites_are_unique}
@@ -78,24 +80,38 @@ abbrev pair_told : (ds : List Declaration) (now : Nesting) (body : Stmt) (pair :
 pair_told ds now body pair told x y named one other = record { named = named; one_touched = x; other_touched = y; one_touches = one; other_touches = other }
 
 -- that there are no such iterations
-pub never_told : (ds : List Declaration) (now : Nesting) (outer : ℕ) (body : Stmt) (pair : Pair) (told : not_shown.NotShown) (x y : Touched) (loops : List Canonical) (o : Option Meeting) → IsNamed ds pair told
+pub never_told : (ds : List Declaration) (now : Nesting) (outer : ℕ) (sinks : List Distance) (body : Stmt) (pair : Pair) (told : not_shown.NotShown) (x y : Touched) (loops : List Canonical) (o : Option Meeting) → IsNamed ds pair told
     → IsTouchedBy now body pair.first x → IsTouchedBy now body pair.second y → loops ≡ map (λ v. v.canonical) (inner_loops 0 now.levels)
-    → IfNone o (NeverAt (take outer loops) (drop outer loops) (touch_of x) (touch_of y)) → o ≡ None → IsPairVerdict ds now outer body pair (refusals.NotShown told)
-never_told ds now outer body pair told x y loops o named one other e h none = inr (
+    → IfNone o (NeverAt (take outer loops) (drop outer loops) (touch_of x) (touch_of y)) → o ≡ None → IsPairVerdict ds now outer sinks body pair (refusals.NotShown told)
+never_told ds now outer sinks body pair told x y loops o named one other e h none = inr (
   told,
   refl,
   pair_told ds now body pair told x y named one other,
-  subst (λ (ls : List Canonical). NeverAt (take outer ls) (drop outer ls) (touch_of x) (touch_of y)) (all_loops now loops e)
+  λ none_named. subst (λ (ls : List Canonical). NeverAt (take outer ls) (drop outer ls) (touch_of x) (touch_of y)) (all_loops now loops e)
       (none_met (NeverAt (take outer loops) (drop outer loops) (touch_of x) (touch_of y)) o h none),
 )
 
 -- the first of them
-pub first_told : (ds : List Declaration) (now : Nesting) (outer : ℕ) (body : Stmt) (pair : Pair) (told : not_shown.NotShown) (x y : Touched) (loops : List Canonical) (o : Option Meeting) (m : Meeting)
-    → IsNamed ds pair told → IsTouchedBy now body pair.first x → IsTouchedBy now body pair.second y → loops ≡ map (λ v. v.canonical) (inner_loops 0 now.levels)
+pub first_told : (ds : List Declaration) (now : Nesting) (outer : ℕ) (sinks : List Distance) (body : Stmt) (pair : Pair) (told : not_shown.NotShown) (x y : Touched) (loops : List Canonical) (o : Option Meeting) (m : Meeting)
+    → IsNamed ds pair told → IsTouchedBy now body pair.first x → IsTouchedBy now body pair.second y → loops ≡ map (λ v. v.canonical) (inner_loops 0 now.levels) → sinks ≡ []
     → IfSome o (FirstAt (take outer loops) (drop outer loops) (touch_of x) (touch_of y)) → o ≡ Some m
-    → IsPairVerdict ds now outer body pair (refusals.Conflict (record { accesses = told; earlier = m.earlier; later = m.later; indexes = m.indexes }))
-first_told ds now outer body pair told x y loops o m named one other e h some =
+    → IsPairVerdict ds now outer sinks body pair (refusals.Conflict (record { accesses = told; earlier = m.earlier; later = m.later; indexes = m.indexes }))
+first_told ds now outer sinks body pair told x y loops o m named one other e no_sink h some =
     let first : FirstAt (serial_loops outer now) (nest_loops outer now) (touch_of x) (touch_of y) m =
     subst (λ (ls : List Canonical). FirstAt (take outer ls) (drop outer ls) (touch_of x) (touch_of y) m) (all_loops now loops e)
     (some_met (FirstAt (take outer loops) (drop outer loops) (touch_of x) (touch_of y)) o m h some) in
-    inl (record { accesses = told; earlier = m.earlier; later = m.later; indexes = m.indexes }, refl, pair_told ds now body pair told x y named one other, first.0, first.1, first.2)
+    inl (record { accesses = told; earlier = m.earlier; later = m.later; indexes = m.indexes }, no_sink, refl, pair_told ds now body pair told x y named one other, first.0, first.1, first.2)
+
+-- a pair of a loop with a sink
+pub named_alone : (ds : List Declaration) (now : Nesting) (outer : ℕ) (sinks : List Distance) (body : Stmt) (pair : Pair) (told : not_shown.NotShown) (x y : Touched) → IsNamed ds pair told
+    → IsTouchedBy now body pair.first x → IsTouchedBy now body pair.second y → (sinks ≡ [] → ⊥) → IsPairVerdict ds now outer sinks body pair (refusals.NotShown told)
+named_alone ds now outer sinks body pair told x y named one other some = inr (told, refl, pair_told ds now body pair told x y named one other, λ none_named. absurd (some none_named))
+
+-- the code's sinks are none where those that are meant are
+pub none_meant : (sinks : List (Vec ℤ Global)) → distances_of sinks ≡ [] → length sinks ≡ 0
+none_meant [] e = refl
+none_meant (d ∷ ds) e = absurd (cc e)
+
+pub none_held : (sinks : List (Vec ℤ Global)) → length sinks ≡ 0 → distances_of sinks ≡ []
+none_held [] e = refl
+none_held (d ∷ ds) e = absurd (cc e)

@@ -4,10 +4,12 @@ use Rattle.std.proofs.Common.{refl, sym, ap, ◌∙◌, subst, inl, inr, arith, 
 use Rattle.std.proofs.lemmas.List.Elements.{All-from_get_or}
 use Rattle.std.proofs.lemmas.Option.{same_Some, slice_get_within, slice_get-get_or}
 use Rattle.std.proofs.lemmas.Bool.Decides.{Decides-ltb, nat_tests}
+use Rattle.semantics.specs.Loops.Order.{Distance}
 use Rattle.pairtest.specs.declared.access.Access.{Access}
 use Rattle.pairtest.specs.declared.access.Mode.TheVariants.{Writes}
 use Rattle.pairtest.specs.declared.access.Nest.{Nest}
-use Rattle.pairtest.specs.DirectionVectors.{AllRefuted, AllWithin}
+use Rattle.pairtest.specs.DirectionVectors.{AllWithin}
+use Rattle.pairtest_cover.specs.Covered.{IsOrdered}
 use Rattle.deptest_verdict.specs.Pairs.{IsPair, IsShown, IsFirstBehind, IsLargeBehind, AreWritesBefore, AreWrites}
 use Rattle.deptest_verdict.proofs.Showing.{from_on}
 
@@ -84,14 +86,14 @@ one_writes xs ns i h =
 -- ---- pairs of an access that reads
 
 -- from a number on, those of the first so many that write are shown to be independent of an access
-abbrev pub AreShownWrites : Nest → Access → ℕ → List Access → List ℕ → ℕ → Type 0
-AreShownWrites nest x from xs ns k = (l n : ℕ) (y : Access) → l < k → slice_get ns l ≡ Some n → from ≤ n → slice_get xs n ≡ Some y → IsShown nest x y
+abbrev pub AreShownWrites : Nest → List Distance → Access → ℕ → List Access → List ℕ → ℕ → Type 0
+AreShownWrites nest sinks x from xs ns k = (l n : ℕ) (y : Access) → l < k → slice_get ns l ≡ Some n → from ≤ n → slice_get xs n ≡ Some y → IsShown nest sinks x y
 
-module _ (nest : Nest) (x : Access) (reads : x.mode ≡ Writes → ⊥) (from : ℕ) (xs : List Access) (ns : List ℕ) (are : AreWrites xs ns) where
-  unless_it_writes : (y : Access) → (y.mode ≡ Writes → IsShown nest x y) → IsShown nest x y
+module _ (nest : Nest) (sinks : List Distance) (x : Access) (reads : x.mode ≡ Writes → ⊥) (from : ℕ) (xs : List Access) (ns : List ℕ) (are : AreWrites xs ns) where
+  unless_it_writes : (y : Access) → (y.mode ≡ Writes → IsShown nest sinks x y) → IsShown nest sinks x y
   unless_it_writes y h p = go p.1
     where
-      go : (x.mode ≡ Writes) ⊎ (y.mode ≡ Writes) → AllRefuted nest x y
+      go : (x.mode ≡ Writes) ⊎ (y.mode ≡ Writes) → IsOrdered nest sinks x y
       go (inl w) = absurd (reads w)
       go (inr w) = h w p
 
@@ -101,21 +103,21 @@ module _ (nest : Nest) (x : Access) (reads : x.mode ≡ Writes → ⊥) (from : 
   its_number : (j : ℕ) (y : Access) → slice_get (drop from xs) j ≡ Some y → y.mode ≡ Writes → (k : ℕ) × (slice_get ns k ≡ Some (from + j))
   its_number j y e w = are.each (from + j) y (slice_get_within xs (from + j) y (among j y e)) (among j y e) w
 
-  pub none_behind : (k : ℕ) → k ≡ length ns → AreShownWrites nest x from xs ns k → All (IsShown nest x) (drop from xs)
+  pub none_behind : (k : ℕ) → k ≡ length ns → AreShownWrites nest sinks x from xs ns k → All (IsShown nest sinks x) (drop from xs)
   none_behind k end h =
-      by_number (IsShown nest x) (drop from xs) x
+      by_number (IsShown nest sinks x) (drop from xs) x
       (λ j y e. unless_it_writes y (λ w. let at = its_number j y e w in let b = slice_get_within ns at.0 (from + j) at.1 in h at.0 (from + j) y (omega (arith, b, end)) at.1 (omega arith) (among j y e)))
 
-  before : (k n : ℕ) → slice_get ns k ≡ Some n → AreShownWrites nest x from xs ns k → All (IsShown nest x) (take (n - from) (drop from xs))
-  before k n there h = by_number (IsShown nest x) (take (n - from) (drop from xs)) x (λ j y e. unless_it_writes y (λ w. shown j y (taken (drop from xs) (n - from) j y e) w))
+  before : (k n : ℕ) → slice_get ns k ≡ Some n → AreShownWrites nest sinks x from xs ns k → All (IsShown nest sinks x) (take (n - from) (drop from xs))
+  before k n there h = by_number (IsShown nest sinks x) (take (n - from) (drop from xs)) x (λ j y e. unless_it_writes y (λ w. shown j y (taken (drop from xs) (n - from) j y e) w))
     where
-      shown : (j : ℕ) (y : Access) → (j < n - from) × (slice_get (drop from xs) j ≡ Some y) → y.mode ≡ Writes → IsShown nest x y
+      shown : (j : ℕ) (y : Access) → (j < n - from) × (slice_get (drop from xs) j ≡ Some y) → y.mode ≡ Writes → IsShown nest sinks x y
       shown j y t w = go (nat_lt at.0 k) refl (nat_lt k at.0) refl
         where
           at : (l : ℕ) × (slice_get ns l ≡ Some (from + j))
           at = its_number j y t.1 w
 
-          go : (b : Bool) → nat_lt at.0 k ≡ b → (d : Bool) → nat_lt k at.0 ≡ d → IsShown nest x y
+          go : (b : Bool) → nat_lt at.0 k ≡ b → (d : Bool) → nat_lt k at.0 ≡ d → IsShown nest sinks x y
           go true lt d f = h at.0 (from + j) y ((Decides-ltb at.0 k).0 lt) at.1 (omega arith) (among j y t.1)
           go false lt true f = let r = are.rising k at.0 n (from + j) ((Decides-ltb k at.0).0 f) there at.1 in let l = t.0 in absurd (omega (arith, r, l))
           go false lt false f =
@@ -126,31 +128,31 @@ module _ (nest : Nest) (x : Access) (reads : x.mode ≡ Writes → ⊥) (from : 
   pub its_place : (n : ℕ) (y : Access) → from ≤ n → slice_get xs n ≡ Some y → slice_get (drop from xs) (n - from) ≡ Some y
   its_place n y le e = from_on xs from (n - from) n (omega (arith, le)) ∙ e
 
-  pub write_found : (k n : ℕ) (y : Access) → slice_get ns k ≡ Some n → from ≤ n → slice_get xs n ≡ Some y → AreShownWrites nest x from xs ns k → (IsShown nest x y → ⊥)
-      → IsFirstBehind nest x (drop from xs) (n - from)
+  pub write_found : (k n : ℕ) (y : Access) → slice_get ns k ≡ Some n → from ≤ n → slice_get xs n ≡ Some y → AreShownWrites nest sinks x from xs ns k → (IsShown nest sinks x y → ⊥)
+      → IsFirstBehind nest sinks x (drop from xs) (n - from)
   write_found k n y there le e h s = record { before = before k n there h; access = y; there = its_place n y le e; not_shown = s }
 
-  pub write_large : (k n : ℕ) (y : Access) → slice_get ns k ≡ Some n → from ≤ n → slice_get xs n ≡ Some y → AreShownWrites nest x from xs ns k → IsPair x y → (AllWithin nest x y → ⊥)
-      → IsLargeBehind nest x (drop from xs)
+  pub write_large : (k n : ℕ) (y : Access) → slice_get ns k ≡ Some n → from ≤ n → slice_get xs n ≡ Some y → AreShownWrites nest sinks x from xs ns k → IsPair x y → (AllWithin nest x y → ⊥)
+      → IsLargeBehind nest sinks x (drop from xs)
   write_large k n y there le e h p l = record { behind = n - from; other = y; there = its_place n y le e; shown = before k n there h; pair = p; large = l }
 
-  pub passed_over : (k n : ℕ) → slice_get ns k ≡ Some n → n < from → AreShownWrites nest x from xs ns k → AreShownWrites nest x from xs ns (k + 1)
+  pub passed_over : (k n : ℕ) → slice_get ns k ≡ Some n → n < from → AreShownWrites nest sinks x from xs ns k → AreShownWrites nest sinks x from xs ns (k + 1)
   passed_over k n there lt h l m y less e le f = go (nat_lt l k) refl
     where
-      go : (b : Bool) → nat_lt l k ≡ b → IsShown nest x y
+      go : (b : Bool) → nat_lt l k ≡ b → IsShown nest sinks x y
       go true t = h l m y ((Decides-ltb l k).0 t) e le f
       go false t =
           let same : k ≡ l = grind (arith, nat_tests) in
           let number : n ≡ m = same_Some n m (sym there ∙ ap (slice_get ns) same ∙ e) in
           absurd (omega (arith, number, lt, le))
 
-  pub one_shown : (k n : ℕ) (y : Access) → slice_get ns k ≡ Some n → slice_get xs n ≡ Some y → IsShown nest x y → AreShownWrites nest x from xs ns k → AreShownWrites nest x from xs ns (k + 1)
+  pub one_shown : (k n : ℕ) (y : Access) → slice_get ns k ≡ Some n → slice_get xs n ≡ Some y → IsShown nest sinks x y → AreShownWrites nest sinks x from xs ns k → AreShownWrites nest sinks x from xs ns (k + 1)
   one_shown k n y there e s h l m z less d le f = go (nat_lt l k) refl
     where
-      go : (b : Bool) → nat_lt l k ≡ b → IsShown nest x z
+      go : (b : Bool) → nat_lt l k ≡ b → IsShown nest sinks x z
       go true t = h l m z ((Decides-ltb l k).0 t) d le f
       go false t =
           let same : k ≡ l = grind (arith, nat_tests) in
           let number : n ≡ m = same_Some n m (sym there ∙ ap (slice_get ns) same ∙ d) in
           let access : y ≡ z = same_Some y z (sym e ∙ ap (slice_get xs) number ∙ f) in
-          subst (IsShown nest x) access s
+          subst (IsShown nest sinks x) access s

@@ -1,3 +1,4 @@
+pub mod Sinks
 pub mod Pairs
 pub mod Shown
 pub mod Refused

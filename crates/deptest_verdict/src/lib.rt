@@ -1,9 +1,11 @@
-//! The dependence test: whether the iterations of parallel loops are shown to be independent, before any run.
+//! The dependence test: whether the iterations of parallel loops are shown to be independent, or ordered by the sinks of a doacross
+//! nest, before any run.
 #![tactic(auto)]
 
 mod kernels;
 mod nests;
 mod pairs;
+mod sinks;
 mod telling;
 
 pub use kernels::judge;

@@ -3,11 +3,13 @@
 ghost use Rattle.std.specs.Prelude.{◌≡◌, ◌≢◌, ◌↔◌, ◌+◌, ◌<◌, IsTrue, IfOk, IfErr, IfSome, MatchOption, All, drop, length, slice_get};
 ghost use Rattle.pairtest.specs.declared.access.Mode.TheVariants.{Writes};
 ghost use Rattle.pairtest.specs.DirectionVectors.{AllWithin};
+ghost use Rattle.deptest_verdict.specs.Sinks.{distances_of};
 ghost use Rattle.deptest_verdict.specs.Pairs.{IsPair, IsShown, AreShown, IsFirstBehind, IsFirstPair, IsLargeBehind, AreNamed, StandsAt, AreWrites};
 ghost use Rattle.deptest_verdict.specs.Refused.{IsTooLarge};
 
 use ktree::{Place, VarId};
-use pairtest::{Access, Mode, Nest, PastLimit, independent};
+use pairtest::{Access, Mode, Nest, PastLimit};
+use pairtest_cover::ordered;
 use std::alloc::{AllocError, Global};
 
 /// The accesses of a body in the order of the text, and the numbers of those that write.
@@ -69,29 +71,37 @@ fn is_pair(x: &Access, y: &Access) -> bool
         && (x.mode == Mode::Writes || y.mode == Mode::Writes)
 }
 
-/// Whether two accesses are independent, if they are such a pair.
-fn is_shown(x: &Access, y: &Access, nest: &Nest) -> Result<bool, PastLimit>
-    ensures ok { IfOk result (λ shown. IsTrue shown ↔ IsShown nest.now x.now y.now) }
+/// Whether two accesses are independent or ordered by a sink, if they are such a pair.
+fn is_shown(x: &Access, y: &Access, nest: &Nest, sinks: &[Vec<i64>]) -> Result<bool, PastLimit>
+    ensures ok { IfOk result (λ shown. IsTrue shown
+        ↔ IsShown nest.now (distances_of sinks.now) x.now y.now) }
     ensures pair { IfErr result (λ _. IsPair x.now y.now) }
     ensures large { IfErr result (λ _. AllWithin nest.now x.now y.now → ⊥) }
 {
     if is_pair(x, y) {
-        independent(x, y, nest)
+        ordered(x, y, nest, sinks)
     } else {
         Ok(true)
     }
 }
 
-/// The first of some accesses that is not shown to be independent of another.
-fn first_behind(x: &Access, others: &[Access], nest: &Nest) -> Result<Option<Behind>, PastLimit>
-    ensures ok { IfOk result (λ found. MatchOption found (All (IsShown nest.now x.now) others.now)
-        (λ y. IsFirstBehind nest.now x.now others.now y.number)) }
+/// The first of some accesses whose pair with another is not shown.
+fn first_behind(
+    x: &Access,
+    others: &[Access],
+    nest: &Nest,
+    sinks: &[Vec<i64>],
+) -> Result<Option<Behind>, PastLimit>
+    ensures ok { IfOk result (λ found. MatchOption found
+        (All (IsShown nest.now (distances_of sinks.now) x.now) others.now)
+        (λ y. IsFirstBehind nest.now (distances_of sinks.now) x.now others.now y.number)) }
     ensures there { IfOk result (λ found. IfSome found
         (λ y. StandsAt others.now y.number y.place)) }
-    ensures err { IfErr result (λ _. IsLargeBehind nest.now x.now others.now) }
+    ensures err { IfErr result
+        (λ _. IsLargeBehind nest.now (distances_of sinks.now) x.now others.now) }
 {
     for (j, y) in others.iter().enumerate() {
-        let shown = is_shown(x, y, nest)?;
+        let shown = is_shown(x, y, nest, sinks)?;
         if !shown {
             return Ok(Some(Behind {
                 number: j,
@@ -108,23 +118,26 @@ fn first_write_behind(
     from: usize,
     accesses: &Accesses,
     nest: &Nest,
+    sinks: &[Vec<i64>],
 ) -> Result<Option<Behind>, PastLimit>
     requires reads { x.now.mode ≢ Writes }
     requires writes { AreWrites accesses.now.all.items accesses.now.writes.items }
     ensures ok { IfOk result (λ found. MatchOption found
-        (All (IsShown nest.now x.now) (drop from accesses.now.all.items))
-        (λ y. IsFirstBehind nest.now x.now (drop from accesses.now.all.items) y.number)) }
+        (All (IsShown nest.now (distances_of sinks.now) x.now) (drop from accesses.now.all.items))
+        (λ y. IsFirstBehind nest.now (distances_of sinks.now) x.now
+        (drop from accesses.now.all.items) y.number)) }
     ensures there { IfOk result (λ found. IfSome found
         (λ y. StandsAt (drop from accesses.now.all.items) y.number y.place)) }
     ensures err { IfErr result
-        (λ _. IsLargeBehind nest.now x.now (drop from accesses.now.all.items)) }
+        (λ _. IsLargeBehind nest.now (distances_of sinks.now) x.now
+        (drop from accesses.now.all.items)) }
 {
     for number in accesses.writes.iter() {
         if *number < from {
             continue;
         }
         let y = &accesses.all[*number];
-        let shown = is_shown(x, y, nest)?;
+        let shown = is_shown(x, y, nest, sinks)?;
         if !shown {
             return Ok(Some(Behind {
                 number: *number - from,
@@ -135,49 +148,60 @@ fn first_write_behind(
     Ok(None)
 }
 
-/// The first access from one on that is not shown to be independent of it.
+/// The first access from one on whose pair with it is not shown.
 fn first_from(
     x: &Access,
     from: usize,
     accesses: &Accesses,
     nest: &Nest,
+    sinks: &[Vec<i64>],
 ) -> Result<Option<Behind>, PastLimit>
     requires within { from < length accesses.now.all.items }
     requires writes { AreWrites accesses.now.all.items accesses.now.writes.items }
     ensures ok { IfOk result (λ found. MatchOption found
-        (All (IsShown nest.now x.now) (drop from accesses.now.all.items))
-        (λ y. IsFirstBehind nest.now x.now (drop from accesses.now.all.items) y.number)) }
+        (All (IsShown nest.now (distances_of sinks.now) x.now) (drop from accesses.now.all.items))
+        (λ y. IsFirstBehind nest.now (distances_of sinks.now) x.now
+        (drop from accesses.now.all.items) y.number)) }
     ensures there { IfOk result (λ found. IfSome found
         (λ y. StandsAt (drop from accesses.now.all.items) y.number y.place)) }
     ensures err { IfErr result
-        (λ _. IsLargeBehind nest.now x.now (drop from accesses.now.all.items)) }
+        (λ _. IsLargeBehind nest.now (distances_of sinks.now) x.now
+        (drop from accesses.now.all.items)) }
 {
     if x.mode == Mode::Writes {
-        first_behind(x, &accesses.all.as_slice()[from..], nest)
+        first_behind(x, &accesses.all.as_slice()[from..], nest, sinks)
     } else {
-        first_write_behind(x, from, accesses, nest)
+        first_write_behind(x, from, accesses, nest, sinks)
     }
 }
 
-/// The first pair that is not shown to be independent, in the order of its first access and then of its second: each access is
-/// paired with itself and with those behind it.
+/// The first pair that is neither independent nor ordered by one of the nest's sinks, in the order of its first access and then of
+/// its second: each access is paired with itself and with those behind it. Each sink is the distance by which it lies before the
+/// iteration that names it; a loop that is no doacross nest has none.
 ///
 /// # Errors
 ///
 /// Where an access before is not counted, or an equation of a pair before has a number above 2^62 in absolute value.
-pub fn first_pair(accesses: &Accesses, nest: &Nest) -> Result<Option<Pair>, TooLarge>
+pub fn first_pair(
+    accesses: &Accesses,
+    nest: &Nest,
+    sinks: &[Vec<i64>],
+) -> Result<Option<Pair>, TooLarge>
     requires { AreWrites accesses.now.all.items accesses.now.writes.items }
-    ensures ok { IfOk result (λ found. MatchOption found (AreShown nest.now accesses.now.all.items)
-        (λ pair. IsFirstPair nest.now accesses.now.all.items pair.first pair.second)) }
+    ensures ok { IfOk result (λ found. MatchOption found
+        (AreShown nest.now (distances_of sinks.now) accesses.now.all.items)
+        (λ pair. IsFirstPair nest.now (distances_of sinks.now) accesses.now.all.items pair.first
+        pair.second)) }
     ensures named { IfOk result (λ found. IfSome found (AreNamed accesses.now.all.items)) }
-    ensures err { IfErr result (λ large. IsTooLarge nest.now accesses.now.all.items large.place) }
+    ensures err { IfErr result (λ large. IsTooLarge nest.now (distances_of sinks.now)
+        accesses.now.all.items large.place) }
 {
     let all = accesses.all.as_slice();
     for (i, x) in all.iter().enumerate() {
         if !x.is_counted {
             return Err(TooLarge { place: x.place });
         }
-        let found = match first_from(x, i, accesses, nest) {
+        let found = match first_from(x, i, accesses, nest, sinks) {
             Ok(found) => found,
             Err(_large) => return Err(TooLarge { place: x.place }),
         };

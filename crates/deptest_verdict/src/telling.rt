@@ -1,4 +1,4 @@
-//! What is told of two accesses that are not shown to be independent.
+//! What is told of two accesses that are not shown to be independent or ordered.
 
 ghost use Rattle.std.specs.Prelude.{◌≡◌, List, length, map, take, drop, string_bytes, IfOk, IfErr, IfNone, IfSome, OnOk};
 ghost use Rattle.ktree.specs.View.{stmt_of, declaration_of};
@@ -8,6 +8,7 @@ ghost use Rattle.deptest_witness.specs.Touching.{NestAt, IsEntered, TouchesAt};
 ghost use Rattle.deptest_witness.specs.Pairs.{IsFirst, NeverMeet};
 ghost use Rattle.pairtest_access.specs.Refused.{Because, IsStuck};
 ghost use Rattle.affine_expr.specs.declared.faults.Fault.TheVariants.{OutOfMemory};
+ghost use Rattle.deptest_verdict.specs.Sinks.{distances_of};
 ghost use Rattle.deptest_verdict.specs.Refused.{IsNameOf, touch_of};
 ghost use Rattle.deptest_verdict.specs.Telling.{HasSite, IsNamed, IsTouchedBy, IsPairVerdict};
 
@@ -94,8 +95,9 @@ fn find_meeting(
     Ok(first_meeting(alloc, serial, nest, &x, &y)?)
 }
 
-/// What is told of the first pair of a body's accesses that is not shown to be independent: two iterations that conflict, or
-/// that independence is not shown. The loops of the chain stand round the body, the first so many of them serial.
+/// What is told of the first pair of a body's accesses that is not shown: two iterations that conflict, or that independence is not
+/// shown, as always of a doacross nest, whose sinks may order those that touch one element. The loops of the chain stand round the
+/// body, the first so many of them serial.
 ///
 /// # Errors
 ///
@@ -107,19 +109,23 @@ pub(crate) fn verdict_on(
     loops: &[LoopFacts],
     body: &Stmt,
     pair: Pair,
+    sinks: &[Vec<i64>],
     variables: &[Declaration],
 ) -> Result<Refusal, Fault>
     requires facts { StandFirst chain.old.box (stmt_of body.now) loops.now }
     requires one { HasSite chain.old (stmt_of body.now) pair.first }
     requires other { HasSite chain.old (stmt_of body.now) pair.second }
     ensures ok { IfOk result (λ refusal. IsPairVerdict (map declaration_of variables.now) chain.old
-        outer (stmt_of body.now) pair refusal) }
+        outer (distances_of sinks.now) (stmt_of body.now) pair refusal) }
     ensures err { IfErr result (Because (IsStuck chain.old (stmt_of body.now))) }
 {
     let accesses = name_pair(alloc, variables, pair)?;
     let round = inner_canonicals(alloc, chain, 0)?;
     let x = touched_by(alloc, chain, loops, body, pair.first)?;
     let y = touched_by(alloc, chain, loops, body, pair.second)?;
+    if !sinks.is_empty() {
+        return Ok(Refusal::NotShown(accesses));
+    }
     match find_meeting(alloc, round.as_slice(), outer, &x, &y)? {
         None => Ok(Refusal::NotShown(accesses)),
         Some(meeting) => Ok(Refusal::Conflict(Conflict {

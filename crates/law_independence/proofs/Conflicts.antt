@@ -56,7 +56,7 @@ made ds now body sites fs k f touched there are finds at counted is =
 
 module _ (ds : List Declaration) (serial loops : List Loop) (round now : Nesting) (body : Stmt) (outside : AreEntered no_loops serial round) (entered : AreEntered round loops now)
     (there : IsBodyThere ds now body) where
-  module _ (told : not_shown.NotShown) (p : IsFirstOf ds now (length round.levels) (map (λ v. v.most) (inner_loops 0 round.levels)) body told) where
+  module _ (told : not_shown.NotShown) (p : IsFirstOf ds now (length round.levels) (map (λ v. v.most) (inner_loops 0 round.levels)) [] body told) where
     abbrev is_pair : IsPair p.one p.other
     is_pair = first_is_pair p.nest p.found p.first p.second p.one p.other p.is p.one_is p.other_is
 
@@ -154,8 +154,8 @@ module _ (ds : List Declaration) (c : told.Conflict) (serial loops : List Loop) 
   turned (inr q) = inl q
 
   -- the verdict on the body, where it is a conflict
-  pub verdict_is_conflict : IsVerdict ds now (length round.levels) (map (λ v. v.most) (inner_loops 0 round.levels)) body (refusals.Conflict c) → IsConflict ds c serial n s
-  verdict_is_conflict (p, region, known, first) =
+  pub verdict_is_conflict : IsVerdict ds now (length round.levels) (map (λ v. v.most) (inner_loops 0 round.levels)) [] body (refusals.Conflict c) → IsConflict ds c serial n s
+  verdict_is_conflict (no_sink, p, region, known, first) =
       let pair = is_pair ds serial loops round now body outside entered there c.accesses p in
       let x = one_made ds serial loops round now body outside entered there c.accesses p in
       let y = other_made ds serial loops round now body outside entered there c.accesses p in
@@ -179,7 +179,7 @@ module _ (ds : List Declaration) (c : told.Conflict) (serial loops : List Loop) 
 module _ (ds : List Declaration) (told : not_shown.NotShown) (serial loops : List Loop) (round now : Nesting) (body : Stmt) (outside : AreEntered no_loops serial round)
     (entered : AreEntered round loops now) (ls : List Canonical) (rectangular : AreRectangular round.box loops ls) (there : IsBodyThere ds now body) (n : ℕ) (s : Stmt)
     (nest : nest_of n s ≡ Some (loops, body)) where
-  pub verdict_is_not_found : IsVerdict ds now (length round.levels) (map (λ v. v.most) (inner_loops 0 round.levels)) body (refusals.NotShown told) → IsNotFound ds told serial n s
+  pub verdict_is_not_found : IsVerdict ds now (length round.levels) (map (λ v. v.most) (inner_loops 0 round.levels)) [] body (refusals.NotShown told) → IsNotFound ds told serial n s
   verdict_is_not_found (p, never) =
       record {
         loops = loops;
@@ -188,5 +188,5 @@ module _ (ds : List Declaration) (told : not_shown.NotShown) (serial loops : Lis
         one = (one_made ds serial loops round now body outside entered there told p).access;
         other = (other_made ds serial loops round now body outside entered there told p).access;
         pair = told_pair ds serial loops round now body outside entered there told p;
-        never = never;
+        never = never refl;
       }

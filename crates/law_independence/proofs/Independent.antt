@@ -19,6 +19,7 @@ use Rattle.pairtest.specs.DirectionVectors.{AllRefuted, dimensions}
 use Rattle.pairtest.specs.Meetings.{Turn, value_at, AreBelow}
 use Rattle.pairtest.specs.Meetings as meetings
 use Rattle.pairtest.proofs.Solutions.{refuted_pairs_do_not_meet_lem}
+use Rattle.pairtest_cover.specs.Covered.{IsOrdered}
 use Rattle.pairtest_access.specs.Sites.{Site}
 use Rattle.pairtest_access.specs.Found.{AreFound, IsFound, inner_loops}
 use Rattle.deptest_verdict.specs.Pairs.{IsShown, AreShown}
@@ -53,8 +54,13 @@ found_of outer (x ∷ ss) (f ∷ fs) s are among =
 place_of : {A : Type 0} (xs : List A) (x : A) → Contains xs x → (k : ℕ) × (slice_get xs k ≡ Some x)
 place_of xs x h = (h.0, slice_get_read xs (length xs) h.0 x refl h.1 (sym h.2))
 
+-- accesses that no sink orders are refuted
+unordered : (nest : Nest) (x y : Access) → IsOrdered nest [] x y → AllRefuted nest x y
+unordered nest x y (inl r) = r
+unordered nest x y (inr c) = absurd (contains_none c.sink c.named)
+
 -- two accesses with the same array, of which one writes, are refuted one way or the other
-refuted : (nest : Nest) (fs : List Access) (x y : Access) → AreShown nest fs → Contains fs x → Contains fs y → x.array ≡ y.array → (x.mode ≡ found.Writes) ⊎ (y.mode ≡ found.Writes)
+refuted : (nest : Nest) (fs : List Access) (x y : Access) → AreShown nest [] fs → Contains fs x → Contains fs y → x.array ≡ y.array → (x.mode ≡ found.Writes) ⊎ (y.mode ≡ found.Writes)
     → AllRefuted nest x y ⊎ AllRefuted nest y x
 refuted nest fs x y shown in_x in_y same writes =
     let i = place_of fs x in_x in
@@ -62,8 +68,8 @@ refuted nest fs x y shown in_x in_y same writes =
     let one = shown i.0 x (slice_get_within fs i.0 x i.1) i.1 in
     let other = shown j.0 y (slice_get_within fs j.0 y j.1) j.1 in
     ⊎_elim
-    (λ (less : i.0 < j.0). inl (from_there (IsShown nest x) fs i.0 j.0 y (omega arith) j.1 one.1 (same, writes, one.0, other.0)))
-    (λ (more : j.0 ≤ i.0). inr (from_there (IsShown nest y) fs j.0 i.0 x more i.1 other.1 (sym same, turned, other.0, one.0)))
+    (λ (less : i.0 < j.0). inl (unordered nest x y (from_there (IsShown nest [] x) fs i.0 j.0 y (omega arith) j.1 one.1 (same, writes, one.0, other.0))))
+    (λ (more : j.0 ≤ i.0). inr (unordered nest y x (from_there (IsShown nest [] y) fs j.0 i.0 x more i.1 other.1 (sym same, turned, other.0, one.0))))
     (cases_lt i.0 j.0)
   where
     turned : (y.mode ≡ found.Writes) ⊎ (x.mode ≡ found.Writes)
@@ -84,7 +90,7 @@ longer (h ∷ hs) before after (s, v, is, level, rest) =
     let le : length (v ∷ before.levels) ≤ length after.levels = longer hs (record { box = s ∷ before.box; levels = v ∷ before.levels }) after rest in omega arith
 
 module _ (ds : List Declaration) (round now : Nesting) (loops : List Loop) (body : Stmt) (steps : ℕ → ℤ) (outer : State) (us : List Vector)
-    (nested : IsNestOf ds round loops now body) (shown : IsShownBody now (length round.levels) (map (λ l. l.most) (inner_loops 0 round.levels)) body)
+    (nested : IsNestOf ds round loops now body) (shown : IsShownBody now (length round.levels) (map (λ l. l.most) (inner_loops 0 round.levels)) [] body)
     (turn : IsTurn round.levels steps) (at : AtTurn round.box (values_at round.levels steps) outer) (are : iterations loops outer ≡ Some us) where
   abbrev a : ℕ
   a = length round.levels

@@ -7,6 +7,7 @@ use Rattle.law_lines.proofs.Kept.{kept_lines_are_read}
 use Rattle.pairtest_counter.specs.Levels.{Nesting}
 use Rattle.nest.specs.Nests.{Has, Have, StaysInside}
 use Rattle.pragma.specs.Parallel.{associated, FirstHas, LineHas, LoopsHave, ItemsHave}
+use Rattle.deptest_verdict.specs.Sinks.{no_sinks}
 use Rattle.deptest_verdict.specs.Shown.{ShownFirst, LineShown, LoopsShown, ItemsShown, no_loops}
 use Rattle.law_turns.specs.Turns.{AreEntered}
 use Rattle.law_turns.proofs.Laws.{entered_join}
@@ -17,19 +18,19 @@ use Rattle.law_independence.proofs.IndependentNests.{body_there, shown_loops_are
 use Rattle.law_independence.proofs.Grammar.{decls_small, decls_short, items_read}
 
 module _ (text : List ℕ) (ds : List Declaration) (short : HaveShort ds) where
-  first_independent : (round : Nesting) (serial : List Loop) (n : ℕ) (items : Items) → AreEntered no_loops serial round → ShownFirst round n items → ItemsAreRead round.box items
+  first_independent : (round : Nesting) (serial : List Loop) (n : ℕ) (items : Items) → AreEntered no_loops serial round → ShownFirst round [] n items → ItemsAreRead round.box items
       → Have (StaysInside ds) round.box items → FirstHas IsIndependentNest serial n items
   first_independent round serial n no_items entered shown read has = shown
   first_independent round serial n (mark line rest) entered shown read has = shown
   first_independent round serial n (local x name start rest) entered shown read has = shown
   first_independent round serial n (stmt s rest) entered shown read has = shown_loops_are_independent ds serial round n s short entered read.0 has.0 shown
 
-  pub line_independent : (round : Nesting) (serial : List Loop) (line : ℕ) (items : Items) → AreEntered no_loops serial round → LineShown text round line items → ItemsAreRead round.box items
+  pub line_independent : (round : Nesting) (serial : List Loop) (line : ℕ) (items : Items) → AreEntered no_loops serial round → LineShown text no_sinks round line items → ItemsAreRead round.box items
       → Have (StaysInside ds) round.box items → LineHas text IsIndependentNest serial line items
   line_independent round serial line items entered (k, c, reads, first) read has = (k, c, reads, first_independent round serial (associated c) items entered first read has)
 
   mutual
-    pub loops_independent : (s : Stmt) (round : Nesting) (serial : List Loop) → AreEntered no_loops serial round → LoopsShown text round s → LoopsAreRead round.box s → Has (StaysInside ds) round.box s
+    pub loops_independent : (s : Stmt) (round : Nesting) (serial : List Loop) → AreEntered no_loops serial round → LoopsShown text no_sinks round s → LoopsAreRead round.box s → Has (StaysInside ds) round.box s
         → LoopsHave text IsIndependentNest serial s
     loops_independent (Assign x is e) round serial entered shown read has = tt
     loops_independent (Update x is op e) round serial entered shown read has = tt
@@ -44,7 +45,7 @@ module _ (text : List ℕ) (ds : List Declaration) (short : HaveShort ds) where
     loops_independent (Block items) round serial entered shown read has = items_independent items round serial entered shown read has
     loops_independent (Print parts) round serial entered shown read has = tt
 
-    items_independent : (items : Items) (round : Nesting) (serial : List Loop) → AreEntered no_loops serial round → ItemsShown text round items → ItemsAreRead round.box items
+    items_independent : (items : Items) (round : Nesting) (serial : List Loop) → AreEntered no_loops serial round → ItemsShown text no_sinks round items → ItemsAreRead round.box items
         → Have (StaysInside ds) round.box items → ItemsHave text IsIndependentNest serial items
     items_independent no_items round serial entered shown read has = tt
     items_independent (mark line rest) round serial entered shown read has =

@@ -78,7 +78,7 @@ pub record IsNestThere (ds : List Declaration) (now : Nesting) (outer : ℕ) (se
   pub inner : Nesting
   pub is : nest_of n s ≡ Some (loops, body)
   pub entered : AreEntered now loops inner
-  pub shown : IsShownBody inner outer serial body
+  pub shown : IsShownBody inner outer serial [] body
   pub there : IsBodyThere ds inner body
 
 -- a nest inside one loop more
@@ -87,7 +87,7 @@ longer n s h b ls c e f =
     ap (λ o. option_and_then (λ found. map_option (λ inner. (found.0 ∷ inner.0, inner.1)) (nest_of n found.1)) o) e
     ∙ ap (λ o. map_option (λ inner. (h ∷ inner.0, inner.1)) o) f
 
-pub nest_there : (n : ℕ) (ds : List Declaration) (now : Nesting) (outer : ℕ) (serial : List ℕ) (s : Stmt) → IsShownNest now outer serial n s → IsBodyThere ds now s → IsNestThere ds now outer serial n s
+pub nest_there : (n : ℕ) (ds : List Declaration) (now : Nesting) (outer : ℕ) (serial : List ℕ) (s : Stmt) → IsShownNest now outer serial [] n s → IsBodyThere ds now s → IsNestThere ds now outer serial n s
 nest_there zero ds now outer serial s shown there = record { loops = []; body = s; inner = now; is = refl; entered = refl; shown = shown; there = there }
 nest_there (suc n) ds now outer serial s (h, body, is, inner, into, shown) there =
     let loop = loop_there ds now.box h body s is there.read there.stays in

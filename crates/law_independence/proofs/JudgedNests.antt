@@ -63,7 +63,7 @@ plain_each x op (y ∷ xs) h = and_from (is_plain ((x, op) ∷ []) y) (list_all 
 -- ---- a nest
 
 module _ (ds : List Declaration) (around : List Loop) (round : Nesting) (n : ℕ) (s : Stmt) (short : HaveShort ds) (entered : AreEntered no_loops around round) (there : LoopsAreRead round.box s) (stays : Has (StaysInside ds) round.box s)
-    (stmt : IsStmtRead ds round.box s) (d : LoopData) (kept : KeepsItsRoles d n s) (shown : IsShownLoop round n s) where
+    (stmt : IsStmtRead ds round.box s) (d : LoopData) (kept : KeepsItsRoles d n s) (shown : IsShownLoop round [] n s) where
   abbrev outer : ℕ
   outer = length round.levels
 

@@ -14,6 +14,7 @@ use Rattle.nest.specs.Nests.{Has, Have, StaysInside}
 use Rattle.nest.specs.Perfect.{RightNestFirst, LineNests, Nests, ItemsNest}
 use Rattle.pragma.specs.Parallel.{associated, FirstHas, LineHas}
 use Rattle.pragma.proofs.LoopLaw.{read_once}
+use Rattle.deptest_verdict.specs.Sinks.{no_sinks}
 use Rattle.deptest_verdict.specs.Shown.{no_loops}
 use Rattle.deptest_verdict.specs.Refused.{RefusedFirst, LineRefused, LoopsRefused, ItemsRefused}
 use Rattle.law_turns.specs.Turns.{AreEntered}
@@ -30,14 +31,14 @@ use Rattle.law_independence.proofs.RefusedNests.{loop_is_told}
 
 module _ (text : List ℕ) (ds : List Declaration) (r : Refusal) (short : HaveShort ds) where
   first_told : (round : Nesting) (serial : List Loop) (n : ℕ) (items : Items) → AreEntered no_loops serial round → ItemsAreRead round.box items → Have (StaysInside ds) round.box items
-      → RightNestFirst round.box n items → RefusedFirst ds round n items r → FirstHas (IsToldOf ds r) serial n items
+      → RightNestFirst round.box n items → RefusedFirst ds round [] n items r → FirstHas (IsToldOf ds r) serial n items
   first_told round serial n no_items entered read has right refused = right
   first_told round serial n (mark line rest) entered read has right refused = right
   first_told round serial n (local x name start rest) entered read has right refused = right
   first_told round serial n (stmt s rest) entered read has right refused = loop_is_told ds r serial round n s entered read.0 has.0 right refused
 
   line_told : (round : Nesting) (serial : List Loop) (line : ℕ) (items : Items) → AreEntered no_loops serial round → ItemsAreRead round.box items → Have (StaysInside ds) round.box items
-      → LineNests text round.box line items → LineRefused text ds round line items r → LineHas text (IsToldOf ds r) serial line items
+      → LineNests text round.box line items → LineRefused text no_sinks ds round line items r → LineHas text (IsToldOf ds r) serial line items
   line_told round serial line items entered read has (m, d, reads', right) (inl (names, none)) = absurd (none m d reads')
   line_told round serial line items entered read has (m, d, reads', right) (inr (k, e, reads, refused)) =
       let same = (read_once (line_at text line) m d k e reads' reads).1 in
@@ -45,7 +46,7 @@ module _ (text : List ℕ) (ds : List Declaration) (r : Refusal) (short : HaveSh
 
   mutual
     loops_told : (s : Stmt) (round : Nesting) (serial : List Loop) → AreEntered no_loops serial round → LoopsAreRead round.box s → Has (StaysInside ds) round.box s → Nests text round.box s
-        → LoopsRefused text ds round s r → FirstLoopHas text IsIndependentNest (IsToldOf ds r) serial s
+        → LoopsRefused text no_sinks ds round s r → FirstLoopHas text IsIndependentNest (IsToldOf ds r) serial s
     loops_told (Assign x is e) round serial entered read has right refused = refused
     loops_told (Update x is op e) round serial entered read has right refused = refused
     loops_told (If t a) round serial entered read has right refused = loops_told a round serial entered read has.1 right refused
@@ -63,7 +64,7 @@ module _ (text : List ℕ) (ds : List Declaration) (r : Refusal) (short : HaveSh
     loops_told (Print parts) round serial entered read has right refused = refused
 
     items_told : (items : Items) (round : Nesting) (serial : List Loop) → AreEntered no_loops serial round → ItemsAreRead round.box items → Have (StaysInside ds) round.box items
-        → ItemsNest text round.box items → ItemsRefused text ds round items r → FirstItemHas text IsIndependentNest (IsToldOf ds r) serial items
+        → ItemsNest text round.box items → ItemsRefused text no_sinks ds round items r → FirstItemHas text IsIndependentNest (IsToldOf ds r) serial items
     items_told no_items round serial entered read has right refused = refused
     items_told (mark line rest) round serial entered read has right (inl refused) = inl (line_told round serial line rest entered read has right.0 refused)
     items_told (mark line rest) round serial entered read has right (inr (shown, refused)) =

@@ -50,10 +50,10 @@ record IsNestRefused (ds : List Declaration) (r : Refusal) (now : Nesting) (oute
   is : nest_of n s ≡ Some (loops, body)
   entered : AreEntered now loops inner
   there : IsBodyThere ds inner body
-  refused : BodyRefused ds inner outer counts body r
+  refused : BodyRefused ds inner outer counts [] body r
 
 module _ (ds : List Declaration) (r : Refusal) where
-  nest_refused : (n : ℕ) (now : Nesting) (outer : ℕ) (counts : List ℕ) (s : Stmt) → IsBodyThere ds now s → IsSome (nest_of n s) → NestRefused ds now outer counts n s r
+  nest_refused : (n : ℕ) (now : Nesting) (outer : ℕ) (counts : List ℕ) (s : Stmt) → IsBodyThere ds now s → IsSome (nest_of n s) → NestRefused ds now outer counts [] n s r
       → IsNestRefused ds r now outer counts n s
   nest_refused zero now outer counts s there some refused = record { loops = []; body = s; inner = now; is = refl; entered = refl; there = there; refused = refused }
   nest_refused (suc n) now outer counts s there some (inl (names, none)) = absurd (outermost n (as_loop s) none some)
@@ -72,12 +72,12 @@ module _ (ds : List Declaration) (r : Refusal) where
 
 module _ (ds : List Declaration) (serial : List Loop) (round : Nesting) (outside : AreEntered no_loops serial round) (n : ℕ) (s : Stmt) (ls : List Canonical) (loops : List Loop) (now : Nesting)
     (body : Stmt) (nest : nest_of n s ≡ Some (loops, body)) (entered : AreEntered round loops now) (rectangular : AreRectangular round.box loops ls) (there : IsBodyThere ds now body) where
-  verdict_told : (r : Refusal) → IsVerdict ds now (length round.levels) (map (λ v. v.most) (inner_loops 0 round.levels)) body r → IsToldOf ds r serial n s
+  verdict_told : (r : Refusal) → IsVerdict ds now (length round.levels) (map (λ v. v.most) (inner_loops 0 round.levels)) [] body r → IsToldOf ds r serial n s
   verdict_told (refusals.Conflict c) v = inl (c, refl, verdict_is_conflict ds c serial loops round now body outside entered ls rectangular there n s nest v)
   verdict_told (refusals.NotShown a) v = inr (inl (a, refl, verdict_is_not_found ds a serial loops round now body outside entered ls rectangular there n s nest v))
   verdict_told _ v = absurd v
 
-  body_told : (r : Refusal) → BodyRefused ds now (length round.levels) (map (λ v. v.most) (inner_loops 0 round.levels)) body r → IsToldOf ds r serial n s
+  body_told : (r : Refusal) → BodyRefused ds now (length round.levels) (map (λ v. v.most) (inner_loops 0 round.levels)) [] body r → IsToldOf ds r serial n s
   body_told r (inl v) = verdict_told r v
   body_told r (inr (inl (sites, found, counts, place, tested, large, e))) =
       inr (inr (
@@ -102,7 +102,7 @@ module _ (ds : List Declaration) (serial : List Loop) (round : Nesting) (outside
 
 -- a parallel loop of a right nest, inside serial loops
 pub loop_is_told : (ds : List Declaration) (r : Refusal) (serial : List Loop) (round : Nesting) (n : ℕ) (s : Stmt) → AreEntered no_loops serial round → LoopsAreRead round.box s
-    → Has (StaysInside ds) round.box s → IsRightNest round.box n s → LoopRefused ds round n s r → IsToldOf ds r serial n s
+    → Has (StaysInside ds) round.box s → IsRightNest round.box n s → LoopRefused ds round [] n s r → IsToldOf ds r serial n s
 loop_is_told ds r serial round n s outside read has (loops, body, is, right) refused =
     let counts = map (λ v. v.most) (inner_loops 0 round.levels) in
     let nest = nest_refused ds r n round (length round.levels) counts s (record { read = read; stays = has }) (subst IsSome (sym is) refl) refused in

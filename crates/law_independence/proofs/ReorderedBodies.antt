@@ -140,7 +140,7 @@ seen_outside s h body box i is spares x t v = loop_visible s h body is x ∙ at 
     at true e = absurd (true≢false (sym t ∙ spares x (ap (λ b. cond b true (is_counter box x)) e)))
     at false e = v
 
-pub nest_read : (n : ℕ) (ds : List Declaration) (now : Nesting) (outer : ℕ) (serial : List ℕ) (s : Stmt) → IsShownNest now outer serial n s → IsBodyThere ds now s → IsStmtRead ds now.box s
+pub nest_read : (n : ℕ) (ds : List Declaration) (now : Nesting) (outer : ℕ) (serial : List ℕ) (s : Stmt) → IsShownNest now outer serial [] n s → IsBodyThere ds now s → IsStmtRead ds now.box s
     → IsNestRead ds now outer serial n s
 nest_read zero ds now outer serial s shown there read =
     record { nest = record { loops = []; body = s; inner = now; is = refl; entered = refl; shown = shown; there = there }; inner = read; outside = λ x t v. v }

@@ -15,6 +15,7 @@ use Rattle.pairtest_counter.specs.Levels.{Nesting}
 use Rattle.pragma.specs.Parallel.{associated, FirstHas, LineHas}
 use Rattle.pragma.proofs.LoopLaw.{read_once}
 use Rattle.nest.specs.Nests.{Has, Have, StaysInside}
+use Rattle.deptest_verdict.specs.Sinks.{no_sinks}
 use Rattle.deptest_verdict.specs.Shown.{ShownFirst, LineShown, LoopsShown, ItemsShown, no_loops}
 use Rattle.law_runs.proofs.Points.{rises}
 use Rattle.law_runs.proofs.StatementsRun.{Keeps, AllKeep, keeps_inside}
@@ -38,7 +39,7 @@ use Rattle.law_independence.proofs.JudgedNests.{loop_shares}
 
 module _ (text : List ℕ) (ds : List Declaration) (short : HaveShort ds) (R : LineData) (P : LinePhases) where
   first_commutes : {scope : Scope} {o next next' : ℕ} {ts : List Token} {items : Items} → ReadsItems scope o next ts items next' → (round : Nesting) (serial : List Loop) (n : ℕ) → AreEntered no_loops serial round
-      → IsPlace ds round.box scope next → AllNameOthers items → AllKeep round.box items → (line : ℕ) → ShownFirst round n items → FirstHas (KeepsRolesThere (R line)) serial n items → FirstHas (PhasesBy R P line) serial n items → ItemsAreRead round.box items → Have (StaysInside ds) round.box items
+      → IsPlace ds round.box scope next → AllNameOthers items → AllKeep round.box items → (line : ℕ) → ShownFirst round [] n items → FirstHas (KeepsRolesThere (R line)) serial n items → FirstHas (PhasesBy R P line) serial n items → ItemsAreRead round.box items → Have (StaysInside ds) round.box items
       → FirstHas (SharesBy ds R P line) serial n items
   first_commutes no_more round serial n entered at starts kept line' shown private phased read has = shown
   first_commutes (line r) round serial n entered at starts kept line' shown private phased read has = shown
@@ -49,7 +50,7 @@ module _ (text : List ℕ) (ds : List Declaration) (short : HaveShort ds) (R : L
       (record { scope = scope; order = open'; next = next; after = middle; tokens = ts; reads = ra; place = at; starts = starts.0; kept = λ y q. (or_parts (assigns y s) (assigns_among y rest) (kept y q)).0 }) (R line') private shown (P line') phased
 
   line_commutes : {scope : Scope} {o next next' : ℕ} {ts : List Token} {items : Items} → ReadsItems scope o next ts items next' → (round : Nesting) (serial : List Loop) (n : ℕ) → AreEntered no_loops serial round
-      → IsPlace ds round.box scope next → AllNameOthers items → AllKeep round.box items → LineShown text round n items → LineHas text (KeepsRolesThere (R n)) serial n items → LineHas text (PhasesBy R P n) serial n items → ItemsAreRead round.box items → Have (StaysInside ds) round.box items
+      → IsPlace ds round.box scope next → AllNameOthers items → AllKeep round.box items → LineShown text no_sinks round n items → LineHas text (KeepsRolesThere (R n)) serial n items → LineHas text (PhasesBy R P n) serial n items → ItemsAreRead round.box items → Have (StaysInside ds) round.box items
       → LineHas text (SharesBy ds R P n) serial n items
   line_commutes {items = items} r round serial n entered at starts kept (k, c, reads, first) (k', c', reads', private) (l, e, reads'', phased) read has =
       let same = (read_once (line_at text n) k' c' k c reads' reads).1 in
@@ -58,7 +59,7 @@ module _ (text : List ℕ) (ds : List Declaration) (short : HaveShort ds) (R : L
 
   mutual
     stmt_commutes : {scope : Scope} {o next next' : ℕ} {ts : List Token} {s : Stmt} → ReadsStmt scope o next ts s next' → (round : Nesting) (serial : List Loop) → AreEntered no_loops serial round
-        → IsPlace ds round.box scope next → StartsNameOthers s → Keeps round.box s → LoopsShown text round s → LoopsKeepRoles text R serial s → LoopsHaveBy text (PhasesBy R P) serial s → LoopsAreRead round.box s → Has (StaysInside ds) round.box s
+        → IsPlace ds round.box scope next → StartsNameOthers s → Keeps round.box s → LoopsShown text no_sinks round s → LoopsKeepRoles text R serial s → LoopsHaveBy text (PhasesBy R P) serial s → LoopsAreRead round.box s → Has (StaysInside ds) round.box s
         → LoopsHaveBy text (SharesBy ds R P) serial s
     stmt_commutes (assign t e) round serial entered at starts kept shown private phased read has = tt
     stmt_commutes (update t u e) round serial entered at starts kept shown private phased read has = tt
@@ -79,7 +80,7 @@ module _ (text : List ℕ) (ds : List Declaration) (short : HaveShort ds) (R : L
     stmt_commutes (print less f r fill) round serial entered at starts kept shown private phased read has = tt
 
     items_commute : {scope : Scope} {o next next' : ℕ} {ts : List Token} {items : Items} → ReadsItems scope o next ts items next' → (round : Nesting) (serial : List Loop) → AreEntered no_loops serial round
-        → IsPlace ds round.box scope next → AllNameOthers items → AllKeep round.box items → ItemsShown text round items → ItemsKeepRoles text R serial items → ItemsHaveBy text (PhasesBy R P) serial items → ItemsAreRead round.box items → Have (StaysInside ds) round.box items
+        → IsPlace ds round.box scope next → AllNameOthers items → AllKeep round.box items → ItemsShown text no_sinks round items → ItemsKeepRoles text R serial items → ItemsHaveBy text (PhasesBy R P) serial items → ItemsAreRead round.box items → Have (StaysInside ds) round.box items
         → ItemsHaveBy text (SharesBy ds R P) serial items
     items_commute no_more round serial entered at starts kept shown private phased read has = tt
     items_commute (line {n = n} r) round serial entered at starts kept shown private phased read has =

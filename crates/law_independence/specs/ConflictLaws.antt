@@ -21,6 +21,7 @@ use Rattle.nest.specs.Nests.{IsInRange}
 use Rattle.nest.specs.Perfect.{AreRightNests}
 use Rattle.deptest_witness.specs.Touching.{NestAt, IsEntered, TouchesAt}
 use Rattle.deptest_witness.specs.Pairs.{Meet, NeverMeet}
+use Rattle.deptest_verdict.specs.Sinks.{no_sinks}
 use Rattle.deptest_verdict.specs.Shown.{no_loops}
 use Rattle.deptest_verdict.specs.Refused.{IsNameOf, AreTested, touch_of, serial_loops, nest_loops, IsFirstOf, IsTooLarge, IsRefused}
 use Rattle.law_turns.specs.Turns.{AreEntered}
@@ -51,7 +52,7 @@ pub record IsToldPair (ds : List Declaration) (serial loops : List Loop) (body :
   pub now : Nesting
   pub outside : AreEntered no_loops serial round
   pub entered : AreEntered round loops now
-  pub first : IsFirstOf ds now (length round.levels) (map (λ v. v.most) (inner_loops 0 round.levels)) body told
+  pub first : IsFirstOf ds now (length round.levels) (map (λ v. v.most) (inner_loops 0 round.levels)) [] body told
   pub one_is : slice_get (accesses [] body) first.first ≡ Some one
   pub other_is : slice_get (accesses [] body) first.second ≡ Some other
   pub same : one.array ≡ other.array
@@ -114,7 +115,7 @@ pub record PassesLimits (place : Place) (serial : List Loop) (n : ℕ) (s : Stmt
   pub found : List pairs.Access
   pub counts : Nest
   pub tested : AreTested now (length round.levels) (map (λ v. v.most) (inner_loops 0 round.levels)) body sites found counts
-  pub large : IsTooLarge counts found place
+  pub large : IsTooLarge counts [] found place
 
 -- what is told of a parallel loop that is not shown to be independent, and nothing else: K19, K20 or K21
 abbrev pub IsToldOf : List Declaration → Refusal → List Loop → ℕ → Stmt → Type 0
@@ -126,5 +127,5 @@ IsToldOf ds r serial n s =
 -- a kernel of the grammar whose loops are canonical, with subscripts in range and right nests, is refused for its first parallel loop that is not shown to be independent; those before it are independent
 abbrev pub RefusalsAreTold : Type 0
 RefusalsAreTold =
-    (text : List ℕ) (k : Kernel) (r : Refusal) → IsTreeOf text k → IsInRange k → AreRightNests text k → IsRefused text k r
+    (text : List ℕ) (k : Kernel) (r : Refusal) → IsTreeOf text k → IsInRange k → AreRightNests text k → IsRefused text no_sinks k r
     → (r ≡ refusals.OutOfMemory) ⊎ FirstItemHas text IsIndependentNest (IsToldOf k.variables r) [] k.body

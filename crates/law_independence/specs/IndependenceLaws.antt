@@ -12,6 +12,7 @@ use Rattle.pairtest_counter.specs.Levels.{Nesting, AreLevels, IsTurn, values_at}
 use Rattle.pragma.specs.Parallel.{ItemsHave}
 use Rattle.nest.specs.Nests.{Has, StaysInside, IsInRange}
 use Rattle.pairtest_access.specs.Found.{inner_loops}
+use Rattle.deptest_verdict.specs.Sinks.{no_sinks}
 use Rattle.deptest_verdict.specs.Shown.{IsShownBody, IsShownLoop, no_loops, AreShownLoops}
 use Rattle.law_turns.specs.Turns.{AreEntered}
 use Rattle.law_independence.specs.Inside.{LoopsAreRead, HaveShort}
@@ -28,7 +29,7 @@ pub record IsNestOf (ds : List Declaration) (round : Nesting) (loops : List Loop
 abbrev pub ShownBodiesAreIndependent : Type 0
 ShownBodiesAreIndependent =
     (ds : List Declaration) (round now : Nesting) (loops : List Loop) (body : Stmt) (steps : ℕ → ℤ) (outer : State) (us : List Vector) (u v : Vector)
-    → IsNestOf ds round loops now body → IsShownBody now (length round.levels) (map (λ l. l.most) (inner_loops 0 round.levels)) body
+    → IsNestOf ds round loops now body → IsShownBody now (length round.levels) (map (λ l. l.most) (inner_loops 0 round.levels)) [] body
     → IsTurn round.levels steps → AtTurn round.box (values_at round.levels steps) outer
     → iterations loops outer ≡ Some us → Contains us u → Contains us v → ¬ (Conflict loops body outer u v)
 
@@ -40,9 +41,9 @@ IsIndependentNest serial n s = IsSome (nest_of n s) × ((loop : SharedLoop) → 
 abbrev pub ShownLoopsAreIndependent : Type 0
 ShownLoopsAreIndependent =
     (ds : List Declaration) (serial : List Loop) (round : Nesting) (n : ℕ) (s : Stmt)
-    → HaveShort ds → AreEntered no_loops serial round → LoopsAreRead round.box s → Has (StaysInside ds) round.box s → IsShownLoop round n s
+    → HaveShort ds → AreEntered no_loops serial round → LoopsAreRead round.box s → Has (StaysInside ds) round.box s → IsShownLoop round [] n s
     → IsIndependentNest serial n s
 
 -- each parallel loop of a kernel of the grammar is independent, where no subscript leaves its dimension and the test of pairs shows all of them to be so
 abbrev pub ShownKernelsAreIndependent : Type 0
-ShownKernelsAreIndependent = (text : List ℕ) (k : Kernel) → IsTreeOf text k → IsInRange k → AreShownLoops text k → ItemsHave text IsIndependentNest [] k.body
+ShownKernelsAreIndependent = (text : List ℕ) (k : Kernel) → IsTreeOf text k → IsInRange k → AreShownLoops text no_sinks k → ItemsHave text IsIndependentNest [] k.body

@@ -20,6 +20,7 @@ use Rattle.law_roles.specs.Updates.{operator_of, is_plain}
 use Rattle.law_roles.specs.Sharing.{assigned_first, role_variables, are_different, IsScalar, HoldsNumber, TakesOperands, MayStart, changed_from, SharesFrom}
 use Rattle.nest_loop.specs.Constants.{Each, IsSmall}
 use Rattle.nest.specs.Nests.{IsInRange}
+use Rattle.deptest_verdict.specs.Sinks.{no_sinks}
 use Rattle.deptest_verdict.specs.Shown.{AreShownLoops}
 use Rattle.flow.specs.Phases.{PhasesSaid, LinePhases, item_count, HasPhases, PhasesBy}
 use Rattle.law_scans.specs.Scanning.{whole_of, first_of, ScansFrom}
@@ -161,4 +162,4 @@ SharesBy ds R P line serial n s = SharesAsNest ds (R line) (P line) serial n s
 abbrev pub AcceptedLoopsShare : Type 0
 AcceptedLoopsShare =
     (text : List ℕ) (k : Kernel) (R : LineData) (P : LinePhases) → IsTreeOf text k → IsInRange k → IsDefinite (privates_by R) k → ItemsKeepRoles text R [] k.body
-    → ItemsHaveBy text (PhasesBy R P) [] k.body → AreShownLoops text k → ItemsHaveBy text (SharesBy k.variables R P) [] k.body
+    → ItemsHaveBy text (PhasesBy R P) [] k.body → AreShownLoops text no_sinks k → ItemsHaveBy text (SharesBy k.variables R P) [] k.body

@@ -2,6 +2,8 @@
 #![tactic(auto)]
 
 #[cfg(test)]
+mod deptest_verdict_rows;
+#[cfg(test)]
 mod deptest_witness_rows;
 #[cfg(test)]
 mod pairtest_access_rows;

@@ -1,14 +1,17 @@
-use Rattle.std.specs.Prelude.{◌≡◌, ◌+◌, ◌-◌, length, map, take, drop, OnOk, IfOk, IfErr}
-use Rattle.std.proofs.Common.{sym, ◌∙◌, subst, rules}
-use Rattle.std.proofs.lemmas.Result.{err_from_is_err_and}
-use Rattle.semantics.specs.Tree.{Stmt, no_items}
-use Rattle.ktree.specs.View.{stmt_of, items_of, with_item, declaration_of}
+use Rattle.std.specs.Prelude.{◌≡◌, ◌+◌, ◌-◌, length, map, take, drop, Option, Some, OnOk, IfOk, IfErr}
+use Rattle.std.proofs.Common.{Box, Global, sym, ap, ◌∙◌, subst, rules}
+use Rattle.std.proofs.lemmas.Result.{on_ok_weaker, err_from_is_err_and}
+use Rattle.semantics.specs.Tree.{Stmt, IfElse, no_items}
+use Rattle.ktree.specs.View.{stmt_of, cond_of, items_of, with_item, declaration_of}
+use Rattle.ktree.specs.declared.expression.Cond.{Cond}
+use Rattle.ktree.specs.declared.statement.Stmt as code
 use Rattle.ktree.specs.declared.statement.Item.{the_lemmas}
 use Rattle.ktree.proofs.Trees.{block_is}
 use Rattle.nest_loop.specs.Facts.{FactsOf, FactsAmong, StandFirst, StandFirstAmong, IsLeft}
 use Rattle.nest_loop.proofs.Standing.{next_first, next_and_behind, left_more}
 use Rattle.pairtest_counter.specs.Levels.{Nesting}
 use Rattle.nest.proofs.NestedLaw.{all_behind}
+use Rattle.deptest_verdict.specs.Sinks.{line_sinks}
 use Rattle.deptest_verdict.specs.Shown.{LoopsShown, FirstLineShown, FirstLoopsShown}
 use Rattle.pairtest_access.proofs.Walks.{for_is, loop_entered, loop_passed, some_loop, left}
 use Rattle.deptest_verdict.proofs.Walks.{shown_more, loop_shown, loop_refused}
@@ -17,17 +20,24 @@ use Rattle.deptest_verdict.specs.Refused.{LoopsRefused}
 use Rattle.deptest_verdict.specs.Telling.{FirstLineRefused, FirstLoopsRefused, OrMemory}
 use Rattle.deptest_verdict.proofs.kernels.+shown.Goals as goal
 
+-- the selection that a statement is
+if_else_is : (s : code.Stmt) (c : Cond) (then : Box code.Stmt Global) (other : Option (Box code.Stmt Global)) (els : Box code.Stmt Global) (inner outer : code.Stmt) → s ≡ code.If c then other
+    → other ≡ Some els → inner ≡ then.value → outer ≡ els.value → IfElse (cond_of c) (stmt_of inner) (stmt_of outer) ≡ stmt_of s
+if_else_is s c then other els inner outer e g f h =
+    ap (λ i. IfElse (cond_of c) (stmt_of i) (stmt_of outer)) f ∙ ap (λ i. IfElse (cond_of c) (stmt_of then.value) (stmt_of i)) h ∙ sym (ap stmt_of (e ∙ ap (code.If c then) g))
+
 pub block-loop-i-preserved : goal.block-loop-i-preserved
 block-loop-i-preserved t c =
     let text = c.args.given.directives.now in
+    let sinks = line_sinks c.args.given.doacross.now in
     let is = c.args.items.now in
     let line =
-    subst (λ n. FirstLineShown text n (with_item c.index-items-i.result no_items) (items_of (take (length is - (c.loop-i.i + 1)) (drop (c.loop-i.i + 1) is)))) c.loop-i.invariant.0
+    subst (λ n. FirstLineShown text sinks n (with_item c.index-items-i.result no_items) (items_of (take (length is - (c.loop-i.i + 1)) (drop (c.loop-i.i + 1) is)))) c.loop-i.invariant.0
     c.in_ok-item_line_shown.ensures.ok in
-    let loops = subst (λ n. FirstLoopsShown text n (with_item c.index-items-i.result no_items)) (c.in_ok-item_line_shown.ensures.back ∙ c.loop-i.invariant.0) c.in_ok-left.ensures.ok in (
+    let loops = subst (λ n. FirstLoopsShown text sinks n (with_item c.index-items-i.result no_items)) (c.in_ok-item_line_shown.ensures.back ∙ c.loop-i.invariant.0) c.in_ok-left.ensures.ok in (
       c.in_ok-left.ensures.back ∙ c.in_ok-item_line_shown.ensures.back ∙ c.loop-i.invariant.0,
-      shown_more text c.args.chain.now is c.loop-i.i c.index-items-i.result c.loop-i-test.true c.index-items-i.is c.loop-i.invariant.1 line loops,
-      refused_more text (map declaration_of c.args.given.variables.now) c.args.chain.now is c.loop-i.i c.index-items-i.result c.loop-i-test.true c.index-items-i.is c.loop-i.invariant.2 line loops,
+      shown_more text sinks c.args.chain.now is c.loop-i.i c.index-items-i.result c.loop-i-test.true c.index-items-i.is c.loop-i.invariant.1 line loops,
+      refused_more text sinks (map declaration_of c.args.given.variables.now) c.args.chain.now is c.loop-i.i c.index-items-i.result c.loop-i-test.true c.index-items-i.is c.loop-i.invariant.2 line loops,
       left_more c.args.chain.now.box is c.loop-i.i c.index-items-i.result c.args.loops.now c.loop-i.left.now c.in_ok-left.left.now c.loop-i-test.true c.index-items-i.is c.loop-i.invariant.3
           (subst (λ (n : Nesting). IsLeft (FactsAmong n.box (with_item c.index-items-i.result no_items) c.loop-i.left.now) c.in_ok-left.left.now) (c.in_ok-item_line_shown.ensures.back ∙ c.loop-i.invariant.0)
           c.in_ok-left.ensures.left),
@@ -35,33 +45,35 @@ block-loop-i-preserved t c =
 
 pub statement-returns-in-Block-clause-ok : goal.statement-returns-in-Block-clause-ok
 statement-returns-in-Block-clause-ok t c =
-    subst (λ (s : Stmt). OnOk c.block.result (LoopsShown c.args.given.directives.now c.args.chain.now s))
+    subst (λ (s : Stmt). OnOk c.block.result (LoopsShown c.args.given.directives.now (line_sinks c.args.given.doacross.now) c.args.chain.now s))
     (sym (block_is c.args.walked.now c.in-Block.items c.deref-in-Block.result.now c.in-Block.is c.deref-in-Block.ensures.value)) c.block.ensures.ok
 
 pub block-returns-in_err-item_line_shown-clause-err : goal.block-returns-in_err-item_line_shown-clause-err
 block-returns-in_err-item_line_shown-clause-err t c =
     let text = c.args.given.directives.now in
+    let sinks = line_sinks c.args.given.doacross.now in
     let ds = map declaration_of c.args.given.variables.now in
     let is = c.args.items.now in
     let p = err_from_is_err_and c.from_residual.result c.from_residual.ensures.1 in
-    rw (p.1, p.2) (refused_by_line text ds c.args.chain.now is c.loop-i.i c.index-items-i.result c.in_err-item_line_shown.field-0.0 c.loop-i-test.true c.index-items-i.is c.loop-i.invariant.2
+    rw (p.1, p.2) (refused_by_line text sinks ds c.args.chain.now is c.loop-i.i c.index-items-i.result c.in_err-item_line_shown.field-0.0 c.loop-i-test.true c.index-items-i.is c.loop-i.invariant.2
     (subst
-    (λ n. OrMemory (FirstLineRefused text ds n (with_item c.index-items-i.result no_items) (items_of (take (length is - (c.loop-i.i + 1)) (drop (c.loop-i.i + 1) is)))) c.in_err-item_line_shown.field-0.0)
+    (λ n. OrMemory (FirstLineRefused text sinks ds n (with_item c.index-items-i.result no_items) (items_of (take (length is - (c.loop-i.i + 1)) (drop (c.loop-i.i + 1) is)))) c.in_err-item_line_shown.field-0.0)
     c.loop-i.invariant.0 c.in_err-item_line_shown.ensures.err))
 
 pub block-returns-in_err-left-clause-err : goal.block-returns-in_err-left-clause-err
 block-returns-in_err-left-clause-err t c =
     let text = c.args.given.directives.now in
+    let sinks = line_sinks c.args.given.doacross.now in
     let ds = map declaration_of c.args.given.variables.now in
     let is = c.args.items.now in
     let p = err_from_is_err_and c.from_residual-in_err-left.result c.from_residual-in_err-left.ensures.1 in
-    rw (p.1, p.2) (refused_by_statement text ds c.args.chain.now is c.loop-i.i c.index-items-i.result c.in_err-left.field-0.0 c.loop-i-test.true c.index-items-i.is c.loop-i.invariant.2
-    (subst (λ n. OrMemory (FirstLoopsRefused text ds n (with_item c.index-items-i.result no_items)) c.in_err-left.field-0.0) (c.in_ok-item_line_shown.ensures.back ∙ c.loop-i.invariant.0)
+    rw (p.1, p.2) (refused_by_statement text sinks ds c.args.chain.now is c.loop-i.i c.index-items-i.result c.in_err-left.field-0.0 c.loop-i-test.true c.index-items-i.is c.loop-i.invariant.2
+    (subst (λ n. OrMemory (FirstLoopsRefused text sinks ds n (with_item c.index-items-i.result no_items)) c.in_err-left.field-0.0) (c.in_ok-item_line_shown.ensures.back ∙ c.loop-i.invariant.0)
     c.in_err-left.ensures.err))
 
 pub statement-returns-in-Block-clause-err : goal.statement-returns-in-Block-clause-err
 statement-returns-in-Block-clause-err t c =
-    subst (λ (s : Stmt). IfErr c.block.result (OrMemory (LoopsRefused c.args.given.directives.now (map declaration_of c.args.given.variables.now) c.args.chain.now s)))
+    subst (λ (s : Stmt). IfErr c.block.result (OrMemory (LoopsRefused c.args.given.directives.now (line_sinks c.args.given.doacross.now) (map declaration_of c.args.given.variables.now) c.args.chain.now s)))
     (sym (block_is c.args.walked.now c.in-Block.items c.deref-in-Block.result.now c.in-Block.is c.deref-in-Block.ensures.value)) c.block.ensures.err
 
 pub statement-returns-in-Block-clause-left : goal.statement-returns-in-Block-clause-left
@@ -99,11 +111,12 @@ statement-returns-in_err-left-in-For-clause-err t c =
     let b = c.deref-in-For.result.now in
     let into = loop_entered n c.enter.new.chain c.args.walked.now head c.in-For.body b c.args.loops.now c.in_ok-inner-in-For.inner.now c.in-For.is c.deref-in-For.ensures c.in_ok-inner-in-For.ensures.ok c.requires in
     let text = c.args.given.directives.now in
+    let sinks = line_sinks c.args.given.doacross.now in
     let ds = map declaration_of c.args.given.variables.now in
     let r = c.in_err-left-in-For.field-0.0 in
     let p = err_from_is_err_and c.from_residual-in_err-left-in-For.result c.from_residual-in_err-left-in-For.ensures.1 in
-    rw (p.1, p.2) (subst (λ (s : Stmt). OrMemory (LoopsRefused text ds n s) r) (for_is c.args.walked.now head c.in-For.body b c.in-For.is c.deref-in-For.ensures)
-    (loop_refused text ds n c.enter.new.chain head (stmt_of b) r into c.in_err-left-in-For.ensures.err))
+    rw (p.1, p.2) (subst (λ (s : Stmt). OrMemory (LoopsRefused text sinks ds n s) r) (for_is c.args.walked.now head c.in-For.body b c.in-For.is c.deref-in-For.ensures)
+    (loop_refused text sinks ds n c.enter.new.chain head (stmt_of b) r into c.in_err-left-in-For.ensures.err))
 
 pub statement-leave-requires : goal.statement-leave-requires
 statement-leave-requires t c =
@@ -120,8 +133,9 @@ statement-returns-in_ok-left-in-For-clause-ok t c =
     let b = c.deref-in-For.result.now in
     let into = loop_entered n c.enter.new.chain c.args.walked.now head c.in-For.body b c.args.loops.now c.in_ok-inner-in-For.inner.now c.in-For.is c.deref-in-For.ensures c.in_ok-inner-in-For.ensures.ok c.requires in
     let text = c.args.given.directives.now in
-    subst (λ (s : Stmt). LoopsShown text n s) (for_is c.args.walked.now head c.in-For.body b c.in-For.is c.deref-in-For.ensures)
-    (loop_shown text n c.enter.new.chain head (stmt_of b) into c.in_ok-left-in-For.ensures.ok)
+    let sinks = line_sinks c.args.given.doacross.now in
+    subst (λ (s : Stmt). LoopsShown text sinks n s) (for_is c.args.walked.now head c.in-For.body b c.in-For.is c.deref-in-For.ensures)
+    (loop_shown text sinks n c.enter.new.chain head (stmt_of b) into c.in_ok-left-in-For.ensures.ok)
 
 pub statement-returns-in_ok-left-in-For-clause-left : goal.statement-returns-in_ok-left-in-For-clause-left
 statement-returns-in_ok-left-in-For-clause-left t c =
@@ -141,3 +155,16 @@ statement-returns-in_ok-left-in-For-clause-back t c =
     let same = c.in_ok-left-in-For.ensures.back in
     left n c.enter.new.chain c.leave.new.self _ _ _ _ _ into (subst (λ (m : Nesting). c.leave.new.self.box ≡ drop 1 m.box) same c.leave.ensures.numbers)
     (subst (λ (m : Nesting). c.leave.new.self.levels ≡ drop 1 m.levels) same c.leave.ensures.levels)
+
+pub statement-returns-in-Some-clause-ok : goal.statement-returns-in-Some-clause-ok
+statement-returns-in-Some-clause-ok t c =
+    let n = c.args.chain.now in
+    let text = c.args.given.directives.now in
+    let sinks = line_sinks c.args.given.doacross.now in
+    on_ok_weaker c.statement-in-Some.result
+    (λ more.
+    subst (λ (s : Stmt). LoopsShown text sinks n s)
+    (if_else_is c.args.walked.now c.in-If.field-0 c.in-If.then c.in-If.other c.in-Some.other c.deref.result.now c.deref-in-Some.result.now c.in-If.is c.in-Some.is c.deref.ensures
+    c.deref-in-Some.ensures)
+    (c.in_ok-left-in-If.ensures.ok, subst (λ (m : Nesting). LoopsShown text sinks m (stmt_of c.deref-in-Some.result.now)) c.in_ok-left-in-If.ensures.back more))
+    c.statement-in-Some.ensures.ok

@@ -5,6 +5,7 @@ use Rattle.ktree.specs.View.{stmt_of, declaration_of}
 use Rattle.pairtest_counter.specs.Levels.{Nesting}
 use Rattle.pairtest_access.proofs.Walks.{some_loop, left}
 use Rattle.nest.specs.Heads.{head_of}
+use Rattle.deptest_verdict.specs.Sinks.{distances_of}
 use Rattle.deptest_verdict.proofs.Bodies.{nest_inner}
 use Rattle.deptest_verdict.proofs.Walks.{loop_first, into_loop, shown_inner}
 use Rattle.deptest_verdict.proofs.nests.+nest_shown.Goals as goal
@@ -30,14 +31,14 @@ returns-in_err-nest_shown-clause-err t c =
     let some : 0 < c.args.depth = search rules in
     let into = into_loop c.args.chain.now c.enter.new.chain (stmt_of c.args.statement.now) c.in-Some.level.head.now (stmt_of c.in-Some.level.body.now) c.args.loops.now c.in_ok-inner.inner.now c.in-Some.ensures c.requires c.in_ok-inner.ensures.ok in
     let p = err_from_is_err_and c.from_residual-in_err-nest_shown.result c.from_residual-in_err-nest_shown.ensures.1 in
-    rw (p.1, p.2) (nest_inner (map declaration_of c.args.given.variables.now) c.args.chain.now c.enter.new.chain c.args.outer c.args.serial.items c.args.depth (stmt_of c.args.statement.now)
+    rw (p.1, p.2) (nest_inner (map declaration_of c.args.given.variables.now) c.args.chain.now c.enter.new.chain c.args.outer c.args.serial.items (distances_of c.args.sinks.now) c.args.depth (stmt_of c.args.statement.now)
     (head_of c.in-Some.level.head.now) (stmt_of c.in-Some.level.body.now) c.in_err-nest_shown.field-0.0 some c.in-Some.ensures into.inside c.in_err-nest_shown.ensures.err)
 
 pub returns-clause-ok : goal.returns-clause-ok
 returns-clause-ok t c =
     let some : 0 < c.args.depth = search rules in
     let into = into_loop c.args.chain.now c.enter.new.chain (stmt_of c.args.statement.now) c.in-Some.level.head.now (stmt_of c.in-Some.level.body.now) c.args.loops.now c.in_ok-inner.inner.now c.in-Some.ensures c.requires c.in_ok-inner.ensures.ok in
-    shown_inner c.args.chain.now c.enter.new.chain c.args.outer c.args.serial.items c.args.depth (stmt_of c.args.statement.now) (head_of c.in-Some.level.head.now) (stmt_of c.in-Some.level.body.now)
+    shown_inner c.args.chain.now c.enter.new.chain c.args.outer c.args.serial.items (distances_of c.args.sinks.now) c.args.depth (stmt_of c.args.statement.now) (head_of c.in-Some.level.head.now) (stmt_of c.in-Some.level.body.now)
     some c.in-Some.ensures into.inside c.in_ok-nest_shown.ensures.ok
 
 pub returns-clause-back : goal.returns-clause-back

@@ -1,6 +1,7 @@
 use Rattle.std.proofs.Common.{◌≡◌, Some, All, drop, slice_get, refl, sym, ◌∙◌, subst, arith, rules}
 use Rattle.std.specs.Prelude.{List, IsTrue, false, ◌+◌, ◌<◌, length}
 use Rattle.pairtest.specs.declared.access.Access.{Access}
+use Rattle.deptest_verdict.specs.Sinks.{distances_of}
 use Rattle.deptest_verdict.specs.Pairs.{IsShown, IsFirstBehind, StandsAt}
 use Rattle.std.proofs.lemmas.Option.{slice_get_read, slice_get_within}
 use Rattle.deptest_verdict.proofs.Showing.{shown_more, pair_found, some_found, none_found, some_stands, from_on, are_named, too_large, not_counted}
@@ -20,7 +21,7 @@ returns-in-Err-clause-err c =
     let xs = c.args.accesses.now.all.items in
     let read : slice_get c.as_slice-all.result.now c.loop-i.i ≡ Some x = search (rules, slice_get_read) in
     let there = subst (λ (ys : List Access). slice_get ys c.loop-i.i ≡ Some x) c.as_slice-all.ensures.value read in
-    too_large c.args.nest.now x xs c.loop-i.i x.place there c.loop-i.invariant c.in-Err.ensures.err refl
+    too_large c.args.nest.now (distances_of c.args.sinks.now) x xs c.loop-i.i x.place there c.loop-i.invariant c.in-Err.ensures.err refl
 
 pub returns-then-not-x-clause-err : goal.returns-then-not-x-clause-err
 returns-then-not-x-clause-err c =
@@ -29,7 +30,7 @@ returns-then-not-x-clause-err c =
     let read : slice_get c.as_slice-all.result.now c.loop-i.i ≡ Some x = search (rules, slice_get_read) in
     let there = subst (λ (ys : List Access). slice_get ys c.loop-i.i ≡ Some x) c.as_slice-all.ensures.value read in
     let uncounted : x.is_counted ≡ false = search rules in
-    not_counted c.args.nest.now x xs c.loop-i.i x.place there c.loop-i.invariant uncounted refl
+    not_counted c.args.nest.now (distances_of c.args.sinks.now) x xs c.loop-i.i x.place there c.loop-i.invariant uncounted refl
 
 pub overflow_add-result : goal.overflow_add-result
 overflow_add-result c =
@@ -45,8 +46,8 @@ returns-in-Some-clause-ok c =
     let xs = c.args.accesses.now.all.items in
     let read : slice_get c.as_slice-all.result.now c.loop-i.i ≡ Some x = search (rules, slice_get_read) in
     let there = subst (λ (ys : List Access). slice_get ys c.loop-i.i ≡ Some x) c.as_slice-all.ensures.value read in
-    pair_found c.args.nest.now x xs c.loop-i.i c.in-Some.y.number there c.loop-i.invariant
-    (some_found (All (IsShown c.args.nest.now x) (drop c.loop-i.i xs)) (λ y. IsFirstBehind c.args.nest.now x (drop c.loop-i.i xs) y.number) c.in-Ok.found c.in-Some.y c.in-Ok.ensures.ok c.in-Some.is)
+    pair_found c.args.nest.now (distances_of c.args.sinks.now) x xs c.loop-i.i c.in-Some.y.number there c.loop-i.invariant
+    (some_found (All (IsShown c.args.nest.now (distances_of c.args.sinks.now) x) (drop c.loop-i.i xs)) (λ y. IsFirstBehind c.args.nest.now (distances_of c.args.sinks.now) x (drop c.loop-i.i xs) y.number) c.in-Ok.found c.in-Some.y c.in-Ok.ensures.ok c.in-Some.is)
 
 pub returns-in-Some-clause-named : goal.returns-in-Some-clause-named
 returns-in-Some-clause-named c =
@@ -64,5 +65,5 @@ loop-i-preserved c =
     let read : slice_get c.as_slice-all.result.now c.loop-i.i ≡ Some x = search (rules, slice_get_read) in
     let there = subst (λ (ys : List Access). slice_get ys c.loop-i.i ≡ Some x) c.as_slice-all.ensures.value read in
     let counted : IsTrue x.is_counted = search rules in
-    shown_more c.args.nest.now x xs c.loop-i.i there c.loop-i.invariant counted
-    (none_found (All (IsShown c.args.nest.now x) (drop c.loop-i.i xs)) (λ y. IsFirstBehind c.args.nest.now x (drop c.loop-i.i xs) y.number) c.in-Ok.found c.in-Ok.ensures.ok c.in_default.not-Some)
+    shown_more c.args.nest.now (distances_of c.args.sinks.now) x xs c.loop-i.i there c.loop-i.invariant counted
+    (none_found (All (IsShown c.args.nest.now (distances_of c.args.sinks.now) x) (drop c.loop-i.i xs)) (λ y. IsFirstBehind c.args.nest.now (distances_of c.args.sinks.now) x (drop c.loop-i.i xs) y.number) c.in-Ok.found c.in-Ok.ensures.ok c.in_default.not-Some)
