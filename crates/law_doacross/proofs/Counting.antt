@@ -42,13 +42,13 @@ use Rattle.law_doacross.proofs.Touched.{longer}
 -- ---- a loop between two numbers
 
 -- a loop of the text is this one, wherever it stands
-record IsUp (h : Loop) (l : Canonical) : Type 0 where
-  form : canonical [] h.variable h.start h.test h.step ≡ Some l
-  numbers : HasNumbers l
-  rises : l.stride.direction ≡ Rising
-  by_one : l.stride.by ≡ 1
+pub record IsUp (h : Loop) (l : Canonical) : Type 0 where
+  pub form : canonical [] h.variable h.start h.test h.step ≡ Some l
+  pub numbers : HasNumbers l
+  pub rises : l.stride.direction ≡ Rising
+  pub by_one : l.stride.by ≡ 1
 
-is_up : (box : List Side) (h : Loop) (l : Canonical) → counts_up h ≡ true → canonical box h.variable h.start h.test h.step ≡ Some l → IsUp h l
+pub is_up : (box : List Side) (h : Loop) (l : Canonical) → counts_up h ≡ true → canonical box h.variable h.start h.test h.step ≡ Some l → IsUp h l
 is_up box h l up is =
     let c = count_up_anywhere [] h up in
     let there = wider_loop [] box (λ x none. absurd (cc none)) h.variable h.start h.test h.step c.loop c.form in

@@ -1,3 +1,5 @@
 pub mod Touched
 pub mod Counting
 pub mod Covered
+pub mod Waved
+pub mod WavedKernels

@@ -54,7 +54,7 @@ found_of outer (x ∷ ss) (f ∷ fs) s are among =
     (λ e. (f, contains_first f fs, subst (λ y. IsFound outer y f) e are.0))
     (λ h. let l = found_of outer ss fs s are.1 h in (l.0, contains_later f l.0 fs l.1, l.2)) among
 
-place_of : {A : Type 0} (xs : List A) (x : A) → Contains xs x → (k : ℕ) × (slice_get xs k ≡ Some x)
+pub place_of : {A : Type 0} (xs : List A) (x : A) → Contains xs x → (k : ℕ) × (slice_get xs k ≡ Some x)
 place_of xs x h = (h.0, slice_get_read xs (length xs) h.0 x refl h.1 (sym h.2))
 
 -- two accesses with the same array, of which one writes, are independent or ordered by a sink, one way or the other
