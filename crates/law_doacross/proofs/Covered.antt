@@ -1,5 +1,5 @@
 -- Of two iterations of a shown nest that conflict, its sinks put one before the other.
-use Rattle.std.specs.Prelude.{ℕ, zero, suc, true, ◌≡◌, ◌-◌, ◌≤◌, ◌⊎◌, ℤ, pos, List, [], ◌∷◌, length, map, Contains, Some}
+use Rattle.std.specs.Prelude.{ℕ, zero, suc, true, ◌≡◌, ◌-◌, ◌≤◌, ◌⊎◌, ℤ, pos, List, [], ◌∷◌, length, map, Contains, Some, IsSome}
 use Rattle.std.specs.List.{list_all}
 use Rattle.std.proofs.Common.{refl, sym, ap, ◌∙◌, subst, arith, inl, inr}
 use Rattle.std.proofs.lemmas.Option.{same_Some}
@@ -15,9 +15,11 @@ use Rattle.pairtest_access.specs.Found.{inner_loops}
 use Rattle.pairtest_cover.specs.Behind.{LiesBehind, LieApart, at_counters}
 use Rattle.pairtest_cover.proofs.Leading.{lead_there}
 use Rattle.flow_doacross.specs.Nests.{counts_up}
-use Rattle.deptest_verdict.specs.Shown.{IsShownBody, IsShownNest, no_loops}
+use Rattle.nest.specs.Nests.{Has, StaysInside}
+use Rattle.deptest_verdict.specs.Shown.{IsShownBody, IsShownNest, IsShownLoop, no_loops}
 use Rattle.law_turns.specs.Turns.{AreEntered, IsIteration}
 use Rattle.law_turns.proofs.Laws.{entered_join, entered_are_levels, outside_is_a_turn, iterations_are_turns}
+use Rattle.law_independence.specs.Inside.{LoopsAreRead}
 use Rattle.law_independence.specs.IndependenceLaws.{IsNestOf}
 use Rattle.law_independence.proofs.Counted.{counts_of}
 use Rattle.law_independence.proofs.IndependentNests.{loop_there, IsBodyThere, body_there, longer as longer_nest}
@@ -122,3 +124,8 @@ shown_nests_are_covered ds serial round sinks n s short entered read stays shown
     (λ are'. conflicts_ordered ds sinks round nest.inner nest.loops nest.body it.0 outer us
     (record { short = short; levels = entered_are_levels no_loops round serial entered tt; entered = nest.entered; read = nest.there.read; stays = nest.there.stays }) nest.shown
     (it.1.whole tt) (subst (AtTurn round.box (values_at round.levels it.0)) (sym turn.is) it.1.at) are' (up nest.loops nest.body nest.is) u v in_u in_v) are
+
+-- and it is one
+pub shown_nest_is_there : (ds : List Declaration) (round : Nesting) (sinks : List Distance) (n : ℕ) (s : Stmt) → LoopsAreRead round.box s → Has (StaysInside ds) round.box s → IsShownLoop round sinks n s → IsSome (nest_of n s)
+shown_nest_is_there ds round sinks n s read stays shown =
+    subst IsSome (sym (shown_there n ds round (length round.levels) (map (λ v. v.most) (inner_loops 0 round.levels)) sinks s shown (record { read = read; stays = stays })).is) refl

@@ -1,5 +1,6 @@
 pub mod Touched
 pub mod Counting
 pub mod Covered
+pub mod CoveredKernels
 pub mod Waved
 pub mod WavedKernels

@@ -2,7 +2,7 @@
 //! be run wave by wave. Each law is the contract of a function that does nothing.
 #![tactic(auto)]
 
-ghost use Rattle.law_doacross.specs.Covering.{ShownNestsAreCovered};
+ghost use Rattle.law_doacross.specs.Covering.{ShownKernelsAreCovered, ShownNestsAreCovered};
 ghost use Rattle.law_doacross.specs.Waving.{NestsShareInWaves};
 
 /// Of two iterations that conflict, in a nest whose pairs of accesses are each shown to be independent or ordered by a sink, the nest's sinks put
@@ -10,6 +10,12 @@ ghost use Rattle.law_doacross.specs.Waving.{NestsShareInWaves};
 /// 1.4.1 and 15.9.6).
 pub fn shown_nests_are_covered()
     ensures { ShownNestsAreCovered }
+{}
+
+/// So it is of the doacross nests of a kernel whose pairs of accesses are each shown to be independent or ordered by the sinks of their lines; a
+/// loop behind a line without sinks is independent (C11 5.1.2.4, 4; OpenMP 5.2, 1.4.1, 11.5 and 15.9.6).
+pub fn shown_kernels_are_covered()
+    ensures { ShownKernelsAreCovered }
 {}
 
 /// A kernel's doacross nests may be run wave by wave at each turn of the serial loops round them, each wave in chunks, where no subscript leaves
