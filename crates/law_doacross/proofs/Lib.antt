@@ -4,3 +4,4 @@ pub mod Covered
 pub mod CoveredKernels
 pub mod Waved
 pub mod WavedKernels
+pub mod Rows

@@ -1,4 +1,4 @@
--- Accesses of which each pair is shown to be independent or ordered by a sink, at the counters of two iterations that conflict.
+-- Accesses of which each pair is shown to be independent or ordered by a sink, at the counters of two iterations that conflict: what `Independent` of `law_independence` has of nests without sinks.
 use Rattle.std.specs.Prelude.{ℕ, zero, suc, ◌≡◌, ◌≢◌, ◌<◌, ◌≤◌, ◌+◌, ◌-◌, ℤ, pos, ◌⊎◌, List, [], ◌∷◌, ◌++◌, length, map, drop, All, Contains, Some, slice_get, unsigned_abs}
 use Rattle.std.proofs.Common.{refl, sym, inl, inr, ap, ◌∙◌, subst, arith, ⊎_elim}
 use Rattle.std.proofs.lemmas.Bool.{cases_lt}

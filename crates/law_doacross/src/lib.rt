@@ -3,6 +3,7 @@
 #![tactic(auto)]
 
 ghost use Rattle.law_doacross.specs.Covering.{ShownKernelsAreCovered, ShownNestsAreCovered};
+ghost use Rattle.law_doacross.specs.Rows.{DoacrossRows};
 ghost use Rattle.law_doacross.specs.Waving.{NestsShareInWaves};
 
 /// Of two iterations that conflict, in a nest whose pairs of accesses are each shown to be independent or ordered by a sink, the nest's sinks put
@@ -25,4 +26,9 @@ pub fn shown_kernels_are_covered()
 /// (OpenMP 5.2, 1.4.1, 5.4.3, 11.5, 15.9.6 and 15.10.1).
 pub fn nests_share_in_waves()
     ensures { NestsShareInWaves }
+{}
+
+/// Worked rows: a chain with a private variable, which suits waves, and loops that do not count up between numbers.
+pub fn doacross_rows()
+    ensures { DoacrossRows }
 {}
