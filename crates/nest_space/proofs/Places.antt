@@ -3,9 +3,10 @@ use Rattle.std.specs.Prelude.{ℕ, zero, suc, ◌≡◌, ◌+◌, ◌*◌, ◌/�
 use Rattle.std.proofs.Common.{refl, sym, inl, inr, ap, ◌∙◌, subst, arith}
 use Rattle.std.proofs.Math.Nat.{suc-mul, div-div-eq-div-mul, mul_comm, mul-lt-mul_of_pos_left}
 use Rattle.std.proofs.Math.Arith.{mod-mul}
+use Rattle.std.proofs.lemmas.Nat.{div_below, mod_below, div-add-mod'}
 use Rattle.std.proofs.lemmas.List.{length-map, length-append}
 use Rattle.std.proofs.lemmas.List.Concat.{flat_map-cons}
-use Rattle.std.proofs.lemmas.Option.{slice_get-map, slice_get_within, same_Some, none-some}
+use Rattle.std.proofs.lemmas.Option.{slice_get-map, slice_get-get_or, slice_get_within, same_Some, none-some}
 use Rattle.semantics.specs.Loops.Nest.{Vector}
 use Rattle.nest_space.specs.Space.{Turns, values_of, vectors, product}
 use Rattle.nest_space.specs.Numbers.{EachTurns}
@@ -143,3 +144,32 @@ pub number_below : (t : Turns) (ts : List Turns) (q r x : ℕ) (u : Vector) → 
 number_below t ts q r x u e f =
     let lt = slice_get_within (vectors (t ∷ ts)) (q * product ts + r) (x ∷ u) (number_law t ts q r x u e f) in
     subst (λ n. q * product ts + r < n) (length-vectors (t ∷ ts)) lt
+
+-- and where it stands
+pub record IsPairAt (vs : List ℕ) (us : List Vector) (k x : ℕ) (u : Vector) : Type 0 where
+  pub outer : ℕ
+  pub inner : ℕ
+  pub value : slice_get vs outer ≡ Some x
+  pub vector : slice_get us inner ≡ Some u
+  pub place : k ≡ outer * length us + inner
+
+pub pair_at : (vs : List ℕ) (us : List Vector) (k x : ℕ) (u : Vector) → slice_get (pairs vs us) k ≡ Some (x ∷ u) → IsPairAt vs us k x u
+pair_at vs us k x u e =
+    let below : k < length vs * length us = subst (λ n. k < n) (length-pairs vs us) (slice_get_within (pairs vs us) k (x ∷ u) e) in
+    let some : 0 < length us = factor (length vs) (length us) k below in
+    let value = slice_get-get_or vs (k / length us) 0 (div_below k (length us) (length vs) some below) in
+    let vector = slice_get-get_or us (k % length us) [] (mod_below k (length us) some) in
+    let same : get_or vs (k / length us) 0 ∷ get_or us (k % length us) [] ≡ x ∷ u =
+    same_Some _ _ (sym (pairs_at vs us (k / length us) (k % length us) (get_or vs (k / length us) 0) (get_or us (k % length us) []) value vector)
+    ∙ ap (slice_get (pairs vs us)) (div-add-mod' k (length us)) ∙ e) in
+    record {
+      outer = k / length us;
+      inner = k % length us;
+      value = value ∙ ap Some (ap (λ l. get_or l 0 0) same);
+      vector = vector ∙ ap Some (ap (λ l. drop 1 l) same);
+      place = sym (div-add-mod' k (length us));
+    }
+  where
+    factor : (a b k : ℕ) → k < a * b → 0 < b
+    factor a zero k lt = let none : a * 0 ≡ 0 = omega arith in absurd (omega (arith, none, lt))
+    factor a (suc b) k lt = omega arith

@@ -1,4 +1,6 @@
 pub mod Heads
 pub mod Nests
 pub mod Numbers
+pub mod Rises
+pub mod Sinks
 pub mod Space

@@ -1,10 +1,12 @@
 //! The iterations of a nest.
 
-ghost use Rattle.std.specs.Prelude.{◌≡◌, ◌*◌, ◌+◌, ◌/◌, ◌<◌, ◌≤◌, ◌∷◌, [], ℕ, length, All, ◌%◌, ◌^◌, slice_get, Some, None, MatchOption, ⊤};
+ghost use Rattle.std.specs.Prelude.{◌≡◌, ◌*◌, ◌+◌, ◌/◌, ◌<◌, ◌≤◌, ◌↔◌, ◌∷◌, [], ℕ, length, All, ◌%◌, ◌^◌, slice_get, Some, None, IsTrue, MatchOption, ⊤};
 ghost use Rattle.std.specs.Option.{SomeIff};
 ghost use Rattle.nest_space.specs.Space.{Turns, product, vectors, IsSpace};
-ghost use Rattle.nest_space.specs.Numbers.{EachTurns};
+ghost use Rattle.nest_space.specs.Rises.{EachRises};
+ghost use Rattle.nest_space.specs.Sinks.{IsSinkAt, HasNoSink};
 
+use crate::sinks::number_at;
 use crate::turns::LoopTurns;
 use ktree::limits::{ASSOCIATED_LOOPS, ITERATIONS};
 use smallvec::SmallVec;
@@ -16,17 +18,18 @@ use std::marker::Model;
 #[derive(Drop)]
 pub struct Space {
     loops: SmallVec<LoopTurns, 4>,
+    count: u64,
 }
 
 impl Model for Space {
-    ghost use Rattle.std.specs.Prelude.{List};
-    ghost use Rattle.nest_space.specs.Space.{Turns, IsSpace};
+    ghost use Rattle.std.specs.Prelude.{◌≡◌, List};
+    ghost use Rattle.nest_space.specs.Space.{Turns, IsSpace, product};
 
     ghost Value = { List Turns };
 
     ghost view = { λ s. s.loops.items };
 
-    ghost invariant = { λ s. IsSpace s.loops.items };
+    ghost invariant = { λ s. IsSpace s.loops.items × (s.count ≡ product s.loops.items) };
 }
 
 /// How many vectors there are, if at most 2^24.
@@ -82,49 +85,46 @@ fn parted_by(number: u64, count: u64) -> Parted
     }
 }
 
-/// The number of steps that all these loops make before the loop round them goes on, and the values of their variables.
-fn place(loops: &[LoopTurns], number: u64, values: &mut [u64]) -> u64
-    requires turns { EachTurns loops.now }
-    requires few { product loops.now ≤ 2 ^ 24 }
+/// Puts down the vector of a number among those of these loops, the innermost loop's value first.
+fn place(loops: &[LoopTurns], number: u64, values: &mut [u64])
+    requires number { number < product loops.now }
     requires values { length values.old ≡ length loops.now }
-    ensures rest { result ≡ number / product loops.now }
-    ensures vector { slice_get (vectors loops.now) (number % product loops.now) ≡ Some values.new }
+    ensures { slice_get (vectors loops.now) number ≡ Some values.new }
 {
-    let Some((first, rest)) = loops.split_first() else {
-        return number;
-    };
-    let Some((value, inner)) = values.split_first_mut() else {
-        return 0;
-    };
-    let outer = place(rest, number, inner);
-    let Parted { times, left } = parted_by(outer, first.count());
-    *value = first.value(left);
-    times
+    let mut outer = number;
+    for i in (0..loops.len()).rev() {
+        let turns = &loops[i];
+        let Parted { times, left } = parted_by(outer, turns.count());
+        values[i] = turns.value(left);
+        outer = times;
+    }
 }
 
-/// The number of these values among the vectors of the loops.
-fn number(loops: &[LoopTurns], values: &[u64]) -> Option<u64>
-    requires turns { EachTurns loops.now }
-    requires few { product loops.now ≤ 2 ^ 24 }
-    ensures { MatchOption result ((k : ℕ) → slice_get (vectors loops.now) k ≡ Some values.now → ⊥)
-        (λ k. slice_get (vectors loops.now) k ≡ Some values.now) }
+/// From one vector of these loops to the next: a loop goes on once all those inside it are through, and these begin anew.
+fn step(loops: &[LoopTurns], values: &mut [u64])
+    requires values { length values.old ≡ length loops.now }
+    ensures { (n : ℕ) → n + 1 < length (vectors loops.now)
+        → slice_get (vectors loops.now) n ≡ Some values.old
+        → slice_get (vectors loops.now) (n + 1) ≡ Some values.new }
 {
-    let Some((first, rest)) = loops.split_first() else {
-        return if values.is_empty() { Some(0) } else { None };
-    };
-    let Some((value, inner)) = values.split_first() else {
-        return None;
-    };
-    let Some(turn) = first.turn(*value) else {
-        return None;
-    };
-    let Some(number) = number(rest, inner) else {
-        return None;
-    };
-    let Some(count) = product(rest) else {
-        return None;
-    };
-    Some(turn * count + number)
+    for i in (0..loops.len()).rev() {
+        let turns = &loops[i];
+        if let Some(next) = turns.next(values[i]) {
+            values[i] = next;
+            return;
+        }
+        values[i] = turns.first();
+    }
+}
+
+/// Whether each of these loops rises.
+fn rise(loops: &[LoopTurns]) -> bool
+    ensures { IsTrue result ↔ EachRises loops.now }
+{
+    match loops.split_first() {
+        None => true,
+        Some((first, rest)) => first.rises() && rise(rest),
+    }
 }
 
 impl Space {
@@ -132,11 +132,14 @@ impl Space {
     pub fn new(alloc: Global, loops: &[LoopTurns]) -> Option<Space>
         ensures { SomeIff result (IsSpace loops.now) loops.now }
     {
-        if loops.len() > ASSOCIATED_LOOPS || product(loops).is_none() {
+        if loops.len() > ASSOCIATED_LOOPS {
             return None;
         }
+        let Some(count) = product(loops) else {
+            return None;
+        };
         match SmallVec::from_slice(alloc, loops) {
-            Ok(loops) => Some(Space { loops }),
+            Ok(loops) => Some(Space { loops, count }),
             Err(_error) => None,
         }
     }
@@ -145,7 +148,7 @@ impl Space {
     pub fn count(&self) -> u64
         ensures { result ≡ length (vectors self.now) }
     {
-        product(self.loops.as_slice()).unwrap_or(0)
+        self.count
     }
 
     /// The vector of a number, the outermost loop's value first.
@@ -157,15 +160,36 @@ impl Space {
         place(self.loops.as_slice(), number, values);
     }
 
-    /// The number of a vector; None for values that are no vector of this space.
-    pub fn number(&self, values: &[u64]) -> Option<u64>
-        ensures { MatchOption result
-            ((k : ℕ) → slice_get (vectors self.now) k ≡ Some values.now → ⊥)
-            (λ k. slice_get (vectors self.now) k ≡ Some values.now) }
+    /// From the vector of a number to that of the next one, if there is one.
+    pub fn advance(&self, values: &mut [u64])
+        requires { length values.old ≡ length self.now }
+        ensures { (n : ℕ) → n + 1 < length (vectors self.now)
+            → slice_get (vectors self.now) n ≡ Some values.old
+            → slice_get (vectors self.now) (n + 1) ≡ Some values.new }
     {
-        if self.count() == 0 {
+        step(self.loops.as_slice(), values);
+    }
+
+    /// The number of the vector that lies so far before these values, the outermost loop's distance first; None where that
+    /// is no vector of this space, and where the distance has more or fewer numbers than there are loops (OpenMP 5.2, 15.9.6).
+    pub fn number_before(&self, values: &[u64], distance: &[i64]) -> Option<u64>
+        requires { length values.now ≡ length self.now }
+        ensures { MatchOption result (HasNoSink (vectors self.now) values.now distance.now)
+            (λ j. IsSinkAt (vectors self.now) values.now distance.now j) }
+    {
+        if distance.len() != values.len() {
             return None;
         }
-        number(self.loops.as_slice(), values)
+        if self.count == 0 {
+            return None;
+        }
+        number_at(self.loops.as_slice(), values, distance)
+    }
+
+    /// Whether each of its loops rises, as those of a doacross nest do (OpenMP 5.2, 15.9.6).
+    pub fn rises(&self) -> bool
+        ensures { IsTrue result ↔ EachRises self.now }
+    {
+        rise(self.loops.as_slice())
     }
 }

@@ -4,6 +4,7 @@
 mod bounds;
 mod iterations;
 mod nests;
+mod sinks;
 mod turns;
 
 pub use bounds::{Value, turns_at, value_at};

@@ -1,6 +1,7 @@
 //! How one loop of a nest runs.
 
-ghost use Rattle.std.specs.Prelude.{◌≡◌, ◌+◌, ◌*◌, ◌-◌, ◌<◌, ◌≤◌, slice_get, Some, None, MatchOption};
+ghost use Rattle.std.specs.Prelude.{◌≡◌, ◌+◌, ◌*◌, ◌-◌, ◌<◌, ◌≤◌, ◌↔◌, slice_get, Some, None, IsTrue, MatchOption};
+ghost use Rattle.nest_loop.specs.declared.stride.Direction.TheVariants.{Rising};
 ghost use Rattle.std.specs.Option.{SomeIff};
 ghost use Rattle.std.specs.Prelude.{ℕ};
 ghost use Rattle.nest_space.specs.Space.{moved, values_of, IsTurns, LastFits};
@@ -73,6 +74,13 @@ fn steps(by: u64, count: u64, distance: u64) -> Option<u64>
     ensures { MatchOption result ((k : ℕ) → k < count → distance ≡ by * k → ⊥)
         (λ k. (k < count) × (distance ≡ by * k)) }
 {
+    if by == 1 {
+        return if distance < count {
+            Some(distance)
+        } else {
+            None
+        };
+    }
     let turn = distance / by;
     if distance % by != 0 {
         return None;
@@ -112,6 +120,38 @@ impl LoopTurns {
         ensures { result ≡ self.count }
     {
         self.count
+    }
+
+    /// Whether it rises.
+    pub(crate) fn rises(self) -> bool
+        ensures rises { IsTrue result ↔ (self.stride.direction ≡ Rising) }
+        ensures least { 1 ≤ self.stride.by }
+    {
+        self.stride.direction == Direction::Rising
+    }
+
+    /// Where its variable begins.
+    pub(crate) fn first(self) -> u64
+        ensures { result ≡ self.first }
+    {
+        self.first
+    }
+
+    /// The value that its variable has one turn after this one; None at its last.
+    pub(crate) fn next(self, value: u64) -> Option<u64>
+        ensures { (k : ℕ) → slice_get (values_of self) k ≡ Some value
+            → MatchOption result (k + 1 ≡ self.count)
+            (λ x. slice_get (values_of self) (k + 1) ≡ Some x) }
+    {
+        let by = u64::from(self.stride.by);
+        let far = by * self.count.saturating_sub(1);
+        if value == move_by(self.stride.direction, self.first, far) {
+            return None;
+        }
+        match self.stride.direction {
+            Direction::Rising => value.checked_add(by),
+            Direction::Falling => value.checked_sub(by),
+        }
     }
 
     /// The value of its variable at this turn, counted from 0.

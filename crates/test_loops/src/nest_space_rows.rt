@@ -274,13 +274,16 @@ fn vector(alloc: Global, number: u64) -> Option<[u64; 2]> {
     }
 }
 
-/// The number of a vector of the collapsed loops, where it has one.
-fn number(alloc: Global, values: &[u64]) -> Option<u64> {
+/// The number of the vector of the collapsed loops that lies so far before some values, where there is one.
+fn number_before(alloc: Global, values: &[u64; 2], distance: &[i64]) -> Option<u64> {
     match collapsed(alloc) {
-        Some(space) => space.number(values),
+        Some(space) => space.number_before(values, distance),
         None => None,
     }
 }
+
+/// Some values, a distance, and the number of the vector that lies so far before.
+type Before = ([u64; 2], &'static [i64], Option<u64>);
 
 /// The number of the first row, of a number and its vector, whose vector is another.
 fn first_other_vector(alloc: Global, rows: &[(u64, Option<[u64; 2]>)]) -> Option<usize> {
@@ -292,10 +295,10 @@ fn first_other_vector(alloc: Global, rows: &[(u64, Option<[u64; 2]>)]) -> Option
     None
 }
 
-/// The number of the first row, of a vector and its number, whose number is another.
-fn first_other_number(alloc: Global, rows: &[([u64; 2], Option<u64>)]) -> Option<usize> {
-    for (i, (vector, expected)) in rows.iter().enumerate() {
-        if number(alloc, vector) != *expected {
+/// The number of the first row whose number is another.
+fn first_other_number(alloc: Global, rows: &[Before]) -> Option<usize> {
+    for (i, (values, distance, expected)) in rows.iter().enumerate() {
+        if number_before(alloc, values, distance) != *expected {
             return Some(i);
         }
     }
@@ -311,16 +314,25 @@ fn vectors_of_two_loops(rt: HostRuntime) {
         (5, Some([3, 4])),
         (6, None),
     ];
-    const NUMBERS: &[([u64; 2], Option<u64>)] = &[
-        ([5, 2], Some(1)),
-        ([3, 4], Some(5)),
-        ([4, 0], None),
-        ([5, 1], None),
+    const NUMBERS: &[Before] = &[
+        ([5, 2], &[0, 0], Some(1)),
+        ([3, 4], &[0, 0], Some(5)),
+        ([4, 0], &[0, 0], None),
+        ([5, 1], &[0, 0], None),
+        // Behind and before.
+        ([3, 0], &[-2, -2], Some(1)),
+        ([5, 4], &[2, 2], Some(4)),
+        ([7, 0], &[2, -4], Some(2)),
+        // Outside of the space, and below 0.
+        ([3, 0], &[2, 0], None),
+        ([3, 2], &[0, 4], None),
+        // No distance of this nest.
+        ([5, 2], &[0], None),
+        ([5, 2], &[0, 0, 0], None),
     ];
     assert!(rt; collapsed_count(rt.alloc()) == Some(6));
     assert!(rt; first_other_vector(rt.alloc(), VECTORS).is_none());
     assert!(rt; first_other_number(rt.alloc(), NUMBERS).is_none());
-    assert!(rt; number(rt.alloc(), &[5]).is_none());
 }
 
 /// How many vectors a nest of two loops has that turn so often, or the number of a refusal.

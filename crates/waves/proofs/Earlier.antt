@@ -1,14 +1,14 @@
 -- The order of vectors, and that a sink lies earlier than the iteration that names it.
-use Rattle.std.specs.Prelude.{ℕ, zero, suc, Bool, true, false, ◌≡◌, ◌<◌, ◌==◌, ◌&&◌, ◌||◌, nat_lt, nat_eq, [], ◌∷◌, Option, Some, None, ℤ, pos, negsuc, ◌-ℤ◌}
+use Rattle.std.specs.Prelude.{ℕ, zero, suc, Bool, true, false, ◌≡◌, ◌<◌, ◌==◌, ◌&&◌, ◌||◌, nat_lt, nat_eq, [], ◌∷◌, Some, ℤ, pos, negsuc, ◌-ℤ◌}
 use Rattle.std.proofs.Common.{refl, ap, subst, arith}
 use Rattle.std.proofs.lemmas.Int.{ints}
 use Rattle.std.proofs.lemmas.Bool.Decides.{nat_tests}
 use Rattle.std.proofs.lemmas.Bool.{lt-ltb, eqb-true}
 use Rattle.std.proofs.lemmas.Option.{same_Some}
 use lib.Pointwise.{pointwise}
-use Rattle.semantics.specs.Meaning.Value.{both}
 use Rattle.semantics.specs.Loops.Nest.{Vector}
 use Rattle.semantics.specs.Loops.Order.{Distance, is_ahead, as_number, before_by}
+use Rattle.nest_space.proofs.Before.{parts}
 
 -- earlier in the order of the loops, the outermost first
 abbrev pub earlier : Vector → Vector → Bool
@@ -35,19 +35,6 @@ number_below u n w e = let h = as_pos (pos u -ℤ pos (suc n)) w e in omega (ari
 
 same_number : (u w : ℕ) → as_number (pos u -ℤ pos zero) ≡ Some w → w ≡ u
 same_number u w e = let h = as_pos (pos u -ℤ pos zero) w e in omega (arith, ints)
-
--- both are there
-pub record Parts (a : Option ℕ) (b : Option Vector) (w : Vector) : Type 0 where
-  pub head : ℕ
-  pub tail : Vector
-  pub is_head : a ≡ Some head
-  pub is_tail : b ≡ Some tail
-  pub whole : head ∷ tail ≡ w
-
-pub parts : (a : Option ℕ) (b : Option Vector) (w : Vector) → both (λ v vs. v ∷ vs) a b ≡ Some w → Parts a b w
-parts (Some x) (Some y) w e = record { head = x; tail = y; is_head = refl; is_tail = refl; whole = same_Some _ _ e }
-parts (Some x) None w e = absurd cc
-parts None b w e = absurd cc
 
 -- a sink that is ahead lies earlier than the iteration that names it
 pub sink_earlier : (u : Vector) (d : Distance) (w : Vector) → is_ahead d ≡ true → before_by u d ≡ Some w → earlier w u ≡ true

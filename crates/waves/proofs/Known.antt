@@ -1,5 +1,5 @@
 -- Levels found in the order of the iterations.
-use Rattle.std.specs.Prelude.{ℕ, zero, suc, Bool, true, false, ◌≡◌, ◌+◌, ◌^◌, ◌==◌, ◌&&◌, ◌||◌, ◌<◌, ◌≤◌, ◌-ℤ◌, ℤ, pos, nat_eq, max, List, [], ◌∷◌, ◌++◌, map, filter, take, drop, length, slice_get, get_or, Option, Some, None}
+use Rattle.std.specs.Prelude.{ℕ, zero, suc, Bool, true, false, ◌≡◌, ◌+◌, ◌==◌, ◌&&◌, ◌||◌, ◌<◌, ◌≤◌, ℤ, nat_eq, max, List, [], ◌∷◌, ◌++◌, map, filter, take, drop, length, slice_get, get_or, Option, Some, None}
 use Rattle.std.specs.List.{list_all, cons_option}
 use Rattle.std.proofs.Common.{refl, sym, ap, ◌∙◌, subst, cond, arith}
 use Rattle.std.proofs.lemmas.Bool.{eq-eqb, eqb-true}
@@ -8,15 +8,14 @@ use Rattle.std.proofs.lemmas.List.{take_all, length-map, length_push, get_or_pus
 use Rattle.std.proofs.lemmas.List.Elements.{filter-append}
 use Rattle.std.proofs.lemmas.Option.{none-some, same_Some, slice_get-get_or}
 use Rattle.std.specs.Global.{Vec}
-use Rattle.std.proofs.lemmas.List.Elements.{All-tail}
 use lib.Pointwise.{pointwise}
 use Rattle.semantics.specs.Loops.Nest.{Vector}
-use Rattle.semantics.specs.Loops.Order.{Distance, is_ahead, as_number, before_by, among, inside, sinks_of, one_above, level, wave, wave_count}
+use Rattle.semantics.specs.Loops.Order.{Distance, is_ahead, before_by, among, inside, sinks_of, one_above, level, wave, wave_count}
 use Rattle.semantics.specs.Meaning.Places.{below}
 use Rattle.waves.specs.Sorting.{numbers_at}
-use Rattle.waves.specs.Table.{IsSinkAt, HasNoSink, AreLevels}
-use Rattle.waves.specs.Wanted.{Fits, vector_at, numbers_of, AreWaves}
-use Rattle.waves.proofs.Earlier.{parts}
+use Rattle.nest_space.specs.Sinks.{Fits, IsSinkAt, HasNoSink}
+use Rattle.waves.specs.Table.{AreLevels}
+use Rattle.waves.specs.Wanted.{vector_at, numbers_of, AreWaves}
 use Rattle.waves.proofs.Sorted.{Sorted, found, sunk_at}
 use Rattle.waves.proofs.Tallies.{map_below, map_push, length-below}
 
@@ -220,14 +219,6 @@ are_waves space ds levels are size = subst (λ (ls : List ℕ). AreWaves space d
 
     one : (i : ℕ) → map (vector_at space) (numbers_of space ds i) ≡ wave space ds i
     one i = filter_mapped (λ u. level space ds u == i) (vector_at space) (below (length space)) ∙ ap (filter (λ u. level space ds u == i)) (all_vectors space)
-
--- a vector whose rest is out of reach is out of reach
-pub before_none : (values : Vector) (distance : Distance) (v : ℕ) (vs : Vector) (d : ℤ) (ds : Distance) → values ≡ v ∷ vs → distance ≡ d ∷ ds → ((w : Vector) → before_by vs ds ≡ Some w → Fits w → ⊥)
-    → (w : Vector) → before_by values distance ≡ Some w → Fits w → ⊥
-before_none values distance v vs d ds e f none_there w g fit =
-    let h : before_by (v ∷ vs) (d ∷ ds) ≡ Some w = ap (λ (ds : Distance). before_by (v ∷ vs) ds) (sym f) ∙ ap (λ (vs : Vector). before_by vs distance) (sym e) ∙ g in
-    let p = parts (as_number (pos v -ℤ d)) (before_by vs ds) w h in
-    none_there p.tail p.is_tail (All-tail (λ x. x < 2 ^ 64) p.head p.tail (subst Fits (sym p.whole) fit))
 
 pub max_zero : (n : ℕ) → max 0 n ≡ n
 max_zero n = grind arith

@@ -14,7 +14,7 @@ use Rattle.nest_loop.specs.declared.stride.Direction.TheVariants.{Rising}
 use Rattle.nest_loop.specs.declared.stride.Stride.{Stride}
 use Rattle.nest_space.specs.Space.{Turns, moved, counted, vectors}
 use Rattle.nest_space.proofs.Places.{pairs}
-use Rattle.waves.specs.Wanted.{EachRises}
+use Rattle.nest_space.specs.Rises.{EachRises}
 
 -- each vector of a list lies later
 abbrev Later : Vector → List Vector → Type 0

@@ -1,10 +1,8 @@
 -- What is wanted of the waves of a nest. (OpenMP 5.2, 15.9.6 and 15.10.1)
-use Rattle.std.specs.Prelude.{ℕ, ◌≡◌, ◌==◌, ◌<◌, ◌≤◌, ◌^◌, List, [], ◌∷◌, ◌++◌, All, map, filter, length, get_or}
+use Rattle.std.specs.Prelude.{ℕ, ◌≡◌, ◌==◌, List, [], ◌∷◌, ◌++◌, map, filter, length, get_or}
 use Rattle.semantics.specs.Loops.Nest.{Vector}
 use Rattle.semantics.specs.Loops.Order.{Distance, level, wave_count, waves}
 use Rattle.semantics.specs.Meaning.Places.{below}
-use Rattle.nest_loop.specs.declared.stride.Direction.TheVariants.{Rising}
-use Rattle.nest_space.specs.Space.{Turns}
 
 -- the sinks of a nest of so many loops
 pub record SinkList : Type 0 where
@@ -14,15 +12,6 @@ pub record SinkList : Type 0 where
 -- one more
 abbrev pub with_sink : SinkList → Distance → SinkList
 with_sink s d = record { loops = s.loops; distances = s.distances ++ (d ∷ []) }
-
--- each loop rises, as those of a doacross nest do
-abbrev pub EachRises : List Turns → Type 0
-EachRises [] = Unit {0}
-EachRises (t ∷ ts) = (t.stride.direction ≡ Rising) × (1 ≤ t.stride.by) × EachRises ts
-
--- each number is one of `uint64_t`
-abbrev pub Fits : Vector → Type 0
-Fits u = All (λ x. x < 2 ^ 64) u
 
 -- the iteration at a number
 abbrev pub vector_at : List Vector → ℕ → Vector

@@ -4,9 +4,11 @@ ghost use Rattle.std.specs.Prelude.{◌≡◌, ◌<◌, ◌≤◌, ◌^◌, ◌-
 ghost use Rattle.std.specs.List.{list_all};
 ghost use Rattle.semantics.specs.Loops.Nest.{Vector};
 ghost use Rattle.semantics.specs.Loops.Order.{Distance, is_ahead, as_number, before_by, sinks_of, one_above, level};
+ghost use Rattle.nest_space.specs.Rises.{EachRises};
+ghost use Rattle.nest_space.specs.Sinks.{Fits};
 ghost use Rattle.nest_space.specs.Space.{vectors};
-ghost use Rattle.waves.specs.Wanted.{EachRises, Fits, AreWaves};
-ghost use Rattle.waves.specs.Table.{IsSinkAt, HasNoSink, AreLevels};
+ghost use Rattle.waves.specs.Wanted.{AreWaves};
+ghost use Rattle.waves.specs.Table.{AreLevels};
 
 use crate::sinks::Sinks;
 use crate::sorting::{Waves, at, sorted};
@@ -14,68 +16,11 @@ use ktree::Refusal;
 use nest_space::Space;
 use std::alloc::{AllocError, Global};
 
-/// A number less a distance, where that is one of `uint64_t`.
-fn moved_back(value: u64, far: i64) -> Option<u64>
-    ensures { MatchOption result
-        ((w : ℕ) → as_number (pos value -ℤ far) ≡ Some w → w < 2 ^ 64 → ⊥)
-        (λ w. as_number (pos value -ℤ far) ≡ Some w) }
-{
-    let size = far.unsigned_abs();
-    if far < 0 {
-        value.checked_add(size)
-    } else {
-        value.checked_sub(size)
-    }
-}
-
-/// Puts the vector that lies so far before into `into`, where its values are numbers of `uint64_t`.
-fn before(values: &[u64], distance: &[i64], into: &mut [u64]) -> bool
-    requires { length into.old ≡ length values.now }
-    ensures found { result ≡ true → before_by values.now distance.now ≡ Some into.new }
-    ensures none { result ≡ false → (w : Vector) → before_by values.now distance.now ≡ Some w
-        → Fits w → ⊥ }
-{
-    let Some((value, others)) = values.split_first() else {
-        return distance.is_empty();
-    };
-    let Some((far, further)) = distance.split_first() else {
-        return false;
-    };
-    let Some((place, places)) = into.split_first_mut() else {
-        return false;
-    };
-    let Some(there) = moved_back(*value, *far) else {
-        return false;
-    };
-    *place = there;
-    before(others, further, places)
-}
-
-/// The number of the iteration that lies so far before.
-fn sink_number(space: &Space, values: &[u64], distance: &[i64], into: &mut [u64]) -> Option<u64>
-    requires { length into.old ≡ length values.now }
-    ensures { MatchOption result (HasNoSink (vectors space.now) values.now distance.now)
-        (λ j. IsSinkAt (vectors space.now) values.now distance.now j) }
-{
-    if before(values, distance, into) {
-        space.number(into)
-    } else {
-        None
-    }
-}
-
 /// One more than the level of the iteration that lies so far before, if it is one and this is above what there is.
-fn raised(
-    space: &Space,
-    distance: &[i64],
-    values: &[u64],
-    into: &mut [u64],
-    levels: &[u64],
-    above: u64,
-) -> u64
+fn raised(space: &Space, distance: &[i64], values: &[u64], levels: &[u64], above: u64) -> u64
     requires rise { EachRises space.now }
     requires ahead { is_ahead distance.now ≡ true }
-    requires loops { length into.old ≡ length values.now }
+    requires loops { length values.now ≡ length space.now }
     requires at { slice_get (vectors space.now) (length levels.now) ≡ Some values.now }
     requires levels { (j : ℕ) → j < length levels.now → get_or levels.now j 0 ≤ j }
     requires fit { (j : ℕ) (w : Vector) → j < length levels.now
@@ -86,7 +31,7 @@ fn raised(
     ensures small { (ds : List Distance) → AreLevels (vectors space.now) ds levels.now
         → above ≤ length levels.now → result ≤ length levels.now }
 {
-    match sink_number(space, values, distance, into) {
+    match space.number_before(values, distance) {
         None => above,
         Some(number) => above.max(at(levels, number) + 1),
     }
@@ -94,16 +39,10 @@ fn raised(
 
 /// One more than the greatest level of the sinks of an iteration that lie in the space; 0 without one. The levels of the
 /// iterations before it are known.
-fn level_above(
-    space: &Space,
-    distances: &[Vec<i64>],
-    values: &[u64],
-    into: &mut [u64],
-    levels: &[u64],
-) -> u64
+fn level_above(space: &Space, distances: &[Vec<i64>], values: &[u64], levels: &[u64]) -> u64
     requires rise { EachRises space.now }
     requires ahead { list_all is_ahead (map (λ d. d.items) distances.now) ≡ true }
-    requires loops { length into.old ≡ length values.now }
+    requires loops { length values.now ≡ length space.now }
     requires at { slice_get (vectors space.now) (length levels.now) ≡ Some values.now }
     requires levels { AreLevels (vectors space.now) (map (λ d. d.items) distances.now) levels.now }
     ensures level { result
@@ -112,7 +51,7 @@ fn level_above(
 {
     let mut above = 0;
     for distance in distances {
-        above = raised(space, distance, values, into, levels, above);
+        above = raised(space, distance, values, levels, above);
     }
     above
 }
@@ -121,6 +60,16 @@ fn level_above(
 fn fit(values: &[u64])
     ensures { Fits values.now }
 {}
+
+/// Puts down the first iteration, if there is one.
+fn begin(space: &Space, values: &mut [u64])
+    requires { length values.old ≡ length space.now }
+    ensures { 0 < length (vectors space.now) → slice_get (vectors space.now) 0 ≡ Some values.new }
+{
+    if space.count() > 0 {
+        space.vector(0, values);
+    }
+}
 
 /// The level of each iteration, in the order of the space.
 ///
@@ -132,22 +81,21 @@ fn levels_by(
     space: &Space,
     distances: &[Vec<i64>],
     values: &mut [u64],
-    into: &mut [u64],
 ) -> Result<Vec<u64>, AllocError>
     requires rise { EachRises space.now }
     requires ahead { list_all is_ahead (map (λ d. d.items) distances.now) ≡ true }
     requires values { length values.old ≡ length space.now }
-    requires into { length into.old ≡ length space.now }
     ensures { IfOk result (λ ls. (length ls.items ≡ length (vectors space.now))
         × AreLevels (vectors space.now) (map (λ d. d.items) distances.now) ls.items) }
 {
     let count = space.count();
     let mut levels = Vec::with_capacity(alloc, count as usize)?;
-    for number in 0..count {
-        space.vector(number, values);
+    begin(space, values);
+    for _number in 0..count {
         fit(values);
-        let level = level_above(space, distances, values, into, &levels);
+        let level = level_above(space, distances, values, &levels);
         levels.push(level)?;
+        space.advance(values);
     }
     Ok(levels)
 }
@@ -165,8 +113,7 @@ pub fn levels(alloc: Global, space: &Space, sinks: &Sinks) -> Result<Waves, Refu
     ensures err { IfErr result (λ refusal. refusal ≡ Refusal.OutOfMemory) }
 {
     let mut values = Vec::from_elem(alloc, 0u64, sinks.loops)?;
-    let mut into = Vec::from_elem(alloc, 0u64, sinks.loops)?;
-    let levels = levels_by(alloc, space, &sinks.distances, &mut values, &mut into)?;
+    let levels = levels_by(alloc, space, &sinks.distances, &mut values)?;
     let waves = sorted(alloc, &levels)?;
     Ok(waves)
 }

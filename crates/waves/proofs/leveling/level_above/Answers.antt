@@ -1,4 +1,4 @@
-use Rattle.std.proofs.Common.{arith, rules, refl, sym, ap, ◌∙◌, map}
+use Rattle.std.proofs.Common.{arith, refl, sym, ap, ◌∙◌, map}
 use Rattle.std.proofs.lemmas.Option.{slice_get_read}
 use Rattle.semantics.specs.Loops.Order.{is_ahead}
 use Rattle.nest_space.specs.Space.{vectors}
@@ -8,7 +8,6 @@ use Rattle.waves.proofs.leveling.level_above.Goals as goal
 
 pub loop-distance-init : goal.loop-distance-init
 loop-distance-init c = (
-  c.requires.loops,
   omega arith,
   max_zero _
       ∙ sym (level_step (vectors c.args.space.now) (map (λ d. d.items) c.args.distances.now) _ c.args.values.now (sorted_vectors c.args.space.now c.requires.rise) c.requires.ahead c.requires.at),
@@ -23,8 +22,7 @@ pub loop-distance-preserved : goal.loop-distance-preserved
 loop-distance-preserved c =
     let item = slice_get_read c.args.distances.now _ c.loop-distance.distance-index c.distance-item.result refl (omega arith) c.distance-item.is in
     let ds = map (λ d. d.items) c.args.distances.now in (
-      search rules,
-      c.raised-above.ensures.small ds c.requires.levels c.loop-distance.invariant.1,
+      c.raised-above.ensures.small ds c.requires.levels c.loop-distance.invariant.0,
       above_step (vectors c.args.space.now) c.args.distances.now c.loop-distance.distance-index c.distance-item.result c.deref.result.now c.args.values.now c.loop-distance.above c.raised-above.result _ item c.deref.ensures.value
-          (c.raised-above.ensures.above ds c.requires.levels) c.loop-distance.invariant.2,
+          (c.raised-above.ensures.above ds c.requires.levels) c.loop-distance.invariant.1,
     )

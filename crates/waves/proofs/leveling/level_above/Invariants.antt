@@ -7,6 +7,5 @@ abbrev pub invariant-loop-distance : goal.invariant-loop-distance
 invariant-loop-distance l =
     let space = vectors l.space in
     let ds = map (λ d. d.items) l.distances in
-    (length l.into ≡ length l.values)
-    × (l.above ≤ length l.levels)
+    (l.above ≤ length l.levels)
     × (max l.above (one_above (map (level space ds) (sinks_of space (drop l.distance-index ds) l.values))) ≡ level space ds l.values)
