@@ -13,7 +13,7 @@ ghost use Rattle.inscan.specs.Passes.{IsFirstPass, IsSecondPass, LastsOfSecondPa
 use ktree::Refusal;
 use lower::LoweredLoop;
 use nest_space::Space;
-use overlay::{Piece, Start, Work, Worker};
+use overlay::{Order, Piece, Start, Work, Worker};
 use reduce::Partial;
 use std::alloc::Global;
 
@@ -47,7 +47,15 @@ pub fn first_pass(
     ensures store { worker.new ≡ worker.old }
     ensures refusal { IfErr result (λ refusal. refusal ≡ OutOfMemory) }
 {
-    let piece = worker.run_chunk(alloc, first, registers, space, work, Start::Reduction)?;
+    let piece = worker.run_chunk(
+        alloc,
+        first,
+        registers,
+        space,
+        Order::Sequential,
+        work,
+        Start::Reduction,
+    )?;
     Ok(first_partial(piece.partials.as_slice()))
 }
 
@@ -75,5 +83,13 @@ pub fn second_pass(
     ensures store { worker.new ≡ worker.old }
     ensures refusal { IfErr result (λ refusal. refusal ≡ OutOfMemory) }
 {
-    worker.run_chunk(alloc, second, registers, space, work, Start::Scan(start))
+    worker.run_chunk(
+        alloc,
+        second,
+        registers,
+        space,
+        Order::Sequential,
+        work,
+        Start::Scan(start),
+    )
 }

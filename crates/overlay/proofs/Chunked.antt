@@ -21,8 +21,11 @@ use Rattle.lower.specs.Lowered.{IsReached, IsSpaceOf}
 use Rattle.overlay.specs.declared.ending.Told.{Told}
 use Rattle.overlay.specs.declared.worker.Piece.{Piece}
 use Rattle.overlay.specs.declared.worker.Work.{Work}
+use Rattle.overlay.specs.declared.positions.Order.{Order}
+use Rattle.overlay.specs.declared.positions.Order.TheVariants.{Sequential, Listed}
 use Rattle.overlay.specs.declared.beginning.Start.{Start}
-use Rattle.overlay.specs.Chunks.{IsChunkFrom, IsLastFrom, AreLasts, started}
+use Rattle.overlay.specs.Chunks.{IsChunkFrom, IsLastFrom, AreLasts, TellsLastsBy, started}
+use Rattle.overlay.specs.Positions.{ordered, has_last}
 use Rattle.overlay.specs.Running.{IsRunOver}
 use Rattle.reduce.specs.Partial.{partial_of}
 use Rattle.overlay.specs.Spots.{held_at, begun_by}
@@ -31,18 +34,18 @@ use Rattle.overlay.proofs.Standing.{started_stands}
 use Rattle.overlay.proofs.Back.{all_back}
 use Rattle.overlay.proofs.Telling.{all_partials, lasts_are}
 
-module _ (l : LoweredLoop) (registers : List ℕ) (ks : List Kept) (ts : List Turns) (work : Work) (first : Start) (told : Told) (cells : List ℕ) (space : IsSpaceOf l registers ts)
-    (ran : IsRunOver l ts work first (machine registers (values_of ks)) told cells) where
+module _ (l : LoweredLoop) (registers : List ℕ) (ks : List Kept) (ts : List Turns) (order : Order) (work : Work) (first : Start) (told : Told) (cells : List ℕ) (space : IsSpaceOf l registers ts)
+    (ran : IsRunOver l ts order work first (machine registers (values_of ks)) told cells) where
   -- the machine behind the iterations stands for the state that they leave, and what they print is kept
-  behind_stands : (layout : List Laid) (mark : ℕ) (roles : Roles) (loops : List Loop) (body : Stmt) (outer : State) (us : List Vector) (e : Effect) → IsReached layout mark roles loops body outer us l registers ks → walk loops body (take work.count (drop work.first us)) (started first roles.reductions outer) ≡ Some e
+  behind_stands : (layout : List Laid) (mark : ℕ) (roles : Roles) (loops : List Loop) (body : Stmt) (outer : State) (us : List Vector) (e : Effect) → IsReached layout mark roles loops body outer us l registers ks → walk loops body (take work.count (drop work.first (ordered order us))) (started first roles.reductions outer) ≡ Some e
       → Leads layout mark (started first roles.reductions outer) (running (begun_by first l.roles.reductions.items ran.start) []) e (running ran.runs.behind told.text.bytes)
   behind_stands layout mark roles loops body outer us e r is =
       let all : us ≡ vectors ts = space layout mark roles loops body outer us ks r in
       ran.runs.walks layout mark r.box roles loops body r.lowered (started first roles.reductions outer) e
       (started_stands layout mark first ran.runs.word roles.reductions l.roles.reductions.items outer ran.start r.lowered.roles_at.reductions r.held (as_copied layout mark outer (machine registers (values_of ks)) ran.start ran.copied r.stand.machine))
-      (subst (λ vs. walk loops body (take work.count (drop work.first vs)) (started first roles.reductions outer) ≡ Some e) all is)
+      (subst (λ vs. walk loops body (take work.count (drop work.first (ordered order vs))) (started first roles.reductions outer) ≡ Some e) all is)
 
-  pub chunk_of : (p : Piece) → written_over (writes_of p.changes) (values_of ks) ≡ cells → p.partials ≡ told.partials → p.text ≡ told.text → IsChunkFrom first l registers ks work p
+  pub chunk_of : (p : Piece) → written_over (writes_of p.changes) (values_of ks) ≡ cells → p.partials ≡ told.partials → p.text ≡ told.text → IsChunkFrom first order l registers ks work p
   chunk_of p left partials text layout mark roles loops body outer us e r is =
       let led = behind_stands layout mark roles loops body outer us e r is in
       let stands = led.machine in
@@ -58,13 +61,8 @@ module _ (l : LoweredLoop) (registers : List ℕ) (ks : List Kept) (ts : List Tu
         text = ap (λ t. t.bytes) text ∙ led.text;
       }
 
-  pub last_of : (p : Piece) → p.lasts ≡ told.lasts → IsLastFrom first l registers ks work p
-  last_of p lasts layout mark roles loops body outer us e r is =
-      record {
-        last = λ h. subst (λ vs. AreLasts roles.lasts behind vs) (sym (told_is ∙ ap (λ b. cond b values []) (eq-eqb (work.first + work.count) (length (vectors ts)) (h ∙ count))))
-            (lasts_are layout mark behind ran.runs.behind roles.lasts l.roles.lasts.items stands r.lowered.roles_at.lasts);
-        other = λ h. told_is ∙ ap (λ b. cond b values []) (not_last h (work.first + work.count == length (vectors ts)) refl);
-      }
+  pub last_of : (p : Piece) → p.lasts ≡ told.lasts → IsLastFrom first order l registers ks work p
+  last_of p lasts layout mark roles loops body outer us e r is = tells order (ap (λ vs. vs.items) lasts ∙ ran.runs.told_of.lasts)
     where
       behind : State
       behind = overwritten (started first roles.reductions outer) e.writes
@@ -75,12 +73,18 @@ module _ (l : LoweredLoop) (registers : List ℕ) (ks : List Kept) (ts : List Tu
       values : List ℕ
       values = map (λ at. held_at at ran.runs.behind) l.roles.lasts.items
 
-      told_is : p.lasts.items ≡ cond (work.first + work.count == length (vectors ts)) values []
-      told_is = ap (λ vs. vs.items) lasts ∙ ran.runs.told_of.lasts
-
       count : length us ≡ length (vectors ts)
       count = ap (λ (vs : List Vector). length vs) (space layout mark roles loops body outer us ks r)
 
       not_last : (work.first + work.count ≡ length us → ⊥) → (b : Bool) → (work.first + work.count == length (vectors ts)) ≡ b → (work.first + work.count == length (vectors ts)) ≡ false
       not_last h true e = absurd (h (eqb-true (work.first + work.count) (length (vectors ts)) e ∙ sym count))
       not_last h false e = e
+
+      tells : (o : Order) → p.lasts.items ≡ cond (has_last o (vectors ts) work) values [] → TellsLastsBy o roles behind us work p.lasts.items
+      tells Sequential told_is =
+          record {
+            last = λ h. subst (λ vs. AreLasts roles.lasts behind vs) (sym (told_is ∙ ap (λ b. cond b values []) (eq-eqb (work.first + work.count) (length (vectors ts)) (h ∙ count))))
+                (lasts_are layout mark behind ran.runs.behind roles.lasts l.roles.lasts.items stands r.lowered.roles_at.lasts);
+            other = λ h. told_is ∙ ap (λ b. cond b values []) (not_last h (work.first + work.count == length (vectors ts)) refl);
+          }
+      tells (Listed numbers) told_is = told_is

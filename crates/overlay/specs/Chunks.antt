@@ -23,8 +23,11 @@ use Rattle.lower.specs.declared.lowered.LoweredLoop.{LoweredLoop}
 use Rattle.lower.specs.Lowered.{IsReached}
 use Rattle.overlay.specs.declared.beginning.Start.{Start}
 use Rattle.overlay.specs.declared.beginning.Start.TheVariants.{Reduction, Scan}
+use Rattle.overlay.specs.declared.positions.Order.{Order}
+use Rattle.overlay.specs.declared.positions.Order.TheVariants.{Sequential, Listed}
 use Rattle.overlay.specs.declared.worker.Piece.{Piece}
 use Rattle.overlay.specs.declared.worker.Work.{Work}
+use Rattle.overlay.specs.Positions.{ordered}
 
 -- the state in which a chunk begins: its reduction variables take what a chunk may begin with, or a number that is given
 abbrev pub started : Start → List (Variable × ReduceOp) → State → State
@@ -45,16 +48,16 @@ pub record LeavesPiece (layout : List Laid) (roles : Roles) (outer start : State
   pub partials : AreHeld roles.reductions (overwritten start e.writes) → map partial_of p.partials.items ≡ map (λ r. changed_from start e r.0) roles.reductions
   pub text : p.text.bytes ≡ e.text
 
--- wherever the loop is reached with these registers and this store, and the iterations of a chunk have a run one after another from its start there, its effect is told
-abbrev pub IsChunkFrom : Start → LoweredLoop → List ℕ → List Kept → Work → Piece → Type 0
-IsChunkFrom start l registers ks work p =
+-- wherever the loop is reached with these registers and this store, and the iterations of a chunk, taken in this order, have a run one after another from its start there, its effect is told
+abbrev pub IsChunkFrom : Start → Order → LoweredLoop → List ℕ → List Kept → Work → Piece → Type 0
+IsChunkFrom start order l registers ks work p =
     (layout : List Laid) (mark : ℕ) (roles : Roles) (loops : List Loop) (body : Stmt) (outer : State) (us : List Vector) (e : Effect)
-    → IsReached layout mark roles loops body outer us l registers ks → walk loops body (take work.count (drop work.first us)) (started start roles.reductions outer) ≡ Some e
+    → IsReached layout mark roles loops body outer us l registers ks → walk loops body (take work.count (drop work.first (ordered order us))) (started start roles.reductions outer) ≡ Some e
     → LeavesPiece layout roles outer (started start roles.reductions outer) ks e p
 
--- so it is from where a chunk may begin
+-- so it is from where a chunk may begin, of iterations in their own order
 abbrev pub IsChunkOf : LoweredLoop → List ℕ → List Kept → Work → Piece → Type 0
-IsChunkOf l registers ks work p = IsChunkFrom Reduction l registers ks work p
+IsChunkOf l registers ks work p = IsChunkFrom Reduction Sequential l registers ks work p
 
 -- of each lastprivate variable what it holds behind an effect, where it holds a number
 pub record AreLasts (xs : List Variable) (behind : State) (lasts : List ℕ) : Type 0 where
@@ -66,9 +69,14 @@ pub record TellsLasts (roles : Roles) (behind : State) (us : List Vector) (work 
   pub last : work.first + work.count ≡ length us → AreLasts roles.lasts behind lasts
   pub other : (work.first + work.count ≡ length us → ⊥) → lasts ≡ []
 
+-- in their own order; a chunk of listed iterations tells none
+abbrev pub TellsLastsBy : Order → Roles → State → List Vector → Work → List ℕ → Type 0
+TellsLastsBy Sequential roles behind us work lasts = TellsLasts roles behind us work lasts
+TellsLastsBy (Listed numbers) roles behind us work lasts = lasts ≡ []
+
 -- so it does wherever the loop is reached
-abbrev pub IsLastFrom : Start → LoweredLoop → List ℕ → List Kept → Work → Piece → Type 0
-IsLastFrom start l registers ks work p =
+abbrev pub IsLastFrom : Start → Order → LoweredLoop → List ℕ → List Kept → Work → Piece → Type 0
+IsLastFrom start order l registers ks work p =
     (layout : List Laid) (mark : ℕ) (roles : Roles) (loops : List Loop) (body : Stmt) (outer : State) (us : List Vector) (e : Effect)
-    → IsReached layout mark roles loops body outer us l registers ks → walk loops body (take work.count (drop work.first us)) (started start roles.reductions outer) ≡ Some e
-    → TellsLasts roles (overwritten (started start roles.reductions outer) e.writes) us work p.lasts.items
+    → IsReached layout mark roles loops body outer us l registers ks → walk loops body (take work.count (drop work.first (ordered order us))) (started start roles.reductions outer) ≡ Some e
+    → TellsLastsBy order roles (overwritten (started start roles.reductions outer) e.writes) us work p.lasts.items

@@ -1,5 +1,6 @@
 pub mod Chunks
 pub mod Ending
+pub mod Positions
 pub mod Running
 pub mod Spots
 pub mod Walking

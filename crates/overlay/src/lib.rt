@@ -3,10 +3,12 @@
 
 mod beginning;
 mod ending;
+mod positions;
 mod running;
 mod spots;
 mod walking;
 mod worker;
 
 pub use beginning::Start;
+pub use positions::Order;
 pub use worker::{Bench, Piece, Work, Worker};

@@ -1,14 +1,16 @@
 //! A chunk's iterations, from what its reduction variables begin with to what is told of them.
 
-ghost use Rattle.std.specs.Prelude.{◌≡◌, ◌+◌, ◌≤◌, ◌==◌, length, IfOk};
+ghost use Rattle.std.specs.Prelude.{◌≡◌, ◌+◌, ◌≤◌, length, IfOk};
 ghost use Rattle.store.specs.Flat.{values_of};
 ghost use Rattle.nest_space.specs.Space.{vectors};
 ghost use Rattle.lower_code.specs.Machine.{machine};
 ghost use Rattle.overlay_pages.specs.Seen.{cells_of};
+ghost use Rattle.overlay.specs.Positions.{ordered, AreNumbersOf, has_last};
 ghost use Rattle.overlay.specs.Running.{IsRun, IsRunOver};
 
 use crate::beginning::{Start, begin, confirm_word};
 use crate::ending::{Told, put_roles_back, tell};
+use crate::positions::Order;
 use crate::walking::{copy_registers, end_of, run_iterations};
 use crate::worker::Work;
 use lower::{LoweredLoop, LoweredReduction, Spot};
@@ -16,12 +18,15 @@ use nest_space::Space;
 use overlay_pages::Chunk;
 use std::alloc::{AllocError, Global};
 
-// Whether a chunk has the last iteration.
-fn has_last(space: &Space, work: Work) -> bool
-    requires { work.first + work.count ≤ length (vectors space.now) }
-    ensures { result ≡ (work.first + work.count == length (vectors space.now)) }
+// Whether a chunk counts as the one with the last iteration.
+fn has_last(space: &Space, order: Order, work: Work) -> bool
+    requires { work.first + work.count ≤ length (ordered order (vectors space.now)) }
+    ensures { result ≡ has_last order.entry (vectors space.now) work }
 {
-    end_of(space, work) == space.count()
+    match order {
+        Order::Sequential => end_of(space, work) == space.count(),
+        Order::Listed(_) => false,
+    }
 }
 
 // Has the first reduction variable, if it stands at file scope, where its cell is read and written soonest.
@@ -41,15 +46,17 @@ fn run_from(
     lowered: &LoweredLoop,
     before: &[u64],
     space: &Space,
+    order: Order,
     work: Work,
     start: Start,
     registers: &mut [u64],
     cells: &mut Chunk<'_>,
 ) -> Result<Told, AllocError>
     requires loops { length space.now ≡ length lowered.now.loops.items }
-    requires work { work.first + work.count ≤ length (vectors space.now) }
+    requires work { work.first + work.count ≤ length (ordered order (vectors space.now)) }
+    requires numbers { AreNumbersOf order (vectors space.now) }
     requires wide { lowered.now.body.registers ≤ length registers.old }
-    ensures ran { IfOk result (λ told. IsRun lowered.now space.now work start
+    ensures ran { IfOk result (λ told. IsRun lowered.now space.now order.entry work start
         (machine before.now (values_of cells.old.store))
         (machine registers.old (cells_of cells.old)) told (cells_of cells.new)) }
     ensures store { cells.new.store ≡ cells.old.store }
@@ -58,8 +65,8 @@ fn run_from(
     let reductions = lowered.roles.reductions.as_slice();
     begin(reductions, start, registers, cells);
     bring_near(reductions, cells);
-    let text = run_iterations(alloc, lowered, space, work, registers, cells)?;
-    let has_last = has_last(space, work);
+    let text = run_iterations(alloc, lowered, space, order, work, registers, cells)?;
+    let has_last = has_last(space, order, work);
     let told = tell(
         alloc,
         &lowered.roles,
@@ -85,15 +92,17 @@ pub fn run_copied(
     lowered: &LoweredLoop,
     registers: &[u64],
     space: &Space,
+    order: Order,
     work: Work,
     start: Start,
     own: &mut Vec<u64>,
     cells: &mut Chunk<'_>,
 ) -> Result<Told, AllocError>
     requires loops { length space.now ≡ length lowered.now.loops.items }
-    requires work { work.first + work.count ≤ length (vectors space.now) }
+    requires work { work.first + work.count ≤ length (ordered order (vectors space.now)) }
+    requires numbers { AreNumbersOf order (vectors space.now) }
     requires unwritten { cells_of cells.old ≡ values_of cells.old.store }
-    ensures ran { IfOk result (λ told. IsRunOver lowered.now space.now work start
+    ensures ran { IfOk result (λ told. IsRunOver lowered.now space.now order.entry work start
         (machine registers.now (values_of cells.old.store)) told (cells_of cells.new)) }
     ensures store { cells.new.store ≡ cells.old.store }
 {
@@ -103,6 +112,7 @@ pub fn run_copied(
         lowered,
         registers,
         space,
+        order,
         work,
         start,
         own.as_mut_slice(),

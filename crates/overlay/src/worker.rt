@@ -8,9 +8,11 @@ ghost use Rattle.overlay_pages.specs.Over.{writes_of, written_over, AreOnce};
 ghost use Rattle.overlay_pages.specs.Seen.{cells_of};
 ghost use Rattle.lower.specs.Lowered.{IsSpaceOf};
 ghost use Rattle.overlay.specs.Chunks.{IsChunkFrom, IsLastFrom, ChangeOnly};
+ghost use Rattle.overlay.specs.Positions.{ordered, AreNumbersOf};
 
 use crate::beginning::Start;
 use crate::ending::Told;
+use crate::positions::Order;
 use crate::running::run_copied;
 use ktree::{ChunkNo, Refusal};
 use lower::LoweredLoop;
@@ -22,7 +24,8 @@ use std::alloc::{AllocError, Global};
 use std::marker::Model;
 use store::Store;
 
-/// The iterations of a chunk: so many from a first one on, by their numbers in sequential order (OpenMP 5.2, 11.5).
+/// The iterations of a chunk: those at so many positions from a first one on, in the order in which a loop's iterations are taken (OpenMP
+/// 5.2, 11.5).
 #[derive(Clone, Copy, Debug, PartialEq, Eq)]
 pub struct Work {
     pub chunk: ChunkNo,
@@ -101,6 +104,7 @@ fn run_whole(
     lowered: &LoweredLoop,
     registers: &[u64],
     space: &Space,
+    order: Order,
     work: Work,
     start: Start,
     own: &mut Vec<u64>,
@@ -108,13 +112,14 @@ fn run_whole(
 ) -> Result<Piece, Refusal>
     requires loops { length space.now ≡ length lowered.now.loops.items }
     requires space { IsSpaceOf lowered.now registers.now space.now }
-    requires work { work.first + work.count ≤ length (vectors space.now) }
+    requires work { work.first + work.count ≤ length (ordered order (vectors space.now)) }
+    requires numbers { AreNumbersOf order (vectors space.now) }
     requires unwritten { cells.old.written
         ≡ replicate (length (values_of cells.old.store)) None }
     ensures leaves { IfOk result
-        (IsChunkFrom start lowered.now registers.now cells.old.store work) }
+        (IsChunkFrom start order.entry lowered.now registers.now cells.old.store work) }
     ensures last { IfOk result
-        (IsLastFrom start lowered.now registers.now cells.old.store work) }
+        (IsLastFrom start order.entry lowered.now registers.now cells.old.store work) }
     ensures only { IfOk result (λ piece. ChangeOnly cells.old.store piece.changes) }
     ensures once { IfOk result (λ piece. AreOnce piece.changes) }
     ensures refusal { IfErr result (λ refusal. refusal ≡ OutOfMemory) }
@@ -122,7 +127,9 @@ fn run_whole(
     ensures unwritten { cells.new.written
         ≡ replicate (length (values_of cells.new.store)) None }
 {
-    match run_copied(alloc, lowered, registers, space, work, start, own, cells) {
+    match run_copied(
+        alloc, lowered, registers, space, order, work, start, own, cells,
+    ) {
         Ok(told) => Ok(finish(alloc, told, cells)?),
         Err(AllocError) => {
             cells.clear();
@@ -190,7 +197,8 @@ impl<'s> Worker<'s> {
         }
     }
 
-    /// Runs a chunk from the store before the loop and from registers that stand as before it, and tells what it leaves and prints.
+    /// Runs a chunk, whose iterations are taken in this order, from the store before the loop and from registers that stand as before it,
+    /// and tells what it leaves and prints. A chunk of listed iterations tells no values of lastprivate variables.
     ///
     /// A reduction variable begins with its operator's identity, or of && and || with what it held before the loop, or with the number
     /// that is given; its partial is what it holds in the end, unless that is what it began with.
@@ -204,17 +212,19 @@ impl<'s> Worker<'s> {
         lowered: &LoweredLoop,
         registers: &[u64],
         space: &Space,
+        order: Order,
         work: Work,
         start: Start,
     ) -> Result<Piece, Refusal>
         requires loops { length space.now ≡ length lowered.now.loops.items }
         requires space { IsSpaceOf lowered.now registers.now space.now }
-        requires work { work.first + work.count ≤ length (vectors space.now) }
+        requires work { work.first + work.count ≤ length (ordered order (vectors space.now)) }
+        requires numbers { AreNumbersOf order (vectors space.now) }
         ensures store { self.new ≡ self.old }
         ensures leaves { IfOk result
-            (IsChunkFrom start lowered.now registers.now self.old work) }
+            (IsChunkFrom start order.entry lowered.now registers.now self.old work) }
         ensures last { IfOk result
-            (IsLastFrom start lowered.now registers.now self.old work) }
+            (IsLastFrom start order.entry lowered.now registers.now self.old work) }
         ensures only { IfOk result (λ piece. ChangeOnly self.old piece.changes) }
         ensures once { IfOk result (λ piece. AreOnce piece.changes) }
         ensures refusal { IfErr result (λ refusal. refusal ≡ OutOfMemory) }
@@ -224,6 +234,7 @@ impl<'s> Worker<'s> {
             lowered,
             registers,
             space,
+            order,
             work,
             start,
             &mut self.registers,

@@ -9,7 +9,7 @@ use lower_block::{Compiled, compile};
 use lower_code::{Code, layout_of, mark_among, statement};
 use nest_loop::{Canonical, canonical_of};
 use nest_space::Space;
-use overlay::{Piece, Start, Work, Worker};
+use overlay::{Order, Piece, Start, Work, Worker};
 use overlay_pages::Changes;
 use std::alloc::Global;
 use std::process::Abort;
@@ -163,7 +163,15 @@ pub(crate) fn chunk(
         return None;
     }
     worker
-        .run_chunk(alloc, lowered, registers, &space, work, Start::Reduction)
+        .run_chunk(
+            alloc,
+            lowered,
+            registers,
+            &space,
+            Order::Sequential,
+            work,
+            Start::Reduction,
+        )
         .ok()
 }
 

@@ -14,12 +14,12 @@ nothing_over ks = replicate (length (values_of ks)) None
 pub returns-in_ok-finish-in-Ok-clause-leaves : goal.returns-in_ok-finish-in-Ok-clause-leaves
 returns-in_ok-finish-in-Ok-clause-leaves c =
     let p = c.in_ok-finish-in-Ok.field-0 in
-    chunk_of c.args.lowered.now c.args.registers.now c.args.cells.now.store c.args.space.now c.args.work c.args.start c.in-Ok.told (cells_of c.run_copied.new.cells) c.requires.space c.in-Ok.ensures.ran p
+    chunk_of c.args.lowered.now c.args.registers.now c.args.cells.now.store c.args.space.now c.args.order c.args.work c.args.start c.in-Ok.told (cells_of c.run_copied.new.cells) c.requires.space c.in-Ok.ensures.ran p
     (ap (λ (ks : List Kept). written_over (writes_of p.changes) (values_of ks)) (sym c.run_copied.ensures.store) ∙ c.in_ok-finish-in-Ok.ensures.leave) c.in_ok-finish-in-Ok.ensures.partials c.in_ok-finish-in-Ok.ensures.text
 
 pub returns-in_ok-finish-in-Ok-clause-last : goal.returns-in_ok-finish-in-Ok-clause-last
 returns-in_ok-finish-in-Ok-clause-last c =
-    last_of c.args.lowered.now c.args.registers.now c.args.cells.now.store c.args.space.now c.args.work c.args.start c.in-Ok.told (cells_of c.run_copied.new.cells) c.requires.space c.in-Ok.ensures.ran
+    last_of c.args.lowered.now c.args.registers.now c.args.cells.now.store c.args.space.now c.args.order c.args.work c.args.start c.in-Ok.told (cells_of c.run_copied.new.cells) c.requires.space c.in-Ok.ensures.ran
     c.in_ok-finish-in-Ok.field-0 c.in_ok-finish-in-Ok.ensures.lasts
 
 pub returns-in-Err-clause-unwritten : goal.returns-in-Err-clause-unwritten
