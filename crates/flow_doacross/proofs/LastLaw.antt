@@ -4,7 +4,8 @@ use Rattle.std.proofs.Common.{refl, sym, ap, ◌∙◌}
 use Rattle.semantics.specs.Loops.Nest.{holds_none}
 use Rattle.ktree.specs.View.{stmt_of, items_of}
 use Rattle.ktree.specs.declared.statement.Item.{Item, Directive, Local, Statement'}
-use Rattle.flow_doacross.specs.Lines.{is_source_line, is_doacross_line, has_doacross, have_doacross}
+use Rattle.pragma_region.specs.Regions.{is_doacross_line}
+use Rattle.flow_doacross.specs.Lines.{is_source_line, has_doacross, have_doacross}
 use Rattle.flow_doacross.specs.Bodies.{ends_in_source}
 use Rattle.flow_doacross.specs.Views.{item_source}
 

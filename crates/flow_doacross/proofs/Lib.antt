@@ -4,8 +4,7 @@ pub mod LastLaw
 pub mod FrontLaw
 pub mod NamesLaw
 pub mod WithoutLaw
+pub mod NestIs
+pub mod AheadLaw
 pub mod StandLaw
-pub mod TellLaw
-pub mod EarlierLaw
-pub mod FarLaw
 pub mod CountLaw

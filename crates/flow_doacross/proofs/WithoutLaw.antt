@@ -1,11 +1,12 @@
 -- Nests without some of their directive lines.
-use Rattle.std.specs.Prelude.{ℕ, zero, suc, Bool, ◌≡◌, List, ◌∷◌, Option, Some, None, option_and_then}
+use Rattle.std.specs.Prelude.{ℕ, zero, suc, Bool, true, false, ◌&&◌, if◌then◌else◌, ◌≡◌, List, ◌∷◌, Option, Some, None, option_and_then}
 use Rattle.std.proofs.Common.{refl, ap, ◌∙◌}
 use Rattle.std.proofs.lemmas.Option.{none-some}
 use Rattle.semantics.specs.Tree.{Stmt, Assign, Update, If, IfElse, For, Block, Print, Items, no_items, mark, local, stmt}
 use Rattle.semantics.specs.Meaning.Value.{map_option}
 use Rattle.semantics.specs.Loops.Nest.{Loop, as_loop, only_loop, nest_of}
 use Rattle.law_lines.specs.Without.{without_in, without_among}
+use Rattle.law_waves.specs.Silent.{is_silent, are_silent}
 
 module _ (out : ℕ → Bool) where
   -- what stands first as it was, and what is run without these lines
@@ -53,3 +54,24 @@ module _ (out : ℕ → Bool) where
       by : (o : Option (Loop × Stmt)) → as_loop s ≡ o → Inside → levels n o ≡ Some (loops, body) → nest_of (suc n) (without_in out s) ≡ Some (loops, without_in out body)
       by None f rest g = absurd (none-some (loops, body) g)
       by (Some (h, b)) f rest g = inner h b f (nest_of n b) refl rest g
+
+  mutual
+    -- and what prints nothing prints nothing
+    pub silent_kept : (s : Stmt) → is_silent (without_in out s) ≡ is_silent s
+    silent_kept (Assign x is e) = refl
+    silent_kept (Update x is op e) = refl
+    silent_kept (If c a) = silent_kept a
+    silent_kept (IfElse c a b) = ap (λ t. t && is_silent (without_in out b)) (silent_kept a) ∙ ap (λ t. is_silent a && t) (silent_kept b)
+    silent_kept (For x name start test step body) = silent_kept body
+    silent_kept (Block items) = all_silent_kept items
+    silent_kept (Print parts) = refl
+
+    all_silent_kept : (items : Items) → are_silent (without_among out items) ≡ are_silent items
+    all_silent_kept no_items = refl
+    all_silent_kept (mark n rest) = by (out n) (all_silent_kept rest)
+      where
+        by : (b : Bool) → are_silent (without_among out rest) ≡ are_silent rest → are_silent (if b then without_among out rest else mark n (without_among out rest)) ≡ are_silent rest
+        by true e = e
+        by false e = e
+    all_silent_kept (local x name start rest) = all_silent_kept rest
+    all_silent_kept (stmt s rest) = ap (λ t. t && are_silent (without_among out rest)) (silent_kept s) ∙ ap (λ t. is_silent s && t) (all_silent_kept rest)

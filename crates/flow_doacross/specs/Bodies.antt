@@ -5,7 +5,8 @@ use Rattle.semantics.specs.Tree.{Name, Stmt, Assign, Update, If, IfElse, For, Bl
 use Rattle.semantics.specs.Meaning.State.{same_indexes}
 use Rattle.semantics.specs.Loops.Nest.{holds_none}
 use Rattle.semantics.specs.Loops.Order.{Distance, is_ahead}
-use Rattle.flow_doacross.specs.Lines.{Elements, sink_on, is_source_line, is_doacross_line, has_doacross}
+use Rattle.pragma_region.specs.Regions.{is_doacross_line}
+use Rattle.flow_doacross.specs.Lines.{Elements, sink_on, is_source_line, has_doacross}
 
 -- ---- a sink
 

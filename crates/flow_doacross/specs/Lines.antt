@@ -1,9 +1,11 @@
 -- What directive lines say of a doacross nest, and where its lines stand. (OpenMP 5.2, 4.4.4, 15.9.6 and 15.10)
-use Rattle.std.specs.Prelude.{ℕ, Bool, true, false, ◌||◌, if◌then◌else◌, List, Option, Some, None, is_some, ℤ}
+use Rattle.std.specs.Prelude.{ℕ, Bool, true, false, ◌==◌, ◌||◌, if◌then◌else◌, List, Option, Some, None, option_map, option_and_then, ℤ}
 use Rattle.semantics.specs.Tree.{Name, Variable, Stmt, Assign, Update, If, IfElse, For, Block, Print, Items, no_items, mark, local, stmt}
 use Rattle.semantics.specs.Directives.Directive.{Clause, Lastprivate, LastConditional, Reduction, Inscan, Collapse, Directive, DoacrossSource, DoacrossSink}
+use Rattle.pragma.specs.Clauses.{Said, loop_of}
+use Rattle.pragma.specs.Parallel.{associated}
 use Rattle.pragma_attach.specs.Standing.{directive_on}
-use Rattle.pragma_region.specs.Regions.{is_left_out}
+use Rattle.pragma_region.specs.Regions.{is_doacross_line, is_left_out}
 
 -- the elements of a sink: the names of a nest's variables, each with its offset
 abbrev pub Elements : Type 0
@@ -25,17 +27,22 @@ is_source _ = false
 abbrev pub is_source_line : List ℕ → ℕ → Bool
 is_source_line text n = is_source (directive_on text n)
 
--- a sink or the source does
-abbrev pub is_doacross_line : List ℕ → ℕ → Bool
-is_doacross_line text n = is_some (sink_on text n) || is_source_line text n
-
--- a line that stands before no loop
-abbrev pub is_passed : List ℕ → ℕ → Bool
-is_passed text n = is_left_out text n || is_doacross_line text n
-
--- the line before the next item
+-- the line before the next item: those that stand before no loop are passed
 abbrev pub line_before : List ℕ → Option ℕ → ℕ → Option ℕ
-line_before text before n = if is_passed text n then before else Some n
+line_before text before n = if is_left_out text n then before else Some n
+
+-- how many loops the directive on a line associates, where it is a loop's (OpenMP 5.2, 4.4.3 and 4.4.4)
+abbrev pub associated_on : List ℕ → ℕ → Option ℕ
+associated_on text n = option_map (λ (said : Said). associated said.1) (option_and_then loop_of (directive_on text n))
+
+-- there is a number, and it is d
+abbrev pub is_number : Option ℕ → ℕ → Bool
+is_number None d = false
+is_number (Some m) d = m == d
+
+-- it associates d loops
+abbrev pub associates : List ℕ → ℕ → ℕ → Bool
+associates text n d = is_number (associated_on text n) d
 
 -- a clause that may stand beside `ordered(d)`: it joins no loops, reduces nothing and gives no last value
 abbrev pub suits_doacross : Clause Variable → Bool

@@ -1,5 +1,5 @@
 -- The doacross nests of a kernel, each with its sinks. (OpenMP 5.2, 15.9.6 and 15.10.2)
-use Rattle.std.specs.Prelude.{ℕ, ◌^◌, Bool, nat_lt, filter, List, [], ◌∷◌, ◌++◌, map, Option, Some, None, ℤ, pos, negsuc}
+use Rattle.std.specs.Prelude.{ℕ, ◌^◌, Bool, ◌==◌, nat_lt, if◌then◌else◌, filter, List, [], ◌∷◌, ◌++◌, map, Option, Some, None, ℤ, pos, negsuc}
 use Rattle.std.specs.List.{list_all}
 use Rattle.semantics.specs.Tree.{Stmt, Assign, Update, If, IfElse, For, Block, Print, Items, no_items, mark, local, stmt, Kernel}
 use Rattle.semantics.specs.Loops.Order.{Distance}
@@ -57,3 +57,8 @@ abbrev mutual
 -- those of a kernel
 abbrev pub doacross_of : List ℕ → Lines → Kernel → List NestPart
 doacross_of text lines k = parts_among text lines None k.body
+
+-- what is told of the nest behind the line of this number: of the first that is there
+abbrev pub nest_at : List NestPart → ℕ → Option (List Distance)
+nest_at [] line = None
+nest_at (p ∷ ps) line = if p.line == line then Some p.distances else nest_at ps line

@@ -10,8 +10,10 @@ use Rattle.nest_loop.specs.declared.stride.Direction.{Direction}
 use Rattle.nest_loop.specs.declared.stride.Direction.TheVariants.{Rising, Falling}
 use Rattle.nest_loop.specs.declared.head.Canonical.{Canonical}
 use Rattle.pragma_named.specs.Known.{Lines}
+use Rattle.law_waves.specs.Silent.{is_silent}
 use Rattle.flow.specs.Private.{nest_body_of}
-use Rattle.flow_doacross.specs.Lines.{is_doacross_line, line_before, suits_doacross}
+use Rattle.pragma_region.specs.Regions.{is_doacross_line}
+use Rattle.flow_doacross.specs.Lines.{associates, line_before, suits_doacross}
 use Rattle.flow_doacross.specs.Bodies.{loop_names, is_ordered_body}
 
 -- ---- a nest
@@ -34,21 +36,28 @@ abbrev pub all_count_up : Option (List Loop × Stmt) → Bool
 all_count_up None = false
 all_count_up (Some nest) = list_all counts_up nest.0
 
--- a statement is a nest of d loops, as `ordered(d)` among these clauses asks for
-abbrev pub is_doacross_nest : List ℕ → ℕ → List (Clause Variable) → Stmt → Bool
-is_doacross_nest text d cs s = list_all suits_doacross cs && all_count_up (nest_of d s) && is_ordered_body text d (loop_names s) (nest_body_of d s)
+-- a body is there, and prints nothing
+abbrev pub prints_nothing : Option Stmt → Bool
+prints_nothing None = false
+prints_nothing (Some body) = is_silent body
+
+-- a statement behind the line of number n is a nest of d loops, as `ordered(d)` among these clauses asks for
+abbrev pub is_doacross_nest : List ℕ → ℕ → ℕ → List (Clause Variable) → Stmt → Bool
+is_doacross_nest text n d cs s =
+    associates text n d && list_all suits_doacross cs && all_count_up (nest_of d s) && prints_nothing (nest_body_of d s)
+    && is_ordered_body text d (loop_names s) (nest_body_of d s)
 
 -- ---- the nests of a kernel
 
 -- a statement by what the clauses of the line before say; inside: what is judged where they make no nest of it
-abbrev pub nest_by : List ℕ → Option ℕ → List (Clause Variable) → Stmt → Bool → Bool
-nest_by text None cs s inside = inside
-nest_by text (Some d) cs s inside = is_doacross_nest text d cs s
+abbrev pub nest_by : List ℕ → ℕ → Option ℕ → List (Clause Variable) → Stmt → Bool → Bool
+nest_by text n None cs s inside = inside
+nest_by text n (Some d) cs s inside = is_doacross_nest text n d cs s
 
 -- behind a line, or behind none
 abbrev pub nest_behind : List ℕ → Lines → Option ℕ → Stmt → Bool → Bool
 nest_behind text lines None s inside = inside
-nest_behind text lines (Some n) s inside = nest_by text (doacross_of (lines n)) (lines n) s inside
+nest_behind text lines (Some n) s inside = nest_by text n (doacross_of (lines n)) (lines n) s inside
 
 abbrev mutual
   -- each nest in a statement is right, and no sink and no source stands in it elsewhere

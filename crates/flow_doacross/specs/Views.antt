@@ -24,17 +24,13 @@ use Rattle.pragma_region.specs.Listed.{line_of}
 abbrev pub place_told : DoacrossFault → Place
 place_told (told.Line place) = place
 place_told (told.Nest place) = place
+place_told (told.Printed place) = place
 place_told (told.Sink place) = place
 place_told (told.Name place) = place
 
 -- the elements of a sink, by their names
 abbrev pub elements_of : List (SinkElement Written) → Elements
 elements_of es = map (element_of name_of) es
-
--- a number of loops, or else that of further clauses
-abbrev pub or_loops : Option ℕ → Option ℕ → Option ℕ
-or_loops None further = further
-or_loops (Some n) further = Some n
 
 -- what is decided, or else what further offsets say
 abbrev pub leads : Option Bool → Bool → Bool

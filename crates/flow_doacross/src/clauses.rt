@@ -5,9 +5,9 @@ ghost use Rattle.std.specs.List.{list_all};
 ghost use Rattle.semantics.specs.Tree.{Variable};
 ghost use Rattle.semantics.specs.Directives.Directive.{Clause as Over};
 ghost use Rattle.semantics.specs.Directives.Clauses.{doacross_of};
+ghost use Rattle.pragma.specs.Views.{or_loops};
 ghost use Rattle.pragma_named.specs.Views.{resolved_clause};
 ghost use Rattle.flow_doacross.specs.Lines.{suits_doacross};
-ghost use Rattle.flow_doacross.specs.Views.{or_loops};
 
 use ktree::{AssociatedLoops, Clause};
 use pragma_named::Named;

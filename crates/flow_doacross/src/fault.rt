@@ -16,6 +16,8 @@ pub enum DoacrossFault {
     /// A loop with `ordered(n)` that is no nest of n loops, has a clause that does not go with it, a loop that does not rise by 1 between two
     /// numbers, no sink, or no source: the place of the `#` of its directive (OpenMP 5.2, 4.4.4).
     Nest(Place),
+    /// A `printf` in a nest's body: its place. The nest's iterations print in no order.
+    Printed(Place),
     /// A sink with fewer or more elements than the nest has loops, or of an iteration that is no earlier one: the place of its `#` (OpenMP
     /// 5.2, 15.9.6).
     Sink(Place),
@@ -39,6 +41,7 @@ impl DoacrossFault {
         match self {
             DoacrossFault::Line(place)
             | DoacrossFault::Nest(place)
+            | DoacrossFault::Printed(place)
             | DoacrossFault::Sink(place)
             | DoacrossFault::Name(place) => place,
         }

@@ -4,12 +4,12 @@ ghost use Rattle.std.specs.Prelude.{◌≡◌, ◌||◌, is_some, option_map};
 ghost use Rattle.semantics.specs.Tree.{Items};
 ghost use Rattle.ktree.specs.View.{stmt_of, with_item, items_of};
 ghost use Rattle.ktree.specs.DirectiveView.{name_of, directive_of};
-ghost use Rattle.flow_doacross.specs.Lines.{sink_said, sink_on, is_source, is_source_line, is_doacross_line, is_passed, has_doacross, have_doacross};
+ghost use Rattle.flow_doacross.specs.Lines.{sink_said, sink_on, is_source, is_source_line, associates, has_doacross, have_doacross};
 ghost use Rattle.flow_doacross.specs.Views.{elements_of};
 
 use ktree::{Directive, Item, Place, SinkElement, Stmt, Written};
 use pragma::Directives;
-use pragma_region::is_left_out;
+use pragma_region::is_doacross;
 
 /// The elements of a directive, where it is a sink (OpenMP 5.2, 15.9.6).
 fn sink_said(directive: &Directive<Written>) -> Option<&[SinkElement<Written>]>
@@ -57,18 +57,14 @@ pub(crate) fn is_source(directives: &Directives, place: Place) -> bool
     is_source_directive(directive)
 }
 
-/// Whether the line at a place is a sink or a source.
-pub(crate) fn is_doacross(directives: &Directives, place: Place) -> bool
-    ensures { result ≡ is_doacross_line directives.now place.line }
+/// Whether the directive at a place is that of a loop and associates so many (OpenMP 5.2, 4.4.3 and 4.4.4).
+pub(crate) fn associates(directives: &Directives, place: Place, depth: u64) -> bool
+    ensures { result ≡ associates directives.now place.line depth }
 {
-    sink_at(directives, place).is_some() || is_source(directives, place)
-}
-
-/// Whether it stands before no loop.
-pub(crate) fn is_passed(directives: &Directives, place: Place) -> bool
-    ensures { result ≡ is_passed directives.now place.line }
-{
-    is_left_out(directives, place) || is_doacross(directives, place)
+    let Ok(said) = directives.at(place) else {
+        return false;
+    };
+    said.associated_loops() == depth
 }
 
 /// The first sink or source in a statement.

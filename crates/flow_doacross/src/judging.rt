@@ -1,8 +1,9 @@
 //! A doacross nest by its clauses, its loops and its body.
 
-ghost use Rattle.std.specs.Prelude.{◌≡◌, is_none, Some, map, IfOk};
+ghost use Rattle.std.specs.Prelude.{◌≡◌, ◌&&◌, is_none, Some, map, IfOk};
 ghost use Rattle.std.specs.List.{list_all};
 ghost use Rattle.ktree.specs.View.{stmt_of, items_of};
+ghost use Rattle.law_waves.specs.Silent.{is_silent};
 ghost use Rattle.pragma_named.specs.Views.{resolved_clause};
 ghost use Rattle.flow_doacross.specs.Bodies.{loop_names, is_sink_of, cut_front, are_ordered, is_ordered_body};
 ghost use Rattle.flow_doacross.specs.Nests.{is_doacross_nest};
@@ -11,8 +12,9 @@ ghost use Rattle.flow_doacross.specs.Views.{item_sink, is_right_sink, sinks_on};
 use crate::clauses::suit_doacross;
 use crate::cutting::{before_source, cut_front};
 use crate::fault::DoacrossFault;
-use crate::finding::{line_among, line_in, sink_at};
+use crate::finding::{associates, line_among, line_in, sink_at};
 use crate::heads::all_count_up;
+use crate::printing::print_in;
 use crate::sinks::sink_fault;
 use flow::nest_body;
 use ktree::{Clause, Item, Place, Stmt};
@@ -112,6 +114,37 @@ fn body_fault(
     }
 }
 
+/// A body that prints.
+fn print_fault(body: &Stmt) -> Option<DoacrossFault>
+    ensures { is_none result ≡ is_silent (stmt_of body.now) }
+{
+    match print_in(body) {
+        None => None,
+        Some(place) => Some(DoacrossFault::Printed(place)),
+    }
+}
+
+/// Whether a fault stands before another in the text.
+fn stands_before(one: DoacrossFault, other: DoacrossFault) -> bool {
+    let (one, other) = (one.place(), other.place());
+    one.line < other.line || (one.line == other.line && one.column < other.column)
+}
+
+/// The one of two that comes first in the text, if there is one.
+fn first_of(one: Option<DoacrossFault>, other: Option<DoacrossFault>) -> Option<DoacrossFault>
+    ensures { is_none result ≡ (is_none one && is_none other) }
+{
+    match (one, other) {
+        (None, other) => other,
+        (Some(one), None) => Some(one),
+        (Some(one), Some(other)) => Some(if stands_before(other, one) {
+            other
+        } else {
+            one
+        }),
+    }
+}
+
 /// What is wrong with a statement that is no nest of as many loops as its line asks for: a sink or a source in it, or else its line.
 fn no_nest(directives: &Directives, line: Place, statement: &Stmt) -> DoacrossFault {
     match line_in(directives, statement) {
@@ -129,14 +162,21 @@ pub(crate) fn nest_fault(
     clauses: &[Clause<Named>],
     statement: &Stmt,
 ) -> Result<Option<DoacrossFault>, AllocError>
-    ensures { IfOk result (λ found. is_none found ≡ is_doacross_nest directives.now depth
+    ensures { IfOk result (λ found. is_none found ≡ is_doacross_nest directives.now line.line depth
         (map resolved_clause clauses.now) (stmt_of statement.now)) }
 {
     let Some(body) = nest_body(statement, depth) else {
         return Ok(Some(no_nest(directives, line, statement)));
     };
-    if !suit_doacross(clauses) || !all_count_up(alloc, depth, statement)? {
+    if !associates(directives, line, depth) || !suit_doacross(clauses) {
         return Ok(Some(DoacrossFault::Nest(line)));
     }
-    Ok(body_fault(directives, line, depth, statement, body))
+    if !all_count_up(alloc, depth, statement)? {
+        return Ok(Some(DoacrossFault::Nest(line)));
+    }
+    let printed = print_fault(body);
+    Ok(first_of(
+        printed,
+        body_fault(directives, line, depth, statement, body),
+    ))
 }

@@ -10,13 +10,11 @@ mod heads;
 mod judging;
 mod laws;
 mod listing;
+mod printing;
 mod sinks;
 mod walking;
 
 pub use fault::DoacrossFault;
-pub use laws::{
-    far_sinks_are_outside, lines_tell_nests, loops_count_up_anywhere, nests_stand_alone,
-    sinks_are_earlier,
-};
+pub use laws::{loops_count_up_anywhere, nests_stand_alone};
 pub use listing::{DoacrossLoop, doacross_of};
 pub use walking::first_misuse;

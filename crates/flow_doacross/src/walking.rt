@@ -10,11 +10,11 @@ ghost use Rattle.flow_doacross.specs.Views.{next_line};
 
 use crate::clauses::doacross_of;
 use crate::fault::DoacrossFault;
-use crate::finding::{is_doacross, is_passed};
 use crate::judging::nest_fault;
 use ktree::{Item, Kernel, Place, Stmt};
 use pragma::Directives;
 use pragma_named::{LineClauses, clauses_known};
+use pragma_region::{is_doacross, is_left_out};
 use std::alloc::{AllocError, Global};
 
 /// The line behind which the item behind this one stands.
@@ -27,7 +27,7 @@ pub(crate) fn line_behind(
 {
     match item {
         Item::Directive(place) => {
-            if is_passed(directives, *place) {
+            if is_left_out(directives, *place) {
                 before
             } else {
                 Some(*place)
@@ -147,8 +147,8 @@ fn items_fault(
 
 /// The first place in a kernel, with all of its directive lines, where a doacross nest is misused: a sink that is none of the first items of
 /// its body, a source that is not its last one, or a nest that has none of these, a loop that does not rise by 1 between two numbers, a
-/// clause that does not go with `ordered(n)`, or a sink that names no earlier iteration by the nest's variables in their order (OpenMP
-/// 5.2, 4.4.4, 15.9.6 and 15.10.2). `lines` has the clauses that count for each line, those of the `parallel` round it too.
+/// clause that does not go with `ordered(n)`, a sink that names no earlier iteration by the nest's variables in their order, or a `printf`
+/// (OpenMP 5.2, 4.4.4, 15.9.6 and 15.10.2). `lines` has the clauses that count for each line, those of the `parallel` round it too.
 ///
 /// # Errors
 ///

@@ -1,5 +1,5 @@
 -- A walk over directive lines along the facts of loops, item by item and loop by loop.
-use Rattle.std.specs.Prelude.{ℕ, ◌+◌, ◌-◌, ◌^◌, ◌≤◌, ◌≡◌, ◌<◌, ◌⊎◌, List, ◌∷◌, length, get_or, drop, take, IsOk, OnOk, OnErr, MatchResult}
+use Rattle.std.specs.Prelude.{ℕ, ◌+◌, ◌-◌, ◌≤◌, ◌≡◌, ◌<◌, ◌⊎◌, List, ◌∷◌, length, get_or, drop, take, IsOk, OnOk, OnErr, MatchResult}
 use Rattle.std.specs.declared.result.Result.{Result}
 use Rattle.std.specs.declared.result.Result.TheVariants.{Ok, Err}
 use Rattle.std.proofs.Common.{inl, inr, sym, subst}
@@ -18,7 +18,7 @@ use Rattle.nest_loop.specs.Facts.{FactsOf, FactsAmong}
 use Rattle.nest_loop.proofs.Standing.{own_facts, item_facts}
 use Rattle.nest.specs.Facts.{product_of}
 use Rattle.nest.specs.Judged.{Decides, DecidesBy, Entered}
-use Rattle.nest.specs.Perfect.{NestHas, AreRectangular, IsRightNest, Nests, ItemsNest, FirstLineNests, FirstNests}
+use Rattle.nest.specs.Perfect.{NestHas, AreRectangular, IsNestWithin, Nests, ItemsNest, FirstLineNests, FirstNests}
 use Rattle.nest.proofs.Walks.{loop_of}
 use Rattle.nest.proofs.PerfectLaw.{right_is, right_rectangular, right_small}
 use Rattle.nest.proofs.FactsLaw.{nest_small, nest_large}
@@ -95,19 +95,19 @@ IsRectangular box n s = NestHas (λ loops. (ls : List Canonical) × AreRectangul
 failed : (A : Type 0) (fault : Fault) → IsOk {T = A} {E = Fault} (Err fault) → ⊥
 failed A fault e = absurd (cc e)
 
-pub right_judged : (A : Type 0) (n : ℕ) (box : List Side) (s : Tree.Stmt) (facts : List LoopFacts) (small rectangular r : Result A Fault) → NestHas (λ loops. Unit {0}) n s
-    → OnOk small (product_of n facts ≤ 2 ^ 24) → OnErr small (n ≤ length facts → product_of n facts ≤ 2 ^ 24 → ⊥) → Decides rectangular (IsRectangular box n s)
-    → MatchResult r (λ _. IsOk small × IsOk rectangular) (λ fault. (small ≡ Err fault) ⊎ (rectangular ≡ Err fault)) → DecidesBy (FactsOf box s facts) r (IsRightNest box n s)
-right_judged A n box s facts (Ok a) (Ok b) (Ok c) perfect few many rect both rest k = right_is box n s rect (nest_small n box s facts rest k perfect few)
-right_judged A n box s facts (Err a) rectangular (Ok c) perfect few many rect both rest k = absurd (failed A a both.0)
-right_judged A n box s facts (Ok a) (Err b) (Ok c) perfect few many rect both rest k = absurd (failed A b both.1)
-right_judged A n box s facts (Ok a) rectangular (Err f) perfect few many rect (inl e) rest k = absurd (cc e)
-right_judged A n box s facts (Err a) rectangular (Err f) perfect few many rect (inl e) rest k = inr (λ h. nest_large n box s facts rest k many (right_small box n s h))
-right_judged A n box s facts small (Ok b) (Err f) perfect few many rect (inr e) rest k = absurd (cc e)
-right_judged A n box s facts small (Err b) (Err f) perfect few many rect (inr e) rest k =
+pub right_judged : (A : Type 0) (most n : ℕ) (box : List Side) (s : Tree.Stmt) (facts : List LoopFacts) (small rectangular r : Result A Fault) → NestHas (λ loops. Unit {0}) n s
+    → OnOk small (product_of n facts ≤ most) → OnErr small (n ≤ length facts → product_of n facts ≤ most → ⊥) → Decides rectangular (IsRectangular box n s)
+    → MatchResult r (λ _. IsOk small × IsOk rectangular) (λ fault. (small ≡ Err fault) ⊎ (rectangular ≡ Err fault)) → DecidesBy (FactsOf box s facts) r (IsNestWithin most box n s)
+right_judged A most n box s facts (Ok a) (Ok b) (Ok c) perfect few many rect both rest k = right_is most box n s rect (nest_small most n box s facts rest k perfect few)
+right_judged A most n box s facts (Err a) rectangular (Ok c) perfect few many rect both rest k = absurd (failed A a both.0)
+right_judged A most n box s facts (Ok a) (Err b) (Ok c) perfect few many rect both rest k = absurd (failed A b both.1)
+right_judged A most n box s facts (Ok a) rectangular (Err f) perfect few many rect (inl e) rest k = absurd (cc e)
+right_judged A most n box s facts (Err a) rectangular (Err f) perfect few many rect (inl e) rest k = inr (λ h. nest_large most n box s facts rest k many (right_small most box n s h))
+right_judged A most n box s facts small (Ok b) (Err f) perfect few many rect (inr e) rest k = absurd (cc e)
+right_judged A most n box s facts small (Err b) (Err f) perfect few many rect (inr e) rest k =
     let same : b ≡ f = cc in
     told (subst (λ (x : Fault). (x ≡ OutOfMemory) ⊎ (IsRectangular box n s → ⊥)) same rect)
   where
-    told : (f ≡ OutOfMemory) ⊎ (IsRectangular box n s → ⊥) → (f ≡ OutOfMemory) ⊎ (IsRightNest box n s → ⊥)
+    told : (f ≡ OutOfMemory) ⊎ (IsRectangular box n s → ⊥) → (f ≡ OutOfMemory) ⊎ (IsNestWithin most box n s → ⊥)
     told (inl m) = inl m
-    told (inr h) = inr (λ right. h (right_rectangular box n s right))
+    told (inr h) = inr (λ right. h (right_rectangular most box n s right))

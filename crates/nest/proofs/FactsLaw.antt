@@ -1,5 +1,5 @@
 -- The facts of loops: put behind others, and met again in the same order.
-use Rattle.std.specs.Prelude.{ℕ, zero, suc, ◌+◌, ◌^◌, ◌≤◌, ◌≡◌, ◌<◌, List, [], ◌∷◌, ◌++◌, length, get_or, drop, Option, Some, None, option_and_then}
+use Rattle.std.specs.Prelude.{ℕ, zero, suc, ◌+◌, ◌≤◌, ◌≡◌, ◌<◌, List, [], ◌∷◌, ◌++◌, length, get_or, drop, Option, Some, None, option_and_then}
 use Rattle.std.proofs.Common.{refl, sym, ap, ◌∙◌, subst, arith}
 use Rattle.std.proofs.lemmas.List.{append_assoc, append-nil}
 use Rattle.semantics.specs.Tree
@@ -102,15 +102,15 @@ nest_product zero box s hs t facts rest e k =
 nest_product (suc n) box s hs t facts rest e k = first_product n (nest_product n) box s hs t facts rest e k
 
 -- where the facts of a nest's loops are known, its product is small or not
-pub nest_small : (n : ℕ) (box : List Side) (s : Tree.Stmt) (facts rest : List LoopFacts) → FactsOf box s facts rest → NestHas (λ hs. Unit {0}) n s → product_of n facts ≤ 2 ^ 24
-    → NestHas (λ hs. (k : ℕ) × HasProduct box hs k × (k ≤ 2 ^ 24)) n s
-nest_small n box s facts rest k (hs, t, e, u) small = (hs, t, e, (product_of n facts, (nest_product n box s hs t facts rest e k).1, small))
+pub nest_small : (most n : ℕ) (box : List Side) (s : Tree.Stmt) (facts rest : List LoopFacts) → FactsOf box s facts rest → NestHas (λ hs. Unit {0}) n s → product_of n facts ≤ most
+    → NestHas (λ hs. (k : ℕ) × HasProduct box hs k × (k ≤ most)) n s
+nest_small most n box s facts rest k (hs, t, e, u) small = (hs, t, e, (product_of n facts, (nest_product n box s hs t facts rest e k).1, small))
 
-pub nest_large : (n : ℕ) (box : List Side) (s : Tree.Stmt) (facts rest : List LoopFacts) → FactsOf box s facts rest → (n ≤ length facts → product_of n facts ≤ 2 ^ 24 → ⊥)
-    → NestHas (λ hs. (k : ℕ) × HasProduct box hs k × (k ≤ 2 ^ 24)) n s → ⊥
-nest_large n box s facts rest k large (hs, t, e, (m, p, small)) =
+pub nest_large : (most n : ℕ) (box : List Side) (s : Tree.Stmt) (facts rest : List LoopFacts) → FactsOf box s facts rest → (n ≤ length facts → product_of n facts ≤ most → ⊥)
+    → NestHas (λ hs. (k : ℕ) × HasProduct box hs k × (k ≤ most)) n s → ⊥
+nest_large most n box s facts rest k large (hs, t, e, (m, p, small)) =
     let own = nest_product n box s hs t facts rest e k in
-    large own.0 (subst (λ (x : ℕ). x ≤ 2 ^ 24) (product_once box hs m (product_of n facts) p own.1) small)
+    large own.0 (subst (λ (x : ℕ). x ≤ most) (product_once box hs m (product_of n facts) p own.1) small)
 
 -- those of all loops, where none were there before
 pub whole_table : (k : Tree.Kernel) (before after table : List LoopFacts) → before ≡ [] → table ≡ after → Pushes (FactsAmong [] k.body) before after → HasFacts k table

@@ -1,10 +1,11 @@
 -- A walk over directive lines, item by item and loop by loop.
-use Rattle.std.specs.Prelude.{ℕ, ◌+◌, ◌-◌, ◌≡◌, ◌<◌, ◌⊎◌, ◌↔◌, List, length, get_or, drop, take, Option}
+use Rattle.std.specs.Prelude.{ℕ, ◌+◌, ◌-◌, ◌^◌, ◌≡◌, ◌≤◌, ◌<◌, ◌⊎◌, ◌↔◌, List, length, get_or, drop, take, Option, Some, None}
 use Rattle.std.specs.declared.result.Result.{Result}
 use Rattle.std.specs.declared.result.Result.TheVariants.{Ok, Err}
-use Rattle.std.proofs.Common.{inl, inr, sym, ap, ◌∙◌, subst, arith}
+use Rattle.std.proofs.Common.{refl, inl, inr, sym, ap, ◌∙◌, subst, arith}
 use Rattle.std.proofs.lemmas.List.{length-drop, take_all}
 use Rattle.semantics.specs.Tree
+use Rattle.semantics.specs.Tree.{Name}
 use Rattle.semantics.specs.Source.Text.{line_at}
 use Rattle.ktree.specs.View.{items_of, with_item, source_of, cond_of, increment_of}
 use Rattle.ktree.specs.declared.statement.Head.{Head}
@@ -15,12 +16,12 @@ use Rattle.nest_loop.specs.Loops.{inside}
 use Rattle.nest_loop.proofs.Laws.{loop_is_unique}
 use Rattle.affine_expr.specs.declared.faults.Fault.{Fault}
 use Rattle.affine_expr.specs.declared.faults.Fault.TheVariants.{OutOfMemory}
-use Rattle.semantics.specs.Directives.Directive.{Schedule}
-use Rattle.pragma.specs.Clauses.{ReadsLoop}
+use Rattle.semantics.specs.Directives.Directive.{Schedule, Directive as Said}
+use Rattle.pragma.specs.Clauses.{ReadsLoop, doacross_loops}
 use Rattle.pragma.specs.Parallel.{associated}
-use Rattle.pragma.proofs.LoopLaw.{read_once}
+use Rattle.pragma.proofs.LoopLaw.{one_directive, read_once}
 use Rattle.nest.specs.Judged.{Decides, Entered}
-use Rattle.nest.specs.Perfect.{RightNestFirst, LineNests, Nests, ItemsNest, FirstLineNests, FirstNests}
+use Rattle.nest.specs.Perfect.{FirstNestWithin, LineNests, most_iterations, DoacrossIsSmall, Nests, ItemsNest, FirstLineNests, FirstNests}
 use Rattle.nest.proofs.Walks.{loop_of}
 
 -- a judgement of what comes to the same
@@ -29,18 +30,45 @@ decides_same (Ok x) f g h = f h
 decides_same (Err fault) f g (inl e) = inl e
 decides_same (Err fault) f g (inr h) = inr (λ q. h (g q))
 
--- a line is judged by what stands behind it
-pub line_judged : {A : Type 0} (r : Result A Fault) (text : List ℕ) (box : List Side) (line : ℕ) (rest : Tree.Items) (k : Option Schedule) (c : Option ℕ) (n : ℕ)
-    → ReadsLoop (line_at text line) k c → n ≡ associated c → Decides r (RightNestFirst box n rest) → Decides r (LineNests text box line rest)
-line_judged r text box line rest k c n reads e h = decides_same r up down h
-  where
-    up : RightNestFirst box n rest → LineNests text box line rest
-    up p = (k, c, reads, subst (λ (m : ℕ). RightNestFirst box m rest) e p)
+-- a nest with fewer iterations has no more
+first_wider : (least most : ℕ) (box : List Side) (n : ℕ) (rest : Tree.Items) → least ≤ most → FirstNestWithin least box n rest → FirstNestWithin most box n rest
+first_wider least most box n Tree.no_items le h = h
+first_wider least most box n (Tree.mark line rest) le h = h
+first_wider least most box n (Tree.local x name start rest) le h = h
+first_wider least most box n (Tree.stmt s rest) le (loops, body, is, (rectangular, (k, product, few))) = (loops, body, is, (rectangular, (k, product, omega (arith, few, le))))
 
-    down : LineNests text box line rest → RightNestFirst box n rest
-    down (m, d, other, p) =
-        let same = read_once (line_at text line) k c m d reads other in
-        subst (λ (j : ℕ). RightNestFirst box j rest) (sym (e ∙ ap associated same.1)) p
+-- no nest has more than 2^24
+most_within : (o : Option ℕ) → most_iterations o ≤ 2 ^ 24
+most_within None = omega arith
+most_within (Some d) = omega arith
+
+-- a line is judged by what stands behind it
+pub line_judged : {A : Type 0} (r : Result A Fault) (text : List ℕ) (box : List Side) (line : ℕ) (rest : Tree.Items) (k : Option Schedule) (c : Option ℕ) (n most : ℕ)
+    → (reads : ReadsLoop (line_at text line) k c) → n ≡ associated c → most ≡ most_iterations (doacross_loops reads.directive) → Decides r (FirstNestWithin most box n rest)
+    → Decides r (LineNests text box line rest × DoacrossIsSmall text box line rest)
+line_judged r text box line rest k c n most reads e f h = decides_same r up down h
+  where
+    -- by any other reading of the line
+    other_loops : (m : Option Schedule) (d : Option ℕ) (other : ReadsLoop (line_at text line) m d) → n ≡ associated d
+    other_loops m d other = e ∙ ap associated (read_once (line_at text line) k c m d reads other).1
+
+    other_most : (m : Option Schedule) (d : Option ℕ) (other : ReadsLoop (line_at text line) m d) → most ≡ most_iterations (doacross_loops other.directive)
+    other_most m d other = f ∙ ap (λ (x : Said Name). most_iterations (doacross_loops x)) (one_directive (line_at text line) k c m d reads other)
+
+    up : FirstNestWithin most box n rest → LineNests text box line rest × DoacrossIsSmall text box line rest
+    up p = (
+      (k, c, reads, first_wider most (2 ^ 24) box (associated c) rest (subst (λ (m : ℕ). m ≤ 2 ^ 24) (sym f) (most_within (doacross_loops reads.directive))) (subst (λ (m : ℕ). FirstNestWithin most box m rest) e p)),
+      λ m d other i is. subst (λ (x : ℕ). FirstNestWithin x box (associated d) rest) (other_most m d other ∙ ap most_iterations is) (subst (λ (x : ℕ). FirstNestWithin most box x rest) (other_loops m d other) p),
+    )
+
+    down : LineNests text box line rest × DoacrossIsSmall text box line rest → FirstNestWithin most box n rest
+    down ((m, d, other, p), small) =
+        subst (λ (x : ℕ). FirstNestWithin most box x rest) (sym (other_loops m d other))
+        (subst (λ (x : ℕ). FirstNestWithin x box (associated d) rest) (sym (other_most m d other)) (by (doacross_loops other.directive) refl))
+      where
+        by : (o : Option ℕ) → doacross_loops other.directive ≡ o → FirstNestWithin (most_iterations o) box (associated d) rest
+        by None is = p
+        by (Some i) is = small m d other i is
 
 -- a loop whose body is so
 pub whole_nest : (text : List ℕ) (box after : List Side) (head : Head) (body : Tree.Stmt) → Entered box after head body → Nests text after body → Nests text box (loop_of head body)
@@ -59,7 +87,7 @@ all_behind is i = let n = length-drop i is in take_all (length is - i) (drop i i
 -- an item, and the others
 pub nests_cut : (text : List ℕ) (box : List Side) (i : Item) (rest : Tree.Items)
     → ItemsNest text box (with_item i rest) ↔ FirstLineNests text box (with_item i Tree.no_items) rest × FirstNests text box (with_item i Tree.no_items) × ItemsNest text box rest
-nests_cut text box (Directive place) rest = (λ h. (h.0, tt, h.1), λ h. (h.0, h.2))
+nests_cut text box (Directive place) rest = (λ h. ((h.0, h.2), tt, h.1), λ h. (h.0.0, h.2, h.0.1))
 nests_cut text box (Local l) rest = (λ h. (tt, tt, h), λ h. h.2)
 nests_cut text box (Statement' p s) rest = (λ h. (tt, h.0, h.1), λ h. (h.1, h.2))
 

@@ -1,5 +1,5 @@
 -- Nests, loop by loop.
-use Rattle.std.specs.Prelude.{ℕ, suc, ◌-◌, ◌*◌, ◌^◌, ◌≤◌, ◌≡◌, ◌⊎◌, ◌==◌, Bool, true, false, ℤ, List, [], ◌∷◌, length, Option, Some, None, option_and_then}
+use Rattle.std.specs.Prelude.{ℕ, suc, ◌-◌, ◌*◌, ◌≤◌, ◌≡◌, ◌⊎◌, ◌==◌, Bool, true, false, ℤ, List, [], ◌∷◌, length, Option, Some, None, option_and_then}
 use Rattle.std.specs.List.{list_any, insert}
 use Rattle.std.proofs.Common.{refl, sym, ap, ◌∙◌, subst, inl, inr, arith}
 use Rattle.std.proofs.lemmas.Int.{ints}
@@ -21,7 +21,7 @@ use Rattle.nest_loop.specs.Sides.{IsSide}
 use Rattle.nest_loop.specs.Loops.{inside}
 use Rattle.nest_loop.specs.Most.{IsMost, somewhere, nowhere}
 use Rattle.nest_loop.proofs.Unique.{side_is_unique}
-use Rattle.nest.specs.Perfect.{NestHas, AreRectangular, TurnsMost, HasProduct, IsRightNest}
+use Rattle.nest.specs.Perfect.{NestHas, AreRectangular, TurnsMost, HasProduct, IsNestWithin}
 
 pub pred_is : (n : ℕ) → (n ≡ 0 → ⊥) → n ≡ suc (n - 1)
 pred_is n f = omega (arith, f)
@@ -141,14 +141,14 @@ product_once box (h ∷ hs) m n (i, a, k, t, p, e) (j, b, l, u, q, f) =
     e ∙ ap (λ (x : ℕ). x * k) same.1 ∙ ap (λ (x : ℕ). b * x) rest ∙ sym f
 
 -- a right nest is both
-pub right_is : (box : List Side) (n : ℕ) (s : Stmt) → NestHas (λ hs. (ls : List Canonical) × AreRectangular box hs ls) n s → NestHas (λ hs. (k : ℕ) × HasProduct box hs k × (k ≤ 2 ^ 24)) n s → IsRightNest box n s
-right_is box n s p q = together (λ hs. (ls : List Canonical) × AreRectangular box hs ls) (λ hs. (k : ℕ) × HasProduct box hs k × (k ≤ 2 ^ 24)) n s p q
+pub right_is : (most : ℕ) (box : List Side) (n : ℕ) (s : Stmt) → NestHas (λ hs. (ls : List Canonical) × AreRectangular box hs ls) n s → NestHas (λ hs. (k : ℕ) × HasProduct box hs k × (k ≤ most)) n s → IsNestWithin most box n s
+right_is most box n s p q = together (λ hs. (ls : List Canonical) × AreRectangular box hs ls) (λ hs. (k : ℕ) × HasProduct box hs k × (k ≤ most)) n s p q
 
-pub right_rectangular : (box : List Side) (n : ℕ) (s : Stmt) → IsRightNest box n s → NestHas (λ hs. (ls : List Canonical) × AreRectangular box hs ls) n s
-right_rectangular box n s (hs, t, is, (p, q)) = (hs, t, is, p)
+pub right_rectangular : (most : ℕ) (box : List Side) (n : ℕ) (s : Stmt) → IsNestWithin most box n s → NestHas (λ hs. (ls : List Canonical) × AreRectangular box hs ls) n s
+right_rectangular most box n s (hs, t, is, (p, q)) = (hs, t, is, p)
 
-pub right_small : (box : List Side) (n : ℕ) (s : Stmt) → IsRightNest box n s → NestHas (λ hs. (k : ℕ) × HasProduct box hs k × (k ≤ 2 ^ 24)) n s
-right_small box n s (hs, t, is, (p, q)) = (hs, t, is, q)
+pub right_small : (most : ℕ) (box : List Side) (n : ℕ) (s : Stmt) → IsNestWithin most box n s → NestHas (λ hs. (k : ℕ) × HasProduct box hs k × (k ≤ most)) n s
+right_small most box n s (hs, t, is, (p, q)) = (hs, t, is, q)
 
 pub rectangular_more : (box : List Side) (h : Loop) (l : Canonical) (m : ℕ) (b : Stmt) (ls all : List Canonical) → (canonical box h.variable h.start h.test h.step ≡ Some l) × (is_counter box h.variable ≡ false)
     → all ≡ l ∷ ls → NestHas (λ hs. AreRectangular box hs ls) m b → NestHas (λ hs. AreRectangular box (h ∷ hs) all) m b

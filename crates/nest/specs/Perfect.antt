@@ -1,5 +1,5 @@
 -- The nests of parallel loops: perfect, rectangular, and with few iterations. (OpenMP 5.2, 4.4.1 to 4.4.3)
-use Rattle.std.specs.Prelude.{ℕ, ◌≡◌, ◌≤◌, ◌*◌, ◌^◌, false, List, [], ◌∷◌, Option, Some}
+use Rattle.std.specs.Prelude.{ℕ, ◌≡◌, ◌≤◌, ◌*◌, ◌^◌, false, List, [], ◌∷◌, Option, Some, None}
 use Rattle.semantics.specs.Tree.{Stmt, Assign, Update, If, IfElse, For, Block, Print, Items, no_items, mark, local, stmt, Kernel}
 use Rattle.semantics.specs.Source.Text.{line_at}
 use Rattle.semantics.specs.Loops.Nest.{Loop, nest_of}
@@ -12,7 +12,7 @@ use Rattle.nest_loop.specs.Sides.{CannotWrap, IsSide}
 use Rattle.nest_loop.specs.Loops.{IsLoop, inside}
 use Rattle.nest_loop.specs.Most.{IsMost}
 use Rattle.semantics.specs.Directives.Directive.{Schedule}
-use Rattle.pragma.specs.Clauses.{ReadsLoop}
+use Rattle.pragma.specs.Clauses.{ReadsLoop, doacross_loops}
 use Rattle.pragma.specs.Parallel.{associated}
 
 -- the outermost n loops of a statement's perfect nest are so
@@ -39,21 +39,39 @@ abbrev pub HasProduct : List Side → List Loop → ℕ → Type 0
 HasProduct box [] n = n ≡ 1
 HasProduct box (h ∷ hs) n = (i : Interval) × (m k : ℕ) × TurnsMost box h i m × HasProduct (inside box h.variable i) hs k × (n ≡ m * k)
 
--- a perfect nest, rectangular, with at most 2^24 iterations
-abbrev pub IsRightNest : List Side → ℕ → Stmt → Type 0
-IsRightNest box n s =
-    NestHas (λ loops. ((ls : List Canonical) × AreRectangular box loops ls) × ((k : ℕ) × HasProduct box loops k × (k ≤ 2 ^ 24))) n s
+-- a perfect nest, rectangular, with at most so many iterations
+abbrev pub IsNestWithin : ℕ → List Side → ℕ → Stmt → Type 0
+IsNestWithin most box n s =
+    NestHas (λ loops. ((ls : List Canonical) × AreRectangular box loops ls) × ((k : ℕ) × HasProduct box loops k × (k ≤ most))) n s
 
 -- such a nest stands first
+abbrev pub FirstNestWithin : ℕ → List Side → ℕ → Items → Type 0
+FirstNestWithin most box n no_items = ⊥
+FirstNestWithin most box n (mark line rest) = ⊥
+FirstNestWithin most box n (local x name start rest) = ⊥
+FirstNestWithin most box n (stmt s rest) = IsNestWithin most box n s
+
+-- one with at most 2^24 iterations
+abbrev pub IsRightNest : List Side → ℕ → Stmt → Type 0
+IsRightNest box n s = IsNestWithin (2 ^ 24) box n s
+
+-- that stands first
 abbrev pub RightNestFirst : List Side → ℕ → Items → Type 0
-RightNestFirst box n no_items = ⊥
-RightNestFirst box n (mark line rest) = ⊥
-RightNestFirst box n (local x name start rest) = ⊥
-RightNestFirst box n (stmt s rest) = IsRightNest box n s
+RightNestFirst box n items = FirstNestWithin (2 ^ 24) box n items
 
 -- behind a line such a nest of as many loops as its `parallel for` associates
 abbrev pub LineNests : List ℕ → List Side → ℕ → Items → Type 0
 LineNests text box line rest = (k : Option Schedule) × (c : Option ℕ) × ReadsLoop (line_at text line) k c × RightNestFirst box (associated c) rest
+
+-- how many iterations a nest may have, by the loops of the doacross nest that its line makes of it, if it makes one (OpenMP 5.2, 4.4.4)
+abbrev pub most_iterations : Option ℕ → ℕ
+most_iterations None = 2 ^ 24
+most_iterations (Some d) = 2 ^ 20
+
+-- where a line makes a doacross nest of the loops behind it, they have at most 2^20 iterations
+abbrev pub DoacrossIsSmall : List ℕ → List Side → ℕ → Items → Type 0
+DoacrossIsSmall text box line rest =
+    (k : Option Schedule) (c : Option ℕ) (reads : ReadsLoop (line_at text line) k c) (d : ℕ) → doacross_loops reads.directive ≡ Some d → FirstNestWithin (2 ^ 20) box (associated c) rest
 
 abbrev mutual
   -- each directive line in a statement inside the loops of a box stands before such a nest, and each loop is canonical
@@ -70,7 +88,7 @@ abbrev mutual
   -- of a block's items
   pub ItemsNest : List ℕ → List Side → Items → Type 0
   ItemsNest text box no_items = Unit {0}
-  ItemsNest text box (mark line rest) = LineNests text box line rest × ItemsNest text box rest
+  ItemsNest text box (mark line rest) = LineNests text box line rest × ItemsNest text box rest × DoacrossIsSmall text box line rest
   ItemsNest text box (local x name start rest) = ItemsNest text box rest
   ItemsNest text box (stmt s rest) = Nests text box s × ItemsNest text box rest
 
@@ -80,7 +98,7 @@ AreRightNests text k = ItemsNest text [] k.body
 
 -- what the first of these items asks for as a directive line before others
 abbrev pub FirstLineNests : List ℕ → List Side → Items → Items → Type 0
-FirstLineNests text box (mark line items) rest = LineNests text box line rest
+FirstLineNests text box (mark line items) rest = LineNests text box line rest × DoacrossIsSmall text box line rest
 FirstLineNests text box _ rest = Unit {0}
 
 -- and as a statement

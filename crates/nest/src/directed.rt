@@ -1,20 +1,23 @@
 //! The nests behind directive lines.
 
-ghost use Rattle.std.specs.Prelude.{◌≡◌, ◌⊎◌, OnOk, IfOk, List, Option, ℕ, is_none};
+ghost use Rattle.std.specs.Prelude.{◌≡◌, ◌≤◌, ◌^◌, ◌⊎◌, OnOk, IfOk, List, Option, ℕ, is_none};
 ghost use Rattle.semantics.specs.Tree.{no_items};
 ghost use Rattle.semantics.specs.Source.Text.{line_at};
 ghost use Rattle.ktree.specs.View.{stmt_of, items_of, with_item};
+ghost use Rattle.ktree.specs.DirectiveView.{name_of, directive_of};
+ghost use Rattle.pragma.specs.Clauses.{doacross_loops};
 ghost use Rattle.nest_loop.specs.declared.entered.LoopFacts as facts;
 ghost use Rattle.nest_loop.specs.Facts.{FactsOf, FactsAmong};
 ghost use Rattle.nest.specs.Judged.{DecidesBy};
-ghost use Rattle.nest.specs.Perfect.{RightNestFirst, LineNests, Nests, ItemsNest, FirstLineNests, FirstNests};
+ghost use Rattle.nest.specs.Perfect.{FirstNestWithin, LineNests, DoacrossIsSmall, most_iterations, Nests, ItemsNest, FirstLineNests, FirstNests};
 
 use crate::perfect::right_nest;
 use affine::VarBox;
 use affine_expr::Fault;
-use ktree::{Item, Place, Stmt};
+use ktree::limits::ITERATIONS;
+use ktree::{Directive, Item, Place, Stmt, Written};
 use nest_loop::{LoopFacts, go_into};
-use pragma::Directives;
+use pragma::{Directives, doacross_loops, loop_of};
 use std::alloc::Global;
 
 /// The facts of loops that a walk has not met so far, and what is told where a loop has none: the fault that stopped the walk
@@ -25,28 +28,47 @@ pub struct Found<'n> {
     pub missing: Fault,
 }
 
-/// Whether a right nest of so many loops stands first, behind a directive line at a place.
+/// The iterations of a doacross nest, by the product of the greatest counts of its loops: one with more is refused. Those of all other
+/// parallel loops are limited by [`ITERATIONS`].
+const DOACROSS_ITERATIONS: u64 = 1 << 20;
+
+/// How many iterations the loops behind a directive may have.
+fn most_iterations(directive: &Directive<Written>) -> u64
+    ensures is { result ≡ most_iterations (doacross_loops
+        (directive_of name_of directive.now)) }
+    ensures within { result ≤ 2 ^ 24 }
+{
+    match doacross_loops(directive) {
+        None => ITERATIONS,
+        Some(_) => DOACROSS_ITERATIONS,
+    }
+}
+
+/// Whether a right nest of so many loops with at most so many iterations stands first, behind a directive line at a place.
 fn nest_first(
     alloc: Global,
     depth: u64,
+    most: u64,
     items: &[Item],
     found: Found<'_>,
     bounds: &VarBox,
     directive: Place,
 ) -> Result<(), Fault>
+    requires { most ≤ 2 ^ 24 }
     ensures { DecidesBy (FactsAmong bounds.now (items_of items.now) found.entry.loops.now) result
-        (RightNestFirst bounds.now depth (items_of items.now)) }
+        (FirstNestWithin most bounds.now depth (items_of items.now)) }
 {
     match items {
         [] => Err(Fault::NotPerfect(directive)),
         [Item::Statement(statement), ..] => {
-            right_nest(alloc, depth, statement, found, bounds, directive)
+            right_nest(alloc, depth, most, statement, found, bounds, directive)
         }
         [_, ..] => Err(Fault::NotPerfect(directive)),
     }
 }
 
-/// Whether a right nest of as many loops as the directive line at a place associates stands behind it.
+/// Whether a right nest of as many loops as the directive line at a place associates stands behind it, a small one where the line makes a
+/// doacross nest of it.
 fn line_nests(
     alloc: Global,
     directives: &Directives,
@@ -56,12 +78,17 @@ fn line_nests(
     rest: &[Item],
 ) -> Result<(), Fault>
     ensures { DecidesBy (FactsAmong bounds.now (items_of rest.now) found.entry.loops.now) result
-        (LineNests directives.now bounds.now place.line (items_of rest.now)) }
+        (LineNests directives.now bounds.now place.line (items_of rest.now)
+        × DoacrossIsSmall directives.now bounds.now place.line (items_of rest.now)) }
 {
-    let Ok(line) = directives.at(place) else {
+    let Ok(directive) = directives.directive(place) else {
         return Err(Fault::NotPerfect(place));
     };
-    nest_first(alloc, line.associated_loops(), rest, found, bounds, place)
+    let Some(said) = loop_of(directive) else {
+        return Err(Fault::NotPerfect(place));
+    };
+    let (depth, most) = (said.associated_loops(), most_iterations(directive));
+    nest_first(alloc, depth, most, rest, found, bounds, place)
 }
 
 /// The same, where an item is a directive line.

@@ -69,7 +69,8 @@ fn judge(
 
 /// Finds the facts of each loop of a kernel, and sees to it that each is canonical, never wraps, and is one of eight at most
 /// inside each other, that each subscript is affine in the variables of the loops round it, and that behind each directive line
-/// as many loops as it associates make a perfect and rectangular nest of at most 2^24 iterations (OpenMP 5.2, 4.4.1 to 4.4.3).
+/// as many loops as it associates make a perfect and rectangular nest of at most 2^24 iterations, or 2^20 where it makes a doacross nest of
+/// them (OpenMP 5.2, 4.4.1 to 4.4.4).
 /// The directive lines are those that [`pragma::first_fault`] lets through.
 ///
 /// # Errors

@@ -14,7 +14,7 @@ ghost use Rattle.nest.specs.Judged.{Decides, DecidesBy};
 ghost use Rattle.nest_space.specs.Space.{Turns, IsSpace};
 ghost use Rattle.nest_space.specs.Nests.{given, AreModest, AreRunsOf};
 ghost use Rattle.nest_space.specs.Heads.{HasIterations};
-ghost use Rattle.nest.specs.Perfect.{NestHas, AreRectangular, IsRightNest};
+ghost use Rattle.nest.specs.Perfect.{NestHas, AreRectangular, IsNestWithin};
 
 use crate::directed::Found;
 use crate::earlier::both;
@@ -106,19 +106,23 @@ fn product(depth: u64, loops: &[LoopFacts]) -> Option<u64>
     product_within(first.trip_count, product(depth - 1, inner))
 }
 
-/// Whether so many loops have few iterations.
-fn is_small(depth: u64, found: Found<'_>, place: Place) -> Result<(), Fault>
-    ensures ok { OnOk result (product_of depth found.entry.loops.now ≤ 2 ^ 24) }
+/// Whether so many loops have at most so many iterations.
+fn is_small(depth: u64, most: u64, found: Found<'_>, place: Place) -> Result<(), Fault>
+    requires { most ≤ 2 ^ 24 }
+    ensures ok { OnOk result (product_of depth found.entry.loops.now ≤ most) }
     ensures err { OnErr result (depth ≤ length found.entry.loops.now
-        → product_of depth found.entry.loops.now ≤ 2 ^ 24 → ⊥) }
+        → product_of depth found.entry.loops.now ≤ most → ⊥) }
 {
     if (found.loops.len() as u64) < depth {
         return Err(found.missing);
     }
-    match product(depth, found.loops) {
-        Some(_) => Ok(()),
-        None => Err(Fault::Limit(place)),
+    let Some(iterations) = product(depth, found.loops) else {
+        return Err(Fault::Limit(place));
+    };
+    if iterations > most {
+        return Err(Fault::Limit(place));
     }
+    Ok(())
 }
 
 /// Whether each of so many loops has a form in the box of the loops round them.
@@ -145,24 +149,27 @@ fn first_place(statement: &Stmt, directive: Place) -> Place {
     }
 }
 
-/// Whether a statement behind a directive line at a place is a right nest of so many loops, by the facts of its loops.
+/// Whether a statement behind a directive line at a place is a right nest of so many loops with at most so many iterations, by the facts
+/// of its loops.
 pub fn right_nest(
     alloc: Global,
     depth: u64,
+    most: u64,
     statement: &Stmt,
     found: Found<'_>,
     bounds: &VarBox,
     directive: Place,
 ) -> Result<(), Fault>
+    requires { most ≤ 2 ^ 24 }
     ensures { DecidesBy (FactsOf bounds.now (stmt_of statement.now) found.entry.loops.now) result
-        (IsRightNest bounds.now depth (stmt_of statement.now)) }
+        (IsNestWithin most bounds.now depth (stmt_of statement.now)) }
 {
     let place = first_place(statement, directive);
     if !is_perfect(depth, statement) {
         return Err(Fault::NotPerfect(place));
     }
     let rectangular = is_rectangular(alloc, depth, statement, bounds, place);
-    let small = is_small(depth, found, place);
+    let small = is_small(depth, most, found, place);
     both(small, rectangular)
 }
 

@@ -21,12 +21,12 @@ same_said e = cc e
 same_directive : {d e : Directive Name} → Some d ≡ Some e → d ≡ e
 same_directive e = cc e
 
+pub one_directive : (line : List ℕ) (k : Option Schedule) (c : Option ℕ) (m : Option Schedule) (d : Option ℕ) (p : ReadsLoop line k c) (q : ReadsLoop line m d) → p.directive ≡ q.directive
+one_directive line k c m d p q = same_directive (sym (line_read line p.directive p.reads) ∙ line_read line q.directive q.reads)
+
 pub read_once : (line : List ℕ) (k : Option Schedule) (c : Option ℕ) (m : Option Schedule) (d : Option ℕ) → ReadsLoop line k c → ReadsLoop line m d → (k ≡ m) × (c ≡ d)
 read_once line k c m d p q = (ap (λ (s : Said). s.0) same, ap (λ (s : Said). s.1) same)
   where
-    one : p.directive ≡ q.directive
-    one = same_directive (sym (line_read line p.directive p.reads) ∙ line_read line q.directive q.reads)
-
     left : Said
     left = (k, c)
 
@@ -34,7 +34,7 @@ read_once line k c m d p q = (ap (λ (s : Said). s.0) same, ap (λ (s : Said). s
     right = (m, d)
 
     same : left ≡ right
-    same = same_said (sym p.says ∙ ap loop_of one ∙ q.says)
+    same = same_said (sym p.says ∙ ap loop_of (one_directive line k c m d p q) ∙ q.says)
 
 -- what is read of a line is its directive
 the_directive : (line : List ℕ) (d : Directive Name) (k : Option Schedule) (c : Option ℕ) → ReadsLine line d → ReadsLoop line k c → loop_of d ≡ Some (k, c)

@@ -2,6 +2,7 @@
 use Rattle.std.specs.Prelude.{ℕ, ◌≡◌, max, List, [], ◌∷◌, Option, Some, None}
 use Rattle.semantics.specs.Tree.{Name}
 use Rattle.semantics.specs.Directives.Directive.{Schedule, Clause, DefaultShared, DefaultNone, Nowait, Ordered, Shared, Private, Firstprivate, Lastprivate, Reduction, Inscan, ScheduledBy, Collapse, OrderedLoops, Directive, ParallelFor, Worksharing}
+use Rattle.semantics.specs.Directives.Clauses.{doacross_of}
 use Rattle.semantics.specs.Directives.DirectiveGrammar.{ReadsLine}
 use Rattle.cparse_grammar.specs.Reading.{◌>>=◌}
 
@@ -41,6 +42,12 @@ abbrev pub loop_of : Directive Name → Option Said
 loop_of (ParallelFor cs) = said_by cs
 loop_of (Worksharing cs) = said_by cs
 loop_of _ = None
+
+-- how many loops the doacross nest has that it makes of a loop, where it makes one (4.4.4)
+abbrev pub doacross_loops : Directive Name → Option ℕ
+doacross_loops (ParallelFor cs) = doacross_of cs
+doacross_loops (Worksharing cs) = doacross_of cs
+doacross_loops _ = None
 
 -- the line is such a directive, and says exactly this
 pub record ReadsLoop (line : List ℕ) (k : Option Schedule) (c : Option ℕ) : Type 0 where

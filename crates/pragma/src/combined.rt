@@ -1,10 +1,13 @@
 //! Directives of the form `parallel for`, with a schedule and collapsed loops, or without.
 
-ghost use Rattle.std.specs.Prelude.{◌≡◌, Some, map, option_map};
+ghost use Rattle.std.specs.Prelude.{◌≡◌, ◌∷◌, List, Some, map, option_map};
+ghost use Rattle.semantics.specs.Tree.{Name};
+ghost use Rattle.semantics.specs.Directives.Directive.{Clause as Over};
+ghost use Rattle.semantics.specs.Directives.Clauses.{doacross_of};
 ghost use Rattle.pragma_clause.specs.Views.{written_clause, written_directive};
-ghost use Rattle.pragma.specs.Clauses.{greater, with_clause, said_by, loop_of};
+ghost use Rattle.pragma.specs.Clauses.{greater, with_clause, said_by, loop_of, doacross_loops};
 ghost use Rattle.pragma.specs.Parallel.{associated};
-ghost use Rattle.pragma.specs.Views.{said_of};
+ghost use Rattle.pragma.specs.Views.{said_of, or_loops};
 
 use ktree::{AssociatedLoops, Clause, Directive, Schedule, Written};
 
@@ -94,6 +97,42 @@ pub fn loop_of(directive: &Directive<Written>) -> Option<ParallelFor>
 {
     match directive {
         Directive::ParallelFor(clauses) | Directive::For(clauses) => said_by(clauses.as_slice()),
+        _ => None,
+    }
+}
+
+/// The number of loops of a clause, where it is `ordered(n)`.
+fn ordered_loops(clause: &Clause<Written>) -> Option<AssociatedLoops>
+    ensures { (rest : List (Over Name)) → doacross_of (written_clause clause.now ∷ rest)
+        ≡ or_loops result (doacross_of rest) }
+{
+    match clause {
+        Clause::OrderedLoops(loops) => Some(*loops),
+        _ => None,
+    }
+}
+
+/// The number of loops of the doacross nest that some clauses make of a loop, if they make one (OpenMP 5.2, 4.4.4).
+pub fn doacross_of(clauses: &[Clause<Written>]) -> Option<AssociatedLoops>
+    ensures { result ≡ doacross_of (map written_clause clauses.now) }
+{
+    for clause in clauses {
+        let found = ordered_loops(clause);
+        if found.is_some() {
+            return found;
+        }
+    }
+    None
+}
+
+/// The number of loops of the doacross nest that a directive makes of a loop, if it makes one (OpenMP 5.2, 4.4.4).
+pub fn doacross_loops(directive: &Directive<Written>) -> Option<AssociatedLoops>
+    ensures { result ≡ doacross_loops (written_directive directive.now) }
+{
+    match directive {
+        Directive::ParallelFor(clauses) | Directive::For(clauses) => {
+            doacross_of(clauses.as_slice())
+        }
         _ => None,
     }
 }

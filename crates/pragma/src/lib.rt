@@ -7,7 +7,7 @@ mod lines;
 mod placed;
 mod reading;
 
-pub use combined::{ParallelFor, loop_of, said_by};
+pub use combined::{ParallelFor, doacross_loops, doacross_of, loop_of, said_by};
 pub use faults::Fault;
 pub use lines::Directives;
 pub use placed::first_fault;

@@ -1,7 +1,7 @@
--- Directives and clauses that the grammar has and that are not known so far, each by the number that refuses it. (OpenMP 5.2, 4.4.4, 5.4.5 and 15.10)
+-- Clauses that the grammar has and that are not known so far, each by the number that refuses it. (OpenMP 5.2, 5.4.5)
 use Rattle.std.specs.Prelude.{ℕ, List, [], ◌∷◌, Option, Some, None}
 use Rattle.semantics.specs.Tree.{Name, Stmt, Assign, Update, If, IfElse, For, Block, Print, Items, no_items, mark, local, stmt}
-use Rattle.semantics.specs.Directives.Directive.{Clause, OrderedLoops, LastConditional, Directive, ParallelFor, Parallel, Worksharing, ScanInclusive, ScanExclusive, OrderedRegion, DoacrossSource, DoacrossSink}
+use Rattle.semantics.specs.Directives.Directive.{Clause, LastConditional, Directive, ParallelFor, Worksharing}
 use Rattle.pragma_attach.specs.Standing.{directive_on}
 use Rattle.pragma_region.specs.declared.unknown.Unknown.{Unknown}
 use Rattle.pragma_region.specs.declared.unknown.Unknown.TheVariants as unknown
@@ -11,35 +11,21 @@ abbrev pub first_told : Option ℕ → Option ℕ → Option ℕ
 first_told None later = later
 first_told (Some n) later = Some n
 
--- the clause of a doacross nest: K18 (OpenMP 5.2, 4.4.4)
-abbrev pub ordering_number : Clause Name → Option ℕ
-ordering_number (OrderedLoops n) = Some 18
-ordering_number _ = None
-
 -- a clause of variables: K15 for `lastprivate` of the last assignment (OpenMP 5.2, 5.4.5)
-abbrev pub value_number : Clause Name → Option ℕ
-value_number (LastConditional xs) = Some 15
-value_number _ = None
+abbrev pub clause_number : Clause Name → Option ℕ
+clause_number (LastConditional xs) = Some 15
+clause_number _ = None
 
 -- the first of a line's clauses that is one
-abbrev pub first_number : (Clause Name → Option ℕ) → List (Clause Name) → Option ℕ
-first_number number [] = None
-first_number number (c ∷ cs) = first_told (number c) (first_number number cs)
+abbrev pub first_number : List (Clause Name) → Option ℕ
+first_number [] = None
+first_number (c ∷ cs) = first_told (clause_number c) (first_number cs)
 
--- of a loop's line: a doacross nest is told where the line begins, and so before what is told at a name
-abbrev pub loop_number : List (Clause Name) → Option ℕ
-loop_number cs = first_told (first_number ordering_number cs) (first_number value_number cs)
-
--- of a directive: K18 for `ordered doacross` (OpenMP 5.2, 15.10)
+-- of a directive: it has such a clause, where it is a loop's
 abbrev pub directive_number : Directive Name → Option ℕ
-directive_number (ParallelFor cs) = loop_number cs
-directive_number (Worksharing cs) = loop_number cs
-directive_number (Parallel cs) = None
-directive_number (ScanInclusive x) = None
-directive_number (ScanExclusive x) = None
-directive_number OrderedRegion = None
-directive_number DoacrossSource = Some 18
-directive_number (DoacrossSink es) = Some 18
+directive_number (ParallelFor cs) = first_number cs
+directive_number (Worksharing cs) = first_number cs
+directive_number _ = None
 
 -- of a line, where it is a directive
 abbrev pub number_there : Option (Directive Name) → Option ℕ
@@ -67,4 +53,3 @@ abbrev mutual
 -- the number of what is told
 abbrev pub number_told : Unknown → ℕ
 number_told (unknown.Conditional place) = 15
-number_told (unknown.Doacross place) = 18

@@ -1,9 +1,10 @@
-//! Parallel regions that are dissolved into their loops, and directive lines that are not known so far.
+//! Parallel regions that are dissolved into their loops, and clauses that are not known so far.
 #![tactic(auto)]
 
 mod counting;
 mod dissolving;
 mod listing;
+mod sinks;
 mod unknown;
 
 pub use counting::count_clauses;

@@ -1,6 +1,6 @@
 //! The parallel regions of a kernel, with their loops.
 
-ghost use Rattle.std.specs.Prelude.{◌≡◌, ◌||◌, ◌++◌, List, [], ◌∷◌, None, Some, map, flat_map, option_map, OnOk, IfOk};
+ghost use Rattle.std.specs.Prelude.{ℕ, ◌≡◌, ◌||◌, ◌++◌, List, [], ◌∷◌, None, Some, map, flat_map, option_map, OnOk, IfOk};
 ghost use Rattle.semantics.specs.Tree.{Name, Stmt as Tree};
 ghost use Rattle.semantics.specs.Directives.Directive.{Clause as Over};
 ghost use Rattle.ktree.specs.View.{stmt_of, with_item, items_of, kernel_of};
@@ -9,10 +9,13 @@ ghost use Rattle.ktree.specs.DirectiveView.{name_of, operator_of, directive_of};
 ghost use Rattle.pragma_clause.specs.Views.{written_clause};
 ghost use Rattle.pragma.specs.Views.{said_of};
 ghost use Rattle.pragma_attach.specs.Standing.{directive_on};
-ghost use Rattle.pragma_region.specs.Listed.{LoopSaid, reduction_named, directive_loop, loop_there, shared_line, shared_among, shared_in, region_line, region_behind, regions_in, regions_among, regions_of, parts_of, part_said, line_of, opens, AddsParts, AddsOpened, AddsShared, AddsRegions};
+ghost use Rattle.pragma_region.specs.Listed.{LoopSaid, reduction_named, loop_with, directive_loop, loop_there, shared_line, shared_among, shared_in, region_line, region_behind, regions_in, regions_among, regions_of, parts_of, part_said, line_of, opens, AddsParts, AddsOpened, AddsShared, AddsRegions};
 
-use ktree::{Clause, Directive, Item, Kernel, Place, ReductionOperator, Stmt, Written};
-use pragma::{Directives, ParallelFor, loop_of};
+use crate::sinks::sinks_of;
+use ktree::{
+    AssociatedLoops, Clause, Directive, Item, Kernel, Place, ReductionOperator, Stmt, Written,
+};
+use pragma::{Directives, ParallelFor, doacross_of, loop_of};
 use std::alloc::{AllocError, Global};
 
 /// A reduction variable, by the name that stands in its clause (OpenMP 5.2, 5.5.8).
@@ -22,14 +25,19 @@ pub struct NamedReduction {
     pub name: String,
 }
 
-/// What the line of a loop says: of its iterations, and of the variables that it reduces, in the order of its clauses.
+/// What the line of a loop says, of its iterations and of the variables that it reduces, and the lines of its sinks.
 #[derive(Drop)]
 pub struct RegionLoop {
     pub said: ParallelFor,
-    /// Those of reductions that are no scan's.
+    /// Those of reductions that are no scan's, in the order of the clauses.
     pub reductions: Vec<NamedReduction>,
     /// Whether it has the reduction of a scan (OpenMP 5.2, 5.6).
     pub scan: bool,
+    /// Of how many loops a doacross nest it is, if it is one (OpenMP 5.2, 4.4.4).
+    pub doacross: Option<AssociatedLoops>,
+    /// The offsets of each of its sinks, in the order of the text, one for each element: those of `i-1, j` are -1 and 0 (OpenMP 5.2,
+    /// 15.9.6).
+    pub sinks: Vec<Vec<i128>>,
 }
 
 /// A part of the parallel regions of a kernel, as they stand one behind another: the begin of a region, or a loop of the one that has
@@ -117,55 +125,67 @@ fn has_scan(clauses: &[Clause<Written>]) -> bool
     false
 }
 
-/// Adds a loop that says this, with these clauses.
+/// Adds a loop that says this, with these clauses and this statement behind them.
 fn add_loop(
     alloc: Global,
+    directives: &Directives,
     parts: &mut Vec<RegionPart>,
     said: ParallelFor,
     clauses: &[Clause<Written>],
+    statement: &Stmt,
 ) -> Result<(), AllocError>
-    ensures { OnOk result (AddsParts (Some (
-      said_of said,
-      flat_map reduction_of
-          (map written_clause clauses.now),
-      is_scan (map written_clause clauses.now),
-    ) ∷ []) parts.old.items parts.new.items) }
+    ensures { OnOk result (AddsParts (Some (loop_with directives.now (said_of said)
+        (map written_clause clauses.now) (stmt_of statement.now)) ∷ [])
+        parts.old.items parts.new.items) }
 {
+    let (scan, doacross) = (has_scan(clauses), doacross_of(clauses));
     let reductions = reductions_of(alloc, clauses)?;
+    let sinks = sinks_of(alloc, directives, clauses, statement)?;
     parts.push(RegionPart {
         said: Some(RegionLoop {
             said,
             reductions,
-            scan: has_scan(clauses),
+            scan,
+            doacross,
+            sinks,
         }),
     })?;
     Ok(())
 }
 
-/// Adds the loop of a directive, if it is one's and its clauses are known.
+/// Adds the loop of a directive with this statement behind it, if it is one's and its clauses are known.
 fn add_loop_of(
     alloc: Global,
+    directives: &Directives,
     parts: &mut Vec<RegionPart>,
     directive: &Directive<Written>,
+    statement: &Stmt,
 ) -> Result<(), AllocError>
-    ensures { OnOk result (AddsParts (map Some (directive_loop
-        (directive_of name_of directive.now))) parts.old.items parts.new.items) }
+    ensures { OnOk result (AddsParts (map Some (directive_loop directives.now
+        (directive_of name_of directive.now) (stmt_of statement.now)))
+        parts.old.items parts.new.items) }
 {
     let Some(said) = loop_of(directive) else {
         return Ok(());
     };
     match directive {
-        Directive::ParallelFor(clauses) | Directive::For(clauses) => {
-            add_loop(alloc, parts, said, clauses.as_slice())
-        }
+        Directive::ParallelFor(clauses) | Directive::For(clauses) => add_loop(
+            alloc,
+            directives,
+            parts,
+            said,
+            clauses.as_slice(),
+            statement,
+        ),
         _ => Ok(()),
     }
 }
 
 /// A `for` directive, and no other.
 fn shared_loop(directive: &Directive<Written>) -> Option<&Directive<Written>>
-    ensures { loop_there (option_map (λ d. directive_of name_of d.now) result)
-        ≡ shared_line (Some (directive_of name_of directive.now)) }
+    ensures { (text : List ℕ) (behind : Tree) → loop_there text
+        (option_map (λ d. directive_of name_of d.now) result) behind
+        ≡ shared_line text (Some (directive_of name_of directive.now)) behind }
 {
     match directive {
         Directive::For(_) => Some(directive),
@@ -175,8 +195,9 @@ fn shared_loop(directive: &Directive<Written>) -> Option<&Directive<Written>>
 
 /// The `for` directive at a place.
 fn shared_at<'d>(directives: &'d Directives, place: Place) -> Option<&'d Directive<Written>>
-    ensures { loop_there (option_map (λ d. directive_of name_of d.now) result)
-        ≡ shared_line (directive_on directives.now place.line) }
+    ensures { (text : List ℕ) (behind : Tree) → loop_there text
+        (option_map (λ d. directive_of name_of d.now) result) behind
+        ≡ shared_line text (directive_on directives.now place.line) behind }
 {
     let Ok(directive) = directives.directive(place) else {
         return None;
@@ -184,19 +205,21 @@ fn shared_at<'d>(directives: &'d Directives, place: Place) -> Option<&'d Directi
     shared_loop(directive)
 }
 
-/// Adds the loop of the `for` directive at a place.
+/// Adds the loop of the `for` directive at a place, with this statement behind it.
 fn add_shared_at(
     alloc: Global,
     directives: &Directives,
     place: Place,
+    statement: &Stmt,
     parts: &mut Vec<RegionPart>,
 ) -> Result<(), AllocError>
-    ensures { OnOk result (AddsParts (map Some (shared_line
-        (directive_on directives.now place.line))) parts.old.items parts.new.items) }
+    ensures { OnOk result (AddsParts (map Some (shared_line directives.now
+        (directive_on directives.now place.line) (stmt_of statement.now)))
+        parts.old.items parts.new.items) }
 {
     match shared_at(directives, place) {
         None => Ok(()),
-        Some(directive) => add_loop_of(alloc, parts, directive),
+        Some(directive) => add_loop_of(alloc, directives, parts, directive, statement),
     }
 }
 
@@ -214,9 +237,9 @@ fn add_shared_item(
     match item {
         Item::Directive(place) => Ok(Some(*place)),
         Item::Local(_) => Ok(None),
-        Item::Statement(_) => {
+        Item::Statement(statement) => {
             if let Some(place) = before {
-                add_shared_at(alloc, directives, place, parts)?;
+                add_shared_at(alloc, directives, place, statement, parts)?;
             }
             Ok(None)
         }
@@ -266,8 +289,9 @@ enum Opened<'d> {
 
 /// What a directive opens.
 fn opened_by(directive: &Directive<Written>) -> Opened<'_>
-    ensures { (shared : List LoopSaid) (inside : List (List LoopSaid)) → opens result shared inside
-        ≡ region_line (Some (directive_of name_of directive.now)) shared inside }
+    ensures { (text : List ℕ) (s : Tree) (shared : List LoopSaid) (inside : List (List LoopSaid))
+        → opens text result s shared inside
+        ≡ region_line text (Some (directive_of name_of directive.now)) s shared inside }
 {
     match directive {
         Directive::ParallelFor(_) => Opened::Loop(directive),
@@ -278,8 +302,8 @@ fn opened_by(directive: &Directive<Written>) -> Opened<'_>
 
 /// What the line before opens, if one stands there.
 fn opened_behind<'d>(directives: &'d Directives, before: Option<Place>) -> Opened<'d>
-    ensures { (statement : Tree) (inside : List (List LoopSaid)) → opens result
-        (shared_in directives.now statement) inside
+    ensures { (statement : Tree) (inside : List (List LoopSaid)) → opens directives.now result
+        statement (shared_in directives.now statement) inside
         ≡ region_behind directives.now (line_of before) statement inside }
 {
     let Some(place) = before else {
@@ -305,7 +329,7 @@ fn add_opened(
     match opened_behind(directives, before) {
         Opened::Loop(directive) => {
             begin_region(parts)?;
-            add_loop_of(alloc, parts, directive)?;
+            add_loop_of(alloc, directives, parts, directive, statement)?;
             Ok(true)
         }
         Opened::Region => {

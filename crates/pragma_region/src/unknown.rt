@@ -1,4 +1,4 @@
-//! The first directive line of a kernel that the grammar has and that is not known so far.
+//! The first clause of a kernel's directive lines that the grammar has and that is not known so far.
 
 ghost use Rattle.std.specs.Prelude.{◌≡◌, map, option_map};
 ghost use Rattle.semantics.specs.Tree.{Items};
@@ -7,7 +7,7 @@ ghost use Rattle.ktree.specs.View.{stmt_of, with_item, items_of, kernel_of};
 ghost use Rattle.ktree.specs.DirectiveView.{name_of, directive_of};
 ghost use Rattle.pragma_clause.specs.Views.{written_clause};
 ghost use Rattle.pragma_attach.specs.Standing.{directive_on};
-ghost use Rattle.pragma_region.specs.NotKnown.{first_told, ordering_number, value_number, first_number, loop_number, directive_number, number_there, unknown_in, unknown_among, number_told};
+ghost use Rattle.pragma_region.specs.NotKnown.{first_told, clause_number, first_number, directive_number, number_there, unknown_in, unknown_among, number_told};
 
 use ktree::{Clause, Directive, Item, Kernel, Place, Refusal, Stmt, Written};
 use pragma::Directives;
@@ -17,8 +17,6 @@ use pragma::Directives;
 pub enum Unknown {
     /// A `lastprivate` clause of the last assignment: the place of its first name (OpenMP 5.2, 5.4.5).
     Conditional(Place),
-    /// An `ordered(n)` clause, or a `doacross` directive: the place of the line's `#` (OpenMP 5.2, 4.4.4 and 15.10.2).
-    Doacross(Place),
 }
 
 impl Unknown {
@@ -28,33 +26,8 @@ impl Unknown {
     {
         match self {
             Unknown::Conditional(place) => Refusal::PrivateVariable(place),
-            Unknown::Doacross(place) => Refusal::Ordered(place),
         }
     }
-}
-
-/// What is told of the clause of a doacross nest, at its line.
-fn ordering(clause: &Clause<Written>, line: Place) -> Option<Unknown>
-    ensures { option_map number_told result ≡ ordering_number (written_clause clause.now) }
-{
-    match clause {
-        Clause::OrderedLoops(_) => Some(Unknown::Doacross(line)),
-        _ => None,
-    }
-}
-
-/// What is told of the first of these that does.
-fn first_ordering(clauses: &[Clause<Written>], line: Place) -> Option<Unknown>
-    ensures { option_map number_told result
-        ≡ first_number ordering_number (map written_clause clauses.now) }
-{
-    for clause in clauses {
-        let found = ordering(clause, line);
-        if found.is_some() {
-            return found;
-        }
-    }
-    None
 }
 
 /// The place of the first of some names; that of their line where there is none.
@@ -65,9 +38,9 @@ fn first_place(names: &[Written], line: Place) -> Place {
     }
 }
 
-/// What is told of a clause of variables, at its first name.
-fn value(clause: &Clause<Written>, line: Place) -> Option<Unknown>
-    ensures { option_map number_told result ≡ value_number (written_clause clause.now) }
+/// What is told of a clause, at its first name.
+fn clause_unknown(clause: &Clause<Written>, line: Place) -> Option<Unknown>
+    ensures { option_map number_told result ≡ clause_number (written_clause clause.now) }
 {
     match clause {
         Clause::LastConditional(names) => Some(Unknown::Conditional(first_place(names, line))),
@@ -76,28 +49,16 @@ fn value(clause: &Clause<Written>, line: Place) -> Option<Unknown>
 }
 
 /// What is told of the first of these that does.
-fn first_value(clauses: &[Clause<Written>], line: Place) -> Option<Unknown>
-    ensures { option_map number_told result
-        ≡ first_number value_number (map written_clause clauses.now) }
+fn clauses_unknown(clauses: &[Clause<Written>], line: Place) -> Option<Unknown>
+    ensures { option_map number_told result ≡ first_number (map written_clause clauses.now) }
 {
     for clause in clauses {
-        let found = value(clause, line);
+        let found = clause_unknown(clause, line);
         if found.is_some() {
             return found;
         }
     }
     None
-}
-
-/// What is told of a loop's clauses: at the line first, and then at names.
-fn loop_unknown(clauses: &[Clause<Written>], line: Place) -> Option<Unknown>
-    ensures { option_map number_told result ≡ loop_number (map written_clause clauses.now) }
-{
-    let ordering = first_ordering(clauses, line);
-    if ordering.is_some() {
-        return ordering;
-    }
-    first_value(clauses, line)
 }
 
 /// What is told of a directive, whose `#` stands at this place.
@@ -106,14 +67,10 @@ fn directive_unknown(directive: &Directive<Written>, line: Place) -> Option<Unkn
         ≡ directive_number (directive_of name_of directive.now) }
 {
     match directive {
-        Directive::ParallelFor(clauses) => loop_unknown(clauses.as_slice(), line),
-        Directive::For(clauses) => loop_unknown(clauses.as_slice(), line),
-        Directive::Parallel(_) => None,
-        Directive::ScanInclusive(_) => None,
-        Directive::ScanExclusive(_) => None,
-        Directive::Ordered => None,
-        Directive::DoacrossSource => Some(Unknown::Doacross(line)),
-        Directive::DoacrossSink(_) => Some(Unknown::Doacross(line)),
+        Directive::ParallelFor(clauses) | Directive::For(clauses) => {
+            clauses_unknown(clauses.as_slice(), line)
+        }
+        _ => None,
     }
 }
 
@@ -182,9 +139,8 @@ fn item_unknown(directives: &Directives, item: &Item) -> Option<Unknown>
     }
 }
 
-/// What is told of the first directive line of a kernel that is not known so far, in the order of the text: a doacross nest where the line
-/// begins, `lastprivate(conditional: )` where it names a variable (OpenMP 5.2, 4.4.4, 5.4.5 and 15.10). Where none is told, no line of the
-/// kernel has such a directive or clause.
+/// What is told of the first clause of a kernel's directive lines that is not known so far, in the order of the text: of `lastprivate` with
+/// the modifier `conditional`, where it names a variable (OpenMP 5.2, 5.4.5). Where none is told, no line of the kernel has such a clause.
 pub fn first_unknown(kernel: &Kernel, directives: &Directives) -> Option<Unknown>
     ensures { option_map number_told result
         ≡ unknown_among directives.now (kernel_of kernel.now).body }

@@ -13,5 +13,5 @@ returns-in_default-directive c = λ statement inside.
 
 pub returns : goal.returns
 returns c = λ statement inside.
-    region_read c.args.directives.now c.in-Some.place.line (directive_of name_of c.in-Ok.directive.now) statement inside _ c.in-Ok.ensures.ok (c.opened_by.ensures (shared_in c.args.directives.now statement) inside)
+    region_read c.args.directives.now c.in-Some.place.line (directive_of name_of c.in-Ok.directive.now) statement inside _ c.in-Ok.ensures.ok (c.opened_by.ensures c.args.directives.now statement (shared_in c.args.directives.now statement) inside)
     ∙ ap (λ (o : Option Place). region_behind c.args.directives.now (line_of o) statement inside) (sym c.in-Some.is)
