@@ -26,7 +26,7 @@ use Rattle.nest_loop.proofs.Heads.{head_of}
 use Rattle.pragma.specs.Parallel.{associated, LineHas}
 use Rattle.nest.specs.Nests.{Has, Have, StaysInside}
 use Rattle.flow.proofs.PrivateLemmas.{among_both}
-use Rattle.flow.specs.Phases.{LinePhases, HasPhases}
+use Rattle.flow.specs.Phases.{HasPhases}
 use Rattle.flow.specs.Roles.{left_roles, LineData, privates_by, KeepsItsRoles, KeepsRolesThere, LoopsHaveBy, ItemsHaveBy, LoopsKeepRoles, ItemsKeepRoles}
 use Rattle.law_runs.proofs.Going.{known_with_less}
 use Rattle.law_runs.proofs.Growing.{grows, known_below, visible_behind as also_visible, visible_later}
@@ -41,6 +41,7 @@ use Rattle.law_private.specs.Known.{IsWithin}
 use Rattle.law_private.proofs.Alike.{without_within, without_more}
 use Rattle.law_private.proofs.More.{without_gone, more_known}
 use Rattle.law_roles.proofs.Starts.{reduced_of}
+use Rattle.law_independence.specs.Said.{LinesInside}
 use Rattle.law_independence.specs.OrderLaws.{used_roles, StandsThere, IsSeen, IsMet, SharesBy}
 use Rattle.law_independence.proofs.Grammar.{decls_small}
 use Rattle.law_commute.proofs.Framed.{also_itself}
@@ -98,7 +99,7 @@ left_within a b k e y h = first_of (a y) (b y) (ap (λ (j : DefinitelyAssigned).
 right_within : (a b k : DefinitelyAssigned) → (λ y. a y && b y) ≡ k → IsWithin k b
 right_within a b k e y h = second_of (a y) (b y) (ap (λ (j : DefinitelyAssigned). j y) e ∙ h)
 
-module _ (text : List ℕ) (ds : List Declaration) (R : LineData) (S : LinePhases) where
+module _ (text : List ℕ) (ds : List Declaration) (R : LineData) (S : LinesInside) where
   abbrev P : Privates
   P = privates_by R
 
@@ -188,7 +189,7 @@ module _ (text : List ℕ) (ds : List Declaration) (R : LineData) (S : LinePhase
           not_from true h = absurd (true≢false (sym h))
           not_from false h = refl
 
-          at_either : (x : Variable) → is_among (targets_outside a) x ≡ true → ((R at).carried ≡ []) ⊎ HasPhases (R at) (S at) depth a
+          at_either : (x : Variable) → is_among (targets_outside a) x ≡ true → ((R at).carried ≡ []) ⊎ HasPhases (R at) (S at).phases depth a
               → (is_among (map (λ r. r.0) (R at).roles.reductions) x ≡ true) ⊎ (is_among (map (λ r. r.0) (R at).carried) x ≡ true) → k x ≡ true
           at_either x t phases (inl q) =
               let op = reduced_of (R at).roles.reductions x q in
@@ -197,7 +198,7 @@ module _ (text : List ℕ) (ds : List Declaration) (R : LineData) (S : LinePhase
           at_either x t (inr its) (inr q) =
               let same : its.variable ≡ x = sole_kept (its.variable, its.operator) x (sym (ap (λ (cs : List (Variable × ReduceOp)). is_among (map (λ r. r.0) cs) x) its.sole) ∙ q) in
               subst (λ y. k y ≡ true) same
-              (known_before_scan P (R at) (S at) depth a its k k' (not_from (is_among (declared_in a) its.variable) (subst (λ y. visible_behind a y ≡ true) (sym same) (outside_visible a x t))) d
+              (known_before_scan P (R at) (S at).phases depth a its k k' (not_from (is_among (declared_in a) its.variable) (subst (λ y. visible_behind a y ≡ true) (sym same) (outside_visible a x t))) d
               (subst (λ y. is_among (targets a) y ≡ true) (sym same) (outside_target a x t)))
 
   -- what is visible behind a declaration

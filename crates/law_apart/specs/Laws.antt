@@ -7,8 +7,8 @@ use Rattle.semantics.specs.Meaning.Definite.{IsDefinite}
 use Rattle.semantics.specs.Meaning.Runs.{Effect, run_items}
 use Rattle.semantics.specs.Theorems.{is_declared}
 use Rattle.nest.specs.Nests.{IsInRange}
-use Rattle.flow.specs.Phases.{LinePhases}
 use Rattle.flow.specs.Roles.{LineData, privates_by, ItemsHaveBy, ItemsKeepRoles}
+use Rattle.law_independence.specs.Said.{LinesInside}
 use Rattle.law_independence.specs.OrderLaws.{SharesBy}
 use Rattle.law_apart.specs.Apart.{apart_items}
 
@@ -27,7 +27,7 @@ pub record LeavesTheSame (s : State) (e : Effect) (o : Option Effect) : Type 0 w
 -- so it is of each kernel of the grammar with subscripts in range, in which no local is read before it is assigned, and whose parallel loops commute and keep the roles of the scalars that they assign
 abbrev pub AcceptedKernelsRunApart : Type 0
 AcceptedKernelsRunApart =
-    (text : List ℕ) (k : Kernel) (R : LineData) (P : LinePhases) (s : State) (e : Effect) → IsTreeOf text k → IsInRange k → IsDefinite (privates_by R) k
+    (text : List ℕ) (k : Kernel) (R : LineData) (P : LinesInside) (s : State) (e : Effect) → IsTreeOf text k → IsInRange k → IsDefinite (privates_by R) k
     → ItemsKeepRoles text R [] k.body → ItemsHaveBy text (SharesBy k.variables R P) [] k.body
     → StartsWith k.variables s → run_items k.body s ≡ Some e
     → LeavesTheSame s e (apart_items R [] k.body s)

@@ -37,13 +37,14 @@ use Rattle.law_waves.proofs.Doacross.{join}
 use Rattle.law_waves.proofs.Iterating.{Pairs, all_pairs, rise}
 use Rattle.law_waves.proofs.Rising.{respect}
 use Rattle.law_independence.specs.Inside.{LoopsAreRead, HaveShort}
-use Rattle.law_independence.specs.OrderLaws.{used_roles}
+use Rattle.law_independence.specs.Said.{SaidInside}
+use Rattle.law_independence.specs.OrderLaws.{used_roles, WavesAtTurns, WavesInChunks, SharesAsNest}
 use Rattle.law_independence.proofs.PrivateNests.{nest_first}
 use Rattle.law_independence.proofs.ReorderedBodies.{IsStmtRead, IsNestRead, nest_read}
 use Rattle.law_independence.proofs.ReorderedNests.{assigned, leaves_others, have_turns, steps_are_read, iterates, nest_keeps_apart, inside_keeps_apart, same_nest, used_assigned, at_turn, ready}
 use Rattle.law_independence.proofs.RoleNests.{used_first}
 use Rattle.law_independence.proofs.Targeted.{outside_visible}
-use Rattle.law_doacross.specs.Waving.{SuitsWaves, SharesAsWaves}
+use Rattle.law_doacross.specs.Waving.{SuitsWaves}
 use Rattle.law_doacross.proofs.Counting.{IsUp, is_up}
 use Rattle.law_doacross.proofs.Covered.{shown_nests_are_covered}
 use Rattle.law_doacross.proofs.Touched.{place_of}
@@ -172,8 +173,26 @@ module _ (ds : List Declaration) (around : List Loop) (round : Nesting) (n : ℕ
   covered : (loop : SharedLoop) → nest_of n s ≡ Some (loop.loops, loop.body) → IsCovered around loop sinks
   covered = shown_nests_are_covered ds around round sinks n s short entered there stays shown (λ loops body is. same_as_suits (λ ls b. list_all counts_up ls ≡ true) loops body is suits.up)
 
-  pub nest_shares_in_waves : SharesAsWaves ds d sinks around n s
-  nest_shares_in_waves =
+  waves : WavesAtTurns used sinks around n s
+  waves loops body outside us e is turn alone at are ran =
+      let r = ready ds short round far serial n s found stmt stays roles private around entered loops body outside us is turn are in
+      join used sinks n s loops body outside us e
+      (record {
+        nest = is;
+        keeps = keeps_privates loops body outside is at.scalars;
+        silent = same_as_suits (λ ls b. is_silent b ≡ true) loops body is suits.silent;
+        declares = alone;
+        are = are;
+        different = r.differ;
+        turning = r.turn;
+        ahead = suits.ahead;
+        in_order = respect us sinks suits.ahead (rise loops outside us (rising loops body outside is turn) are);
+        covered = λ u v in_u in_v conflict. covered (plain_loop loops body) is outside us u v turn are in_u in_v conflict;
+        ran = ran;
+      })
+
+  pub nest_shares_in_waves : (said : SaidInside) → said.sinks ≡ Some sinks → SharesAsNest ds d said around n s
+  nest_shares_in_waves said doacross =
       record {
         nest = subst IsSome (sym suits.nest) refl;
         round = have_turns ds short round far serial n s found stmt stays roles private around entered;
@@ -182,21 +201,8 @@ module _ (ds : List Declaration) (around : List Loop) (round : Nesting) (n : ℕ
         there = iterates ds short round far serial n s found stmt stays roles private around entered;
         leaves = leaves_others ds short round far serial n s found stmt stays roles private;
         takes = λ scope order next next' tokens known outside reads turn met determined. inl (ap takes_all no_reductions);
-        covered = covered;
-        waves = λ loops body outside us e is turn alone at are ran.
-            let r = ready ds short round far serial n s found stmt stays roles private around entered loops body outside us is turn are in
-            join used sinks n s loops body outside us e
-            (record {
-              nest = is;
-              keeps = keeps_privates loops body outside is at.scalars;
-              silent = same_as_suits (λ ls b. is_silent b ≡ true) loops body is suits.silent;
-              declares = alone;
-              are = are;
-              different = r.differ;
-              turning = r.turn;
-              ahead = suits.ahead;
-              in_order = respect us sinks suits.ahead (rise loops outside us (rising loops body outside is turn) are);
-              covered = λ u v in_u in_v conflict. covered (plain_loop loops body) is outside us u v turn are in_u in_v conflict;
-              ran = ran;
-            });
+        phases = inl suits.none_carried;
+        shares = λ none no_sinks. absurd (cc (no_sinks, doacross));
+        scans = λ x op sole target. absurd (cc (suits.none_carried, sole));
+        waves = λ listed is. subst (λ distances. WavesInChunks used distances around n s) (same_Some sinks listed (sym doacross ∙ is)) (record { no_lasts = no_lasts; no_reductions = no_reductions; passes = waves });
       }

@@ -1,5 +1,5 @@
--- The parallel loops of a kernel, one after another: chunks where a line has no sinks, and waves where its nest has some.
-use Rattle.std.specs.Prelude.{ℕ, suc, Bool, ◌==◌, ◌≡◌, List, [], ◌∷◌, ◌++◌, length}
+-- The parallel loops of a kernel, one after another: chunks, or two passes, where a loop is no doacross nest, and waves where it is one.
+use Rattle.std.specs.Prelude.{ℕ, suc, ◌==◌, ◌≡◌, List, [], ◌∷◌, ◌++◌, length, Option, Some, None}
 use Rattle.std.proofs.Common.{refl, sym, ap, subst, arith}
 use Rattle.std.proofs.lemmas.Bool.{ltb-true, or_parts}
 use Rattle.semantics.specs.Tree.{Stmt, Items, Declaration}
@@ -9,13 +9,13 @@ use Rattle.semantics.specs.Source.Statements.{ReadsStmt, assign, update, if_only
 use Rattle.semantics.specs.Source.Text.{line_at}
 use Rattle.semantics.specs.Meaning.Definite.{no_privates, definite_items, known_at_start}
 use Rattle.semantics.specs.Loops.Nest.{Loop}
+use Rattle.semantics.specs.Loops.Order.{Distance}
 use Rattle.law_lines.proofs.Kept.{kept_lines_are_read}
 use Rattle.nest_loop.specs.Loops.{inside}
 use Rattle.pairtest_counter.specs.Levels.{Nesting}
 use Rattle.pragma.specs.Parallel.{associated, FirstHas, LineHas}
 use Rattle.pragma.proofs.LoopLaw.{read_once}
 use Rattle.nest.specs.Nests.{Has, Have, StaysInside}
-use Rattle.deptest_verdict.specs.Sinks.{LineSinks}
 use Rattle.deptest_verdict.specs.Shown.{IsShownLoop, ShownFirst, LineShown, LoopsShown, ItemsShown, no_loops}
 use Rattle.law_runs.proofs.Points.{rises}
 use Rattle.law_runs.proofs.StatementsRun.{Keeps, AllKeep, keeps_inside}
@@ -24,49 +24,54 @@ use Rattle.law_runs.proofs.Nested.{decls_below, some_there}
 use Rattle.law_turns.specs.Turns.{AreEntered}
 use Rattle.law_turns.proofs.Laws.{entered_join}
 use Rattle.law_independence.specs.Inside.{LoopsAreRead, ItemsAreRead, HaveShort}
+use Rattle.law_independence.specs.Said.{LinesInside, phases_in, listed, sinks_in}
+use Rattle.law_independence.specs.OrderLaws.{SharesBy}
 use Rattle.law_independence.proofs.Links.{one_entered}
 use Rattle.law_independence.proofs.IndependentNests.{body_there}
 use Rattle.law_independence.proofs.Grammar.{decls_small, decls_short, items_read}
 use Rattle.law_private.proofs.More.{more_known}
-use Rattle.flow.specs.Phases.{LinePhases, PhasesBy}
+use Rattle.flow.specs.Phases.{PhasesBy}
 use Rattle.flow.specs.Roles.{LineData, privates_by, KeepsRolesThere, LoopsHaveBy, ItemsHaveBy, LoopsKeepRoles, ItemsKeepRoles}
 use Rattle.law_independence.proofs.Numbering.{IsPlace, place_later, place_behind, place_inside}
 use Rattle.law_independence.proofs.ReorderedBodies.{IsStmtRead}
 use Rattle.law_independence.proofs.Starts.{StartsNameOthers, AllNameOthers, all_start}
 use Rattle.law_independence.proofs.JudgedNests.{loop_shares}
-use Rattle.law_doacross.specs.Waving.{SuitBy, SharesOrWaves, NestsShareInWaves}
+use Rattle.law_doacross.specs.Waving.{SuitBy, AcceptedLoopsShare}
 use Rattle.law_doacross.proofs.Waved.{nest_shares_in_waves}
 
 -- ---- the walk
 
-module _ (text : List ℕ) (ds : List Declaration) (short : HaveShort ds) (D : ℕ → Bool) (R : LineData) (P : LinePhases) (S : LineSinks) where
+module _ (text : List ℕ) (ds : List Declaration) (short : HaveShort ds) (R : LineData) (P : LinesInside) where
   first_shares : {scope : Scope} {o next next' : ℕ} {ts : List Token} {items : Items} → ReadsItems scope o next ts items next' → (round : Nesting) (serial : List Loop) (n : ℕ) → AreEntered no_loops serial round
-      → IsPlace ds round.box scope next → AllNameOthers items → AllKeep round.box items → (line : ℕ) → ShownFirst round (S line) n items → FirstHas (KeepsRolesThere (R line)) serial n items → FirstHas (PhasesBy R P line) serial n items → FirstHas (SuitBy D R S line) serial n items → ItemsAreRead round.box items → Have (StaysInside ds) round.box items
-      → FirstHas (SharesOrWaves ds D R P S line) serial n items
+      → IsPlace ds round.box scope next → AllNameOthers items → AllKeep round.box items → (line : ℕ) → ShownFirst round (sinks_in P line) n items → FirstHas (KeepsRolesThere (R line)) serial n items → FirstHas (PhasesBy R (phases_in P) line) serial n items → FirstHas (SuitBy R P line) serial n items → ItemsAreRead round.box items → Have (StaysInside ds) round.box items
+      → FirstHas (SharesBy ds R P line) serial n items
   first_shares no_more round serial n entered at starts kept line' shown private phased suits read has = shown
   first_shares (line r) round serial n entered at starts kept line' shown private phased suits read has = shown
   first_shares (empty_local free r) round serial n entered at starts kept line' shown private phased suits read has = shown
   first_shares (first_local free e r) round serial n entered at starts kept line' shown private phased suits read has = shown
   first_shares {scope} (statement {open' = open'} {next = next} {next' = middle} {s = s} {items = rest} {ts = ts} ra r) round serial n entered at starts kept line' shown private phased suits read has =
-      let there : IsStmtRead ds round.box s =
-      record { scope = scope; order = open'; next = next; after = middle; tokens = ts; reads = ra; place = at; starts = starts.0; kept = λ y q. (or_parts (assigns y s) (assigns_among y rest) (kept y q)).0 } in (
-        λ none. loop_shares ds serial round n s short entered read.0 has.0 there (R line') private (subst (λ sinks. IsShownLoop round sinks n s) none shown) (P line') phased,
-        λ doacross. nest_shares_in_waves ds serial round n s short entered read.0 has.0 there (R line') private (S line') shown (suits doacross),
-      )
+      by (P line').sinks refl
+    where
+      there : IsStmtRead ds round.box s
+      there = record { scope = scope; order = open'; next = next; after = middle; tokens = ts; reads = ra; place = at; starts = starts.0; kept = λ y q. (or_parts (assigns y s) (assigns_among y rest) (kept y q)).0 }
+
+      by : (o : Option (List Distance)) → (P line').sinks ≡ o → SharesBy ds R P line' serial n s
+      by None is = loop_shares ds serial round n s short entered read.0 has.0 there (R line') private (subst (λ o. IsShownLoop round (listed o) n s) is shown) (P line') is phased
+      by (Some sinks) is = nest_shares_in_waves ds serial round n s short entered read.0 has.0 there (R line') private sinks (subst (λ o. IsShownLoop round (listed o) n s) is shown) (suits sinks is) (P line') is
 
   line_shares : {scope : Scope} {o next next' : ℕ} {ts : List Token} {items : Items} → ReadsItems scope o next ts items next' → (round : Nesting) (serial : List Loop) (n : ℕ) → AreEntered no_loops serial round
-      → IsPlace ds round.box scope next → AllNameOthers items → AllKeep round.box items → LineShown text S round n items → LineHas text (KeepsRolesThere (R n)) serial n items → LineHas text (PhasesBy R P n) serial n items → LineHas text (SuitBy D R S n) serial n items → ItemsAreRead round.box items → Have (StaysInside ds) round.box items
-      → LineHas text (SharesOrWaves ds D R P S n) serial n items
+      → IsPlace ds round.box scope next → AllNameOthers items → AllKeep round.box items → LineShown text (sinks_in P) round n items → LineHas text (KeepsRolesThere (R n)) serial n items → LineHas text (PhasesBy R (phases_in P) n) serial n items → LineHas text (SuitBy R P n) serial n items → ItemsAreRead round.box items → Have (StaysInside ds) round.box items
+      → LineHas text (SharesBy ds R P n) serial n items
   line_shares {items = items} r round serial n entered at starts kept (k, c, reads, first) (k', c', reads', private) (l, e, reads'', phased) (m, f, reads''', suits) read has =
       let same = (read_once (line_at text n) k' c' k c reads' reads).1 in
       let also = (read_once (line_at text n) l e k c reads'' reads).1 in
       let again = (read_once (line_at text n) m f k c reads''' reads).1 in
-      (k, c, reads, first_shares r round serial (associated c) entered at starts kept n first (subst (λ d. FirstHas (KeepsRolesThere (R n)) serial (associated d) items) same private) (subst (λ d. FirstHas (PhasesBy R P n) serial (associated d) items) also phased) (subst (λ d. FirstHas (SuitBy D R S n) serial (associated d) items) again suits) read has)
+      (k, c, reads, first_shares r round serial (associated c) entered at starts kept n first (subst (λ d. FirstHas (KeepsRolesThere (R n)) serial (associated d) items) same private) (subst (λ d. FirstHas (PhasesBy R (phases_in P) n) serial (associated d) items) also phased) (subst (λ d. FirstHas (SuitBy R P n) serial (associated d) items) again suits) read has)
 
   mutual
     stmt_shares : {scope : Scope} {o next next' : ℕ} {ts : List Token} {s : Stmt} → ReadsStmt scope o next ts s next' → (round : Nesting) (serial : List Loop) → AreEntered no_loops serial round
-        → IsPlace ds round.box scope next → StartsNameOthers s → Keeps round.box s → LoopsShown text S round s → LoopsKeepRoles text R serial s → LoopsHaveBy text (PhasesBy R P) serial s → LoopsHaveBy text (SuitBy D R S) serial s → LoopsAreRead round.box s → Has (StaysInside ds) round.box s
-        → LoopsHaveBy text (SharesOrWaves ds D R P S) serial s
+        → IsPlace ds round.box scope next → StartsNameOthers s → Keeps round.box s → LoopsShown text (sinks_in P) round s → LoopsKeepRoles text R serial s → LoopsHaveBy text (PhasesBy R (phases_in P)) serial s → LoopsHaveBy text (SuitBy R P) serial s → LoopsAreRead round.box s → Has (StaysInside ds) round.box s
+        → LoopsHaveBy text (SharesBy ds R P) serial s
     stmt_shares (assign t e) round serial entered at starts kept shown private phased suits read has = tt
     stmt_shares (update t u e) round serial entered at starts kept shown private phased suits read has = tt
     stmt_shares (if_only less rc ra) round serial entered at starts kept shown private phased suits read has = stmt_shares ra round serial entered at starts kept shown private phased suits read has.1
@@ -86,8 +91,8 @@ module _ (text : List ℕ) (ds : List Declaration) (short : HaveShort ds) (D : �
     stmt_shares (print less f r fill) round serial entered at starts kept shown private phased suits read has = tt
 
     items_share : {scope : Scope} {o next next' : ℕ} {ts : List Token} {items : Items} → ReadsItems scope o next ts items next' → (round : Nesting) (serial : List Loop) → AreEntered no_loops serial round
-        → IsPlace ds round.box scope next → AllNameOthers items → AllKeep round.box items → ItemsShown text S round items → ItemsKeepRoles text R serial items → ItemsHaveBy text (PhasesBy R P) serial items → ItemsHaveBy text (SuitBy D R S) serial items → ItemsAreRead round.box items → Have (StaysInside ds) round.box items
-        → ItemsHaveBy text (SharesOrWaves ds D R P S) serial items
+        → IsPlace ds round.box scope next → AllNameOthers items → AllKeep round.box items → ItemsShown text (sinks_in P) round items → ItemsKeepRoles text R serial items → ItemsHaveBy text (PhasesBy R (phases_in P)) serial items → ItemsHaveBy text (SuitBy R P) serial items → ItemsAreRead round.box items → Have (StaysInside ds) round.box items
+        → ItemsHaveBy text (SharesBy ds R P) serial items
     items_share no_more round serial entered at starts kept shown private phased suits read has = tt
     items_share (line {n = n} r) round serial entered at starts kept shown private phased suits read has =
         (line_shares r round serial n entered at starts kept shown.0 private.0 phased.0 suits.0 read has, items_share r round serial entered at starts kept shown.1 private.1 phased.1 suits.1 read has)
@@ -102,14 +107,14 @@ module _ (text : List ℕ) (ds : List Declaration) (short : HaveShort ds) (D : �
 
 -- ---- a kernel
 
-pub nests_share_in_waves : NestsShareInWaves
-nests_share_in_waves text k D R P S reads in_range definite private phased suits shown =
+pub accepted_loops_share : AcceptedLoopsShare
+accepted_loops_share text k R P reads in_range definite private phased suits shown =
     let ds = k.variables in
     let read = (kept_lines_are_read text k reads).reads in
     let left = some_there (definite_items (privates_by R) [] k.body (known_at_start ds)) definite in
     let plain = more_known.items (privates_by R) no_privates [] [] k.body (known_at_start ds) left.0 (known_at_start ds) (λ line x h. absurd (cc h)) (λ x h. h) (λ x h. h) left.1 in
     let below = decls_below (length ds) read.declared (omega arith) tt in
-    items_share text ds (decls_short read.declared tt) D R P S read.items no_loops [] refl
+    items_share text ds (decls_short read.declared tt) R P read.items no_loops [] refl
     (record { visible = below; counters = λ y c. absurd cc; room = omega arith })
     (all_start read.items (known_at_start ds) plain.known below (λ y e. ltb-true y (length ds) e) plain.is) (λ y c. absurd (cc c)) shown private phased suits
     (items_read [] read.items (decls_small read.declared tt) (λ y c. absurd cc)) in_range

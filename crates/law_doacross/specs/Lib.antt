@@ -1,3 +1,4 @@
 pub mod Covering
 pub mod Waving
+pub mod Telling
 pub mod Rows

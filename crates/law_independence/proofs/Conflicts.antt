@@ -1,4 +1,4 @@
--- What is told of the first pair of a body that is not shown to be independent: a conflict is one.
+-- What is told of the first pair of a body that is not shown: a conflict is one.
 use Rattle.std.specs.Prelude.{ℕ, ◌≡◌, ◌<◌, ◌⊎◌, IsTrue, List, [], length, map, Option, Some, slice_get, string_bytes}
 use Rattle.std.proofs.Common.{refl, sym, inl, inr, ap, ◌∙◌, subst, ⊎_elim}
 use Rattle.semantics.specs.Tree.{Stmt, Declaration}
@@ -6,6 +6,7 @@ use Rattle.semantics.specs.Loops.Nest.{Loop, nest_of}
 use Rattle.semantics.specs.Meaning.State.{State}
 use Rattle.semantics.specs.Loops.Access.{Conflict, accesses}
 use Rattle.semantics.specs.Loops.Access as meant
+use Rattle.semantics.specs.Loops.Order.{Distance}
 use Rattle.ktree.specs.declared.refusal.Conflict as told
 use Rattle.ktree.specs.declared.refusal.NotShown as not_shown
 use Rattle.ktree.specs.declared.refusal.Refusal.TheVariants as refusals
@@ -56,9 +57,9 @@ made ds now body sites fs k f touched there are finds at counted is =
 
 module _ (ds : List Declaration) (serial loops : List Loop) (round now : Nesting) (body : Stmt) (outside : AreEntered no_loops serial round) (entered : AreEntered round loops now)
     (there : IsBodyThere ds now body) where
-  module _ (told : not_shown.NotShown) (p : IsFirstOf ds now (length round.levels) (map (λ v. v.most) (inner_loops 0 round.levels)) [] body told) where
+  module _ (sinks : List Distance) (told : not_shown.NotShown) (p : IsFirstOf ds now (length round.levels) (map (λ v. v.most) (inner_loops 0 round.levels)) sinks body told) where
     abbrev is_pair : IsPair p.one p.other
-    is_pair = first_is_pair p.nest p.found p.first p.second p.one p.other p.is p.one_is p.other_is
+    is_pair = first_is_pair p.nest sinks p.found p.first p.second p.one p.other p.is p.one_is p.other_is
 
     abbrev one_made : IsMade ds now body p.first p.one p.one_touched
     one_made = made ds now body p.sites p.found p.first p.one p.one_touched there p.tested.are p.tested.finds p.one_is is_pair.2 p.one_touches
@@ -67,7 +68,7 @@ module _ (ds : List Declaration) (serial loops : List Loop) (round now : Nesting
     other_made = made ds now body p.sites p.found p.second p.other p.other_touched there p.tested.are p.tested.finds p.other_is is_pair.3 p.other_touches
 
     -- the pair that is told
-    abbrev told_pair : IsToldPair ds serial loops body told one_made.access other_made.access
+    abbrev told_pair : IsToldPair ds sinks serial loops body told one_made.access other_made.access
     told_pair =
         let here : p.one.array.0 ≡ one_made.access.array = one_made.finds.array ∙ one_made.link.array in
         record {
@@ -156,16 +157,16 @@ module _ (ds : List Declaration) (c : told.Conflict) (serial loops : List Loop) 
   -- the verdict on the body, where it is a conflict
   pub verdict_is_conflict : IsVerdict ds now (length round.levels) (map (λ v. v.most) (inner_loops 0 round.levels)) [] body (refusals.Conflict c) → IsConflict ds c serial n s
   verdict_is_conflict (no_sink, p, region, known, first) =
-      let pair = is_pair ds serial loops round now body outside entered there c.accesses p in
-      let x = one_made ds serial loops round now body outside entered there c.accesses p in
-      let y = other_made ds serial loops round now body outside entered there c.accesses p in
+      let pair = is_pair ds serial loops round now body outside entered there [] c.accesses p in
+      let x = one_made ds serial loops round now body outside entered there [] c.accesses p in
+      let y = other_made ds serial loops round now body outside entered there [] c.accesses p in
       record {
         loops = loops;
         body = body;
         nest = nest;
         one = x.access;
         other = y.access;
-        pair = told_pair ds serial loops round now body outside entered there c.accesses p;
+        pair = told_pair ds serial loops round now body outside entered there [] c.accesses p;
         each = λ from. ⊎_elim
             (λ (h : Share (TouchesAt region (touch_of p.one_touched)) (TouchesAt region (touch_of p.other_touched)) c.earlier c.later c.indexes.items).
             in_order region known p.first p.second p.one p.other p.one_touched p.other_touched x y pair.0 pair.1 first.order from first.searched h.0 h.1)
@@ -176,17 +177,17 @@ module _ (ds : List Declaration) (c : told.Conflict) (serial loops : List Loop) 
       }
 
 -- and where none is found
-module _ (ds : List Declaration) (told : not_shown.NotShown) (serial loops : List Loop) (round now : Nesting) (body : Stmt) (outside : AreEntered no_loops serial round)
+module _ (ds : List Declaration) (sinks : List Distance) (told : not_shown.NotShown) (serial loops : List Loop) (round now : Nesting) (body : Stmt) (outside : AreEntered no_loops serial round)
     (entered : AreEntered round loops now) (ls : List Canonical) (rectangular : AreRectangular round.box loops ls) (there : IsBodyThere ds now body) (n : ℕ) (s : Stmt)
     (nest : nest_of n s ≡ Some (loops, body)) where
-  pub verdict_is_not_found : IsVerdict ds now (length round.levels) (map (λ v. v.most) (inner_loops 0 round.levels)) [] body (refusals.NotShown told) → IsNotFound ds told serial n s
+  pub verdict_is_not_found : IsVerdict ds now (length round.levels) (map (λ v. v.most) (inner_loops 0 round.levels)) sinks body (refusals.NotShown told) → IsNotFound ds sinks told serial n s
   verdict_is_not_found (p, never) =
       record {
         loops = loops;
         body = body;
         nest = nest;
-        one = (one_made ds serial loops round now body outside entered there told p).access;
-        other = (other_made ds serial loops round now body outside entered there told p).access;
-        pair = told_pair ds serial loops round now body outside entered there told p;
-        never = never refl;
+        one = (one_made ds serial loops round now body outside entered there sinks told p).access;
+        other = (other_made ds serial loops round now body outside entered there sinks told p).access;
+        pair = told_pair ds serial loops round now body outside entered there sinks told p;
+        never = never;
       }

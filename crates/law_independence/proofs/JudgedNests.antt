@@ -1,4 +1,4 @@
--- Nests by what their lines say of their data and of their phases.
+-- Nests without sinks, by what their lines say of their data and of their phases.
 use Rattle.std.specs.Prelude.{ℕ, Bool, None, is_none, true, false, not, ◌≡◌, ◌⊎◌, ◌==◌, ◌||◌, List, [], ◌∷◌, ◌++◌, length, map, if◌then◌else◌, Some, Option, IsSome}
 use Rattle.std.specs.List.{list_all}
 use Rattle.std.proofs.Common.{refl, sym, ap, ◌∙◌, subst, inl, inr}
@@ -24,6 +24,7 @@ use Rattle.law_roles.specs.Updates.{is_plain, reduces}
 use Rattle.law_roles.specs.Reducing.{takes_all}
 use Rattle.law_roles.specs.Sharing.{assigned_first, role_variables, are_different, AssignsAll}
 use Rattle.law_independence.specs.Inside.{LoopsAreRead, HaveShort}
+use Rattle.law_independence.specs.Said.{SaidInside}
 use Rattle.law_independence.specs.IndependenceLaws.{IsIndependentNest}
 use Rattle.law_independence.specs.OrderLaws.{used_roles, TakesAtTurns, SharesInChunks, ScansInChunks, SharesAsNest}
 use Rattle.law_independence.proofs.IndependentNests.{shown_loops_are_independent}
@@ -134,8 +135,8 @@ module _ (ds : List Declaration) (around : List Loop) (round : Nesting) (n : ℕ
   sole_same : (a b : Variable × ReduceOp) → (d.carried ≡ a ∷ []) → (d.carried ≡ b ∷ []) → a ≡ b
   sole_same a b e f = cc (e, f)
 
-  pub loop_shares : (said : Option PhasesSaid) → (d.carried ≡ []) ⊎ HasPhases d said n s → SharesAsNest ds d said around n s
-  loop_shares said phases =
+  pub loop_shares : (said : SaidInside) → said.sinks ≡ None → (d.carried ≡ []) ⊎ HasPhases d said.phases n s → SharesAsNest ds d said around n s
+  loop_shares said no_sinks phases =
       record {
         nest = independent.0;
         round = have_turns ds short round outer serial n s found stmt stays (left_roles d) private around entered;
@@ -145,22 +146,23 @@ module _ (ds : List Declaration) (around : List Loop) (round : Nesting) (n : ℕ
         leaves = leaves_others ds short round outer serial n s found stmt stays (left_roles d) private;
         takes = takes phases;
         phases = phases;
-        shares = plain_shares;
+        shares = λ none no_sinks. plain_shares none;
         scans = λ x op sole target. scans phases x op sole target;
+        waves = λ sinks doacross. absurd (cc (no_sinks, doacross));
       }
     where
-      takes : (d.carried ≡ []) ⊎ HasPhases d said n s → TakesAtTurns ds used around s
+      takes : (d.carried ≡ []) ⊎ HasPhases d said.phases n s → TakesAtTurns ds used around s
       takes (inl none) = takes_updated ds short round outer serial n s found stmt stays (left_roles d) private around entered (updates none)
       takes (inr its) = at (is_among (targets_outside s) its.variable) refl
         where
           at : (b : Bool) → is_among (targets_outside s) its.variable ≡ b → TakesAtTurns ds used around s
           at true target =
-              takes_scanned ds short round outer serial n s found stmt stays (left_roles d) private around entered its.variable its.operator its.inclusive its.front its.back its.loops its.nest its.keeps (scan_reduces said its true target)
-          at false other = λ scope order next next' tokens known outside reads turn met determined. inl (ap takes_all (scan_reduces said its false other))
+              takes_scanned ds short round outer serial n s found stmt stays (left_roles d) private around entered its.variable its.operator its.inclusive its.front its.back its.loops its.nest its.keeps (scan_reduces said.phases its true target)
+          at false other = λ scope order next next' tokens known outside reads turn met determined. inl (ap takes_all (scan_reduces said.phases its false other))
 
-      scans : (d.carried ≡ []) ⊎ HasPhases d said n s → (x : Variable) (op : ReduceOp) → d.carried ≡ (x, op) ∷ [] → is_among (targets_outside s) x ≡ true → ScansInChunks said x op used around n s
+      scans : (d.carried ≡ []) ⊎ HasPhases d said.phases n s → (x : Variable) (op : ReduceOp) → d.carried ≡ (x, op) ∷ [] → is_among (targets_outside s) x ≡ true → ScansInChunks said.phases x op used around n s
       scans (inl none) x op sole target = absurd (cc (none, sole))
       scans (inr its) x op sole target =
           let same = sole_same (x, op) (its.variable, its.operator) sole its.sole in
-          subst (λ (r : Variable × ReduceOp). ScansInChunks said r.0 r.1 used around n s) (sym same)
-          (scanned said its (subst (λ (r : Variable × ReduceOp). is_among (targets_outside s) r.0 ≡ true) same target))
+          subst (λ (r : Variable × ReduceOp). ScansInChunks said.phases r.0 r.1 used around n s) (sym same)
+          (scanned said.phases its (subst (λ (r : Variable × ReduceOp). is_among (targets_outside s) r.0 ≡ true) same target))

@@ -5,7 +5,6 @@ pub mod Counted
 pub mod Independent
 pub mod IndependentNests
 pub mod Grammar
-pub mod IndependentKernels
 pub mod Numbering
 pub mod Fixed
 pub mod Starts
@@ -13,7 +12,6 @@ pub mod Naming
 pub mod Steadiness
 pub mod ReorderedBodies
 pub mod ReorderedNests
-pub mod ReorderedKernels
 pub mod Entered
 pub mod Values
 pub mod Rectangular
@@ -23,7 +21,6 @@ pub mod ConflictBodies
 pub mod Conflicts
 pub mod Affinity
 pub mod RefusedNests
-pub mod RefusedKernels
 pub mod PrivateNests
 pub mod RoleNests
 pub mod Taking

@@ -3,6 +3,7 @@ use Rattle.std.specs.Prelude.{ℕ, zero, suc, Bool, true, false, IsTrue, ◌≡�
 use Rattle.std.proofs.Common.{refl, sym, inl, inr, ap, ◌∙◌, subst, arith, ⊎_elim}
 use Rattle.std.proofs.lemmas.Bool.{eqb-true, eqb-false}
 use Rattle.std.proofs.lemmas.Option.{none-some, same_Some}
+use Rattle.semantics.specs.Loops.Order.{Distance}
 use Rattle.pairtest.specs.declared.access.Access.{Access}
 use Rattle.pairtest.specs.declared.access.Nest.{Nest}
 use Rattle.pairtest.specs.declared.access.Mode.{Mode}
@@ -36,12 +37,12 @@ drop_at xs zero j = ap (slice_get xs) (let none : j ≡ 0 + j = omega arith in n
 drop_at [] (suc i) j = refl
 drop_at (x ∷ xs) (suc i) j = drop_at xs i j ∙ ap (slice_get (x ∷ xs)) (let more : suc (i + j) ≡ suc i + j = omega arith in more)
 
--- the first pair that is not shown to be independent is a pair
-pub first_is_pair : (nest : Nest) (xs : List Access) (i j : ℕ) (x y : Access) → IsFirstPair nest [] xs i j → slice_get xs i ≡ Some x → slice_get xs j ≡ Some y → IsPair x y
-first_is_pair nest xs i j x y is p q =
+-- the first pair that is not shown is a pair
+pub first_is_pair : (nest : Nest) (sinks : List Distance) (xs : List Access) (i j : ℕ) (x y : Access) → IsFirstPair nest sinks xs i j → slice_get xs i ≡ Some x → slice_get xs j ≡ Some y → IsPair x y
+first_is_pair nest sinks xs i j x y is p q =
     let one : is.access ≡ x = same_Some is.access x (sym is.there ∙ p) in
     let other : is.first.access ≡ y = same_Some is.first.access y (sym is.first.there ∙ drop_at xs i is.behind ∙ ap (slice_get xs) (sym is.second) ∙ q) in
-    subst (λ z. IsPair x z) other (subst (λ z. IsPair z is.first.access) one (is_pair (IsOrdered nest [] is.access is.first.access) is.access is.first.access is.first.not_shown))
+    subst (λ z. IsPair x z) other (subst (λ z. IsPair z is.first.access) one (is_pair (IsOrdered nest sinks is.access is.first.access) is.access is.first.access is.first.not_shown))
 
 -- the site of an access that was met and is counted
 pub site_of : (outer : ℕ) (ss : List Site) (fs : List Access) (k : ℕ) (f : Access) → AreMet outer ss fs → slice_get fs k ≡ Some f → IsTrue f.is_counted

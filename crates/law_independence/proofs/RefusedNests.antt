@@ -5,6 +5,7 @@ use Rattle.std.proofs.lemmas.Option.{same_Some}
 use Rattle.semantics.specs.Tree.{Stmt, Declaration}
 use Rattle.semantics.specs.Meaning.Value.{map_option}
 use Rattle.semantics.specs.Loops.Nest.{Loop, as_loop, nest_of}
+use Rattle.semantics.specs.Loops.Order.{Distance}
 use Rattle.ktree.specs.declared.refusal.Refusal.{Refusal}
 use Rattle.ktree.specs.declared.refusal.Refusal.TheVariants as refusals
 use Rattle.nest_loop.specs.declared.head.Canonical.{Canonical}
@@ -43,18 +44,18 @@ inside_it : (n : ℕ) (o : Option (Loop × Stmt)) (h : Loop) (body : Stmt) → o
 inside_it n o h body is some = kept h (nest_of n body) (subst (λ (p : Option (Loop × Stmt)). IsSome (nest_by n p)) is some)
 
 -- a nest whose loops were entered, and why its body is refused
-record IsNestRefused (ds : List Declaration) (r : Refusal) (now : Nesting) (outer : ℕ) (counts : List ℕ) (n : ℕ) (s : Stmt) : Type 0 where
+record IsNestRefused (ds : List Declaration) (r : Refusal) (sinks : List Distance) (now : Nesting) (outer : ℕ) (counts : List ℕ) (n : ℕ) (s : Stmt) : Type 0 where
   loops : List Loop
   body : Stmt
   inner : Nesting
   is : nest_of n s ≡ Some (loops, body)
   entered : AreEntered now loops inner
   there : IsBodyThere ds inner body
-  refused : BodyRefused ds inner outer counts [] body r
+  refused : BodyRefused ds inner outer counts sinks body r
 
-module _ (ds : List Declaration) (r : Refusal) where
-  nest_refused : (n : ℕ) (now : Nesting) (outer : ℕ) (counts : List ℕ) (s : Stmt) → IsBodyThere ds now s → IsSome (nest_of n s) → NestRefused ds now outer counts [] n s r
-      → IsNestRefused ds r now outer counts n s
+module _ (ds : List Declaration) (r : Refusal) (sinks : List Distance) where
+  nest_refused : (n : ℕ) (now : Nesting) (outer : ℕ) (counts : List ℕ) (s : Stmt) → IsBodyThere ds now s → IsSome (nest_of n s) → NestRefused ds now outer counts sinks n s r
+      → IsNestRefused ds r sinks now outer counts n s
   nest_refused zero now outer counts s there some refused = record { loops = []; body = s; inner = now; is = refl; entered = refl; there = there; refused = refused }
   nest_refused (suc n) now outer counts s there some (inl (names, none)) = absurd (outermost n (as_loop s) none some)
   nest_refused (suc n) now outer counts s there some (inr (h, body, is, inner, into, refused)) =
@@ -70,14 +71,16 @@ module _ (ds : List Declaration) (r : Refusal) where
         refused = rest.refused;
       }
 
-module _ (ds : List Declaration) (serial : List Loop) (round : Nesting) (outside : AreEntered no_loops serial round) (n : ℕ) (s : Stmt) (ls : List Canonical) (loops : List Loop) (now : Nesting)
+module _ (ds : List Declaration) (sinks : List Distance) (serial : List Loop) (round : Nesting) (outside : AreEntered no_loops serial round) (n : ℕ) (s : Stmt) (ls : List Canonical) (loops : List Loop) (now : Nesting)
     (body : Stmt) (nest : nest_of n s ≡ Some (loops, body)) (entered : AreEntered round loops now) (rectangular : AreRectangular round.box loops ls) (there : IsBodyThere ds now body) where
-  verdict_told : (r : Refusal) → IsVerdict ds now (length round.levels) (map (λ v. v.most) (inner_loops 0 round.levels)) [] body r → IsToldOf ds r serial n s
-  verdict_told (refusals.Conflict c) v = inl (c, refl, verdict_is_conflict ds c serial loops round now body outside entered ls rectangular there n s nest v)
-  verdict_told (refusals.NotShown a) v = inr (inl (a, refl, verdict_is_not_found ds a serial loops round now body outside entered ls rectangular there n s nest v))
+  verdict_told : (r : Refusal) → IsVerdict ds now (length round.levels) (map (λ v. v.most) (inner_loops 0 round.levels)) sinks body r → IsToldOf ds sinks r serial n s
+  verdict_told (refusals.Conflict c) v =
+      let here = subst (λ distances. IsVerdict ds now (length round.levels) (map (λ v. v.most) (inner_loops 0 round.levels)) distances body (refusals.Conflict c)) v.0 v in
+      inl (c, v.0, refl, verdict_is_conflict ds c serial loops round now body outside entered ls rectangular there n s nest here)
+  verdict_told (refusals.NotShown a) v = inr (inl (a, refl, verdict_is_not_found ds sinks a serial loops round now body outside entered ls rectangular there n s nest v))
   verdict_told _ v = absurd v
 
-  body_told : (r : Refusal) → BodyRefused ds now (length round.levels) (map (λ v. v.most) (inner_loops 0 round.levels)) [] body r → IsToldOf ds r serial n s
+  body_told : (r : Refusal) → BodyRefused ds now (length round.levels) (map (λ v. v.most) (inner_loops 0 round.levels)) sinks body r → IsToldOf ds sinks r serial n s
   body_told r (inl v) = verdict_told r v
   body_told r (inr (inl (sites, found, counts, place, tested, large, e))) =
       inr (inr (
@@ -101,11 +104,11 @@ module _ (ds : List Declaration) (serial : List Loop) (round : Nesting) (outside
   body_told r (inr (inr (f, e, stuck))) = absurd (none_stuck ds body now there.read there.stays stuck)
 
 -- a parallel loop of a right nest, inside serial loops
-pub loop_is_told : (ds : List Declaration) (r : Refusal) (serial : List Loop) (round : Nesting) (n : ℕ) (s : Stmt) → AreEntered no_loops serial round → LoopsAreRead round.box s
-    → Has (StaysInside ds) round.box s → IsRightNest round.box n s → LoopRefused ds round [] n s r → IsToldOf ds r serial n s
-loop_is_told ds r serial round n s outside read has (loops, body, is, right) refused =
+pub loop_is_told : (ds : List Declaration) (r : Refusal) (sinks : List Distance) (serial : List Loop) (round : Nesting) (n : ℕ) (s : Stmt) → AreEntered no_loops serial round → LoopsAreRead round.box s
+    → Has (StaysInside ds) round.box s → IsRightNest round.box n s → LoopRefused ds round sinks n s r → IsToldOf ds sinks r serial n s
+loop_is_told ds r sinks serial round n s outside read has (loops, body, is, right) refused =
     let counts = map (λ v. v.most) (inner_loops 0 round.levels) in
-    let nest = nest_refused ds r n round (length round.levels) counts s (record { read = read; stays = has }) (subst IsSome (sym is) refl) refused in
+    let nest = nest_refused ds r sinks n round (length round.levels) counts s (record { read = read; stays = has }) (subst IsSome (sym is) refl) refused in
     let same : (loops, body) ≡ (nest.loops, nest.body) = same_Some (loops, body) (nest.loops, nest.body) (sym is ∙ nest.is) in
     let rectangular = subst (λ (p : List Loop × Stmt). AreRectangular round.box p.0 right.0.0) same right.0.1 in
-    body_told ds serial round outside n s right.0.0 nest.loops nest.inner nest.body nest.is nest.entered rectangular nest.there r nest.refused
+    body_told ds sinks serial round outside n s right.0.0 nest.loops nest.inner nest.body nest.is nest.entered rectangular nest.there r nest.refused

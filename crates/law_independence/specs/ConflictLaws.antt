@@ -1,11 +1,11 @@
--- What the dependence test tells of a kernel: a conflict is one, in the words of the definitions. (C11 5.1.2.4, 4; OpenMP 5.2, 1.4.1)
+-- What the dependence test tells of a parallel loop: a conflict is one, in the words of the definitions. (C11 5.1.2.4, 4; OpenMP 5.2, 1.4.1 and 15.9.6)
 use Rattle.std.specs.Prelude.{ℕ, ◌≡◌, ◌⊎◌, ◌<◌, List, [], ◌∷◌, length, map, slice_get, Option, Some, None, option_and_then, string_bytes}
-use Rattle.semantics.specs.Tree.{Stmt, Declaration, Kernel}
-use Rattle.law_lines.specs.Without.{IsTreeOf}
+use Rattle.semantics.specs.Tree.{Stmt, Declaration}
 use Rattle.semantics.specs.Meaning.State.{State}
 use Rattle.semantics.specs.Meaning.Value.{values}
 use Rattle.semantics.specs.Loops.Nest.{Loop, Vector, nest_of, loop_values, at_value, iterations, at_vector}
 use Rattle.semantics.specs.Loops.Access.{Access, Conflict, accesses}
+use Rattle.semantics.specs.Loops.Order.{Distance}
 use Rattle.ktree.specs.declared.refusal.Conflict as told
 use Rattle.ktree.specs.declared.refusal.NotShown as not_shown
 use Rattle.ktree.specs.declared.place.Place.{Place}
@@ -17,16 +17,11 @@ use Rattle.pairtest.specs.declared.access.Access as pairs
 use Rattle.pairtest.specs.declared.access.Nest.{Nest}
 use Rattle.pairtest_access.specs.Sites.{Site}
 use Rattle.pairtest_access.specs.Found.{inner_loops}
-use Rattle.nest.specs.Nests.{IsInRange}
-use Rattle.nest.specs.Perfect.{AreRightNests}
 use Rattle.deptest_witness.specs.Touching.{NestAt, IsEntered, TouchesAt}
 use Rattle.deptest_witness.specs.Pairs.{Meet, NeverMeet}
-use Rattle.deptest_verdict.specs.Sinks.{no_sinks}
 use Rattle.deptest_verdict.specs.Shown.{no_loops}
-use Rattle.deptest_verdict.specs.Refused.{IsNameOf, AreTested, touch_of, serial_loops, nest_loops, IsFirstOf, IsTooLarge, IsRefused}
+use Rattle.deptest_verdict.specs.Refused.{IsNameOf, AreTested, touch_of, serial_loops, nest_loops, IsFirstOf, IsTooLarge}
 use Rattle.law_turns.specs.Turns.{AreEntered}
-use Rattle.law_independence.specs.IndependenceLaws.{IsIndependentNest}
-use Rattle.law_independence.specs.Parallel.{FirstItemHas}
 
 -- the first of some values
 abbrev pub first_value : List ℕ → Option ℕ
@@ -46,13 +41,13 @@ pub record TouchesFirst (loops : List Loop) (outer : State) (us : List Vector) (
   pub begins : first_turns access.inner (at_vector loops vector outer) ≡ Some there
   pub are : values there access.subscripts ≡ Some indexes
 
--- the pair that is told of a loop's body inside serial loops: two of its accesses, by their numbers in order of place, the first that are not shown to be independent; the array's name is theirs
-pub record IsToldPair (ds : List Declaration) (serial loops : List Loop) (body : Stmt) (told : not_shown.NotShown) (one other : Access) : Type 0 where
+-- the pair that is told of a loop's body inside serial loops: two of its accesses, by their numbers in order of place, the first that are not shown to be independent, nor ordered by one of the loop's sinks; the array's name is theirs
+pub record IsToldPair (ds : List Declaration) (sinks : List Distance) (serial loops : List Loop) (body : Stmt) (told : not_shown.NotShown) (one other : Access) : Type 0 where
   pub round : Nesting
   pub now : Nesting
   pub outside : AreEntered no_loops serial round
   pub entered : AreEntered round loops now
-  pub first : IsFirstOf ds now (length round.levels) (map (λ v. v.most) (inner_loops 0 round.levels)) [] body told
+  pub first : IsFirstOf ds now (length round.levels) (map (λ v. v.most) (inner_loops 0 round.levels)) sinks body told
   pub one_is : slice_get (accesses [] body) first.first ≡ Some one
   pub other_is : slice_get (accesses [] body) first.second ≡ Some other
   pub same : one.array ≡ other.array
@@ -81,29 +76,29 @@ pub record IsConflictFrom (c : told.Conflict) (serial loops : List Loop) (body :
   pub indexes : conflict.element.indexes ≡ c.indexes.items
   pub between : IsBetween one other conflict
 
--- so it is in a parallel loop of so many associated loops, whatever the state round the serial loops, and the pair of accesses is the one that is told
+-- so it is in a parallel loop of so many associated loops that has no sinks, whatever the state round the serial loops, and the pair of accesses is the one that is told
 pub record IsConflict (ds : List Declaration) (c : told.Conflict) (serial : List Loop) (n : ℕ) (s : Stmt) : Type 0 where
   pub loops : List Loop
   pub body : Stmt
   pub nest : nest_of n s ≡ Some (loops, body)
   pub one : Access
   pub other : Access
-  pub pair : IsToldPair ds serial loops body c.accesses one other
+  pub pair : IsToldPair ds [] serial loops body c.accesses one other
   pub each : (outside : State) → IsConflictFrom c serial loops body one other outside
 
--- of the pair that is told no two of the first iterations are found that touch one element, by the forms of the two accesses, or a serial loop has no turn there
-pub record IsNotFound (ds : List Declaration) (told : not_shown.NotShown) (serial : List Loop) (n : ℕ) (s : Stmt) : Type 0 where
+-- of the pair that is told, where the loop has no sinks, no two of the first iterations are found that touch one element, by the forms of the two accesses, or a serial loop has no turn there
+pub record IsNotFound (ds : List Declaration) (sinks : List Distance) (told : not_shown.NotShown) (serial : List Loop) (n : ℕ) (s : Stmt) : Type 0 where
   pub loops : List Loop
   pub body : Stmt
   pub nest : nest_of n s ≡ Some (loops, body)
   pub one : Access
   pub other : Access
-  pub pair : IsToldPair ds serial loops body told one other
-  pub never : (at : NestAt) → IsEntered (serial_loops (length pair.round.levels) pair.now) (nest_loops (length pair.round.levels) pair.now) at → IsSpace at.turns
+  pub pair : IsToldPair ds sinks serial loops body told one other
+  pub never : sinks ≡ [] → (at : NestAt) → IsEntered (serial_loops (length pair.round.levels) pair.now) (nest_loops (length pair.round.levels) pair.now) at → IsSpace at.turns
       → NeverMeet (TouchesAt at (touch_of pair.first.one_touched)) (TouchesAt at (touch_of pair.first.other_touched))
 
--- an access of the body has a number above 2^62, or a pair of it has; all pairs before are shown to be independent
-pub record PassesLimits (place : Place) (serial : List Loop) (n : ℕ) (s : Stmt) : Type 0 where
+-- an access of the body has a number above 2^62, or a pair of it has; all pairs before are shown to be independent, or ordered by one of the loop's sinks
+pub record PassesLimits (sinks : List Distance) (place : Place) (serial : List Loop) (n : ℕ) (s : Stmt) : Type 0 where
   pub loops : List Loop
   pub body : Stmt
   pub nest : nest_of n s ≡ Some (loops, body)
@@ -115,17 +110,11 @@ pub record PassesLimits (place : Place) (serial : List Loop) (n : ℕ) (s : Stmt
   pub found : List pairs.Access
   pub counts : Nest
   pub tested : AreTested now (length round.levels) (map (λ v. v.most) (inner_loops 0 round.levels)) body sites found counts
-  pub large : IsTooLarge counts [] found place
+  pub large : IsTooLarge counts sinks found place
 
--- what is told of a parallel loop that is not shown to be independent, and nothing else: K19, K20 or K21
-abbrev pub IsToldOf : List Declaration → Refusal → List Loop → ℕ → Stmt → Type 0
-IsToldOf ds r serial n s =
-    ((c : told.Conflict) × (r ≡ refusals.Conflict c) × IsConflict ds c serial n s)
-    ⊎ (((a : not_shown.NotShown) × (r ≡ refusals.NotShown a) × IsNotFound ds a serial n s)
-    ⊎ ((place : Place) × (r ≡ refusals.Limit place) × PassesLimits place serial n s))
-
--- a kernel of the grammar whose loops are canonical, with subscripts in range and right nests, is refused for its first parallel loop that is not shown to be independent; those before it are independent
-abbrev pub RefusalsAreTold : Type 0
-RefusalsAreTold =
-    (text : List ℕ) (k : Kernel) (r : Refusal) → IsTreeOf text k → IsInRange k → AreRightNests text k → IsRefused text no_sinks k r
-    → (r ≡ refusals.OutOfMemory) ⊎ FirstItemHas text IsIndependentNest (IsToldOf k.variables r) [] k.body
+-- what is told of a parallel loop with these sinks that is not shown, and nothing else: K19 of one without sinks, K20 or K21
+abbrev pub IsToldOf : List Declaration → List Distance → Refusal → List Loop → ℕ → Stmt → Type 0
+IsToldOf ds sinks r serial n s =
+    ((c : told.Conflict) × (sinks ≡ []) × (r ≡ refusals.Conflict c) × IsConflict ds c serial n s)
+    ⊎ (((a : not_shown.NotShown) × (r ≡ refusals.NotShown a) × IsNotFound ds sinks a serial n s)
+    ⊎ ((place : Place) × (r ≡ refusals.Limit place) × PassesLimits sinks place serial n s))

@@ -1,7 +1,6 @@
 -- Loops that the tests of pairs show to be independent have no conflicts. (C11 5.1.2.4, 4; OpenMP 5.2, 1.4.1 and 11.5)
 use Rattle.std.specs.Prelude.{ℕ, ◌≡◌, ℤ, List, [], length, map, Contains, Some, IsSome}
-use Rattle.semantics.specs.Tree.{Stmt, Declaration, Kernel}
-use Rattle.law_lines.specs.Without.{IsTreeOf}
+use Rattle.semantics.specs.Tree.{Stmt, Declaration}
 use Rattle.semantics.specs.Meaning.State.{State}
 use Rattle.semantics.specs.Loops.Nest.{Loop, Vector, nest_of, iterations}
 use Rattle.semantics.specs.Loops.Access.{Conflict}
@@ -9,11 +8,9 @@ use Rattle.semantics.specs.Loops.Piece.{SharedLoop}
 use Rattle.semantics.specs.Theorems.{IsIndependent}
 use Rattle.nest_loop.specs.Turn.{AtTurn}
 use Rattle.pairtest_counter.specs.Levels.{Nesting, AreLevels, IsTurn, values_at}
-use Rattle.pragma.specs.Parallel.{ItemsHave}
-use Rattle.nest.specs.Nests.{Has, StaysInside, IsInRange}
+use Rattle.nest.specs.Nests.{Has, StaysInside}
 use Rattle.pairtest_access.specs.Found.{inner_loops}
-use Rattle.deptest_verdict.specs.Sinks.{no_sinks}
-use Rattle.deptest_verdict.specs.Shown.{IsShownBody, IsShownLoop, no_loops, AreShownLoops}
+use Rattle.deptest_verdict.specs.Shown.{IsShownBody, IsShownLoop, no_loops}
 use Rattle.law_turns.specs.Turns.{AreEntered}
 use Rattle.law_independence.specs.Inside.{LoopsAreRead, HaveShort}
 
@@ -43,7 +40,3 @@ ShownLoopsAreIndependent =
     (ds : List Declaration) (serial : List Loop) (round : Nesting) (n : ℕ) (s : Stmt)
     → HaveShort ds → AreEntered no_loops serial round → LoopsAreRead round.box s → Has (StaysInside ds) round.box s → IsShownLoop round [] n s
     → IsIndependentNest serial n s
-
--- each parallel loop of a kernel of the grammar is independent, where no subscript leaves its dimension and the test of pairs shows all of them to be so
-abbrev pub ShownKernelsAreIndependent : Type 0
-ShownKernelsAreIndependent = (text : List ℕ) (k : Kernel) → IsTreeOf text k → IsInRange k → AreShownLoops text no_sinks k → ItemsHave text IsIndependentNest [] k.body

@@ -1,17 +1,17 @@
--- The iterations of parallel loops that are accepted leave the same elements in any order, and chunks of them leave and print together what the loop does. (OpenMP 5.2, 1.4.1, 11.5 and 15.10.2)
-use Rattle.std.specs.Prelude.{ℕ, Bool, true, false, ◌≡◌, ◌≤◌, ◌<◌, List, [], ◌∷◌, length, map, filter, flat_map, Some, IsSome, slice_get, Option, ◌⊎◌}
+-- The iterations of parallel loops that are accepted leave the same elements in any order, and chunks of them leave and print together what the loop does; those of doacross nests do so wave by wave. (OpenMP 5.2, 1.4.1, 11.5, 15.9.6 and 15.10.2)
+use Rattle.std.specs.Prelude.{ℕ, Bool, true, false, ◌≡◌, ◌≤◌, ◌<◌, List, [], ◌∷◌, length, map, filter, flat_map, Some, None, IsSome, slice_get, Option, ◌⊎◌}
 use Rattle.std.specs.List.{list_all, AllByRecursion}
-use Rattle.semantics.specs.Tree.{Variable, Stmt, Items, Declaration, Kernel}
+use Rattle.semantics.specs.Tree.{Variable, Stmt, Items, Declaration}
 use Rattle.semantics.specs.Source.Token.{Token}
 use Rattle.semantics.specs.Source.Scope.{Scope, Entity, AVariable, AConstant}
 use Rattle.semantics.specs.Source.Statements.{ReadsIncrement, ReadsStmt}
-use Rattle.law_lines.specs.Without.{IsTreeOf}
 use Rattle.semantics.specs.Meaning.State.{State, Outside, Holds, is_there, overwritten}
 use Rattle.semantics.specs.Meaning.Agrees.{is_among, visible_behind}
-use Rattle.semantics.specs.Meaning.Definite.{no_privates, definite, IsDefinite}
+use Rattle.semantics.specs.Meaning.Definite.{no_privates, definite}
 use Rattle.semantics.specs.Loops.Nest.{Loop, Vector, nest_of, iterations}
 use Rattle.semantics.specs.Meaning.Runs.{Effect, run}
 use Rattle.semantics.specs.Loops.Operator.{ReduceOp}
+use Rattle.semantics.specs.Loops.Order.{Distance}
 use Rattle.semantics.specs.Loops.Piece.{Roles, SharedLoop, is_outside}
 use Rattle.semantics.specs.Theorems.{is_declared, IsTurn, CommutesInAnyOrder}
 use Rattle.law_commute.specs.Joining.{DeclaresLocals}
@@ -19,12 +19,11 @@ use Rattle.law_commute.specs.Targets.{targets_outside, is_local}
 use Rattle.law_roles.specs.Updates.{operator_of, is_plain}
 use Rattle.law_roles.specs.Sharing.{assigned_first, role_variables, are_different, IsScalar, HoldsNumber, TakesOperands, MayStart, changed_from, SharesFrom}
 use Rattle.nest_loop.specs.Constants.{Each, IsSmall}
-use Rattle.nest.specs.Nests.{IsInRange}
-use Rattle.deptest_verdict.specs.Sinks.{no_sinks}
-use Rattle.deptest_verdict.specs.Shown.{AreShownLoops}
-use Rattle.flow.specs.Phases.{PhasesSaid, LinePhases, item_count, HasPhases, PhasesBy}
+use Rattle.flow.specs.Phases.{PhasesSaid, item_count, HasPhases}
 use Rattle.law_scans.specs.Scanning.{whole_of, first_of, ScansFrom}
-use Rattle.flow.specs.Roles.{LoopData, LineData, left_roles, privates_by, AskedByLine, ItemsHaveBy, ItemsKeepRoles}
+use Rattle.law_waves.specs.Doacross.{SharesInWaves}
+use Rattle.flow.specs.Roles.{LoopData, LineData, left_roles, AskedByLine}
+use Rattle.law_independence.specs.Said.{SaidInside, LinesInside}
 
 -- at each turn of the serial loops round a nest of so many loops at which the scalars that its body assigns from outside are locals, its iterations leave the same elements in any order
 abbrev pub CommutesAtTurns : List Loop → ℕ → Stmt → Type 0
@@ -141,8 +140,21 @@ pub record ScansInChunks (said : Option PhasesSaid) (x : Variable) (op : ReduceO
   pub nest : nest_of n s ≡ Some (loops, whole_of front back)
   pub passes : ScansAtTurns roles x op serial loops (first_of inclusive front back) (whole_of front back) s
 
--- a statement is a nest of so many loops that assigns of scalars those alone that have the roles of its line; where its iterations carry nothing from one to the next, they may be run in chunks, and as a scan where they carry one variable that they assign
-pub record SharesAsNest (ds : List Declaration) (d : LoopData) (said : Option PhasesSaid) (serial : List Loop) (n : ℕ) (s : Stmt) : Type 0 where
+-- wherever a nest has a run at a turn of the serial loops round it, and its private variables are at hand, it may be run wave by wave, by these sinks (OpenMP 5.2, 15.9.6)
+abbrev pub WavesAtTurns : Roles → List Distance → List Loop → ℕ → Stmt → Type 0
+WavesAtTurns roles sinks serial n s =
+    (loops : List Loop) (body : Stmt) (outer : State) (us : List Vector) (e : Effect)
+    → nest_of n s ≡ Some (loops, body) → IsTurn serial outer → DeclaresLocals s outer → AreAtHand roles s outer
+    → iterations loops outer ≡ Some us → run s outer ≡ Some e → SharesInWaves roles sinks s loops body us outer e
+
+-- no variable of a nest is lastprivate or reduced, and it may be run so
+pub record WavesInChunks (roles : Roles) (sinks : List Distance) (serial : List Loop) (n : ℕ) (s : Stmt) : Type 0 where
+  pub no_lasts : roles.lasts ≡ []
+  pub no_reductions : roles.reductions ≡ []
+  pub passes : WavesAtTurns roles sinks serial n s
+
+-- a statement is a nest of so many loops that assigns of scalars those alone that have the roles of its line; where its iterations carry nothing from one to the next, and its line has no sinks, they may be run in chunks, as a scan where they carry one variable that they assign, and wave by wave where it is a doacross nest
+pub record SharesAsNest (ds : List Declaration) (d : LoopData) (said : SaidInside) (serial : List Loop) (n : ℕ) (s : Stmt) : Type 0 where
   pub nest : IsSome (nest_of n s)
   pub round : HaveTurns serial
   pub steps : HasStepsRead n s
@@ -150,16 +162,11 @@ pub record SharesAsNest (ds : List Declaration) (d : LoopData) (said : Option Ph
   pub there : IterateAtTurns serial n s
   pub leaves : LeavesOthers s
   pub takes : TakesAtTurns ds (used_roles s (left_roles d)) serial s
-  pub phases : (d.carried ≡ []) ⊎ HasPhases d said n s
-  pub shares : d.carried ≡ [] → SharesInChunks (used_roles s (left_roles d)) serial n s
-  pub scans : (x : Variable) (op : ReduceOp) → d.carried ≡ (x, op) ∷ [] → is_among (targets_outside s) x ≡ true → ScansInChunks said x op (used_roles s (left_roles d)) serial n s
+  pub phases : (d.carried ≡ []) ⊎ HasPhases d said.phases n s
+  pub shares : d.carried ≡ [] → said.sinks ≡ None → SharesInChunks (used_roles s (left_roles d)) serial n s
+  pub scans : (x : Variable) (op : ReduceOp) → d.carried ≡ (x, op) ∷ [] → is_among (targets_outside s) x ≡ true → ScansInChunks said.phases x op (used_roles s (left_roles d)) serial n s
+  pub waves : (sinks : List Distance) → said.sinks ≡ Some sinks → WavesInChunks (used_roles s (left_roles d)) sinks serial n s
 
--- so the loop behind each directive line, with the roles and the phases that are said of it
-abbrev pub SharesBy : List Declaration → LineData → LinePhases → AskedByLine
+-- so the loop behind each directive line, with the roles that its line says, and the phases or the sinks that lines inside it say
+abbrev pub SharesBy : List Declaration → LineData → LinesInside → AskedByLine
 SharesBy ds R P line serial n s = SharesAsNest ds (R line) (P line) serial n s
-
--- so each parallel loop of a kernel of the grammar, where no subscript leaves its dimension, no local is read before it is assigned, parallel loops keep the roles of the scalars that they assign, and the test of pairs shows all of them to be independent
-abbrev pub AcceptedLoopsShare : Type 0
-AcceptedLoopsShare =
-    (text : List ℕ) (k : Kernel) (R : LineData) (P : LinePhases) → IsTreeOf text k → IsInRange k → IsDefinite (privates_by R) k → ItemsKeepRoles text R [] k.body
-    → ItemsHaveBy text (PhasesBy R P) [] k.body → AreShownLoops text no_sinks k → ItemsHaveBy text (SharesBy k.variables R P) [] k.body

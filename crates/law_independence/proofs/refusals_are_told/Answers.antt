@@ -1,5 +1,0 @@
-use Rattle.law_independence.proofs.RefusedKernels.{refusals_are_told as the_law}
-use Rattle.law_independence.proofs.refusals_are_told.Goals as goal
-
-pub returns : goal.returns
-returns c = the_law

@@ -1,5 +1,0 @@
-use Rattle.law_independence.proofs.IndependentKernels.{shown_kernels_are_independent as the_law}
-use Rattle.law_independence.proofs.shown_kernels_are_independent.Goals as goal
-
-pub returns : goal.returns
-returns c = the_law
