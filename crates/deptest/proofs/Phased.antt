@@ -52,7 +52,7 @@ module _ (text : List ℕ) (A B C : AskedByLine) (both : (line : ℕ) (serial : 
     loops_both serial (Block items) a b = items_both serial items a b
     loops_both serial (Print parts) a b = tt
 
-    items_both : (serial : List Loop) (items : Items) → ItemsHaveBy text A serial items → ItemsHaveBy text B serial items → ItemsHaveBy text C serial items
+    pub items_both : (serial : List Loop) (items : Items) → ItemsHaveBy text A serial items → ItemsHaveBy text B serial items → ItemsHaveBy text C serial items
     items_both serial no_items a b = tt
     items_both serial (mark line rest) a b = (line_both line serial rest a.0 b.0, items_both serial rest a.1 b.1)
     items_both serial (local x name start rest) a b = items_both serial rest a b

@@ -3,11 +3,12 @@
 ghost use Rattle.std.specs.Prelude.{◌≡◌, map, IfOk, IfErr};
 ghost use Rattle.ktree.specs.View.{declaration_of, kernel_of};
 ghost use Rattle.nest.specs.Judged.{IsTableOf};
-ghost use Rattle.deptest.specs.Accepted.{tree_of, HasPassed, HasLoops, KeepsLoops, AreIndependent, AreRegions, IsKept, IsAccepted};
+ghost use Rattle.deptest.specs.Accepted.{tree_of, HasPassed, HasLoops, KeepsLoops, AreRegions, IsKept, IsAccepted};
 ghost use Rattle.deptest.specs.Refused.{RefusesLoops};
 
-use crate::independent::check;
+use crate::ordered::check;
 use flow::ParallelLoop;
+use flow_doacross::DoacrossLoop;
 use flow_scan::ScanLoop;
 use ktree::{Declaration, Item, Kernel, Refusal};
 use nest::LoopTable;
@@ -16,16 +17,18 @@ use pragma_region::RegionPart;
 use std::alloc::Global;
 use std::marker::Model;
 
-/// The parallel loops of a kernel, those of its scans with their phases, and the parts of the regions that they stand in, all in the
-/// order of the text.
+/// The parallel loops of a kernel, those of its scans with their phases, its doacross nests with their sinks, and the parts of the regions
+/// that they stand in, all in the order of the text.
 #[derive(Drop)]
 pub struct Parallel {
     pub loops: Vec<ParallelLoop>,
     pub scans: Vec<ScanLoop>,
+    pub doacross: Vec<DoacrossLoop>,
     pub regions: Vec<RegionPart>,
 }
 
-/// An accepted kernel: what every pass before a run found out of it, that its parallel loops are independent, and these loops.
+/// An accepted kernel: what every pass before a run found out of it, that its parallel loops are independent or ordered by their sinks,
+/// and these loops.
 #[derive(Drop)]
 pub struct Checked {
     text: Vec<u8>,
@@ -47,6 +50,7 @@ impl Model for Checked {
     ghost invariant = { λ c. IsKept (record { text = c.text.items; kernel = c.kernel })
         c.parallel.loops.items
         c.parallel.scans.items
+        c.parallel.doacross.items
         c.parallel.regions.items };
 }
 
@@ -76,7 +80,7 @@ impl Checked {
     /// All that is kept of its parallel loops.
     pub fn parallel(&self) -> &Parallel
         ensures { IsKept self.now result.now.loops.items result.now.scans.items
-            result.now.regions.items }
+            result.now.doacross.items result.now.regions.items }
     {
         &self.parallel
     }
@@ -96,25 +100,8 @@ impl Checked {
     }
 }
 
-/// Tests the parallel loops of a kernel behind these directive lines, by the table of its loops.
-fn test_kernel(
-    alloc: Global,
-    directives: &Directives,
-    table: &LoopTable,
-    kernel: &Kernel,
-) -> Result<(), Refusal>
-    requires passed { HasPassed directives.now (kernel_of kernel.now) }
-    requires table { IsTableOf (kernel_of kernel.now) table.now }
-    ensures ok { IfOk result (λ _. AreIndependent directives.now (kernel_of kernel.now)) }
-    ensures err { IfErr result (RefusesLoops directives.now (kernel_of kernel.now)) }
-{
-    let independent = check(alloc, kernel, directives, table)?;
-    let _tested = independent.kernel();
-    Ok(())
-}
-
-/// Accepts the kernel of a text that has passed all else, with these parallel loops and their regions, where the loops are independent
-/// (OpenMP 5.2, 11.5); the directive lines are the text's, and the table is that of the kernel's loops.
+/// Accepts the kernel of a text that has passed all else, with these parallel loops and their regions, where the loops are independent, or
+/// ordered by their sinks (OpenMP 5.2, 11.5 and 15.9.6); the directive lines are the text's, and the table is that of the kernel's loops.
 ///
 /// # Errors
 ///
@@ -129,13 +116,14 @@ pub fn accept(
 ) -> Result<Checked, Refusal>
     requires lines { directives.now ≡ text.now }
     requires passed { HasLoops text.now (kernel_of kernel) parallel.loops.items
-        parallel.scans.items }
+        parallel.scans.items parallel.doacross.items }
     requires table { IsTableOf (kernel_of kernel) table.now }
     requires regions { AreRegions text.now (kernel_of kernel) parallel.regions.items }
     ensures is { IfOk result (λ checked. checked ≡ record { text = text.now; kernel = kernel }) }
     ensures err { IfErr result (RefusesLoops text.now (kernel_of kernel)) }
 {
-    test_kernel(alloc, directives, table, &kernel)?;
+    let nests = parallel.doacross.as_slice();
+    check(alloc, &kernel, directives, table, nests)?;
     let text = Vec::from_slice(alloc, text)?;
     Ok(Checked {
         text,

@@ -1,8 +1,8 @@
-//! The dependence test's verdict: kernels whose parallel loops are independent, and accepted kernels.
+//! The dependence test's verdict: kernels whose parallel loops are independent or ordered by their sinks, and accepted kernels.
 #![tactic(auto)]
 
 mod accepted;
-mod independent;
+mod ordered;
 
 pub use accepted::{Checked, Parallel, accept};
-pub use independent::{Independent, check};
+pub use ordered::check;
