@@ -1,5 +1,5 @@
 -- The regions of an accepted text, as they are listed.
-use Rattle.std.specs.Prelude.{ℕ, zero, suc, Bool, true, false, ◌||◌, if◌then◌else◌, ◌≡◌, List, [], ◌∷◌, ◌++◌, map, flat_map, Option, Some, None, option_and_then, Result, Ok, Err, OnOk}
+use Rattle.std.specs.Prelude.{ℕ, zero, suc, Bool, true, false, ◌||◌, if◌then◌else◌, ◌≡◌, List, [], ◌∷◌, ◌++◌, map, flat_map, Option, Some, None, option_map, option_and_then, Result, Ok, Err, OnOk}
 use Rattle.std.specs.Option.{unwrap_or}
 use Rattle.std.specs.Result.{is_err}
 use Rattle.std.proofs.Common.{refl, sym, ap, ◌∙◌, subst}
@@ -14,7 +14,7 @@ use Rattle.semantics.specs.Directives.Directive.{Schedule, StaticPlain, Clause, 
 use Rattle.semantics.specs.Directives.Annotated.{Directives, directive_at, file_scope, lines_in, lines_among, lines_of, ReadsDirectives}
 use Rattle.semantics.specs.Directives.Clauses.{depth_of, schedule_of, doacross_of, reduction_of, is_scan}
 use Rattle.semantics.specs.Directives.Regions as meant
-use Rattle.semantics.specs.Directives.Regions.{offsets_of, sinks_among, sinks_in}
+use Rattle.semantics.specs.Directives.Regions.{offsets_of, sinks_in}
 use Rattle.semantics.specs.Directives.Listing.{ListedLoop, listing}
 use Rattle.semantics.specs.Directives.Placed.{is_team}
 use Rattle.cparse_grammar.specs.Reading.{◌>>=◌}
@@ -27,8 +27,7 @@ use Rattle.pragma_attach.specs.Standing.{directive_on}
 use Rattle.pragma_attach.specs.Attached.{directives_of}
 use Rattle.pragma_attach.proofs.LinesLaw.{Read, AllRead, both_read, Found, AllFound, found_first, found_second, all_found, are_read}
 use Rattle.pragma_region.specs.Regions.{is_ordered, is_scan as is_scan_said, is_doacross, is_left_out, alone}
-use Rattle.pragma_region.specs.NotKnown.{first_told, ordering_number, value_number, first_number, loop_number, directive_number, number_there, unknown_in, unknown_among}
-use Rattle.pragma_region.specs.Listed.{one_loop, line_loop, shared_line, shared_behind, shared_among, shared_in, region_line, region_behind, regions_in, regions_among, regions_of, part_said}
+use Rattle.pragma_region.specs.Listed.{body_of, sinks_among, sinks_of, one_loop, line_loop, shared_line, shared_behind, shared_among, shared_in, region_line, region_behind, regions_in, regions_among, regions_of, part_said}
 use Rattle.pragma_region.specs.declared.listing.RegionPart.{RegionPart}
 use Rattle.deptest.specs.Accepted.{AreRegions}
 use Rattle.listing.specs.Regions.{listed_loop, printed}
@@ -76,95 +75,111 @@ are_scheduled (x ∷ cs) k c e = go (said_by cs) refl (are_scheduled cs) e
     go None f before g = absurd (cc g)
     go (Some (j, d)) f before g = one_more x cs j d k c (before j d f) g
 
--- nothing is told first or behind it
-none_first : (a b : Option ℕ) → first_told a b ≡ None → a ≡ None
-none_first None b e = refl
-none_first (Some n) b e = absurd (cc e)
+-- ---- a statement whose directive lines are those of the text
 
-none_behind : (a b : Option ℕ) → first_told a b ≡ None → b ≡ None
-none_behind None b e = e
-none_behind (Some n) b e = absurd (cc e)
-
--- where none is told to be that of a doacross nest, none is
-none_across : (cs : List (Clause Name)) → first_number ordering_number cs ≡ None → doacross_of cs ≡ None
-none_across [] e = refl
-none_across (OrderedLoops n ∷ cs) e = absurd (cc e)
-none_across (c ∷ cs) e = none_across cs e
-
--- ---- a statement in which no directive line is a sink's
-
-module _ (ds : Directives) where
+module _ (text : List ℕ) (ds : Directives) where
   abbrev mutual
-    -- each line has no offsets
-    Quiet : Stmt → Type 0
-    Quiet (Assign x is v) = Unit {0}
-    Quiet (Update x is op v) = Unit {0}
-    Quiet (If c a) = Quiet a
-    Quiet (IfElse c a b) = Quiet a × Quiet b
-    Quiet (For x name start test step body) = Quiet body
-    Quiet (Block items) = AllQuiet items
-    Quiet (Print parts) = Unit {0}
+    -- each line has the directive that is read there
+    Same : Stmt → Type 0
+    Same (Assign x is v) = Unit {0}
+    Same (Update x is op v) = Unit {0}
+    Same (If c a) = Same a
+    Same (IfElse c a b) = Same a × Same b
+    Same (For x name start test step body) = Same body
+    Same (Block items) = AllSame items
+    Same (Print parts) = Unit {0}
 
-    AllQuiet : Items → Type 0
-    AllQuiet no_items = Unit {0}
-    AllQuiet (mark n rest) = (offsets_of (directive_at ds n) ≡ []) × AllQuiet rest
-    AllQuiet (local x name start rest) = AllQuiet rest
-    AllQuiet (stmt s rest) = Quiet s × AllQuiet rest
-
-  no_sinks : (items : Items) → AllQuiet items → sinks_among ds items ≡ []
-  no_sinks no_items q = refl
-  no_sinks (mark n rest) q = ap (λ o. o ++ sinks_among ds rest) q.0 ∙ no_sinks rest q.1
-  no_sinks (local x name start rest) q = no_sinks rest q
-  no_sinks (stmt s rest) q = no_sinks rest q.1
-
-  no_sinks_in : (ls : List Loop) (s : Stmt) → Quiet s → sinks_in ds (Some (ls, s)) ≡ []
-  no_sinks_in ls (Block items) q = no_sinks items q
-  no_sinks_in ls (Assign x is v) q = refl
-  no_sinks_in ls (Update x is op v) q = refl
-  no_sinks_in ls (If c a) q = refl
-  no_sinks_in ls (IfElse c a b) q = refl
-  no_sinks_in ls (For x name start test step body) q = refl
-  no_sinks_in ls (Print parts) q = refl
-
-  abbrev QuietBehind : Option (Loop × Stmt) → Type 0
-  QuietBehind None = Unit {0}
-  QuietBehind (Some found) = Quiet found.1
+    AllSame : Items → Type 0
+    AllSame no_items = Unit {0}
+    AllSame (mark n rest) = (directive_on text n ≡ directive_at ds n) × AllSame rest
+    AllSame (local x name start rest) = AllSame rest
+    AllSame (stmt s rest) = Same s × AllSame rest
 
   mutual
-    of_loop : (s : Stmt) (l : Loop) (b : Stmt) → Quiet s → as_loop s ≡ Some (l, b) → Quiet b
+    same_in : (scope : Scope) (s : Stmt) → AllFound text ds (lines_in scope s) → Same s
+    same_in scope (Assign x is v) f = tt
+    same_in scope (Update x is op v) f = tt
+    same_in scope (If c a) f = same_in scope a f
+    same_in scope (IfElse c a b) f = (
+      same_in scope a (found_first text ds (lines_in scope a) (lines_in scope b) f),
+      same_in scope b (found_second text ds (lines_in scope a) (lines_in scope b) f),
+    )
+    same_in scope (For x name start test step body) f = same_in ((name, AVariable x 0) ∷ scope) body f
+    same_in scope (Block items) f = same_among scope items f
+    same_in scope (Print parts) f = tt
+
+    same_among : (scope : Scope) (items : Items) → AllFound text ds (lines_among scope items) → AllSame items
+    same_among scope no_items f = tt
+    same_among scope (mark n rest) (found, f) = (found.1 ∙ sym found.2, same_among scope rest f)
+    same_among scope (local x name start rest) f = same_among ((name, AVariable x 0) ∷ scope) rest f
+    same_among scope (stmt s rest) f = (
+      same_in scope s (found_first text ds (lines_in scope s) (lines_among scope rest) f),
+      same_among scope rest (found_second text ds (lines_in scope s) (lines_among scope rest) f),
+    )
+
+  -- then its sinks are those of the text
+  sinks_same : (items : Items) → AllSame items → sinks_among text items ≡ meant.sinks_among ds items
+  sinks_same no_items q = refl
+  sinks_same (mark n rest) q = ap (λ o. offsets_of o ++ sinks_among text rest) q.0 ∙ ap (λ xs. offsets_of (directive_at ds n) ++ xs) (sinks_same rest q.1)
+  sinks_same (local x name start rest) q = sinks_same rest q
+  sinks_same (stmt s rest) q = sinks_same rest q.1
+
+  body_same : (ls : List Loop) (s : Stmt) → Same s → sinks_of text (Some s) ≡ sinks_in ds (Some (ls, s))
+  body_same ls (Block items) q = sinks_same items q
+  body_same ls (Assign x is v) q = refl
+  body_same ls (Update x is op v) q = refl
+  body_same ls (If c a) q = refl
+  body_same ls (IfElse c a b) q = refl
+  body_same ls (For x name start test step body) q = refl
+  body_same ls (Print parts) q = refl
+
+  abbrev SameBehind : Option (Loop × Stmt) → Type 0
+  SameBehind None = Unit {0}
+  SameBehind (Some found) = Same found.1
+
+  mutual
+    of_loop : (s : Stmt) (l : Loop) (b : Stmt) → Same s → as_loop s ≡ Some (l, b) → Same b
     of_loop (Assign x is v) l b q f = absurd (cc f)
     of_loop (Update x is op v) l b q f = absurd (cc f)
     of_loop (If c a) l b q f = absurd (cc f)
     of_loop (IfElse c a d) l b q f = absurd (cc f)
-    of_loop (For x name start test step body) l b q f = subst QuietBehind f q
+    of_loop (For x name start test step body) l b q f = subst SameBehind f q
     of_loop (Block items) l b q f = of_only items l b q f
     of_loop (Print parts) l b q f = absurd (cc f)
 
-    of_only : (items : Items) (l : Loop) (b : Stmt) → AllQuiet items → only_loop items ≡ Some (l, b) → Quiet b
+    of_only : (items : Items) (l : Loop) (b : Stmt) → AllSame items → only_loop items ≡ Some (l, b) → Same b
     of_only no_items l b q f = absurd (cc f)
     of_only (mark n rest) l b q f = absurd (cc f)
     of_only (local x name start rest) l b q f = absurd (cc f)
     of_only (stmt s rest) l b q f = go (holds_none rest) (of_loop s l b q.0) f
       where
-        go : (t : Bool) → (as_loop s ≡ Some (l, b) → Quiet b) → (if t then as_loop s else None) ≡ Some (l, b) → Quiet b
+        go : (t : Bool) → (as_loop s ≡ Some (l, b) → Same b) → (if t then as_loop s else None) ≡ Some (l, b) → Same b
         go true inner g = inner g
         go false inner g = absurd (cc g)
 
-  -- nor in the body of a nest
-  no_sinks_of : (n : ℕ) (outside : List Loop → List Loop) (s : Stmt) → Quiet s → sinks_in ds (map_option (λ (inner : List Loop × Stmt). (outside inner.0, inner.1)) (nest_of n s)) ≡ []
-  no_sinks_of zero outside s q = no_sinks_in (outside []) s q
-  no_sinks_of (suc n) outside s q = go (as_loop s) refl (λ l b h. no_sinks_of n (λ ls. outside (l ∷ ls)) b h)
-    where
-      joined : (l : Loop) (o : Option (List Loop × Stmt))
-          → sinks_in ds (map_option (λ (inner : List Loop × Stmt). (outside inner.0, inner.1)) (map_option (λ (inner : List Loop × Stmt). (l ∷ inner.0, inner.1)) o)) ≡ sinks_in ds (map_option (λ (inner : List Loop × Stmt). (outside (l ∷ inner.0), inner.1)) o)
-      joined l None = refl
-      joined l (Some nest) = refl
+  -- the body of a nest by itself, and behind more loops
+  abbrev nest_sinks : (List Loop → List Loop) → Option (List Loop × Stmt) → Type 0
+  nest_sinks outside o = sinks_of text (option_map (λ nest. nest.1) o) ≡ sinks_in ds (map_option (λ (inner : List Loop × Stmt). (outside inner.0, inner.1)) o)
 
-      go : (o : Option (Loop × Stmt)) → as_loop s ≡ o
-          → ((l : Loop) (b : Stmt) → Quiet b → sinks_in ds (map_option (λ (inner : List Loop × Stmt). (outside (l ∷ inner.0), inner.1)) (nest_of n b)) ≡ [])
-          → sinks_in ds (map_option (λ (inner : List Loop × Stmt). (outside inner.0, inner.1)) (option_and_then (λ (found : Loop × Stmt). map_option (λ (inner : List Loop × Stmt). (found.0 ∷ inner.0, inner.1)) (nest_of n found.1)) o)) ≡ []
+  nest_same : (n : ℕ) (outside : List Loop → List Loop) (s : Stmt) → Same s → nest_sinks outside (nest_of n s)
+  nest_same zero outside s q = body_same (outside []) s q
+  nest_same (suc n) outside s q = go (as_loop s) refl (λ l b h. nest_same n (λ ls. outside (l ∷ ls)) b h)
+    where
+      joined : (l : Loop) (o : Option (List Loop × Stmt)) → nest_sinks (λ ls. outside (l ∷ ls)) o → nest_sinks outside (map_option (λ (inner : List Loop × Stmt). (l ∷ inner.0, inner.1)) o)
+      joined l None h = h
+      joined l (Some nest) h = h
+
+      go : (o : Option (Loop × Stmt)) → as_loop s ≡ o → ((l : Loop) (b : Stmt) → Same b → nest_sinks (λ ls. outside (l ∷ ls)) (nest_of n b))
+          → nest_sinks outside (option_and_then (λ (found : Loop × Stmt). map_option (λ (inner : List Loop × Stmt). (found.0 ∷ inner.0, inner.1)) (nest_of n found.1)) o)
       go None f inner = refl
-      go (Some (l, b)) f inner = joined l (nest_of n b) ∙ inner l b (of_loop s l b q f)
+      go (Some (l, b)) f inner = joined l (nest_of n b) (inner l b (of_loop s l b q f))
+
+  nest_is_same : (n : ℕ) (s : Stmt) → Same s → sinks_of text (body_of n s) ≡ sinks_in ds (nest_of n s)
+  nest_is_same n s q = nest_same n (λ ls. ls) s q ∙ alone (nest_of n s)
+    where
+      alone : (o : Option (List Loop × Stmt)) → sinks_in ds (map_option (λ (inner : List Loop × Stmt). (inner.0, inner.1)) o) ≡ sinks_in ds o
+      alone None = refl
+      alone (Some nest) = refl
 
 -- ---- the regions
 
@@ -179,149 +194,100 @@ module _ (text : List ℕ) (ds : Directives) where
   abbrev is_out : Option (Directive Name) → Bool
   is_out o = is_team o || is_ordered o || is_scan_said o || is_doacross o
 
-  -- nothing is told of a line
-  abbrev IsKnown : ℕ → Type 0
-  IsKnown n = number_there (directive_on text n) ≡ None
-
-  -- then it has no offsets
-  line_quiet : (n : ℕ) (o : Option (Directive Name)) → directive_on text n ≡ o → directive_at ds n ≡ o → IsKnown n → offsets_of (directive_at ds n) ≡ []
-  line_quiet n None e f t = ap offsets_of f
-  line_quiet n (Some (ParallelFor cs)) e f t = ap offsets_of f
-  line_quiet n (Some (Parallel cs)) e f t = ap offsets_of f
-  line_quiet n (Some (Worksharing cs)) e f t = ap offsets_of f
-  line_quiet n (Some (ScanInclusive x)) e f t = ap offsets_of f
-  line_quiet n (Some (ScanExclusive x)) e f t = ap offsets_of f
-  line_quiet n (Some OrderedRegion) e f t = ap offsets_of f
-  line_quiet n (Some DoacrossSource) e f t = ap offsets_of f
-  line_quiet n (Some (DoacrossSink es)) e f t = absurd (cc (sym (ap number_there e) ∙ t))
-
-  mutual
-    -- where nothing is told of any line
-    quiet_in : (scope : Scope) (s : Stmt) → AllFound text ds (lines_in scope s) → unknown_in text s ≡ None → Quiet ds s
-    quiet_in scope (Assign x is v) f e = tt
-    quiet_in scope (Update x is op v) f e = tt
-    quiet_in scope (If c a) f e = quiet_in scope a f e
-    quiet_in scope (IfElse c a b) f e = (
-      quiet_in scope a (found_first text ds (lines_in scope a) (lines_in scope b) f) (none_first (unknown_in text a) (unknown_in text b) e),
-      quiet_in scope b (found_second text ds (lines_in scope a) (lines_in scope b) f) (none_behind (unknown_in text a) (unknown_in text b) e),
-    )
-    quiet_in scope (For x name start test step body) f e = quiet_in ((name, AVariable x 0) ∷ scope) body f e
-    quiet_in scope (Block items) f e = quiet_among scope items f e
-    quiet_in scope (Print parts) f e = tt
-
-    quiet_among : (scope : Scope) (items : Items) → AllFound text ds (lines_among scope items) → unknown_among text items ≡ None → AllQuiet ds items
-    quiet_among scope no_items f e = tt
-    quiet_among scope (mark n rest) (found, f) e = (
-      line_quiet n (Some found.0) found.1 found.2 (none_first (number_there (directive_on text n)) (unknown_among text rest) e),
-      quiet_among scope rest f (none_behind (number_there (directive_on text n)) (unknown_among text rest) e),
-    )
-    quiet_among scope (local x name start rest) f e = quiet_among ((name, AVariable x 0) ∷ scope) rest f e
-    quiet_among scope (stmt s rest) f e = (
-      quiet_in scope s (found_first text ds (lines_in scope s) (lines_among scope rest) f) (none_first (unknown_in text s) (unknown_among text rest) e),
-      quiet_among scope rest (found_second text ds (lines_in scope s) (lines_among scope rest) f) (none_behind (unknown_in text s) (unknown_among text rest) e),
-    )
-
   -- the line before, and its directive
   abbrev Before : Option ℕ → Option (Directive Name) → Type 0
   Before None o = o ≡ None
   Before (Some n) o = o ≡ directive_on text n
 
-  -- nothing is told of it, and this is known of the items behind it, where it is left in the tree
+  -- this is known of the items behind it, where it is left in the tree
   abbrev Behind : Option ℕ → Items → Type 0
   Behind None items = Unit {0}
-  Behind (Some n) items = IsKnown n × (out n ≡ false → (serial : List Loop) × LineHas text IsPlainLoop serial n (without_among out items))
+  Behind (Some n) items = out n ≡ false → (serial : List Loop) × LineHas text IsPlainLoop serial n (without_among out items)
 
   -- the loop behind a line of these clauses
-  one_listed : (n : ℕ) (d : Directive Name) (cs : List (Clause Name)) (scope : Scope) (s : Stmt) (rest : Items) → directive_on text n ≡ Some d → loop_of d ≡ said_by cs → directive_number d ≡ loop_number cs → IsKnown n
-      → unknown_in text s ≡ None → AllFound text ds (lines_in scope s)
-      → (serial : List Loop) × LineHas text IsPlainLoop serial n (stmt (without_in out s) (without_among out rest)) → map listed_loop (line_loop cs) ≡ meant.listed ds cs s ∷ []
-  one_listed n d cs scope s rest on is number told still found (serial, (k, c, r, first)) =
+  one_listed : (n : ℕ) (d : Directive Name) (cs : List (Clause Name)) (scope : Scope) (s : Stmt) (rest : Items) → directive_on text n ≡ Some d → loop_of d ≡ said_by cs → AllFound text ds (lines_in scope s)
+      → (serial : List Loop) × LineHas text IsPlainLoop serial n (stmt (without_in out s) (without_among out rest)) → map listed_loop (line_loop text cs s) ≡ meant.listed ds cs s ∷ []
+  one_listed n d cs scope s rest on is found (serial, (k, c, r, first)) =
       let same = same_directive (sym (line_read (line_at text n) r.directive r.reads) ∙ on) in
       let says : said_by cs ≡ Some (k, c) = sym is ∙ ap loop_of (sym same) ∙ r.says in
       let scheduled = are_scheduled cs k c says in
-      let across = none_across cs (none_first (first_number ordering_number cs) (first_number value_number cs) (sym number ∙ sym (ap number_there on) ∙ told)) in
-      let quiet = quiet_in scope s found still in
-      let sinks : sinks_in ds (nest_of (depth_of cs) s) ≡ [] = alone (nest_of (depth_of cs) s) ∙ no_sinks_of ds (depth_of cs) (λ ls. ls) s quiet in
-      ap (λ o. map listed_loop (one_loop o (flat_map reduction_of cs) (is_scan cs))) says
-      ∙ (λ i. record { schedule = sym scheduled i; doacross = sym across i; sinks = sym sinks i; reductions = flat_map reduction_of cs; scan = is_scan cs } ∷ [])
-    where
-      alone : (o : Option (List Loop × Stmt)) → sinks_in ds o ≡ sinks_in ds (map_option (λ (inner : List Loop × Stmt). (inner.0, inner.1)) o)
-      alone None = refl
-      alone (Some nest) = refl
+      let sinks = nest_is_same text ds (depth_of cs) s (same_in text ds scope s found) in
+      ap (λ o. map listed_loop (one_loop text o cs s)) says
+      ∙ (λ i. record { schedule = sym scheduled i; doacross = doacross_of cs; sinks = sinks i; reductions = flat_map reduction_of cs; scan = is_scan cs } ∷ [])
 
   -- a line that is none of a region is left
   left_in : (n : ℕ) (o : Option (Directive Name)) → directive_on text n ≡ o → is_out o ≡ false → out n ≡ false
   left_in n o e t = ap is_out e ∙ t
 
   -- a loop of a `parallel` block
-  one_shared : (before : Option ℕ) (o : Option (Directive Name)) (scope : Scope) (s : Stmt) (rest : Items) → Before before o → Behind before (stmt s rest) → unknown_in text s ≡ None → AllFound text ds (lines_in scope s)
-      → map listed_loop (shared_behind text before) ≡ meant.shared_by ds o s
-  one_shared None o scope s rest b h still found = ap (λ p. meant.shared_by ds p s) (sym b)
-  one_shared (Some n) o scope s rest b h still found = go (directive_on text n) refl ∙ ap (λ p. meant.shared_by ds p s) (sym b)
+  one_shared : (before : Option ℕ) (o : Option (Directive Name)) (scope : Scope) (s : Stmt) (rest : Items) → Before before o → Behind before (stmt s rest) → AllFound text ds (lines_in scope s)
+      → map listed_loop (shared_behind text before s) ≡ meant.shared_by ds o s
+  one_shared None o scope s rest b h found = ap (λ p. meant.shared_by ds p s) (sym b)
+  one_shared (Some n) o scope s rest b h found = go (directive_on text n) refl ∙ ap (λ p. meant.shared_by ds p s) (sym b)
     where
-      go : (p : Option (Directive Name)) → directive_on text n ≡ p → map listed_loop (shared_line (directive_on text n)) ≡ meant.shared_by ds (directive_on text n) s
+      go : (p : Option (Directive Name)) → directive_on text n ≡ p → map listed_loop (shared_line text (directive_on text n) s) ≡ meant.shared_by ds (directive_on text n) s
       go (Some (Worksharing cs)) e =
-          ap (λ p. map listed_loop (shared_line p)) e ∙ one_listed n (Worksharing cs) cs scope s rest e refl refl h.0 still found (h.1 (left_in n (Some (Worksharing cs)) e refl)) ∙ ap (λ p. meant.shared_by ds p s) (sym e)
-      go None e = ap (λ p. map listed_loop (shared_line p)) e ∙ ap (λ p. meant.shared_by ds p s) (sym e)
-      go (Some (ParallelFor cs)) e = ap (λ p. map listed_loop (shared_line p)) e ∙ ap (λ p. meant.shared_by ds p s) (sym e)
-      go (Some (Parallel cs)) e = ap (λ p. map listed_loop (shared_line p)) e ∙ ap (λ p. meant.shared_by ds p s) (sym e)
-      go (Some (ScanInclusive x)) e = ap (λ p. map listed_loop (shared_line p)) e ∙ ap (λ p. meant.shared_by ds p s) (sym e)
-      go (Some (ScanExclusive x)) e = ap (λ p. map listed_loop (shared_line p)) e ∙ ap (λ p. meant.shared_by ds p s) (sym e)
-      go (Some OrderedRegion) e = ap (λ p. map listed_loop (shared_line p)) e ∙ ap (λ p. meant.shared_by ds p s) (sym e)
-      go (Some DoacrossSource) e = ap (λ p. map listed_loop (shared_line p)) e ∙ ap (λ p. meant.shared_by ds p s) (sym e)
-      go (Some (DoacrossSink es)) e = ap (λ p. map listed_loop (shared_line p)) e ∙ ap (λ p. meant.shared_by ds p s) (sym e)
+          ap (λ p. map listed_loop (shared_line text p s)) e ∙ one_listed n (Worksharing cs) cs scope s rest e refl found (h (left_in n (Some (Worksharing cs)) e refl)) ∙ ap (λ p. meant.shared_by ds p s) (sym e)
+      go None e = ap (λ p. map listed_loop (shared_line text p s)) e ∙ ap (λ p. meant.shared_by ds p s) (sym e)
+      go (Some (ParallelFor cs)) e = ap (λ p. map listed_loop (shared_line text p s)) e ∙ ap (λ p. meant.shared_by ds p s) (sym e)
+      go (Some (Parallel cs)) e = ap (λ p. map listed_loop (shared_line text p s)) e ∙ ap (λ p. meant.shared_by ds p s) (sym e)
+      go (Some (ScanInclusive x)) e = ap (λ p. map listed_loop (shared_line text p s)) e ∙ ap (λ p. meant.shared_by ds p s) (sym e)
+      go (Some (ScanExclusive x)) e = ap (λ p. map listed_loop (shared_line text p s)) e ∙ ap (λ p. meant.shared_by ds p s) (sym e)
+      go (Some OrderedRegion) e = ap (λ p. map listed_loop (shared_line text p s)) e ∙ ap (λ p. meant.shared_by ds p s) (sym e)
+      go (Some DoacrossSource) e = ap (λ p. map listed_loop (shared_line text p s)) e ∙ ap (λ p. meant.shared_by ds p s) (sym e)
+      go (Some (DoacrossSink es)) e = ap (λ p. map listed_loop (shared_line text p s)) e ∙ ap (λ p. meant.shared_by ds p s) (sym e)
 
   -- what is known of a block's items behind a line that is passed
-  behind_mark : (serial : List Loop) (n : ℕ) (rest : Items) → IsKnown n → ItemsHave text IsPlainLoop serial (without_among out (mark n rest)) → Behind (Some n) rest × ItemsHave text IsPlainLoop serial (without_among out rest)
-  behind_mark serial n rest told h = go (out n) refl h
+  behind_mark : (serial : List Loop) (n : ℕ) (rest : Items) → ItemsHave text IsPlainLoop serial (without_among out (mark n rest)) → Behind (Some n) rest × ItemsHave text IsPlainLoop serial (without_among out rest)
+  behind_mark serial n rest h = go (out n) refl h
     where
       wrong : true ≡ false → ⊥
       wrong e = cc e
 
       go : (b : Bool) → out n ≡ b → ItemsHave text IsPlainLoop serial (if b then without_among out rest else mark n (without_among out rest)) → Behind (Some n) rest × ItemsHave text IsPlainLoop serial (without_among out rest)
-      go true t g = ((told, λ f. absurd (wrong (sym t ∙ f))), g)
-      go false t g = ((told, λ f. (serial, g.0)), g.1)
+      go true t g = (λ f. absurd (wrong (sym t ∙ f)), g)
+      go false t g = (λ f. (serial, g.0), g.1)
 
   found_before : (n : ℕ) → Found text ds n → directive_at ds n ≡ directive_on text n
   found_before n f = f.2 ∙ sym f.1
 
   shared_listed : (scope : Scope) (serial : List Loop) (before : Option ℕ) (o : Option (Directive Name)) (items : Items) → Before before o → Behind before items → ItemsHave text IsPlainLoop serial (without_among out items)
-      → unknown_among text items ≡ None → AllFound text ds (lines_among scope items) → map listed_loop (shared_among text before items) ≡ meant.loops_among ds o items
-  shared_listed scope serial before o no_items b h have told f = refl
-  shared_listed scope serial before o (mark n rest) b h have told (found, f) =
-      let p = behind_mark serial n rest (none_first (number_there (directive_on text n)) (unknown_among text rest) told) have in
-      shared_listed scope serial (Some n) (directive_at ds n) rest (found_before n found) p.0 p.1 (none_behind (number_there (directive_on text n)) (unknown_among text rest) told) f
-  shared_listed scope serial before o (local x name start rest) b h have told f = shared_listed ((name, AVariable x 0) ∷ scope) serial None None rest refl tt have told f
-  shared_listed scope serial before o (stmt s rest) b h have told f =
-      map-append listed_loop (shared_behind text before) (shared_among text None rest)
-      ∙ ap (λ xs. xs ++ map listed_loop (shared_among text None rest)) (one_shared before o scope s rest b h (none_first (unknown_in text s) (unknown_among text rest) told) (found_first text ds (lines_in scope s) (lines_among scope rest) f))
-      ∙ ap (λ xs. meant.shared_by ds o s ++ xs) (shared_listed scope serial None None rest refl tt have.1 (none_behind (unknown_in text s) (unknown_among text rest) told) (found_second text ds (lines_in scope s) (lines_among scope rest) f))
+      → AllFound text ds (lines_among scope items) → map listed_loop (shared_among text before items) ≡ meant.loops_among ds o items
+  shared_listed scope serial before o no_items b h have f = refl
+  shared_listed scope serial before o (mark n rest) b h have (found, f) =
+      let p = behind_mark serial n rest have in
+      shared_listed scope serial (Some n) (directive_at ds n) rest (found_before n found) p.0 p.1 f
+  shared_listed scope serial before o (local x name start rest) b h have f = shared_listed ((name, AVariable x 0) ∷ scope) serial None None rest refl tt have f
+  shared_listed scope serial before o (stmt s rest) b h have f =
+      map-append listed_loop (shared_behind text before s) (shared_among text None rest)
+      ∙ ap (λ xs. xs ++ map listed_loop (shared_among text None rest)) (one_shared before o scope s rest b h (found_first text ds (lines_in scope s) (lines_among scope rest) f))
+      ∙ ap (λ xs. meant.shared_by ds o s ++ xs) (shared_listed scope serial None None rest refl tt have.1 (found_second text ds (lines_in scope s) (lines_among scope rest) f))
 
-  block_listed : (scope : Scope) (serial : List Loop) (s : Stmt) → LoopsHave text IsPlainLoop serial (without_in out s) → unknown_in text s ≡ None → AllFound text ds (lines_in scope s) → map listed_loop (shared_in text s) ≡ meant.loops_in ds s
-  block_listed scope serial (Block items) have told f = shared_listed scope serial None None items refl tt have told f
-  block_listed scope serial (Assign x is v) have told f = refl
-  block_listed scope serial (Update x is op v) have told f = refl
-  block_listed scope serial (If c a) have told f = refl
-  block_listed scope serial (IfElse c a b) have told f = refl
-  block_listed scope serial (For x name start test step body) have told f = refl
-  block_listed scope serial (Print parts) have told f = refl
+  block_listed : (scope : Scope) (serial : List Loop) (s : Stmt) → LoopsHave text IsPlainLoop serial (without_in out s) → AllFound text ds (lines_in scope s) → map listed_loop (shared_in text s) ≡ meant.loops_in ds s
+  block_listed scope serial (Block items) have f = shared_listed scope serial None None items refl tt have f
+  block_listed scope serial (Assign x is v) have f = refl
+  block_listed scope serial (Update x is op v) have f = refl
+  block_listed scope serial (If c a) have f = refl
+  block_listed scope serial (IfElse c a b) have f = refl
+  block_listed scope serial (For x name start test step body) have f = refl
+  block_listed scope serial (Print parts) have f = refl
 
   -- a region behind a line, or those inside the statement
   one_region : (before : Option ℕ) (o : Option (Directive Name)) (scope : Scope) (serial : List Loop) (s : Stmt) (rest : Items) → Before before o → Behind before (stmt s rest)
-      → LoopsHave text IsPlainLoop serial (without_in out s) → unknown_in text s ≡ None → AllFound text ds (lines_in scope s) → map (map listed_loop) (regions_in text s) ≡ meant.regions_in ds s
+      → LoopsHave text IsPlainLoop serial (without_in out s) → AllFound text ds (lines_in scope s) → map (map listed_loop) (regions_in text s) ≡ meant.regions_in ds s
       → map (map listed_loop) (region_behind text before s (regions_in text s)) ≡ meant.region_by ds o s (meant.regions_in ds s)
-  one_region None o scope serial s rest b h have still found inside = inside ∙ ap (λ p. meant.region_by ds p s (meant.regions_in ds s)) (sym b)
-  one_region (Some n) o scope serial s rest b h have still found inside = go (directive_on text n) refl ∙ ap (λ p. meant.region_by ds p s (meant.regions_in ds s)) (sym b)
+  one_region None o scope serial s rest b h have found inside = inside ∙ ap (λ p. meant.region_by ds p s (meant.regions_in ds s)) (sym b)
+  one_region (Some n) o scope serial s rest b h have found inside = go (directive_on text n) refl ∙ ap (λ p. meant.region_by ds p s (meant.regions_in ds s)) (sym b)
     where
       mine : Option (Directive Name) → List (List ListedLoop)
-      mine p = map (map listed_loop) (region_line p (shared_in text s) (regions_in text s))
+      mine p = map (map listed_loop) (region_line text p s (shared_in text s) (regions_in text s))
 
       theirs : Option (Directive Name) → List (List ListedLoop)
       theirs p = meant.region_by ds p s (meant.regions_in ds s)
 
       go : (p : Option (Directive Name)) → directive_on text n ≡ p → mine (directive_on text n) ≡ theirs (directive_on text n)
-      go (Some (ParallelFor cs)) e = ap mine e ∙ ap (λ (l : List ListedLoop). l ∷ []) (one_listed n (ParallelFor cs) cs scope s rest e refl refl h.0 still found (h.1 (left_in n (Some (ParallelFor cs)) e refl))) ∙ ap theirs (sym e)
-      go (Some (Parallel cs)) e = ap mine e ∙ ap (λ (l : List ListedLoop). l ∷ []) (block_listed scope serial s have still found) ∙ ap theirs (sym e)
+      go (Some (ParallelFor cs)) e = ap mine e ∙ ap (λ (l : List ListedLoop). l ∷ []) (one_listed n (ParallelFor cs) cs scope s rest e refl found (h (left_in n (Some (ParallelFor cs)) e refl))) ∙ ap theirs (sym e)
+      go (Some (Parallel cs)) e = ap mine e ∙ ap (λ (l : List ListedLoop). l ∷ []) (block_listed scope serial s have found) ∙ ap theirs (sym e)
       go None e = ap mine e ∙ inside ∙ ap theirs (sym e)
       go (Some (Worksharing cs)) e = ap mine e ∙ inside ∙ ap theirs (sym e)
       go (Some (ScanInclusive x)) e = ap mine e ∙ inside ∙ ap theirs (sym e)
@@ -331,32 +297,31 @@ module _ (text : List ℕ) (ds : Directives) where
       go (Some (DoacrossSink es)) e = ap mine e ∙ inside ∙ ap theirs (sym e)
 
   mutual
-    of_stmt : (scope : Scope) (serial : List Loop) (s : Stmt) → LoopsHave text IsPlainLoop serial (without_in out s) → unknown_in text s ≡ None → AllFound text ds (lines_in scope s) → map (map listed_loop) (regions_in text s) ≡ meant.regions_in ds s
-    of_stmt scope serial (Assign x is v) have told f = refl
-    of_stmt scope serial (Update x is op v) have told f = refl
-    of_stmt scope serial (If c a) have told f = of_stmt scope serial a have told f
-    of_stmt scope serial (IfElse c a b) have told f =
+    of_stmt : (scope : Scope) (serial : List Loop) (s : Stmt) → LoopsHave text IsPlainLoop serial (without_in out s) → AllFound text ds (lines_in scope s) → map (map listed_loop) (regions_in text s) ≡ meant.regions_in ds s
+    of_stmt scope serial (Assign x is v) have f = refl
+    of_stmt scope serial (Update x is op v) have f = refl
+    of_stmt scope serial (If c a) have f = of_stmt scope serial a have f
+    of_stmt scope serial (IfElse c a b) have f =
         map-append (map listed_loop) (regions_in text a) (regions_in text b)
-        ∙ ap (λ xs. xs ++ map (map listed_loop) (regions_in text b)) (of_stmt scope serial a have.0 (none_first (unknown_in text a) (unknown_in text b) told) (found_first text ds (lines_in scope a) (lines_in scope b) f))
-        ∙ ap (λ xs. meant.regions_in ds a ++ xs) (of_stmt scope serial b have.1 (none_behind (unknown_in text a) (unknown_in text b) told) (found_second text ds (lines_in scope a) (lines_in scope b) f))
-    of_stmt scope serial (For x name start test step body) have told f =
-        of_stmt ((name, AVariable x 0) ∷ scope) (serial ++ record { variable = x; start = start; test = test; step = step } ∷ []) body have told f
-    of_stmt scope serial (Block items) have told f = of_items scope serial None None items refl tt have told f
-    of_stmt scope serial (Print parts) have told f = refl
+        ∙ ap (λ xs. xs ++ map (map listed_loop) (regions_in text b)) (of_stmt scope serial a have.0 (found_first text ds (lines_in scope a) (lines_in scope b) f))
+        ∙ ap (λ xs. meant.regions_in ds a ++ xs) (of_stmt scope serial b have.1 (found_second text ds (lines_in scope a) (lines_in scope b) f))
+    of_stmt scope serial (For x name start test step body) have f =
+        of_stmt ((name, AVariable x 0) ∷ scope) (serial ++ record { variable = x; start = start; test = test; step = step } ∷ []) body have f
+    of_stmt scope serial (Block items) have f = of_items scope serial None None items refl tt have f
+    of_stmt scope serial (Print parts) have f = refl
 
     of_items : (scope : Scope) (serial : List Loop) (before : Option ℕ) (o : Option (Directive Name)) (items : Items) → Before before o → Behind before items → ItemsHave text IsPlainLoop serial (without_among out items)
-        → unknown_among text items ≡ None → AllFound text ds (lines_among scope items) → map (map listed_loop) (regions_among text before items) ≡ meant.regions_among ds o items
-    of_items scope serial before o no_items b h have told f = refl
-    of_items scope serial before o (mark n rest) b h have told (found, f) =
-        let p = behind_mark serial n rest (none_first (number_there (directive_on text n)) (unknown_among text rest) told) have in
-        of_items scope serial (Some n) (directive_at ds n) rest (found_before n found) p.0 p.1 (none_behind (number_there (directive_on text n)) (unknown_among text rest) told) f
-    of_items scope serial before o (local x name start rest) b h have told f = of_items ((name, AVariable x 0) ∷ scope) serial None None rest refl tt have told f
-    of_items scope serial before o (stmt s rest) b h have told f =
+        → AllFound text ds (lines_among scope items) → map (map listed_loop) (regions_among text before items) ≡ meant.regions_among ds o items
+    of_items scope serial before o no_items b h have f = refl
+    of_items scope serial before o (mark n rest) b h have (found, f) =
+        let p = behind_mark serial n rest have in
+        of_items scope serial (Some n) (directive_at ds n) rest (found_before n found) p.0 p.1 f
+    of_items scope serial before o (local x name start rest) b h have f = of_items ((name, AVariable x 0) ∷ scope) serial None None rest refl tt have f
+    of_items scope serial before o (stmt s rest) b h have f =
         let first = found_first text ds (lines_in scope s) (lines_among scope rest) f in
-        let still = none_first (unknown_in text s) (unknown_among text rest) told in
         map-append (map listed_loop) (region_behind text before s (regions_in text s)) (regions_among text None rest)
-        ∙ ap (λ xs. xs ++ map (map listed_loop) (regions_among text None rest)) (one_region before o scope serial s rest b h have.0 still first (of_stmt scope serial s have.0 still first))
-        ∙ ap (λ xs. meant.region_by ds o s (meant.regions_in ds s) ++ xs) (of_items scope serial None None rest refl tt have.1 (none_behind (unknown_in text s) (unknown_among text rest) told) (found_second text ds (lines_in scope s) (lines_among scope rest) f))
+        ∙ ap (λ xs. xs ++ map (map listed_loop) (regions_among text None rest)) (one_region before o scope serial s rest b h have.0 first (of_stmt scope serial s have.0 first))
+        ∙ ap (λ xs. meant.region_by ds o s (meant.regions_in ds s) ++ xs) (of_items scope serial None None rest refl tt have.1 (found_second text ds (lines_in scope s) (lines_among scope rest) f))
 
 -- ---- each line is read
 
@@ -397,7 +362,7 @@ listed text k parts a b directed are is =
     let have : ItemsHave text IsPlainLoop [] (alone text whole).body = subst (λ (j : Kernel). IsDirected text j) are.dissolved directed in
     let read = read_among text (file_scope whole) [] whole.body have in
     let ds = directives_of text whole in
-    let regions = of_items text ds (file_scope whole) [] None None whole.body refl tt have are.known (all_found text (lines_of whole) read) in
+    let regions = of_items text ds (file_scope whole) [] None None whole.body refl tt have (all_found text (lines_of whole) read) in
     (whole, ds, are.reads, are_read text whole read, is ∙ ap (λ l. a ++ printed 0 0 l) are.are ∙ ap (λ l. a ++ l) (printed_regions 0 0 (regions_of text whole)) ∙ ap (λ l. a ++ listing l) regions)
 
 pub listed_ok : {T E : Type 0} (q : Result T E) (t : Bool) (text : List ℕ) (k : Kernel) (parts : List RegionPart) (a b : List ℕ) → t ≡ is_err q → t ≡ false → IsDirected text k → AreRegions text k parts

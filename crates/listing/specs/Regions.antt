@@ -1,5 +1,5 @@
 -- The regions of a kernel as they are listed, part by part. (OpenMP 5.2, 10.1, 11.5 and 17)
-use Rattle.std.specs.Prelude.{ℕ, suc, Bool, ◌≡◌, ◌≤◌, ◌+◌, List, [], ◌∷◌, ◌++◌, Option, Some, None, codes}
+use Rattle.std.specs.Prelude.{ℕ, ℤ, suc, true, ◌≡◌, ◌≤◌, ◌+◌, List, [], ◌∷◌, ◌++◌, Option, Some, None, codes}
 use Rattle.std.specs.Option.{unwrap_or}
 use Rattle.std.specs.Fmt.{decimal}
 use Rattle.semantics.specs.Tree.{Name, Kernel}
@@ -7,7 +7,7 @@ use Rattle.semantics.specs.Loops.Operator.{ReduceOp}
 use Rattle.semantics.specs.Source.Grammar.{ReadsText}
 use Rattle.semantics.specs.Directives.Directive.{Schedule, StaticPlain, op_text}
 use Rattle.semantics.specs.Directives.Annotated.{Directives, ReadsDirectives}
-use Rattle.semantics.specs.Directives.Listing.{ListedLoop, loop_lines, numbered}
+use Rattle.semantics.specs.Directives.Listing.{ListedLoop, Lines, begin_lines, end_lines, with_commas, doacross_begin, doacross_calls, doacross_end, loop_lines, numbered}
 use Rattle.semantics.specs.Directives.Regions.{listing_of}
 use Rattle.pragma.specs.Views.{scheduled}
 use Rattle.pragma.specs.declared.combined.ParallelFor.{ParallelFor}
@@ -19,9 +19,9 @@ use Rattle.listing.specs.declared.regions.Listed.{Listed}
 abbrev pub schedule_listed : ParallelFor → Schedule
 schedule_listed d = unwrap_or (scheduled d) StaticPlain
 
--- a loop with a schedule and these reductions, of a scan or of none
-abbrev pub listed_with : Schedule → List (Name × ReduceOp) → Bool → ListedLoop
-listed_with s rs scan = record { schedule = s; doacross = None; sinks = []; reductions = rs; scan = scan }
+-- the loop of a scan with a schedule, as one of its passes is listed
+abbrev pub scan_with : Schedule → ListedLoop
+scan_with s = record { schedule = s; doacross = None; sinks = []; reductions = []; scan = true }
 
 -- the front of a line: `R.L ` and words
 abbrev pub fronted : ℕ → ℕ → List ℕ → List ℕ
@@ -29,7 +29,15 @@ fronted r l words = decimal r ++ 46 ∷ (decimal l ++ 32 ∷ words)
 
 -- by what its line says
 abbrev pub listed_loop : LoopSaid → ListedLoop
-listed_loop s = listed_with (unwrap_or s.0.0 StaticPlain) s.1 s.2
+listed_loop s = record { schedule = unwrap_or s.said.0 StaticPlain; doacross = s.doacross; sinks = s.sinks; reductions = s.reductions; scan = s.scan }
+
+-- from the begin to the end of a loop that is no scan's
+abbrev pub turn_lines : ListedLoop → Lines
+turn_lines l = doacross_begin l.doacross ++ begin_lines l.schedule ++ doacross_calls l.doacross l.sinks ++ end_lines l.schedule ++ doacross_end l.doacross
+
+-- the wait for a sink with these offsets
+abbrev pub wait_line : List ℤ → List ℕ
+wait_line ds = codes "__kmpc_doacross_wait " ++ with_commas ds
 
 -- a variable and its operator, as a line tells them behind a blank
 abbrev pub reduction_words : Name × ReduceOp → List ℕ

@@ -1,17 +1,19 @@
-//! The calls that stand for a loop, by its schedule.
+//! The calls that stand for a loop.
 
 ghost use Rattle.std.specs.Prelude.{◌≡◌, true, false, ◌++◌, ◌∷◌, [], codes, map, flat_map, OnOk};
 ghost use Rattle.semantics.specs.Theorems.{Begins};
 ghost use Rattle.semantics.specs.Directives.Listing.{is_static as are_static, begin_lines, end_lines, reduce_lines, pass_lines, loop_lines, numbered};
 ghost use Rattle.semantics.specs.Directives.Directive.{op_text};
 ghost use Rattle.ktree.specs.DirectiveView.{schedule_of, operator_of};
-ghost use Rattle.pragma_region.specs.Listed.{reduction_named};
-ghost use Rattle.listing.specs.Regions.{listed_with, reduction_words};
+ghost use Rattle.pragma_region.specs.Listed.{reduction_named, loop_said};
+ghost use Rattle.listing.specs.Regions.{schedule_listed, scan_with, listed_loop, turn_lines, reduction_words};
 
+use crate::doacross::{add_nest_begin, add_nest_calls, add_nest_end};
 use crate::lines::{add_front, add_line, add_parts};
 use itoa::Buffer;
 use ktree::{ReductionOperator, Schedule};
-use pragma_region::NamedReduction;
+use pragma::ParallelFor;
+use pragma_region::{NamedReduction, RegionLoop};
 use std::alloc::AllocError;
 
 // A loop that asks for chunks: its begin, and the first call that asks.
@@ -193,24 +195,51 @@ fn add_barrier(text: &mut Vec<u8>, region: usize, number: usize) -> Result<(), A
     add_line(text, region, number, b"__kmpc_barrier", b"")
 }
 
-// The lines of a loop that is no scan's: its begin and end, the calls that put reductions together, and the barrier behind it.
-#[tactic(auto, using(crate::proofs::Texts::loop_ok))]
+// The schedule of a loop: plain static where its line says none (OpenMP 5.2, 11.5.3).
+fn schedule_for(directive: ParallelFor) -> Schedule
+    ensures { schedule_of result ≡ schedule_listed directive }
+{
+    match directive.schedule {
+        Some(schedule) => schedule,
+        None => Schedule::Static,
+    }
+}
+
+// The begin and the end of a loop that is no scan's, and what the iterations of a doacross nest call in between.
+fn add_turns(
+    text: &mut Vec<u8>,
+    region: usize,
+    number: usize,
+    region_loop: &RegionLoop,
+) -> Result<(), AllocError>
+    ensures added { OnOk result (text.new.items
+        ≡ text.old.items ++ numbered region number
+        (turn_lines (listed_loop (loop_said region_loop.now)))) }
+    ensures front { Begins text.old.items text.new.items }
+{
+    let schedule = schedule_for(region_loop.said);
+    add_nest_begin(text, region, number, region_loop)?;
+    add_begin(text, region, number, &schedule)?;
+    add_nest_calls(text, region, number, region_loop)?;
+    add_end(text, region, number, &schedule)?;
+    add_nest_end(text, region, number, region_loop)
+}
+
+// The lines of such a loop: behind these the calls that put reductions together, and the barrier.
 fn add_plain(
     text: &mut Vec<u8>,
     region: usize,
     number: usize,
-    schedule: &Schedule,
-    reductions: &[NamedReduction],
+    region_loop: &RegionLoop,
 ) -> Result<(), AllocError>
+    requires { region_loop.now.scan ≡ false }
     ensures added { OnOk result (text.new.items
         ≡ text.old.items ++ numbered region number
-        (loop_lines (listed_with (schedule_of schedule.now)
-        (map reduction_named reductions.now) false))) }
+        (loop_lines (listed_loop (loop_said region_loop.now)))) }
     ensures front { Begins text.old.items text.new.items }
 {
-    add_begin(text, region, number, schedule)?;
-    add_end(text, region, number, schedule)?;
-    add_reductions(text, region, number, reductions)?;
+    add_turns(text, region, number, region_loop)?;
+    add_reductions(text, region, number, region_loop.reductions.as_slice())?;
     add_barrier(text, region, number)
 }
 
@@ -223,7 +252,7 @@ fn add_pass(
 ) -> Result<(), AllocError>
     ensures added { OnOk result (text.new.items
         ≡ text.old.items ++ numbered region number
-        (pass_lines (listed_with (schedule_of schedule.now) [] true))) }
+        (pass_lines (scan_with (schedule_of schedule.now)))) }
     ensures front { Begins text.old.items text.new.items }
 {
     add_begin(text, region, number, schedule)?;
@@ -236,19 +265,22 @@ fn add_passes(
     text: &mut Vec<u8>,
     region: usize,
     number: usize,
-    schedule: &Schedule,
+    region_loop: &RegionLoop,
 ) -> Result<(), AllocError>
+    requires { region_loop.now.scan ≡ true }
     ensures added { OnOk result (text.new.items
         ≡ text.old.items ++ numbered region number
-        (loop_lines (listed_with (schedule_of schedule.now) [] true))) }
+        (loop_lines (listed_loop (loop_said region_loop.now)))) }
     ensures front { Begins text.old.items text.new.items }
 {
-    add_pass(text, region, number, schedule)?;
-    add_pass(text, region, number, schedule)
+    let schedule = schedule_for(region_loop.said);
+    add_pass(text, region, number, &schedule)?;
+    add_pass(text, region, number, &schedule)
 }
 
-/// Adds the lines of a loop with this schedule (OpenMP 5.2, 11.5.3) and these reductions (5.5.8): its begin and end, the calls that put
-/// reductions together, and the barrier behind it (`__kmpc_barrier`; 11.5); of a scan's loop (5.6) two passes, each with its barrier.
+/// Adds the lines of a loop by its schedule (OpenMP 5.2, 11.5.3): its begin and end, what the iterations of a doacross nest call (4.4.4),
+/// the calls that put reductions together (5.5.8), and the barrier behind it (`__kmpc_barrier`; 11.5); of a scan's loop (5.6) two passes,
+/// each with its barrier.
 ///
 /// # Errors
 ///
@@ -257,19 +289,16 @@ pub(crate) fn add_loop(
     text: &mut Vec<u8>,
     region: usize,
     number: usize,
-    schedule: &Schedule,
-    reductions: &[NamedReduction],
-    scan: bool,
+    region_loop: &RegionLoop,
 ) -> Result<(), AllocError>
     ensures added { OnOk result (text.new.items
         ≡ text.old.items ++ numbered region number
-        (loop_lines (listed_with (schedule_of schedule.now)
-        (map reduction_named reductions.now) scan))) }
+        (loop_lines (listed_loop (loop_said region_loop.now)))) }
     ensures front { Begins text.old.items text.new.items }
 {
-    if scan {
-        add_passes(text, region, number, schedule)
+    if region_loop.scan {
+        add_passes(text, region, number, region_loop)
     } else {
-        add_plain(text, region, number, schedule, reductions)
+        add_plain(text, region, number, region_loop)
     }
 }

@@ -2,6 +2,7 @@
 #![tactic(auto)]
 
 mod calls;
+mod doacross;
 mod lines;
 mod regions;
 

@@ -2,27 +2,15 @@
 
 ghost use Rattle.std.specs.Prelude.{◌≡◌, ◌+◌, ◌<◌, ◌^◌, ◌++◌, map, OnOk, OnErr, IfOk, IfErr};
 ghost use Rattle.semantics.specs.Theorems.{Begins};
-ghost use Rattle.ktree.specs.DirectiveView.{schedule_of};
 ghost use Rattle.pragma_region.specs.Listed.{loop_said, part_said};
-ghost use Rattle.listing.specs.Regions.{schedule_listed, printed, AddsListing, AddsPart};
+ghost use Rattle.listing.specs.Regions.{printed, AddsListing, AddsPart};
 
 use crate::calls::add_loop;
 use crate::lines::add_line;
 use deptest::Checked;
-use ktree::{Refusal, Schedule};
-use pragma::ParallelFor;
+use ktree::Refusal;
 use pragma_region::{RegionLoop, RegionPart};
 use std::alloc::AllocError;
-
-// The schedule of a loop: plain static where its line says none (OpenMP 5.2, 11.5.3).
-fn schedule_for(directive: ParallelFor) -> Schedule
-    ensures { schedule_of result ≡ schedule_listed directive }
-{
-    match directive.schedule {
-        Some(schedule) => schedule,
-        None => Schedule::Static,
-    }
-}
 
 /// How many regions are listed, and how many loops of the last of them.
 #[derive(Clone, Copy)]
@@ -53,16 +41,8 @@ fn add_next_loop(
         text.new.items) }
     ensures front { Begins text.old.items text.new.items }
 {
-    let schedule = schedule_for(region_loop.said);
     let loops = before.loops + 1;
-    add_loop(
-        text,
-        before.regions,
-        loops,
-        &schedule,
-        &region_loop.reductions,
-        region_loop.scan,
-    )?;
+    add_loop(text, before.regions, loops, region_loop)?;
     Ok(Listed {
         regions: before.regions,
         loops,
