@@ -18,6 +18,8 @@ use Rattle.semantics.proofs.TicketLaw.{times-append}
 use Rattle.nest_space.specs.Space.{Turns, vectors}
 use Rattle.store.specs.Kept.{Kept}
 use Rattle.lower.specs.declared.lowered.LoweredLoop.{LoweredLoop}
+use Rattle.law_nests.specs.Walks.{walk}
+use Rattle.overlay.specs.declared.positions.Order.{Order}
 use Rattle.overlay.specs.declared.worker.Work.{Work}
 use Rattle.overlay.specs.Chunks.{IsChunkFrom, IsLastFrom, ChangeOnly}
 use Rattle.team.specs.declared.pass.Pass.{Pass}
@@ -25,7 +27,8 @@ use Rattle.team.specs.declared.worker.ChunkPiece.{ChunkPiece}
 use Rattle.team.specs.Ends.{IsSplit, IsLeaving, IsAccount, AreLastValues}
 use Rattle.team.specs.Logged.{Leaving, Account, no_account, later, both, joined, account_of}
 use Rattle.team.proofs.Cutting.{ends_last, last_ends}
-use Rattle.team.specs.Starts.{start_at, started_in}
+use Rattle.team.proofs.Taking.{taken_is, tells_lasts}
+use Rattle.team.specs.Starts.{taken_in, IsOrderOf, start_at, started_in}
 
 later_none : (ns : List ℕ) → later [] ns ≡ ns
 later_none [] = refl
@@ -96,7 +99,7 @@ module _ (l : LoweredLoop) (registers : List ℕ) (ks : List Kept) (pass : Pass)
       record {
         numbers_are = refl;
         each = All-nil P;
-        lasts = λ layout mark roles loops body outer us effects reached ran. none_tell roles (started_in pass roles outer) effects;
+        lasts = λ layout mark roles loops body outer us effects reached of ran. none_tell roles (started_in pass roles outer) effects;
       }
 
   pub account_both : (ns ms : List ℕ) (a b : Account) → IsAccount l registers ks pass chunks ns a → IsAccount l registers ks pass chunks ms b → IsAccount l registers ks pass chunks (ns ++ ms) (both a b)
@@ -104,35 +107,39 @@ module _ (l : LoweredLoop) (registers : List ℕ) (ks : List Kept) (pass : Pass)
       record {
         numbers_are = map-append (λ (c : Leaving). c.number) a.chunks b.chunks ∙ (λ i. first.numbers_are i ++ second.numbers_are i);
         each = All-append P a.chunks b.chunks first.each second.each;
-        lasts = λ layout mark roles loops body outer us effects reached ran.
-            both_tell roles (started_in pass roles outer) effects ns ms a.lasts b.lasts (first.lasts layout mark roles loops body outer us effects reached ran) (second.lasts layout mark roles loops body outer us effects reached ran);
+        lasts = λ layout mark roles loops body outer us effects reached of ran.
+            both_tell roles (started_in pass roles outer) effects ns ms a.lasts b.lasts (first.lasts layout mark roles loops body outer us effects reached of ran) (second.lasts layout mark roles loops body outer us effects reached of ran);
       }
 
   -- the account of a chunk that was run
-  pub account_one : (space : List Turns) (p : ChunkPiece) (chunk : Chunk) → IsSplit l registers space chunks → slice_get chunks p.number.0 ≡ Some chunk
-      → (let work : Work = record { chunk = p.number; first = chunk.first; count = chunk.count } in IsChunkFrom (start_at pass p.number.0) l registers ks work p.piece × IsLastFrom (start_at pass p.number.0) l registers ks work p.piece)
+  pub account_one : (space : List Turns) (p : ChunkPiece) (chunk : Chunk) (order : Order) → IsOrderOf pass order → IsSplit l registers pass space chunks → slice_get chunks p.number.0 ≡ Some chunk
+      → (let work : Work = record { chunk = p.number; first = chunk.first; count = chunk.count } in IsChunkFrom (start_at pass p.number.0) order l registers ks work p.piece × IsLastFrom (start_at pass p.number.0) order l registers ks work p.piece)
       → ChangeOnly ks p.piece.changes → IsAccount l registers ks pass chunks (p.number.0 ∷ []) (account_of p)
-  account_one space p chunk split there (leaves, last) only =
+  account_one space p chunk order order_is split there (leaves, last) only =
       record {
         numbers_are = refl;
-        each = All-cons P _ [] (record { chunk = chunk; there = there; piece = p.piece; leaves = leaves; changes_are = refl; partials_are = refl; text_is = refl; only = only }) (All-nil P);
-        lasts = λ layout mark roles loops body outer us effects reached ran.
+        each = All-cons P _ [] (record { chunk = chunk; there = there; piece = p.piece; order = order; order_is = order_is; leaves = leaves; changes_are = refl; partials_are = refl; text_is = refl; only = only }) (All-nil P);
+        lasts = λ layout mark roles loops body outer us effects reached of ran.
             let same : us ≡ vectors space = split.iterations layout mark roles loops body outer us ks reached in
-            let count : length us ≡ length (vectors space) = ap (λ vs. length vs) same in
-            let iterations_of : Chunk → List Vector = λ c. take c.count (drop c.first us) in
-            let here : slice_get (chunked us chunks) p.number.0 ≡ Some (take chunk.count (drop chunk.first us)) = slice_get-map iterations_of chunks p.number.0 ∙ ap (option_map iterations_of) there in
-            let own = ran.each p.number.0 (take chunk.count (drop chunk.first us)) here in
+            let taken : List Vector = taken_in pass us in
+            let all : ℕ = length (taken_in pass (vectors space)) in
+            let count : length taken ≡ all = ap (λ vs. length (taken_in pass vs)) same in
+            let work : Work = record { chunk = p.number; first = chunk.first; count = chunk.count } in
+            let iterations_of : Chunk → List Vector = λ c. take c.count (drop c.first taken) in
+            let here : slice_get (chunked taken chunks) p.number.0 ≡ Some (take chunk.count (drop chunk.first taken)) = slice_get-map iterations_of chunks p.number.0 ∙ ap (option_map iterations_of) there in
+            let own = ran.each p.number.0 (take chunk.count (drop chunk.first taken)) here in
+            let walked = subst (λ (vs : List Vector). walk loops body (take chunk.count (drop chunk.first vs)) (started_in pass roles outer p.number.0) ≡ Some own.0) (sym (taken_is pass order us order_is)) own.2 in
             let many : length effects ≡ length chunks = ran.count ∙ length-map chunks iterations_of in
-            let tells = last layout mark roles loops body outer us own.0 reached own.2 in
+            let tells = tells_lasts pass order roles (overwritten (started_in pass roles outer p.number.0) own.0.writes) us work p.piece.lasts.items order_is of (last layout mark roles loops body outer us own.0 reached walked) in
             record {
               told = λ number e is at some k x v f g.
                   let here_is : number ≡ p.number.0 = only_one number p.number.0 some in
                   let own_is : own.0 ≡ e = same_Some own.0 e (sym own.1 ∙ sym (ap (slice_get effects) here_is) ∙ at) in
                   let last_is : p.number.0 + 1 ≡ length chunks = ap (λ n. n + 1) (sym here_is) ∙ is ∙ many in
-                  let end : chunk.first + chunk.count ≡ length us = last_ends (length (vectors space)) p.number.0 chunks chunk split.cut there last_is ∙ sym count in
+                  let end : chunk.first + chunk.count ≡ length taken = last_ends all p.number.0 chunks chunk split.cut there last_is ∙ sym count in
                   (tells.last end).each k x v f ((λ i. look (overwritten (started_in pass roles outer (sym here_is i)) (own_is i).writes) x []) ∙ g);
               other = λ none. tells.other (λ end.
-                  let is : p.number.0 + 1 ≡ length chunks = ends_last (length (vectors space)) p.number.0 chunks chunk split.cut there (end ∙ count) in
+                  let is : p.number.0 + 1 ≡ length chunks = ends_last all p.number.0 chunks chunk split.cut there (end ∙ count) in
                   let no = none p.number.0 (is ∙ sym many) in
                   let one : once p.number.0 p.number.0 ≡ 1 = grind (arith, nat_tests) in
                   omega arith);

@@ -2,6 +2,7 @@ pub mod Cutting
 pub mod Texts
 pub mod Ending
 pub mod Entering
+pub mod InWaves
 pub mod Dealing
 pub mod Applying
 pub mod Merging
@@ -10,4 +11,5 @@ pub mod Accounts
 pub mod Effects
 pub mod Combining
 pub mod Standing
+pub mod Taking
 pub mod TwoPasses

@@ -48,11 +48,12 @@ use Rattle.team.specs.Printed.{text_in_order}
 use Rattle.team.specs.Spots.{told_of, reduced, scanned, put_values, IsPutBy, IsPut}
 use Rattle.team.specs.declared.pass.Pass.{Pass}
 use Rattle.team.specs.declared.pass.Pass.TheVariants.{Plain}
-use Rattle.team.specs.Starts.{started_in, HaveRuns}
+use Rattle.team.specs.Starts.{taken_in, TellsOf, started_in, HaveRuns}
 use Rattle.lower.specs.Roles.{AreReduced}
 use Rattle.team.specs.Together.{HoldsAt, PutTogether, PutScan, LeavesTogether}
 use Rattle.team.proofs.Cutting.{chunk_within, each_filled, one_below}
 use Rattle.team.proofs.Effects.{all_at, have_same}
+use Rattle.team.proofs.Taking.{leaves_taken}
 use Rattle.team.proofs.Texts.{printed}
 use Rattle.team.proofs.Standing.{HoldsIn, SameIn, HasRoomFor, AsLong, scanned_own, reduced_long, put_long, put_none, same_then, holds_still, room_still, put_others, put_own, reduced_others, reduced_own}
 
@@ -246,11 +247,11 @@ module _ (layout : List Laid) (mark : ℕ) (roles : Roles) (loops : List Loop) (
   start = started_in pass roles outer
 
   module _ (l : LoweredLoop) (registers : List ℕ) (ks : List Kept) (chunks : List Chunk) (account : Account) where
-    module _ (reached : IsReached layout mark roles loops body outer us l registers ks) (ran : HaveRuns loops body start (chunked us chunks) effects) where
+    module _ (reached : IsReached layout mark roles loops body outer us l registers ks) (ran : HaveRuns loops body start (chunked (taken_in pass us) chunks) effects) where
       pub leaves_of : (c : Leaving) → IsLeaving l registers ks pass chunks c → Leaves layout roles outer ks start effects c
       leaves_of c is =
-          let iterations_of : Chunk → List Vector = λ d. take d.count (drop d.first us) in
-          let there : slice_get (chunked us chunks) c.number ≡ Some (iterations_of is.chunk) = slice_get-map iterations_of chunks c.number ∙ ap (option_map iterations_of) is.there in
+          let iterations_of : Chunk → List Vector = λ d. take d.count (drop d.first (taken_in pass us)) in
+          let there : slice_get (chunked (taken_in pass us) chunks) c.number ≡ Some (iterations_of is.chunk) = slice_get-map iterations_of chunks c.number ∙ ap (option_map iterations_of) is.there in
           let own = ran.each c.number (iterations_of is.chunk) there in
           record {
             effect = own.0;
@@ -258,7 +259,7 @@ module _ (layout : List Laid) (mark : ℕ) (roles : Roles) (loops : List Loop) (
             piece = is.piece;
             changes_are = is.changes_are;
             partials_are = is.partials_are;
-            leave = is.leaves layout mark roles loops body outer us own.0 reached own.2;
+            leave = leaves_taken l registers ks pass chunks c is layout mark roles loops body outer us own.0 reached own.2;
           }
 
       -- what it tells of the reduction variable of an index
@@ -268,8 +269,8 @@ module _ (layout : List Laid) (mark : ℕ) (roles : Roles) (loops : List Loop) (
           let changed : Variable × ReduceOp → Option ℕ = λ r. changed_from (start c.number) own.effect r.0 in
           ap (value_at index) (own.partials_are ∙ own.leave.partials holds) ∙ ap (option_and_then (λ o. o)) (slice_get-map changed roles.reductions index ∙ ap (option_map changed) there)
 
-    module _ (registers' : List ℕ) (ks' : List Kept) (reached : IsReached layout mark roles loops body outer us l registers ks) (ran : HaveRuns loops body start (chunked us chunks) effects) (filled : AreFilled ks) (cut_is : IsCut (length us) chunks)
-        (all : AreAll l registers ks pass chunks account) (base : State) (alike : (number : ℕ) (e : Effect) (x : Variable) → is_among (map (λ r. r.0) roles.reductions) x ≡ false → IsAlike base (start number) e x)
+    module _ (registers' : List ℕ) (ks' : List Kept) (reached : IsReached layout mark roles loops body outer us l registers ks) (ran : HaveRuns loops body start (chunked (taken_in pass us) chunks) effects) (filled : AreFilled ks) (cut_is : IsCut (length (taken_in pass us)) chunks)
+        (all : AreAll l registers ks pass chunks account) (of : TellsOf pass roles) (base : State) (alike : (number : ℕ) (e : Effect) (x : Variable) → is_among (map (λ r. r.0) roles.reductions) x ≡ false → IsAlike base (start number) e x)
         (base_is : (x : Variable) (is : List ℕ) → is_among (map (λ r. r.0) roles.reductions) x ≡ false → base.cells x is ≡ outer.cells x is) (reducing : Machine → Machine) (put : IsPutBy reducing l.roles account registers registers' ks ks')
         (as_long : (m : Machine) → AsLong m (reducing m)) (leaves_others : (m : Machine) (x : Variable) → is_among (map (λ r. r.0) roles.reductions) x ≡ false → SameIn layout m (reducing m) x) where
       abbrev cs : List Leaving
@@ -288,7 +289,7 @@ module _ (layout : List Laid) (mark : ℕ) (roles : Roles) (loops : List Loop) (
       not_reduced x plain = (or_parts (is_among roles.lasts x) (is_among (map (λ r. r.0) roles.reductions) x) (sym (list_any-append (λ y. y == x) roles.lasts (map (λ r. r.0) roles.reductions)) ∙ plain)).1
 
       abbrev iterations_of : Chunk → List Vector
-      iterations_of c = take c.count (drop c.first us)
+      iterations_of c = take c.count (drop c.first (taken_in pass us))
 
       abbrev held : List ℕ → Variable → List ℕ → Option ℕ
       held cells x is = cell_at (shapes_of layout) cells x is
@@ -299,7 +300,7 @@ module _ (layout : List Laid) (mark : ℕ) (roles : Roles) (loops : List Loop) (
       many : length effects ≡ length chunks
       many = ran.count ∙ length-map chunks iterations_of
 
-      many_chunks : length (chunked us chunks) ≡ length chunks
+      many_chunks : length (chunked (taken_in pass us) chunks) ≡ length chunks
       many_chunks = length-map chunks iterations_of
 
       -- its changes
@@ -490,6 +491,10 @@ module _ (layout : List Laid) (mark : ℕ) (roles : Roles) (loops : List Loop) (
       merges_same x is same (inl (none, e)) = inl (none, same ∙ e)
       merges_same x is same (inr one) = inr (record { number = one.number; effect = one.effect; among = one.among; changes = one.changes; leaves = same ∙ one.leaves })
 
+      -- each object that is not told apart
+      pub merges_all : (x : Variable) (is : List ℕ) → is_among (told_apart roles) x ≡ false → MergesAt base effects (λ y js. held (values_of ks') y js) x is
+      merges_all x is plain = merges_same x is ((same_end x plain).cells is) (merged x plain is)
+
       -- ---- reduction variables
 
       holds_before : (x v : ℕ) → is_among (told_apart roles) x ≡ true → look outer x [] ≡ Some v → HoldsIn layout m0 x v
@@ -506,27 +511,27 @@ module _ (layout : List Laid) (mark : ℕ) (roles : Roles) (loops : List Loop) (
 
       -- ---- lastprivate variables
 
-      full : Full (chunked us chunks)
-      full = all_full us chunks cut_is
+      full : Full (chunked (taken_in pass us) chunks)
+      full = all_full (taken_in pass us) chunks cut_is
 
-      last : (x : Variable) (f : Effect) (v : ℕ) → is_among roles.lasts x ≡ true → last_filled (chunked us chunks) effects ≡ Some f → look (overwritten base f.writes) x [] ≡ Some v → HoldsAt layout registers' ks' x v
+      last : (x : Variable) (f : Effect) (v : ℕ) → is_among roles.lasts x ≡ true → last_filled (chunked (taken_in pass us) chunks) effects ≡ Some f → look (overwritten base f.writes) x [] ≡ Some v → HoldsAt layout registers' ks' x v
       last x f v among is h =
-          let found = last_is (chunked us chunks) effects f full (many ∙ sym many_chunks) is in
+          let found = last_is (chunked (taken_in pass us) chunks) effects f full (many ∙ sym many_chunks) is in
           let long = many in
           let last_number = found.1 in
           let once_is = all.once found.0 in
           let one : once_below found.0 (length chunks) ≡ 1 = one_below found.0 (length chunks) (omega arith) in
-          let values = all.account.lasts layout mark roles loops body outer us effects reached ran in
+          let values = all.account.lasts layout mark roles loops body outer us effects reached of ran in
           let told = values.told found.0 f found.1 found.2 (omega arith) in
           let seen = alike found.0 f x (plain_other roles.reductions x (among_plain roles.reductions roles.lasts x reached.apart among)) in
           holds_at x v (put_own layout mark roles.lasts l.roles.lasts.items account.lasts m1 x v reached.lowered.roles_at.lasts among (λ k there. told k x v there (seen.looks ∙ h)) (room_still layout mark m0 m1 x (as_long m0) (room x)))
 
-      none_last : (x : Variable) → is_among roles.lasts x ≡ true → flat_map (λ vs. vs) (chunked us chunks) ≡ [] → SameIn layout m0 end x
+      none_last : (x : Variable) → is_among roles.lasts x ≡ true → flat_map (λ vs. vs) (chunked (taken_in pass us) chunks) ≡ [] → SameIn layout m0 end x
       none_last x among none =
-          let no_chunk = no_chunks (chunked us chunks) full none in
+          let no_chunk = no_chunks (chunked (taken_in pass us) chunks) full none in
           let counted = many_chunks in
           let long = many in
-          let values = all.account.lasts layout mark roles loops body outer us effects reached ran in
+          let values = all.account.lasts layout mark roles loops body outer us effects reached of ran in
           let no_values : account.lasts ≡ [] = values.other (λ number is. absurd (omega arith)) in
           let m2_m1 : m2 ≡ m1 = ap (λ vs. put_values l.roles.lasts.items vs m1) no_values ∙ put_none l.roles.lasts.items m1 in
           let plain = plain_other roles.reductions x (among_plain roles.reductions roles.lasts x reached.apart among) in
@@ -557,7 +562,7 @@ module _ (layout : List Laid) (mark : ℕ) (roles : Roles) (loops : List Loop) (
         abbrev order : List ℕ
         order = map (λ (c : Leaving). c.number) cs
 
-        order_is : EachOnceBelow (length (chunked us chunks)) order
+        order_is : EachOnceBelow (length (chunked (taken_in pass us) chunks)) order
         order_is n = ap (times n) all.account.numbers_are ∙ all.once n ∙ ap (once_below n) (sym many_chunks)
 
         reduction : (x : Variable) (op : ReduceOp) (v : ℕ) → operator_of roles.reductions x ≡ Some op → look outer x [] ≡ Some v → HoldsAt layout registers' ks' x (combined_all op v (picked (map (λ f. changed_from base f x) effects) order))
@@ -572,7 +577,7 @@ module _ (layout : List Laid) (mark : ℕ) (roles : Roles) (loops : List Loop) (
             let here : HoldsIn layout m1 x value = subst (λ (m : Machine). HoldsIn layout m x value) (sym (reduces m0)) one.holds in
             subst (HoldsAt layout registers' ks' x) (ap (combined_all op v) told) (holds_at x value (holds_still layout mark m1 m2 x value (same_second x no_last) here))
 
-        pub put_together : (text text' : List ℕ) → text' ≡ text ++ text_in_order (length chunks) account.chunks → PutTogether layout roles outer base (chunked us chunks) effects registers registers' ks ks' text text'
+        pub put_together : (text text' : List ℕ) → text' ≡ text ++ text_in_order (length chunks) account.chunks → PutTogether layout roles outer base (chunked (taken_in pass us) chunks) effects registers registers' ks ks' text text'
         put_together text text' told =
             record {
               cells = λ x is plain. merges_same x is ((same_end x plain).cells is) (merged x plain is);
@@ -595,7 +600,7 @@ module _ (layout : List Laid) (mark : ℕ) (roles : Roles) (loops : List Loop) (
             holds_at x value (holds_still layout mark m1 m2 x value (same_second x no_last) here)
 
         pub put_scan : (partials : List (Option ℕ)) → ((v : ℕ) → look base x [] ≡ Some v → value ≡ combined_all op v partials) → (text text' : List ℕ) → text' ≡ text ++ text_in_order (length chunks) account.chunks
-            → PutScan layout roles x op base (chunked us chunks) partials effects registers registers' ks ks' text text'
+            → PutScan layout roles x op base (chunked (taken_in pass us) chunks) partials effects registers registers' ks ks' text text'
         put_scan partials value_is text text' told =
             record {
               cells = λ y is plain. merges_same y is ((same_end y plain).cells is) (merged y plain is);
@@ -616,6 +621,6 @@ together l registers registers' ks ks' kind workers account text text' filled of
     let all : AreAll l registers ks Plain chunks account = subst (λ (vs : List Vector). AreAll l registers ks Plain (cut kind (length vs) workers) account) (sym same) of.all in
     let cut_is : IsCut (length us) chunks = subst (λ (vs : List Vector). IsCut (length vs) (cut kind (length vs) workers)) (sym same) of.cut_is in
     let told_is : text' ≡ text ++ text_in_order (length chunks) account.chunks = subst (λ (vs : List Vector). text' ≡ text ++ text_in_order (length (cut kind (length vs) workers)) account.chunks) (sym same) told in
-    put_together layout mark roles loops body outer us effects Plain l registers ks chunks account registers' ks' reached (have_same loops body (begun roles outer) (chunked us chunks) effects ran) filled cut_is all (begun roles outer)
+    put_together layout mark roles loops body outer us effects Plain l registers ks chunks account registers' ks' reached (have_same loops body (begun roles outer) (chunked us chunks) effects ran) filled cut_is all tt (begun roles outer)
     (λ number e x h. record { cells = λ is. refl; looks = refl }) (begun_cells roles.reductions outer) (reduced 0 l.roles.reductions.items account.chunks) put (reduced_long 0 l.roles.reductions.items account.chunks)
     (λ m x h. reduced_others layout mark account.chunks 0 roles.reductions l.roles.reductions.items m x reached.lowered.roles_at.reductions h) (λ number. refl) (λ m. refl) helds text text' told_is

@@ -31,8 +31,9 @@ use Rattle.team.specs.Together.{BeginsTogether}
 use Rattle.team.specs.Passed.{BeginsIn}
 use Rattle.team.proofs.Entering.{all_entered}
 use Rattle.team.specs.declared.pass.Pass.TheVariants.{Plain}
-use Rattle.team.specs.Starts.{started_in, HaveRuns}
+use Rattle.team.specs.Starts.{taken_in, started_in, HaveRuns}
 use Rattle.team.proofs.Effects.{have_same}
+use Rattle.team.proofs.Taking.{leaves_taken}
 
 -- so many empty texts
 abbrev none_each : ℕ → List (List ℕ)
@@ -106,9 +107,9 @@ texts_all (e ∷ effects) = ap (λ (t : List ℕ). e.text ++ t) (texts_all effec
 
 -- what all chunks print is what their runs print
 module _ (layout : List Laid) (mark : ℕ) (roles : Roles) (loops : List Loop) (body : Stmt) (outer : State) (us : List Vector) (effects : List Effect) (l : LoweredLoop) (registers : List ℕ) (ks : List Kept) (pass : Pass) (chunks : List Chunk) (account : Account)
-    (reached : IsReached layout mark roles loops body outer us l registers ks) (ran : HaveRuns loops body (started_in pass roles outer) (chunked us chunks) effects) (all : AreAll l registers ks pass chunks account) where
+    (reached : IsReached layout mark roles loops body outer us l registers ks) (ran : HaveRuns loops body (started_in pass roles outer) (chunked (taken_in pass us) chunks) effects) (all : AreAll l registers ks pass chunks account) where
   abbrev iterations_of : Chunk → List Vector
-  iterations_of c = take c.count (drop c.first us)
+  iterations_of c = take c.count (drop c.first (taken_in pass us))
 
   abbrev wanted : List (List ℕ)
   wanted = map (λ (e : Effect). e.text) effects
@@ -118,21 +119,21 @@ module _ (layout : List Laid) (mark : ℕ) (roles : Roles) (loops : List Loop) (
 
   one : (c : Leaving) → IsLeaving l registers ks pass chunks c → slice_get wanted c.number ≡ Some c.text
   one c is =
-      let there : slice_get (chunked us chunks) c.number ≡ Some (iterations_of is.chunk) = slice_get-map iterations_of chunks c.number ∙ ap (option_map iterations_of) is.there in
+      let there : slice_get (chunked (taken_in pass us) chunks) c.number ≡ Some (iterations_of is.chunk) = slice_get-map iterations_of chunks c.number ∙ ap (option_map iterations_of) is.there in
       let own = ran.each c.number (iterations_of is.chunk) there in
-      let left = is.leaves layout mark roles loops body outer us own.0 reached own.2 in
+      let left = leaves_taken l registers ks pass chunks c is layout mark roles loops body outer us own.0 reached own.2 in
       slice_get-map (λ (e : Effect). e.text) effects c.number ∙ ap (option_map (λ (e : Effect). e.text)) own.1 ∙ ap Some (sym left.text ∙ sym is.text_is)
 
   pub printed : text_in_order (length chunks) account.chunks ≡ flat_map (λ (e : Effect). e.text) effects
   printed = ap (flat_map (λ (t : List ℕ). t)) (all_entered (λ (c : Leaving). c.text) [] wanted l registers ks pass chunks account all many one) ∙ texts_all effects
 
 -- a beginning of what all chunks print
-pub begins_all : (l : LoweredLoop) (registers : List ℕ) (ks : List Kept) (pass : Pass) (kind : Kind) (workers : ℕ) (space : List Turns) (chunks : List Chunk) (account : Account) (text text' : List ℕ) → IsSplit l registers space chunks → chunks ≡ cut kind (length (vectors space)) workers
+pub begins_all : (l : LoweredLoop) (registers : List ℕ) (ks : List Kept) (pass : Pass) (kind : Kind) (workers : ℕ) (space : List Turns) (chunks : List Chunk) (account : Account) (text text' : List ℕ) → IsSplit l registers pass space chunks → chunks ≡ cut kind (length (taken_in pass (vectors space))) workers
     → AreAll l registers ks pass chunks account → AddsBeginning text text' (text_in_order (length chunks) account.chunks) → BeginsIn pass l registers ks text text' kind workers
 begins_all l registers ks pass kind workers space chunks account text text' split cut_is all begun_by = λ layout mark roles loops body outer us effects reached ran.
     let same : us ≡ vectors space = split.iterations layout mark roles loops body outer us ks reached in
-    let is : chunks ≡ cut kind (length us) workers = cut_is ∙ ap (λ (vs : List Vector). cut kind (length vs) workers) (sym same) in
-    let here = subst (λ (cs : List Chunk). HaveRuns loops body (started_in pass roles outer) (chunked us cs) effects) (sym is) ran in
+    let is : chunks ≡ cut kind (length (taken_in pass us)) workers = cut_is ∙ ap (λ (vs : List Vector). cut kind (length (taken_in pass vs)) workers) (sym same) in
+    let here = subst (λ (cs : List Chunk). HaveRuns loops body (started_in pass roles outer) (chunked (taken_in pass us) cs) effects) (sym is) ran in
     subst (AddsBeginning text text') (printed layout mark roles loops body outer us effects l registers ks pass chunks account reached here all) begun_by
 
 -- nothing is put

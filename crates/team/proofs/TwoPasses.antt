@@ -1,6 +1,6 @@
 -- A scan's two passes.
 use Rattle.std.specs.Prelude.{ℕ, zero, suc, Bool, true, false, ◌≡◌, ◌+◌, ◌<◌, ◌≤◌, ◌==◌, List, [], ◌∷◌, ◌++◌, length, map, take, drop, replicate, slice_get, slice_index, Option, Some, None, option_map}
-use Rattle.std.proofs.Common.{refl, sym, ap, ◌∙◌, cond, subst, arith}
+use Rattle.std.proofs.Common.{Vec, Global, refl, sym, ap, ◌∙◌, cond, subst, arith}
 use Rattle.std.proofs.lemmas.Bool.{eqb-true, eq-eqb}
 use Rattle.std.proofs.lemmas.List.{length-map, take_all}
 use Rattle.std.proofs.lemmas.Option.{none-some, same_Some, slice_get-map, slice_get_within}
@@ -42,8 +42,7 @@ use Rattle.overlay.specs.Chunks.{started}
 use Rattle.overlay.specs.Spots.{held_at}
 use Rattle.overlay.proofs.Standing.{some_value, held_in}
 use Rattle.overlay.proofs.Telling.{given_locals, given_cells}
-use Rattle.team.specs.declared.pass.Pass.{Pass}
-use Rattle.team.specs.declared.pass.Pass.TheVariants.{Plain}
+use Rattle.team.specs.declared.pass.Pass.TheVariants.{Plain, Second}
 use Rattle.team.specs.Ends.{IsCut, IsSplit, IsLeaving, AreAll}
 use Rattle.team.specs.Logged.{Leaving, Account}
 use Rattle.team.specs.Passed.{IsPassed, BeginsIn}
@@ -78,7 +77,7 @@ from_held layout mark x op v outer registers ks (r ∷ ls) ps starts roles loops
     let here = (held_in layout mark outer (machine registers (values_of ks)) x v r.spot at reached.stand.machine h).is in
     subst (λ n. AreStarts op n ps starts) here (subst (λ o. AreStarts o (held_at r.spot (machine registers (values_of ks))) ps starts) is from)
 
-pub first_starts : (l : LoweredLoop) (registers : List ℕ) (ks : List Kept) (workers : ℕ) (space : List Turns) (chunks : List Chunk) (account : Account) (partials : List (Option ℕ)) (starts : List ℕ) → IsSplit l registers space chunks
+pub first_starts : (l : LoweredLoop) (registers : List ℕ) (ks : List Kept) (workers : ℕ) (space : List Turns) (chunks : List Chunk) (account : Account) (partials : List (Option ℕ)) (starts : List ℕ) → IsSplit l registers Plain space chunks
     → chunks ≡ cut PlainStatic (length (vectors space)) workers → AreAll l registers ks Plain chunks account → partials ≡ partials_in_order (length chunks) account.chunks → StartFrom l.roles.reductions.items (machine registers (values_of ks)) partials starts → AreScanStarts l registers ks workers starts
 first_starts l registers ks workers space chunks account partials starts split cut_is all told from = λ layout mark roles x op loops front outer us firsts v only reached ran helds h.
     let same : us ≡ vectors space = split.iterations layout mark roles loops front outer us ks reached in
@@ -116,7 +115,7 @@ walks_at loops body (s ∷ starts) (vs ∷ chunks) (e ∷ effects) all zero us t
     (e, refl, (λ i. walk loops body (sym (same_Some vs us there) i) (sym (same_Some s t at) i)) ∙ is)
 walks_at loops body (s ∷ starts) (vs ∷ chunks) (e ∷ effects) all (suc k) us t there at = walks_at loops body starts chunks effects (ap (λ l. drop 1 l) all) k us t there at
 
-module _ (first second : LoweredLoop) (registers : List ℕ) (ks : List Kept) (workers : ℕ) (pass : Pass) (numbers : List ℕ) (begins : (number : ℕ) → start_at pass number ≡ Scan (slice_index numbers number)) (scan : AreScanStarts first registers ks workers numbers) where
+module _ (first second : LoweredLoop) (registers : List ℕ) (ks : List Kept) (workers : ℕ) (first_told : Vec ℕ Global) (numbers : List ℕ) (begins : (number : ℕ) → start_at (Second first_told) number ≡ Scan (slice_index numbers number)) (scan : AreScanStarts first registers ks workers numbers) where
   module _ (layout : List Laid) (mark : ℕ) (roles : Roles) (x : Variable) (op : ReduceOp) (loops : List Loop) (front whole : Stmt) (outer : State) (us : List Vector) (firsts seconds : List Effect)
       (runs : RunsInPasses layout mark roles x op loops front whole outer us firsts seconds first second registers ks workers) where
     abbrev cs : List Chunk
@@ -144,11 +143,11 @@ module _ (first second : LoweredLoop) (registers : List ℕ) (ks : List Kept) (w
     many = length-map firsts changed ∙ same_length (λ vs. walk loops front vs (begun roles outer)) css firsts runs.first_pass
 
     -- a chunk's start
-    start_is : (c : ℕ) → c ≤ length partials → start c ≡ started_in pass roles outer c
+    start_is : (c : ℕ) → c ≤ length partials → start c ≡ started_in (Second first_told) roles outer c
     start_is c le =
         ap (λ o. given outer x (start_of op o partials c)) holds.1 ∙ ap (given outer x) (are.each c le) ∙ ap (λ rs. started (Scan (slice_index numbers c)) rs outer) (sym runs.only) ∙ ap (λ s. started s roles.reductions outer) (sym (begins c))
 
-    have_runs : HaveRuns loops whole (started_in pass roles outer) css seconds
+    have_runs : HaveRuns loops whole (started_in (Second first_told) roles outer) css seconds
     have_runs = record {
       count = sym (length-map seconds Some) ∙ ap (λ l. length l) (sym runs.second_pass) ∙ walks_long loops whole starts css (length-map (below (length css)) start ∙ length_below (length css));
       each = λ number vs there.
@@ -180,7 +179,7 @@ module _ (first second : LoweredLoop) (registers : List ℕ) (ks : List Kept) (w
     kin_given v [] s z = refl
     kin_given v (r ∷ rs) s z = kin_given v rs (given s r.0 (Some v)) z ∙ kin_one s v r.0 z
 
-    alike : (number : ℕ) (e : Effect) (y : Variable) → is_among (map (λ r. r.0) roles.reductions) y ≡ false → IsAlike outer (started_in pass roles outer number) e y
+    alike : (number : ℕ) (e : Effect) (y : Variable) → is_among (map (λ r. r.0) roles.reductions) y ≡ false → IsAlike outer (started_in (Second first_told) roles outer number) e y
     alike number e y h =
         let v = slice_index numbers number in
         let s = started (Scan v) roles.reductions outer in
@@ -196,24 +195,24 @@ module _ (first second : LoweredLoop) (registers : List ℕ) (ks : List Kept) (w
         let same : holds.0 ≡ w = same_Some holds.0 w (sym holds.1 ∙ h) in
         last n are.count ∙ sym end ∙ ap (combined_all op holds.0) (take_all n partials (omega arith)) ∙ ap (λ u. combined_all op u partials) same
 
-  pub scans_begin : (text text' : List ℕ) → BeginsIn pass second registers ks text text' PlainStatic workers → ScansBeginning first second registers ks text text' workers
+  pub scans_begin : (text text' : List ℕ) → BeginsIn (Second first_told) second registers ks text text' PlainStatic workers → ScansBeginning first second registers ks text text' workers
   scans_begin text text' begins_in = λ layout mark roles x op loops front whole outer us firsts seconds runs.
       begins_in layout mark roles loops whole outer us seconds runs.second_reached (have_runs layout mark roles x op loops front whole outer us firsts seconds runs)
 
-pub scans_together : (first second : LoweredLoop) (registers registers' : List ℕ) (ks ks' : List Kept) (workers : ℕ) (pass : Pass) (numbers : List ℕ) → ((number : ℕ) → start_at pass number ≡ Scan (slice_index numbers number)) → AreScanStarts first registers ks workers numbers
-    → (value : ℕ) → ((count : ℕ) → length numbers ≡ count + 1 → value ≡ slice_index numbers count) → (account : Account) (text text' : List ℕ) → AreFilled ks → IsPassed second registers ks pass PlainStatic workers account text text' → IsScanPut value second.roles account registers registers' ks ks'
+pub scans_together : (first second : LoweredLoop) (registers registers' : List ℕ) (ks ks' : List Kept) (workers : ℕ) (first_told : Vec ℕ Global) (numbers : List ℕ) → ((number : ℕ) → start_at (Second first_told) number ≡ Scan (slice_index numbers number)) → AreScanStarts first registers ks workers numbers
+    → (value : ℕ) → ((count : ℕ) → length numbers ≡ count + 1 → value ≡ slice_index numbers count) → (account : Account) (text text' : List ℕ) → AreFilled ks → IsPassed second registers ks (Second first_told) PlainStatic workers account text text' → IsScanPut value second.roles account registers registers' ks ks'
     → ScansTogether first second registers registers' ks ks' text text' workers
-scans_together first second registers registers' ks ks' workers pass numbers begins scan value last account text text' filled passed put = λ layout mark roles x op loops front whole outer us firsts seconds runs.
+scans_together first second registers registers' ks ks' workers first_told numbers begins scan value last account text text' filled passed put = λ layout mark roles x op loops front whole outer us firsts seconds runs.
     let reached = runs.second_reached in
     let same : us ≡ vectors passed.of.space = passed.of.of layout mark roles loops whole outer us ks reached in
     let chunks = cut PlainStatic (length us) workers in
-    let all : AreAll second registers ks pass chunks account = subst (λ (vs : List Vector). AreAll second registers ks pass (cut PlainStatic (length vs) workers) account) (sym same) passed.of.all in
+    let all : AreAll second registers ks (Second first_told) chunks account = subst (λ (vs : List Vector). AreAll second registers ks (Second first_told) (cut PlainStatic (length vs) workers) account) (sym same) passed.of.all in
     let cut_is : IsCut (length us) chunks = subst (λ (vs : List Vector). IsCut (length vs) (cut PlainStatic (length vs) workers)) (sym same) passed.of.cut_is in
     let told = subst (λ (vs : List Vector). text' ≡ text ++ text_in_order (length (cut PlainStatic (length vs) workers)) account.chunks) (sym same) passed.printed in
     let ls = second.roles.reductions.items in
-    let given_to = have_runs first second registers ks workers pass numbers begins scan layout mark roles x op loops front whole outer us firsts seconds runs in
+    let given_to = have_runs first second registers ks workers first_told numbers begins scan layout mark roles x op loops front whole outer us firsts seconds runs in
     let partials = map (λ f. changed_from (begun roles outer) f x) firsts in
-    put_scan layout mark roles loops whole outer us seconds pass second registers ks chunks account registers' ks' reached given_to filled cut_is all outer
-    (alike first second registers ks workers pass numbers begins scan layout mark roles x op loops front whole outer us firsts seconds runs) (λ y is h. refl) (scanned ls value) put (scanned_long ls value)
+    put_scan layout mark roles loops whole outer us seconds (Second first_told) second registers ks chunks account registers' ks' reached given_to filled cut_is all tt outer
+    (alike first second registers ks workers first_told numbers begins scan layout mark roles x op loops front whole outer us firsts seconds runs) (λ y is h. refl) (scanned ls value) put (scanned_long ls value)
     (λ m y h. scanned_others layout mark roles.reductions ls value m y reached.lowered.roles_at.reductions h) x op runs.only value (λ m. refl) partials
-    (value_is first second registers ks workers pass numbers begins scan layout mark roles x op loops front whole outer us firsts seconds runs value last) text text' told
+    (value_is first second registers ks workers first_told numbers begins scan layout mark roles x op loops front whole outer us firsts seconds runs value last) text text' told

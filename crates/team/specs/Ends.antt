@@ -16,12 +16,13 @@ use Rattle.store.specs.Kept.{Kept}
 use Rattle.lower_code.specs.declared.term.Laid.{Laid}
 use Rattle.lower.specs.declared.lowered.LoweredLoop.{LoweredLoop}
 use Rattle.lower.specs.Lowered.{IsReached, IsSpaceOf}
+use Rattle.overlay.specs.declared.positions.Order.{Order}
 use Rattle.overlay.specs.declared.worker.Piece.{Piece}
 use Rattle.overlay.specs.Chunks.{IsChunkFrom, ChangeOnly}
 use Rattle.team.specs.declared.job.Job.{Job}
 use Rattle.team.specs.declared.pass.Pass.{Pass}
 use Rattle.team.specs.declared.worker.Finished.{Finished}
-use Rattle.team.specs.Starts.{start_at, started_in, HaveRuns}
+use Rattle.team.specs.Starts.{taken_in, AreTakenFrom, IsOrderOf, TellsOf, start_at, started_in, HaveRuns}
 use Rattle.team.specs.Logged.{Leaving, Account}
 
 -- chunks that hold some iterations each, and are all of them, in order
@@ -29,22 +30,25 @@ pub record IsCut (n : ℕ) (chunks : List Chunk) : Type 0 where
   pub joined : flat_map chunk_iterations chunks ≡ below n
   pub filled : All (λ c. 0 < c.count) chunks
 
--- a space is that of a loop wherever it is reached with these registers, and chunks are a cut of it
-pub record IsSplit (l : LoweredLoop) (registers : List ℕ) (space : List Turns) (chunks : List Chunk) : Type 0 where
+-- a space is that of a loop wherever it is reached with these registers, and chunks are a cut of the iterations that a pass takes
+pub record IsSplit (l : LoweredLoop) (registers : List ℕ) (pass : Pass) (space : List Turns) (chunks : List Chunk) : Type 0 where
   pub loops : length space ≡ length l.loops.items
   pub iterations : IsSpaceOf l registers space
-  pub few : length (vectors space) ≤ 2 ^ 24
-  pub cut : IsCut (length (vectors space)) chunks
+  pub from : AreTakenFrom pass (vectors space)
+  pub few : length (taken_in pass (vectors space)) ≤ 2 ^ 24
+  pub cut : IsCut (length (taken_in pass (vectors space))) chunks
 
 abbrev pub IsReady : Job → Type 0
-IsReady job = IsSplit job.lowered.now job.registers.now job.space.now job.chunks.now
+IsReady job = IsSplit job.lowered.now job.registers.now job.pass.now job.space.now job.chunks.now
 
 -- what the chunk of this number leaves in this pass, from these registers and this store
 pub record IsLeaving (l : LoweredLoop) (registers : List ℕ) (ks : List Kept) (pass : Pass) (chunks : List Chunk) (c : Leaving) : Type 0 where
   pub chunk : Chunk
   pub there : slice_get chunks c.number ≡ Some chunk
   pub piece : Piece
-  pub leaves : IsChunkFrom (start_at pass c.number) l registers ks (record { chunk = record { 0 = c.number }; first = chunk.first; count = chunk.count }) piece
+  pub order : Order
+  pub order_is : IsOrderOf pass order
+  pub leaves : IsChunkFrom (start_at pass c.number) order l registers ks (record { chunk = record { 0 = c.number }; first = chunk.first; count = chunk.count }) piece
   pub changes_are : c.changes ≡ piece.changes
   pub partials_are : c.partials ≡ map partial_of piece.partials.items
   pub text_is : c.text ≡ piece.text.bytes
@@ -60,7 +64,7 @@ pub record AreLastValues (roles : Roles) (start : ℕ → State) (effects : List
 abbrev pub TellLasts : LoweredLoop → List ℕ → List Kept → Pass → List Chunk → List ℕ → List ℕ → Type 0
 TellLasts l registers ks pass chunks numbers lasts =
     (layout : List Laid) (mark : ℕ) (roles : Roles) (loops : List Loop) (body : Stmt) (outer : State) (us : List Vector) (effects : List Effect)
-    → IsReached layout mark roles loops body outer us l registers ks → HaveRuns loops body (started_in pass roles outer) (chunked us chunks) effects
+    → IsReached layout mark roles loops body outer us l registers ks → TellsOf pass roles → HaveRuns loops body (started_in pass roles outer) (chunked (taken_in pass us) chunks) effects
     → AreLastValues roles (started_in pass roles outer) effects numbers lasts
 
 -- the account of the chunks of these numbers, in their order
@@ -106,5 +110,5 @@ pub record AreAll (l : LoweredLoop) (registers : List ℕ) (ks : List Kept) (pas
 pub record AreOfLoop (l : LoweredLoop) (registers : List ℕ) (ks : List Kept) (pass : Pass) (kind : Kind) (workers : ℕ) (a : Account) : Type 0 where
   pub space : List Turns
   pub of : IsSpaceOf l registers space
-  pub cut_is : IsCut (length (vectors space)) (cut kind (length (vectors space)) workers)
-  pub all : AreAll l registers ks pass (cut kind (length (vectors space)) workers) a
+  pub cut_is : IsCut (length (taken_in pass (vectors space))) (cut kind (length (taken_in pass (vectors space))) workers)
+  pub all : AreAll l registers ks pass (cut kind (length (taken_in pass (vectors space))) workers) a

@@ -2,6 +2,7 @@ pub mod Starts
 pub mod Scanned
 pub mod Passed
 pub mod Together
+pub mod Waved
 pub mod Printed
 pub mod Applied
 pub mod Ends

@@ -17,16 +17,16 @@ use Rattle.team.specs.declared.pass.Pass.{Pass}
 use Rattle.team.specs.Ends.{AreOfLoop}
 use Rattle.team.specs.Logged.{Account}
 use Rattle.team.specs.Printed.{text_in_order}
-use Rattle.team.specs.Starts.{started_in, HaveRuns}
+use Rattle.team.specs.Starts.{taken_in, started_in, HaveRuns}
 
 -- the account of all chunks of a loop, and behind the text from before what they print, in their order
 pub record IsPassed (l : LoweredLoop) (registers : List ℕ) (ks : List Kept) (pass : Pass) (kind : Kind) (workers : ℕ) (a : Account) (text text' : List ℕ) : Type 0 where
   pub of : AreOfLoop l registers ks pass kind workers a
-  pub printed : text' ≡ text ++ text_in_order (length (cut kind (length (vectors of.space)) workers)) a.chunks
+  pub printed : text' ≡ text ++ text_in_order (length (cut kind (length (taken_in pass (vectors of.space))) workers)) a.chunks
 
--- wherever the loop is reached with these registers and this store, and its chunks have a run each from where they begin, a beginning of what they print stands behind the text from before, and nothing else
+-- wherever the loop is reached with these registers and this store, and the chunks of what a pass takes have a run each from where they begin, a beginning of what they print stands behind the text from before, and nothing else
 abbrev pub BeginsIn : Pass → LoweredLoop → List ℕ → List Kept → List ℕ → List ℕ → Kind → ℕ → Type 0
 BeginsIn pass l registers ks text text' kind workers =
     (layout : List Laid) (mark : ℕ) (roles : Roles) (loops : List Loop) (body : Stmt) (outer : State) (us : List Vector) (effects : List Effect)
-    → IsReached layout mark roles loops body outer us l registers ks → HaveRuns loops body (started_in pass roles outer) (chunked us (cut kind (length us) workers)) effects
+    → IsReached layout mark roles loops body outer us l registers ks → HaveRuns loops body (started_in pass roles outer) (chunked (taken_in pass us) (cut kind (length (taken_in pass us)) workers)) effects
     → AddsBeginning text text' (flat_map (λ e. e.text) effects)

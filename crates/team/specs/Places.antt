@@ -2,7 +2,7 @@
 use Rattle.std.specs.Prelude.{ℕ, ◌≡◌, ◌≤◌, ◌^◌, List, length, slice_get, All, Option, Some}
 use Rattle.semantics.specs.Loops.Chunk.{Chunk, cut}
 use Rattle.draw.specs.Tickets.{fresh}
-use Rattle.nest_space.specs.Space.{Turns, vectors}
+use Rattle.nest_space.specs.Space.{vectors}
 use Rattle.schedule.specs.Part.{static_kind}
 use Rattle.store.specs.Kept.{Kept}
 use Rattle.lower.specs.declared.lowered.LoweredLoop.{LoweredLoop}
@@ -13,7 +13,8 @@ use Rattle.team.specs.declared.grounds.Grounds.{Grounds}
 use Rattle.team.specs.declared.pass.Pass.{Pass}
 use Rattle.team.specs.declared.place.End.{End}
 use Rattle.team.specs.declared.place.End.TheVariants.{Share, Draws}
-use Rattle.team.specs.Ends.{IsAccount, IsFinished}
+use Rattle.team.specs.Ends.{IsSplit, IsAccount, IsFinished}
+use Rattle.team.specs.Starts.{taken_in}
 use Rattle.team.specs.Dealt.{own_numbers}
 
 -- what a place is made for: a loop where it is reached, its chunks and how they begin, how these come to so many workers, and the number of one of them
@@ -54,17 +55,25 @@ aim_of l grounds ks way workers =
       number = 0;
     }
 
--- chunks come to so many workers as their cut asks: dealt ones are those of their kind, and drawn ones have a drawing with a free seat for each worker
-pub record IsWay (way : Way) (space : List Turns) (chunks : List Chunk) (workers : ℕ) : Type 0 where
-  pub cut : (size : Option ℕ) → way ≡ Dealt size → chunks ≡ cut (static_kind size) (length (vectors space)) workers
+-- how many iterations are taken
+abbrev pub count_taken : Grounds → ℕ
+count_taken grounds = length (taken_in grounds.pass (vectors grounds.space))
+
+-- the space is that of this loop, and the chunks are a cut of the iterations that are taken
+abbrev pub AreSplit : LoweredLoop → Grounds → Type 0
+AreSplit l grounds = IsSplit l grounds.registers.items grounds.pass grounds.space grounds.chunks
+
+-- chunks of so many iterations come to so many workers as their cut asks: dealt ones are those of their kind, and drawn ones have a drawing with a free seat for each worker
+pub record IsWay (way : Way) (count : ℕ) (chunks : List Chunk) (workers : ℕ) : Type 0 where
+  pub cut : (size : Option ℕ) → way ≡ Dealt size → chunks ≡ cut (static_kind size) count workers
   pub some : (k : ℕ) → way ≡ Dealt (Some k) → (1 ≤ k) × (k ≤ 2 ^ 24)
-  pub count : (draw : Draw) → way ≡ Drawn draw → draw.drawing.count ≡ length chunks
+  pub drawn : (draw : Draw) → way ≡ Drawn draw → draw.drawing.count ≡ length chunks
   pub seats : (draw : Draw) → way ≡ Drawn draw → (draw.drawing.seats ≡ workers) × All (λ s. s ≡ fresh draw.drawing) draw.seats.items
 
 -- the places of a loop's workers, of whom there are some, and how chunks came to them
-pub record AreLeft (a : Aim) (space : List Turns) (way : Way) (places : List Aim) : Type 0 where
+pub record AreLeft (a : Aim) (count : ℕ) (way : Way) (places : List Aim) : Type 0 where
   pub way_is : a.way ≡ way
-  pub comes : IsWay way space a.chunks a.workers
+  pub comes : IsWay way count a.chunks a.workers
   pub some : 1 ≤ a.workers
   pub all : length places ≡ a.workers
   pub made : AreFor a places

@@ -10,6 +10,7 @@ ghost use Rattle.team.specs.Ends.{IsReady, IsAccount, IsAccountOf};
 ghost use Rattle.team.specs.Dealt.{own_numbers};
 ghost use Rattle.team.specs.Logged.{joined};
 ghost use Rattle.team.specs.Places.{Aim, AreFor};
+ghost use Rattle.team.specs.Starts.{taken_in};
 
 use crate::gate::{Gate, Taken};
 use crate::job::Job;
@@ -34,14 +35,14 @@ pub(crate) fn run_own<G: Gate>(
 ) -> Result<ChunkLog, Refusal>
     requires ready { IsReady job }
     requires chunks { job.chunks.now
-        ≡ cut (static_kind size) (length (vectors job.space.now)) workers }
+        ≡ cut (static_kind size) (length (taken_in job.pass.now (vectors job.space.now))) workers }
     requires size { IfSome size (λ k. (1 ≤ k) × (k ≤ 2 ^ 24)) }
     requires worker { worker < workers }
     ensures dealt { IfOk result (IsAccountOf job.entry
         (own_numbers size (length job.entry.chunks.now) workers worker)) }
     ensures refusal { IfErr result (λ refusal. refusal ≡ Refusal.OutOfMemory) }
 {
-    let part = static_init(job.space.count(), workers, worker, size);
+    let part = static_init(job.pass.count(job.space), workers, worker, size);
     let mut runner = Worker::resume(alloc, job.store, bench.take())?;
     let mut log = ChunkLog::new(alloc);
     let mut turn = 0;

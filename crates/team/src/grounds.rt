@@ -5,6 +5,7 @@ ghost use Rattle.semantics.specs.Loops.Chunk.{cut};
 ghost use Rattle.nest_space.specs.Space.{vectors};
 ghost use Rattle.schedule.specs.Sched.{kind_of};
 ghost use Rattle.team.specs.Ends.{IsSplit};
+ghost use Rattle.team.specs.Places.{count_taken};
 
 use crate::pass::Pass;
 use ktree::{Refusal, Workers};
@@ -24,6 +25,13 @@ pub struct Grounds {
 }
 
 impl Grounds {
+    /// How many iterations the pass takes.
+    pub(crate) fn count(&self) -> u64
+        ensures { result ≡ count_taken self.now }
+    {
+        self.pass.count(&self.space)
+    }
+
     /// The same in this pass.
     pub(crate) fn in_pass(self, pass: Pass) -> Grounds
         ensures registers { result.registers ≡ self.registers }
@@ -55,7 +63,8 @@ pub(crate) fn grounds_of(
     workers: Workers,
 ) -> Result<Grounds, Refusal>
     ensures registers { IfOk result (λ g. g.registers.items ≡ registers.now) }
-    ensures split { IfOk result (λ g. IsSplit lowered.now registers.now g.space g.chunks) }
+    ensures split { IfOk result (λ g. IsSplit lowered.now registers.now Pass.Plain g.space
+        g.chunks) }
     ensures chunks { IfOk result (λ g. g.chunks
         ≡ cut (kind_of sched.now) (length (vectors g.space)) workers) }
     ensures pass { IfOk result (λ g. g.pass ≡ Pass.Plain) }

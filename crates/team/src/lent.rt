@@ -1,12 +1,11 @@
 //! A loop that is lent to a crew.
 
-ghost use Rattle.std.specs.Prelude.{◌≡◌, ◌<◌, length, vec_len, List, IfOk, IfErr, IfSome};
+ghost use Rattle.std.specs.Prelude.{◌≡◌, ◌<◌, ℕ, vec_len, IfOk, IfErr, IfSome, Ok, Err};
 ghost use Rattle.semantics.specs.Loops.Chunk.{cut};
-ghost use Rattle.nest_space.specs.Space.{Turns, vectors};
 ghost use Rattle.schedule.specs.Sched.{kind_of};
-ghost use Rattle.team.specs.Ends.{IsReady, IsSplit, AreAll};
+ghost use Rattle.team.specs.Ends.{IsReady, AreAll};
 ghost use Rattle.team.specs.Logged.{joined};
-ghost use Rattle.team.specs.Places.{Aim, IsEnd, AreFor, AreLeft, IsWay, aim_of};
+ghost use Rattle.team.specs.Places.{Aim, IsEnd, AreFor, AreLeft, AreSplit, IsWay, aim_of, count_taken};
 
 use crate::dealt::{gather, run_own};
 use crate::drawn::{TeamEnd, all_logs, collect};
@@ -37,8 +36,8 @@ pub struct LentLoop<'l> {
     workers: Workers,
     way: Way,
     places: Vec<Place>,
-    pub ghost ready: { IsSplit lowered.now grounds.registers.items grounds.space grounds.chunks },
-    pub ghost comes: { IsWay way grounds.space grounds.chunks workers },
+    pub ghost ready: { AreSplit lowered.now grounds },
+    pub ghost comes: { IsWay way (count_taken grounds) grounds.chunks workers },
     pub ghost all: { vec_len places ≡ workers },
     pub ghost made: { AreFor (aim_of lowered.now grounds store way workers) places.items },
 }
@@ -86,17 +85,17 @@ fn equipped(
     workers: Workers,
     sched: &Sched,
 ) -> Result<(Way, Vec<Place>), Refusal>
-    requires split { IsSplit lowered.now grounds.now.registers.items grounds.now.space
-        grounds.now.chunks }
+    requires split { AreSplit lowered.now grounds.now }
     requires chunks { grounds.now.chunks
-        ≡ cut (kind_of sched.now) (length (vectors grounds.now.space)) workers }
-    ensures comes { IfOk result (λ r. IsWay r.0 grounds.now.space grounds.now.chunks workers) }
+        ≡ cut (kind_of sched.now) (count_taken grounds.now) workers }
+    ensures comes { IfOk result (λ r. IsWay r.0 (count_taken grounds.now) grounds.now.chunks
+        workers) }
     ensures all { IfOk result (λ r. vec_len r.1 ≡ workers) }
     ensures made { IfOk result (λ r. AreFor
         (aim_of lowered.now grounds.now store.now r.0 workers) r.1.items) }
     ensures refusal { IfErr result (λ refusal. refusal ≡ Refusal.OutOfMemory) }
 {
-    let way = way_of(alloc, sched, &grounds.space, &grounds.chunks, workers)?;
+    let way = way_of(alloc, sched, grounds.count(), &grounds.chunks, workers)?;
     let places = places_for(alloc, lowered, grounds, store, &way, workers)?;
     Ok((way, places))
 }
@@ -164,8 +163,8 @@ impl<'l, G: Gate> crew::Job<G, Option<Bench>> for LentLoop<'l> {
 
 /// The logs of all chunks of a loop, where all of its workers have left theirs.
 fn logs_left(alloc: Global, way: Way, places: Vec<Place>) -> Result<Vec<ChunkLog>, Refusal>
-    requires { (aim : Aim) × (space : List Turns) × AreLeft aim space way places.items }
-    ensures all { (aim : Aim) (space : List Turns) → AreLeft aim space way places.items
+    requires { (aim : Aim) × (count : ℕ) × AreLeft aim count way places.items }
+    ensures all { (aim : Aim) (count : ℕ) → AreLeft aim count way places.items
         → IfOk result (λ logs. AreAll aim.lowered aim.registers aim.store aim.pass aim.chunks
         (joined logs.items)) }
     ensures refusal { IfErr result (λ refusal. refusal ≡ Refusal.OutOfMemory) }
@@ -184,31 +183,51 @@ fn logs_left(alloc: Global, way: Way, places: Vec<Place>) -> Result<Vec<ChunkLog
     }
 }
 
-/// Takes a loop back from its workers: its store, and the logs of all chunks.
-fn taken_back(lent: LentLoop<'_>) -> (Store, Result<Vec<ChunkLog>, Refusal>)
+/// What comes back of a loop that was lent: what it was run from, and the logs of all its chunks.
+#[derive(Drop)]
+pub(crate) struct Returned {
+    pub(crate) grounds: Grounds,
+    pub(crate) logs: Vec<ChunkLog>,
+}
+
+/// Takes a loop back from its workers: its store, what it was run from, and the logs of all chunks.
+fn taken_back(lent: LentLoop<'_>) -> (Store, Grounds, Result<Vec<ChunkLog>, Refusal>)
     ensures store { result.0 ≡ lent.entry.store }
-    ensures all { IfOk result.1 (λ logs. AreAll lent.entry.lowered.now
+    ensures grounds { result.1 ≡ lent.entry.grounds }
+    ensures all { IfOk result.2 (λ logs. AreAll lent.entry.lowered.now
         lent.entry.grounds.registers.items lent.entry.store lent.entry.grounds.pass
         lent.entry.grounds.chunks
         (joined logs.items)) }
-    ensures refusal { IfErr result.1 (λ refusal. refusal ≡ Refusal.OutOfMemory) }
+    ensures refusal { IfErr result.2 (λ refusal. refusal ≡ Refusal.OutOfMemory) }
 {
     let _count = lent.workers.get();
     let LentLoop {
         alloc,
         lowered: _,
-        grounds: _,
+        grounds,
         store,
         workers: _,
         way,
         places,
     } = lent;
     let logs = logs_left(alloc, way, places);
-    (store, logs)
+    (store, grounds, logs)
 }
 
-/// The logs of all chunks of a loop that is lent to a crew.
-pub(crate) fn lent_logs<'l, R: Wait, G: Gate>(
+/// Both, where there are logs.
+fn with_logs(grounds: Grounds, logs: Result<Vec<ChunkLog>, Refusal>) -> Result<Returned, Refusal>
+    ensures grounds { IfOk result (λ r. r.grounds ≡ grounds) }
+    ensures logs { IfOk result (λ r. logs ≡ Ok r.logs) }
+    ensures refusal { IfErr result (λ refusal. logs ≡ Err refusal) }
+{
+    match logs {
+        Ok(logs) => Ok(Returned { grounds, logs }),
+        Err(refusal) => Err(refusal),
+    }
+}
+
+/// Lends a loop to a crew until all of its chunks have been run; what it was run from comes back beside their logs.
+pub(crate) fn lent_whole<'l, R: Wait, G: Gate>(
     rt: &R,
     alloc: Global,
     crew: &LoopCrew<'l>,
@@ -218,12 +237,12 @@ pub(crate) fn lent_logs<'l, R: Wait, G: Gate>(
     workers: Workers,
     sched: &Sched,
     gate: &G,
-) -> Result<Vec<ChunkLog>, Refusal>
-    requires split { IsSplit lowered.now grounds.registers.items grounds.space grounds.chunks }
-    requires chunks { grounds.chunks
-        ≡ cut (kind_of sched.now) (length (vectors grounds.space)) workers }
-    ensures all { IfOk result (λ logs. AreAll lowered.now grounds.registers.items store.old
-        grounds.pass grounds.chunks (joined logs.items)) }
+) -> Result<Returned, Refusal>
+    requires split { AreSplit lowered.now grounds }
+    requires chunks { grounds.chunks ≡ cut (kind_of sched.now) (count_taken grounds) workers }
+    ensures all { IfOk result (λ r. AreAll lowered.now grounds.registers.items store.old
+        grounds.pass grounds.chunks (joined r.logs.items)) }
+    ensures grounds { IfOk result (λ r. r.grounds ≡ grounds) }
     ensures store { store.new ≡ store.old }
     ensures refusal { IfErr result (λ refusal. refusal ≡ Refusal.OutOfMemory) }
 {
@@ -238,7 +257,32 @@ pub(crate) fn lent_logs<'l, R: Wait, G: Gate>(
         way,
         places,
     };
-    let (whole, logs) = taken_back(lend(rt, alloc, crew, gate, lent));
+    let (whole, grounds, logs) = taken_back(lend(rt, alloc, crew, gate, lent));
     *store = whole;
-    logs
+    with_logs(grounds, logs)
+}
+
+/// The logs of all chunks of a loop that is lent to a crew.
+pub(crate) fn lent_logs<'l, R: Wait, G: Gate>(
+    rt: &R,
+    alloc: Global,
+    crew: &LoopCrew<'l>,
+    lowered: &'l LoweredLoop,
+    grounds: Grounds,
+    store: &mut Store,
+    workers: Workers,
+    sched: &Sched,
+    gate: &G,
+) -> Result<Vec<ChunkLog>, Refusal>
+    requires split { AreSplit lowered.now grounds }
+    requires chunks { grounds.chunks ≡ cut (kind_of sched.now) (count_taken grounds) workers }
+    ensures all { IfOk result (λ logs. AreAll lowered.now grounds.registers.items store.old
+        grounds.pass grounds.chunks (joined logs.items)) }
+    ensures store { store.new ≡ store.old }
+    ensures refusal { IfErr result (λ refusal. refusal ≡ Refusal.OutOfMemory) }
+{
+    let Returned { logs, grounds: _ } = lent_whole(
+        rt, alloc, crew, lowered, grounds, store, workers, sched, gate,
+    )?;
+    Ok(logs)
 }

@@ -16,6 +16,7 @@ mod printing;
 mod putting;
 mod scanning;
 mod teamwork;
+mod waving;
 mod way;
 mod worker;
 
@@ -25,3 +26,4 @@ pub use lent::{LentLoop, LoopCrew};
 pub use scanning::share_scan;
 pub use semantics::laws::every_order;
 pub use teamwork::share_loop;
+pub use waving::share_waves;

@@ -2,13 +2,14 @@
 
 ghost use Rattle.std.specs.Prelude.{◌≡◌, ◌+◌, ◌<◌, ◌^◌, length, map, IfOk, IfErr, OnOk};
 ghost use Rattle.semantics.specs.Loops.Chunk.{cut};
-ghost use Rattle.nest_space.specs.Space.{vectors};
 ghost use Rattle.schedule.specs.Sched.{kind_of, kind_said};
 ghost use Rattle.seqrun_io.specs.Told.{Refuses};
 ghost use Rattle.store.specs.Flat.{AreFilled};
-ghost use Rattle.team.specs.Ends.{IsSplit, AreAll};
+ghost use Rattle.team.specs.Ends.{AreAll};
 ghost use Rattle.team.specs.Logged.{joined};
 ghost use Rattle.team.specs.Passed.{IsPassed, BeginsIn};
+ghost use Rattle.team.specs.Places.{AreSplit, count_taken};
+ghost use Rattle.team.specs.Starts.{TakesAll};
 ghost use Rattle.team.specs.Together.{LeavesTogether, BeginsTogether};
 
 use crate::gate::Gate;
@@ -38,9 +39,8 @@ pub(crate) fn loop_logs<'l, R: Wait, G: Gate>(
     sched: &Sched,
     gate: &G,
 ) -> Result<Vec<ChunkLog>, Refusal>
-    requires split { IsSplit lowered.now grounds.registers.items grounds.space grounds.chunks }
-    requires chunks { grounds.chunks
-        ≡ cut (kind_of sched.now) (length (vectors grounds.space)) workers }
+    requires split { AreSplit lowered.now grounds }
+    requires chunks { grounds.chunks ≡ cut (kind_of sched.now) (count_taken grounds) workers }
     ensures all { IfOk result (λ logs. AreAll lowered.now grounds.registers.items store.old
         grounds.pass grounds.chunks (joined logs.items)) }
     ensures store { store.new ≡ store.old }
@@ -61,7 +61,7 @@ pub(crate) fn confirm_filled(store: &Store)
     let _cells = store.cells();
 }
 
-/// Runs all chunks of a loop in a pass, puts what they print, and leaves the rest to be put together.
+/// Runs all chunks of a loop in a pass over all of its iterations, puts what they print, and leaves the rest to be put together.
 pub(crate) fn run_pass<'l, R: Wait, G: Gate, S: Sink>(
     rt: &R,
     alloc: Global,
@@ -75,6 +75,7 @@ pub(crate) fn run_pass<'l, R: Wait, G: Gate, S: Sink>(
     gate: &G,
     sink: &mut S,
 ) -> Result<Vec<ChunkLog>, Refusal>
+    requires all { TakesAll pass }
     requires room { S.failed sink.old + 1 < 2 ^ 64 }
     ensures passed { IfOk result (λ logs. IsPassed lowered.now registers.now store.old pass
         (kind_of sched.now) workers (joined logs.items) (S.told sink.old) (S.told sink.new)) }

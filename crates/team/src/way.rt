@@ -3,13 +3,11 @@
 ghost use Rattle.std.specs.Prelude.{◌≡◌, ◌≤◌, ◌^◌, length, All, IfOk, IfErr, IfSome};
 ghost use Rattle.draw.specs.Tickets.{fresh};
 ghost use Rattle.semantics.specs.Loops.Chunk.{cut};
-ghost use Rattle.nest_space.specs.Space.{vectors};
 ghost use Rattle.schedule.specs.Sched.{kind_of};
 ghost use Rattle.team.specs.Places.{IsWay};
 
 use draw::{DrawSeat, Drawing, RestingSeat};
 use ktree::{Refusal, Workers};
-use nest_space::Space;
 use schedule::{Chunks, Sched};
 use std::alloc::Global;
 
@@ -52,17 +50,17 @@ fn start_draw(alloc: Global, count: u64, workers: Workers) -> Result<Draw, Refus
     Ok(Draw { drawing, seats })
 }
 
-/// How these chunks come to so many workers under their schedule.
+/// How the chunks of so many iterations come to so many workers under their schedule.
 pub(crate) fn way_of(
     alloc: Global,
     sched: &Sched,
-    space: &Space,
+    count: u64,
     chunks: &Chunks,
     workers: Workers,
 ) -> Result<Way, Refusal>
-    requires cut { chunks.now ≡ cut (kind_of sched.now) (length (vectors space.now)) workers }
+    requires cut { chunks.now ≡ cut (kind_of sched.now) count workers }
     requires few { length chunks.now ≤ 2 ^ 24 }
-    ensures way { IfOk result (λ way. IsWay way space.now chunks.now workers) }
+    ensures way { IfOk result (λ way. IsWay way count chunks.now workers) }
     ensures refusal { IfErr result (λ refusal. refusal ≡ Refusal.OutOfMemory) }
 {
     match sched {

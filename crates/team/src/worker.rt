@@ -56,12 +56,21 @@ pub(crate) fn run_taken<G: Gate>(
     let chunk = job.chunks.at(taken.chunk);
     let number = ChunkNo(taken.chunk);
     let start = job.pass.start(taken.chunk);
+    let order = job.pass.order();
     let work = Work {
         chunk: number,
         first: chunk.first,
         count: chunk.count,
     };
-    let piece = runner.run_chunk(alloc, job.lowered, job.registers, job.space, work, start)?;
+    let piece = runner.run_chunk(
+        alloc,
+        job.lowered,
+        job.registers,
+        job.space,
+        order,
+        work,
+        start,
+    )?;
     Ok(ChunkPiece { number, piece })
 }
 

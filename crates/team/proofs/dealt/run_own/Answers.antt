@@ -7,6 +7,7 @@ use Rattle.schedule.specs.Part.{static_kind}
 use Rattle.team.specs.Ends.{IsAccountOf}
 use Rattle.team.specs.Logged.{account_of}
 use Rattle.team.specs.Dealt.{own_numbers}
+use Rattle.team.specs.Starts.{taken_in}
 use Rattle.team.proofs.Accounts.{account_none, account_both}
 use Rattle.team.proofs.Cutting.{few_chunks}
 use Rattle.team.proofs.Dealing.{own_few, part_numbers, next_own, past_end}
@@ -14,7 +15,7 @@ use Rattle.team.proofs.dealt.run_own.Goals as goal
 
 pub overflow_add-turn : goal.overflow_add-turn
 overflow_add-turn g c =
-    let n = length (vectors c.args.job.space.now) in
+    let n = length (taken_in c.args.job.pass.now (vectors c.args.job.space.now)) in
     let chunks = c.args.job.chunks.now in
     let own = own_numbers c.args.size (length chunks) c.args.workers c.args.worker in
     let cut_is : chunks ≡ cut (static_kind c.args.size) c.count.result c.args.workers = c.requires.chunks ∙ ap (λ (m : ℕ). cut (static_kind c.args.size) m c.args.workers) (sym c.count.ensures) in
@@ -36,7 +37,7 @@ loop-number-init g c =
 
 pub loop-number-smaller : goal.loop-number-smaller
 loop-number-smaller g c =
-    let n = length (vectors c.args.job.space.now) in
+    let n = length (taken_in c.args.job.pass.now (vectors c.args.job.space.now)) in
     let chunks = c.args.job.chunks.now in
     let own = own_numbers c.args.size (length chunks) c.args.workers c.args.worker in
     let cut_is : chunks ≡ cut (static_kind c.args.size) c.count.result c.args.workers = c.requires.chunks ∙ ap (λ (m : ℕ). cut (static_kind c.args.size) m c.args.workers) (sym c.count.ensures) in
@@ -47,7 +48,7 @@ loop-number-smaller g c =
 
 pub loop-number-preserved : goal.loop-number-preserved
 loop-number-preserved g c =
-    let n = length (vectors c.args.job.space.now) in
+    let n = length (taken_in c.args.job.pass.now (vectors c.args.job.space.now)) in
     let chunks = c.args.job.chunks.now in
     let own = own_numbers c.args.size (length chunks) c.args.workers c.args.worker in
     let cut_is : chunks ≡ cut (static_kind c.args.size) c.count.result c.args.workers = c.requires.chunks ∙ ap (λ (m : ℕ). cut (static_kind c.args.size) m c.args.workers) (sym c.count.ensures) in
@@ -64,7 +65,7 @@ loop-number-preserved g c =
 
 pub returns-clause-dealt : goal.returns-clause-dealt
 returns-clause-dealt g c =
-    let n = length (vectors c.args.job.space.now) in
+    let n = length (taken_in c.args.job.pass.now (vectors c.args.job.space.now)) in
     let chunks = c.args.job.chunks.now in
     let own = own_numbers c.args.size (length chunks) c.args.workers c.args.worker in
     let cut_is : chunks ≡ cut (static_kind c.args.size) c.count.result c.args.workers = c.requires.chunks ∙ ap (λ (m : ℕ). cut (static_kind c.args.size) m c.args.workers) (sym c.count.ensures) in

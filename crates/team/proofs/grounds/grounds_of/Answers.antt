@@ -9,7 +9,7 @@ use Rattle.team.proofs.grounds.grounds_of.Goals as goal
 
 pub chunk_list-requires : goal.chunk_list-requires
 chunk_list-requires c =
-    let few : product c.in_ok-space.space ≤ 2 ^ 24 = subst (λ (ts : List Turns). product ts ≤ 2 ^ 24) c.space-2.view_is c.space-2.invariant.few in
+    let few : product c.in_ok-space.space ≤ 2 ^ 24 = subst (λ (ts : List Turns). product ts ≤ 2 ^ 24) c.space-2.view_is c.space-2.invariant.0.few in
     let all = length-vectors c.in_ok-space.space in
     let is = c.count.ensures in
     omega arith
@@ -17,7 +17,7 @@ chunk_list-requires c =
 pub returns-clause-split : goal.returns-clause-split
 returns-clause-split c =
     let space = c.in_ok-space.space in
-    let few : product space ≤ 2 ^ 24 = subst (λ (ts : List Turns). product ts ≤ 2 ^ 24) c.space-2.view_is c.space-2.invariant.few in
+    let few : product space ≤ 2 ^ 24 = subst (λ (ts : List Turns). product ts ≤ 2 ^ 24) c.space-2.view_is c.space-2.invariant.0.few in
     let all = length-vectors space in
     let chunks = c.in_ok-chunks.chunks in
     let joined : flat_map chunk_iterations chunks ≡ below (length (vectors space)) = c.in_ok-chunks.ensures.joined ∙ ap below c.count.ensures in
@@ -25,6 +25,7 @@ returns-clause-split c =
     record {
       loops = c.in_ok-space.ensures.loops;
       iterations = c.in_ok-space.ensures.iterations;
+      from = record { wave = λ numbers e. absurd (cc e) };
       few = omega arith;
       cut = is_cut (kind_of c.args.sched.now) (length (vectors space)) c.args.workers chunks is joined;
     }

@@ -1,10 +1,10 @@
-use Rattle.std.proofs.Common.{length, arith}
-use Rattle.nest_space.specs.Space.{vectors}
+use Rattle.std.proofs.Common.{arith}
+use Rattle.team.specs.Places.{count_taken}
 use Rattle.team.proofs.Cutting.{few_chunks}
 use Rattle.team.proofs.lent.equipped.Goals as goal
 
 pub way_of-requires-clause-few : goal.way_of-requires-clause-few
 way_of-requires-clause-few c =
-    let few = few_chunks (length (vectors c.args.grounds.now.space)) c.args.grounds.now.chunks c.requires.split.cut in
+    let few = few_chunks (count_taken c.args.grounds.now) c.args.grounds.now.chunks c.requires.split.cut in
     let most = c.requires.split.few in
     omega arith

@@ -1,7 +1,6 @@
 use Rattle.std.proofs.Common.{length, flat_map, vec_len, ◌∙◌, arith}
 use Rattle.std.proofs.lemmas.Result.{IfOk-weaker}
 use Rattle.semantics.specs.Meaning.Places.{below}
-use Rattle.nest_space.specs.Space.{vectors}
 use Rattle.team.specs.Ends.{IsAccount, AreAll}
 use Rattle.team.specs.Dealt.{own_numbers}
 use Rattle.team.specs.Logged.{joined}
@@ -28,7 +27,7 @@ all_logs-requires c =
     }
 
 pub returns-in-Dealt-clause-all : goal.returns-in-Dealt-clause-all
-returns-in-Dealt-clause-all c = λ aim space left.
+returns-in-Dealt-clause-all c = λ aim n left.
     let size = c.in-Dealt.field-0 in
     let is = c.in-Dealt.is in
     let own = own_numbers size (length aim.chunks) aim.workers in
@@ -37,12 +36,12 @@ returns-in-Dealt-clause-all c = λ aim space left.
     let all = left.all in
     let least = left.some in
     IfOk-weaker c.gather.result (λ cs. IsAccount aim.lowered aim.registers aim.store aim.pass aim.chunks (flat_map own (below count)) (joined cs.items)) (λ cs. AreAll aim.lowered aim.registers aim.store aim.pass aim.chunks (joined cs.items))
-    (λ cs dealt. dealt_all aim.lowered aim.registers aim.store aim.pass aim.chunks size aim.workers count (length (vectors space)) (joined cs.items) (left.comes.cut size is) (omega arith) (omega arith) dealt)
+    (λ cs dealt. dealt_all aim.lowered aim.registers aim.store aim.pass aim.chunks size aim.workers count n (joined cs.items) (left.comes.cut size is) (omega arith) (omega arith) dealt)
     (c.gather.ensures.dealt aim size (left.way_is ∙ is) left.made)
 
 pub returns-in_ok-seats-in-Drawn-clause-all : goal.returns-in_ok-seats-in-Drawn-clause-all
-returns-in_ok-seats-in-Drawn-clause-all c = λ aim space left.
+returns-in_ok-seats-in-Drawn-clause-all c = λ aim n left.
     let draw = c.in-Drawn.draw in
     let is = c.in-Drawn.is in
     let taken = c.in_ok-seats-in-Drawn.ensures.taken aim draw (left.way_is ∙ is) left.made in
-    c.all_logs.ensures aim.lowered aim.registers aim.store aim.pass aim.chunks (record { count = left.comes.count draw is; account = taken.account })
+    c.all_logs.ensures aim.lowered aim.registers aim.store aim.pass aim.chunks (record { count = left.comes.drawn draw is; account = taken.account })

@@ -1,12 +1,12 @@
 use Rattle.std.proofs.Common.{◌≤◌, refl, subst, sym, ◌∙◌}
-use Rattle.team.specs.Places.{AreLeft, aim_of}
+use Rattle.team.specs.Places.{AreLeft, aim_of, count_taken}
 use Rattle.team.proofs.lent.taken_back.Goals as goal
 
 pub logs_left-logs-requires : goal.logs_left-logs-requires
 logs_left-logs-requires c =
     let lent = c.args.lent in
     let aim = aim_of lent.lowered.now lent.grounds lent.store lent.way lent.workers in
-    let left : AreLeft aim lent.grounds.space lent.way lent.places.items =
+    let left : AreLeft aim (count_taken lent.grounds) lent.way lent.places.items =
     record {
       way_is = refl;
       comes = lent.comes;
@@ -14,13 +14,13 @@ logs_left-logs-requires c =
       all = sym lent.places.ok.0 ∙ lent.all;
       made = lent.made;
     } in
-    (aim, lent.grounds.space, left)
+    (aim, count_taken lent.grounds, left)
 
 pub returns-clause-all : goal.returns-clause-all
 returns-clause-all c =
     let lent = c.args.lent in
     let aim = aim_of lent.lowered.now lent.grounds lent.store lent.way lent.workers in
-    let left : AreLeft aim lent.grounds.space lent.way lent.places.items =
+    let left : AreLeft aim (count_taken lent.grounds) lent.way lent.places.items =
     record {
       way_is = refl;
       comes = lent.comes;
@@ -28,4 +28,4 @@ returns-clause-all c =
       all = sym lent.places.ok.0 ∙ lent.all;
       made = lent.made;
     } in
-    c.logs_left-logs.ensures.all aim lent.grounds.space left
+    c.logs_left-logs.ensures.all aim (count_taken lent.grounds) left

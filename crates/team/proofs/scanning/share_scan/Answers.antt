@@ -17,7 +17,7 @@ returns-in_err-logs-clause-beginning g c =
     let told = g.S.Sink.told c.args.sink.now in
     let after = g.S.Sink.told c.run_pass.new.sink in
     let pass = Second c.in_ok-starts.starts in
-    scans_begin c.args.first.now c.args.second.now c.args.registers.now c.args.store.now c.args.workers pass c.in_ok-starts.starts.items (λ number. refl) c.in_ok-starts.ensures.starts told after
+    scans_begin c.args.first.now c.args.second.now c.args.registers.now c.args.store.now c.args.workers c.in_ok-starts.starts c.in_ok-starts.starts.items (λ number. refl) c.in_ok-starts.ensures.starts told after
     (subst (λ (k : List Kept). BeginsIn pass c.args.second.now c.args.registers.now k told after PlainStatic c.args.workers) c.in_ok-starts.ensures.store c.run_pass.ensures.beginning)
 
 pub returns-clause-beginning : goal.returns-clause-beginning
@@ -25,7 +25,7 @@ returns-clause-beginning g c =
     let told = g.S.Sink.told c.args.sink.now in
     let after = g.S.Sink.told c.run_pass.new.sink in
     let pass = Second c.in_ok-starts.starts in
-    scans_begin c.args.first.now c.args.second.now c.args.registers.now c.args.store.now c.args.workers pass c.in_ok-starts.starts.items (λ number. refl) c.in_ok-starts.ensures.starts told after
+    scans_begin c.args.first.now c.args.second.now c.args.registers.now c.args.store.now c.args.workers c.in_ok-starts.starts c.in_ok-starts.starts.items (λ number. refl) c.in_ok-starts.ensures.starts told after
     (subst (λ (k : List Kept). BeginsIn pass c.args.second.now c.args.registers.now k told after PlainStatic c.args.workers) c.in_ok-starts.ensures.store c.run_pass.ensures.beginning)
 
 pub returns-clause-leaves : goal.returns-clause-leaves
@@ -48,7 +48,7 @@ returns-clause-leaves g c =
     let put = subst (λ (k : List Kept). IsScanPut value l.roles account registers behind k now) same from_logs in
     let last : (count : ℕ) → length starts ≡ count + 1 → value ≡ slice_index starts count = λ count is.
     c.last_number-value.ensures count (ap (λ (k : List ℕ). length k) c.as_slice.ensures.value ∙ is) ∙ ap (λ (k : List ℕ). slice_index k count) c.as_slice.ensures.value in
-    scans_together c.args.first.now l registers behind ks now c.args.workers pass starts (λ number. refl) c.in_ok-starts.ensures.starts value last account told after filled passed put
+    scans_together c.args.first.now l registers behind ks now c.args.workers c.in_ok-starts.starts starts (λ number. refl) c.in_ok-starts.ensures.starts value last account told after filled passed put
 
 pub returns-clause-long : goal.returns-clause-long
 returns-clause-long g c =

@@ -1,0 +1,207 @@
+//! Doacross nests, which a team runs wave by wave (OpenMP 5.2, 15.9.6 and 15.10.1).
+
+ghost use Rattle.std.specs.Prelude.{◌≡◌, ◌≤◌, ◌^◌, length, map, IfOk, IfErr, OnOk};
+ghost use Rattle.nest_space.specs.Rises.{EachRises};
+ghost use Rattle.nest_space.specs.Space.{vectors};
+ghost use Rattle.schedule.specs.Sched.{kind_of, kind_said};
+ghost use Rattle.store.specs.Flat.{AreFilled, values_of};
+ghost use Rattle.team.specs.Applied.{AreApplied};
+ghost use Rattle.team.specs.Logged.{joined};
+ghost use Rattle.team.specs.Waved.{WaveTogether, AreWaved, LeavesInWaves, IsReachedBy, IsWaveIn, AreWavesIn, AreOfWave};
+
+use crate::applied::apply_all;
+use crate::gate::Gate;
+use crate::grounds::Grounds;
+use crate::lent::{LoopCrew, Returned, lent_whole};
+use crate::pass::Pass;
+use crate::teamwork::confirm_filled;
+use ktree::{Refusal, Workers};
+use lower::LoweredLoop;
+use lower_run::confirm_words;
+use nest_space::Space;
+use schedule::{Sched, chunk_list, sched_of};
+use std::alloc::Global;
+use std::sync::Wait;
+use store::Store;
+use waves::{Sinks, Waves, levels};
+
+/// A loop where it is reached, but for its store: its registers, and its iterations.
+#[derive(Drop)]
+pub struct Reached {
+    pub registers: Vec<u64>,
+    pub space: Space,
+}
+
+// A doacross nest where it is reached with these registers. What is refused is want of memory; it stands also for a nest with a loop that
+// falls, or with other loops than its sinks have numbers for: no doacross nest of an accepted kernel is such.
+fn reach_nest(
+    alloc: Global,
+    lowered: &LoweredLoop,
+    sinks: &Sinks,
+    registers: &[u64],
+) -> Result<Reached, Refusal>
+    ensures by { IfOk result (IsReachedBy lowered.now) }
+    ensures registers { IfOk result (λ r. r.registers.items ≡ registers.now) }
+    ensures rise { IfOk result (λ r. EachRises r.space) }
+    ensures loops { IfOk result (λ r. length r.space ≡ sinks.now.loops) }
+    ensures refusal { IfErr result (λ refusal. refusal ≡ Refusal.OutOfMemory) }
+{
+    let space = lowered.space(alloc, registers)?;
+    if !space.rises() {
+        return Err(Refusal::OutOfMemory);
+    }
+    if lowered.loops.len() as u64 != sinks.loops() {
+        return Err(Refusal::OutOfMemory);
+    }
+    let registers = Vec::from_slice(alloc, registers)?;
+    Ok(Reached { registers, space })
+}
+
+// What a wave is run from: the iterations of these numbers, cut by this schedule for so many workers.
+fn wave_grounds(
+    alloc: Global,
+    reached: Reached,
+    numbers: &[u64],
+    sched: &Sched,
+    workers: Workers,
+) -> Result<Grounds, Refusal>
+    requires { length numbers.now ≤ 2 ^ 24 }
+    ensures wave { IfOk result (AreOfWave reached numbers.now (kind_of sched.now) workers) }
+    ensures refusal { IfErr result (λ refusal. refusal ≡ Refusal.OutOfMemory) }
+{
+    let chunks = chunk_list(alloc, *sched, numbers.len() as u64, workers)?;
+    let numbers = Vec::from_slice(alloc, numbers)?;
+    let Reached { registers, space } = reached;
+    Ok(Grounds {
+        registers,
+        space,
+        chunks,
+        pass: Pass::Wave(numbers),
+    })
+}
+
+// Puts what all chunks of a wave changed into the store, and tells what the next wave is run from.
+fn put_wave(returned: Returned, store: &mut Store) -> Reached
+    ensures registers { result.registers ≡ returned.grounds.registers }
+    ensures space { result.space ≡ returned.grounds.space }
+    ensures filled { AreFilled store.old }
+    ensures applied { AreApplied (values_of store.old) (values_of store.new)
+        (joined returned.logs.items).chunks }
+    ensures shape { map (λ k. k.lengths) store.new ≡ map (λ k. k.lengths) store.old }
+{
+    let Returned { grounds, logs } = returned;
+    confirm_filled(store);
+    apply_all(store, logs.as_slice());
+    let Grounds {
+        registers,
+        space,
+        chunks: _,
+        pass: _,
+    } = grounds;
+    Reached { registers, space }
+}
+
+// Runs the iterations of these numbers, from the store as it is.
+fn run_wave<'l, R: Wait, G: Gate>(
+    rt: &R,
+    alloc: Global,
+    crew: &LoopCrew<'l>,
+    lowered: &'l LoweredLoop,
+    reached: Reached,
+    numbers: &[u64],
+    store: &mut Store,
+    workers: Workers,
+    sched: &Sched,
+    gate: &G,
+) -> Result<Reached, Refusal>
+    requires by { IsReachedBy lowered.now reached }
+    requires numbers { IsWaveIn (vectors reached.space) numbers.now }
+    ensures waved { OnOk result (WaveTogether lowered.now numbers.now reached.registers.items
+        store.old store.new (kind_of sched.now) workers) }
+    ensures registers { IfOk result (λ r. r.registers ≡ reached.registers) }
+    ensures space { IfOk result (λ r. r.space ≡ reached.space) }
+    ensures shape { map (λ k. k.lengths) store.new ≡ map (λ k. k.lengths) store.old }
+    ensures refusal { IfErr result (λ refusal. refusal ≡ Refusal.OutOfMemory) }
+{
+    let grounds = wave_grounds(alloc, reached, numbers, sched, workers)?;
+    let returned = lent_whole(
+        rt, alloc, crew, lowered, grounds, store, workers, sched, gate,
+    )?;
+    Ok(put_wave(returned, store))
+}
+
+// Runs these waves, each from the store behind the one before.
+fn run_waves<'l, R: Wait, G: Gate>(
+    rt: &R,
+    alloc: Global,
+    crew: &LoopCrew<'l>,
+    lowered: &'l LoweredLoop,
+    reached: Reached,
+    waves: &Waves,
+    store: &mut Store,
+    workers: Workers,
+    sched: &Sched,
+    gate: &G,
+) -> Result<(), Refusal>
+    requires by { IsReachedBy lowered.now reached }
+    requires waves { AreWavesIn (vectors reached.space) waves.now }
+    ensures waved { OnOk result (AreWaved lowered.now waves.now reached.registers.items store.old
+        store.new (kind_of sched.now) workers) }
+    ensures shape { map (λ k. k.lengths) store.new ≡ map (λ k. k.lengths) store.old }
+    ensures refusal { IfErr result (λ refusal. refusal ≡ Refusal.OutOfMemory) }
+{
+    let mut here = reached;
+    for level in 0..waves.len() {
+        here = run_wave(
+            rt,
+            alloc,
+            crew,
+            lowered,
+            here,
+            waves.wave(level),
+            store,
+            workers,
+            sched,
+            gate,
+        )?;
+        confirm_words(here.registers.as_slice(), store);
+    }
+    Ok(())
+}
+
+/// Runs a doacross nest on a crew that stands by, wave after wave: its iterations are taken by the levels that its sinks give them, so
+/// that each iteration waits for those that its sinks name. Each wave is cut into chunks by the schedule of the nest's clause, and for
+/// `runtime` by this one, over the positions of its iterations, with a drawing of its own where chunks are drawn; its chunks begin from
+/// the store behind the wave before, and the gate is told of each of them, by its number in its wave (OpenMP 5.2, 11.5.3, 15.9.6 and
+/// 15.10.1). These registers stand as where the nest is reached. Where the chunks of a wave have a run each from there, each object at
+/// file scope is behind the wave as before where none of these runs changes it, and else as one of them leaves it that does. It holds
+/// for nests that have neither reduction nor lastprivate variables, and nothing is put that they print.
+///
+/// # Errors
+///
+/// `OutOfMemory` alone; some waves may have been run then, and the store is as behind the last of these. It stands also for a nest with a
+/// loop that falls, or with other loops than the sinks have numbers for: no doacross nest of an accepted kernel is such.
+pub fn share_waves<'l, R: Wait, G: Gate>(
+    rt: &R,
+    alloc: Global,
+    crew: &LoopCrew<'l>,
+    lowered: &'l LoweredLoop,
+    sinks: &Sinks,
+    registers: &[u64],
+    store: &mut Store,
+    workers: Workers,
+    runtime: Sched,
+    gate: &G,
+) -> Result<(), Refusal>
+    ensures waved { OnOk result (LeavesInWaves lowered.now sinks.now.distances registers.now
+        store.old store.new (kind_said lowered.now.schedule runtime) workers) }
+    ensures shape { map (λ k. k.lengths) store.new ≡ map (λ k. k.lengths) store.old }
+    ensures refusal { IfErr result (λ refusal. refusal ≡ Refusal.OutOfMemory) }
+{
+    let sched = sched_of(lowered.schedule, runtime);
+    let reached = reach_nest(alloc, lowered, sinks, registers)?;
+    let waves = levels(alloc, &reached.space, sinks)?;
+    run_waves(
+        rt, alloc, crew, lowered, reached, &waves, store, workers, &sched, gate,
+    )
+}
