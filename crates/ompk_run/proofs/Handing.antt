@@ -1,11 +1,11 @@
 -- A loop that a team ran leaves the locals as they were but for lastprivate and reduction variables, and the file-scope objects as the loop's run does.
-use Rattle.std.specs.Prelude.{ℕ, Bool, true, false, ◌≡◌, ◌<◌, ◌≤◌, ◌^◌, ◌&&◌, if◌then◌else◌, List, ◌++◌, length, Option, Some, None, IsSome, []}
+use Rattle.std.specs.Prelude.{ℕ, Bool, true, false, ◌≡◌, ◌<◌, ◌^◌, ◌&&◌, if◌then◌else◌, List, ◌++◌, length, Option, Some, None, IsSome, []}
 use Rattle.std.specs.List.{list_all}
 use Rattle.std.proofs.Common.{refl, sym, ap, ◌∙◌, subst}
 use Rattle.std.proofs.lemmas.List.Folds.{list_all-append}
 use Rattle.semantics.specs.Tree.{Variable, Stmt}
 use Rattle.semantics.specs.Meaning.Agrees.{is_among, visible_behind}
-use Rattle.semantics.specs.Meaning.State.{State, overwritten}
+use Rattle.semantics.specs.Meaning.State.{State}
 use Rattle.semantics.specs.Meaning.Value.{map_option}
 use Rattle.semantics.specs.Meaning.Runs.{Effect, run}
 use Rattle.semantics.specs.Loops.Chunk.{Kind, IsSized, cut}
@@ -47,12 +47,12 @@ use Rattle.ompk_run.proofs.Chunks.{cover}
 use Rattle.ompk_run.proofs.Leaving.{none_told, keep_numbers, told_scalar}
 use Rattle.ompk_run.proofs.Numbered.{declares}
 
--- a loop that may be run in chunks carries nothing
-pub nothing_carried : (layout : List Laid) (mark : ℕ) (R : LineData) (serial : List Loop) (l : TeamLoop) (fits : TeamFits layout mark R serial l) → l.way ≡ Chunks → (R l.line).carried ≡ []
+-- a loop that may be run in chunks carries nothing, and has no sinks
+pub nothing_carried : (layout : List Laid) (mark : ℕ) (R : LineData) (serial : List Loop) (l : TeamLoop) (fits : TeamFits layout mark R serial l) → l.way ≡ Chunks → ((R l.line).carried ≡ []) × (fits.said.sinks ≡ None)
 nothing_carried layout mark R serial l fits e =
     subst (λ w. WayFits layout mark fits.box (roles_in R l) fits.declarations (R l.line) fits.said serial l.depth (stmt_of l.statement.now) fits.nested l.lowered w) e fits.way
 
-module _ (layout : List Laid) (mark : ℕ) (s : State) (rs : List ℕ) (ks : List Kept) (stand : StandFor layout mark s rs ks) (R : LineData) (serial : List Loop) (l : TeamLoop) (fits : TeamFits layout mark R serial l) (plain : (R l.line).carried ≡ []) where
+module _ (layout : List Laid) (mark : ℕ) (s : State) (rs : List ℕ) (ks : List Kept) (stand : StandFor layout mark s rs ks) (R : LineData) (serial : List Loop) (l : TeamLoop) (fits : TeamFits layout mark R serial l) (plain : ((R l.line).carried ≡ []) × (fits.said.sinks ≡ None)) where
   abbrev roles : Roles
   roles = roles_in R l
 
@@ -61,7 +61,7 @@ module _ (layout : List Laid) (mark : ℕ) (s : State) (rs : List ℕ) (ks : Lis
 
   -- its iterations may be run in chunks
   apart : SharesInChunks roles serial l.depth loop
-  apart = fits.nested.shares plain
+  apart = fits.nested.shares plain.0 plain.1
 
   -- what has a role stands outside of it
   seen : (x : Variable) → is_among (role_variables roles) x ≡ true → visible_behind loop x ≡ true

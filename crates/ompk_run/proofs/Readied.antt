@@ -24,15 +24,25 @@ use Rattle.outline.specs.Fit.{AllFit, WithLocals}
 use Rattle.outline.specs.Handed.{AreOfText}
 use Rattle.outline.specs.Given.{ArePrivateLocals}
 use Rattle.outline.specs.View.{items_performed}
-use Rattle.flow.specs.Phases.{LinePhases}
 use Rattle.flow.specs.Roles.{LineData, ItemsHaveBy}
+use Rattle.flow_doacross.specs.Listed.{NestPart, nest_at}
+use Rattle.flow_scan.specs.Scans.{ScanPart}
+use Rattle.flow_scan.specs.Views.{phases_at}
 use Rattle.law_apart.specs.Apart.{apart_items}
 use Rattle.flow.specs.declared.environment.ParallelLoop.{ParallelLoop}
+use Rattle.law_independence.specs.Said.{LinesInside}
 use Rattle.law_independence.specs.OrderLaws.{SharesBy}
 use Rattle.ktree.specs.declared.statement.Item.{Item}
-use Rattle.deptest.specs.Accepted.{Program, tree_of, data_passed, phases_passed, IsAccepted}
+use Rattle.deptest.specs.Accepted.{Program, tree_of, data_passed, inside_passed, IsAccepted}
 use Rattle.deptest.proofs.Locals.{private_locals}
 use Rattle.ompk_run.specs.Ready.{IsPrepared}
+
+-- what is told inside loops, by the phases of scans and the sinks of doacross nests
+abbrev pub said_by : List ScanPart → List NestPart → LinesInside
+said_by scans nests line = record { phases = phases_at scans line; sinks = nest_at nests line }
+
+pub said_same : {scans others : List ScanPart} {nests further : List NestPart} → scans ≡ others → nests ≡ further → said_by scans nests ≡ said_by others further
+said_same same also = λ i. said_by (same i) (also i)
 
 -- registers and a store stand for the state where no local stands
 stand_first : (layout : List Laid) (mark : ℕ) (registers : List ℕ) (ks : List Kept) → IsLaid layout → shapes_of layout ≡ lengths_of ks → mark ≤ length registers → Fits (machine registers (values_of ks)) → length (values_of ks) < 2 ^ 64 → AreFilled ks
@@ -61,17 +71,17 @@ privates_there : (a : Program) (layout : List Laid) (is : IsAccepted a) → shap
 privates_there a layout is shapes line x h = subst (λ n. n ≤ x) (sym (as_many layout (tree_of a).variables shapes)) (private_locals a.text (kernel_of a.kernel) is.passed line x h)
 
 -- their code fits, since its parallel loops may be shared out
-pub fitted : (a : Program) (items : List OutlineItem) (layout : List Laid) (mark : ℕ) (is : IsAccepted a) (body : List Item) (loops : List ParallelLoop) (said : LinePhases) → body ≡ a.kernel.body.items → shapes_of layout ≡ shapes_in (tree_of a).variables
-    → AreOfText a.text (data_passed is.passed) loops → phases_passed is.passed ≡ said
-    → ((text : List ℕ) (ds : List Declaration) (R : LineData) (P : LinePhases) → ArePrivateLocals (length layout) R → AreOfText text R loops → P ≡ said → ItemsHaveBy text (SharesBy ds R P) [] (items_of body)
+pub fitted : (a : Program) (items : List OutlineItem) (layout : List Laid) (mark : ℕ) (is : IsAccepted a) (body : List Item) (loops : List ParallelLoop) (said : LinesInside) → body ≡ a.kernel.body.items → shapes_of layout ≡ shapes_in (tree_of a).variables
+    → AreOfText a.text (data_passed is.passed) loops → inside_passed is.passed ≡ said
+    → ((text : List ℕ) (ds : List Declaration) (R : LineData) (P : LinesInside) → ArePrivateLocals (length layout) R → AreOfText text R loops → P ≡ said → ItemsHaveBy text (SharesBy ds R P) [] (items_of body)
     → WithLocals layout mark (declared_among (items_of body)) (AllFit layout mark R [] items))
     → AreLocals layout mark (declared_among (items_of a.kernel.body.items)) → AllFit layout mark (data_passed is.passed) [] items
 fitted a items layout mark is body loops said same shapes listed told fits =
     let ds = (kernel_of a.kernel).variables in
     let R = data_passed is.passed in
-    let P = phases_passed is.passed in
+    let P = inside_passed is.passed in
     subst (λ is. AreLocals layout mark (declared_among (items_of is)) → AllFit layout mark R [] items) same
-    (fits a.text ds R P (privates_there a layout is shapes) listed told (subst (λ is. ItemsHaveBy a.text (SharesBy ds R P) [] (items_of is)) (sym same) (is.independent.share is.passed)))
+    (fits a.text ds R P (privates_there a layout is shapes) listed told (subst (λ is. ItemsHaveBy a.text (SharesBy ds R P) [] (items_of is)) (sym same) is.ordered.share))
 
 pub prepared : (a : Program) (items : List OutlineItem) (registers : List ℕ) (ks : List Kept) (layout : List Laid) (mark : ℕ) (is : IsAccepted a)
     → items_performed (data_passed is.passed) [] items ≡ apart_items (data_passed is.passed) [] (items_of a.kernel.body.items) → IsLaid layout → shapes_of layout ≡ shapes_in (tree_of a).variables → HasLengths (tree_of a).variables ks

@@ -1,5 +1,5 @@
 -- What a team leaves of a scan in two passes is what the loop leaves. (OpenMP 5.2, 5.6)
-use Rattle.std.specs.Prelude.{ℕ, zero, suc, Bool, true, false, not, ◌≡◌, ◌<◌, ◌≤◌, ◌^◌, ◌==◌, ◌&&◌, ◌||◌, if◌then◌else◌, ◌⊎◌, List, [], ◌∷◌, ◌++◌, length, map, flat_map, take, Option, Some, None, IsSome, is_some}
+use Rattle.std.specs.Prelude.{ℕ, Bool, true, false, not, ◌≡◌, ◌<◌, ◌^◌, ◌==◌, ◌&&◌, ◌||◌, if◌then◌else◌, ◌⊎◌, List, [], ◌∷◌, ◌++◌, length, map, flat_map, take, Option, Some, None, IsSome, is_some}
 use Rattle.std.specs.List.{list_all}
 use Rattle.std.proofs.Common.{refl, sym, ap, ◌∙◌, subst, inl, inr, arith}
 use Rattle.std.proofs.lemmas.Bool.{true≢false, eqb-true, eq-eqb, or_left, or_right, or_cases, or_parts}
@@ -13,7 +13,6 @@ use Rattle.semantics.specs.Meaning.Value.{map_option}
 use Rattle.semantics.specs.Loops.Chunk.{PlainStatic, cut}
 use Rattle.semantics.specs.Loops.Joined.{chunked}
 use Rattle.semantics.specs.Loops.Nest.{Loop, Vector, nest_of, iterations}
-use Rattle.semantics.specs.Theorems.{IsTurn}
 use Rattle.semantics.specs.Loops.Operator.{ReduceOp, combined_all}
 use Rattle.semantics.specs.Loops.Piece.{Roles, is_outside}
 use Rattle.semantics.specs.Loops.Scan.{start_of}
@@ -24,7 +23,7 @@ use Rattle.law_roles.specs.Following.{variables_of}
 use Rattle.law_roles.proofs.Chunked.{nest_variables}
 use Rattle.law_roles.specs.Updates.{operator_of, is_plain}
 use Rattle.law_roles.specs.Reducing.{AreHeld}
-use Rattle.law_roles.specs.Sharing.{assigned_first, role_variables, are_different, last_filled, IsScalar, changed_from}
+use Rattle.law_roles.specs.Sharing.{role_variables, are_different, last_filled, IsScalar, changed_from}
 use Rattle.law_starts.specs.Begun.{told_apart, begun}
 use Rattle.law_starts.proofs.Holding.{walks_keep}
 use Rattle.law_scans.specs.Phases.{joined_items, bare}
@@ -54,7 +53,7 @@ use Rattle.outline.specs.declared.shape.TeamLoop.{TeamLoop}
 use Rattle.outline.specs.declared.shape.Way.TheVariants.{Scan}
 use Rattle.outline.specs.Fit.{ScanFits, WayFits, TeamFits}
 use Rattle.outline.specs.View.{roles_in}
-use Rattle.team.specs.Together.{HoldsAt, PutScan, RunsInPasses, ScansTogether, ScansBeginning}
+use Rattle.team.specs.Together.{PutScan, RunsInPasses, ScansTogether, ScansBeginning}
 use Rattle.ompk_run.proofs.AtHand.{held, at_hand}
 use Rattle.ompk_run.proofs.AtTurn.{at_turn}
 use Rattle.ompk_run.proofs.Behind.{arrives}
@@ -122,7 +121,7 @@ module _ (layout : List Laid) (mark : ℕ) (s : State) (rs : List ℕ) (ks : Lis
   abbrev op : ReduceOp
   op = way.operator
 
-  abbrev its : ScansInChunks fits.said x op roles serial l.depth loop
+  abbrev its : ScansInChunks fits.said.phases x op roles serial l.depth loop
   its = fits.nested.scans x op way.sole way.assigned
 
   abbrev front : Stmt

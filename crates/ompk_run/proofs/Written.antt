@@ -16,7 +16,7 @@ use Rattle.seqrun.specs.Ran.{Ran, text_of}
 use Rattle.seqrun_io.specs.Told.{AddsBeginning}
 use Rattle.seqrun_io.specs.Reading.{IsStart}
 use Rattle.seqrun_io.proofs.Beginnings.{of_front, of_rest}
-use Rattle.deptest.specs.Accepted.{Program, tree_of, data_passed, IsAccepted, phases_passed}
+use Rattle.deptest.specs.Accepted.{Program, tree_of, data_passed, IsAccepted, inside_passed}
 use Rattle.ompk_run.proofs.Output.{body_run, first_state, named, body_runs, output_is, output_there, same_dump}
 use Rattle.ompk_run.proofs.Starting.{start_is_state}
 use Rattle.ompk_run.proofs.Unique.{one_given}
@@ -77,7 +77,7 @@ module _ (a : Program) (input : List ℕ) (ks : List Kept) (is : IsAccepted a) (
   -- it leaves what the run leaves
   same_apart : (e : Effect) → run_items (items_of a.kernel.body.items) outset ≡ Some e → LeavesTheSame outset e apart
   same_apart e q =
-      accepted_apart a.text (kernel_of a.kernel) (data_passed is.passed) (phases_passed is.passed) outset e is.passed.reads is.passed.in_range is.passed.definite is.passed.roles (is.independent.share is.passed) starts q
+      accepted_apart a.text (kernel_of a.kernel) (data_passed is.passed) (inside_passed is.passed) outset e is.passed.reads is.passed.in_range is.passed.definite is.passed.roles is.ordered.share starts q
 
   pub runs_apart : IsSome apart
   runs_apart = go (run_items (items_of a.kernel.body.items) outset) refl runs

@@ -44,6 +44,7 @@ pub(crate) fn prepare<'k>(
     let loops = Loops {
         parallel: parallel.loops.as_slice(),
         scans: parallel.scans.as_slice(),
+        nests: parallel.doacross.as_slice(),
     };
     let outline = outline(alloc, body, loops, target)?;
     let registers = zero_registers(alloc, mark, store)?;

@@ -8,7 +8,7 @@ ghost use Rattle.schedule.specs.Sched.{kind_of, kind_said};
 ghost use Rattle.outline.specs.Fit.{Fits, ItemFits, AllFit};
 ghost use Rattle.outline.specs.View.{performed, item_performed, items_performed};
 ghost use Rattle.outline.specs.declared.shape.Outline.TheVariants.{Team};
-ghost use Rattle.outline.specs.declared.shape.Way.TheVariants.{Chunks, Scan};
+ghost use Rattle.outline.specs.declared.shape.Way.TheVariants.{Chunks, Scan, Waves};
 ghost use Rattle.seqrun_io.specs.Told.{Refuses};
 ghost use Rattle.seqrun.specs.Ran.{lengths_of};
 ghost use Rattle.store.specs.Flat.{values_of};
@@ -28,7 +28,8 @@ use std::alloc::Global;
 use std::sync::Wait;
 use std::thread::Threads;
 use store::Store;
-use team::{Gate, LoopCrew, share_loop, share_scan};
+use team::{Gate, LoopCrew, share_loop, share_scan, share_waves};
+use waves::Sinks;
 
 // A team of so many workers for each parallel loop, in the threads of a crew; the gate is told of the chunks that they take.
 #[derive(Drop)]
@@ -152,6 +153,41 @@ fn run_scan_loop<'l, R: Threads + Wait + Sync, G: Gate, S: Sink>(
     Ok(())
 }
 
+// Runs a doacross nest by the team, wave by wave (OpenMP 5.2, 15.9.6 and 15.10.1). It prints nothing.
+fn run_wave_loop<'l, R: Threads + Wait + Sync, G: Gate>(
+    construct: &'l TeamLoop<'_>,
+    sinks: &Sinks,
+    team: &Teaming<'_, '_, '_, 'l, R, G>,
+    registers: &Vec<u64>,
+    store: &mut Store,
+) -> Result<(), Refusal>
+    requires waves { construct.now.way ≡ Waves sinks.now }
+    ensures ran { OnOk result ((layout : List Laid) (mark : ℕ) (R : LineData) (serial : List Loop)
+        (text : List ℕ) → Fits layout mark R serial (Team construct.now)
+        → Walks layout mark (performed R serial (Team construct.now))
+        (stage registers.now.items store.old text) (stage registers.now.items store.new text)) }
+    ensures refusal { IfErr result (λ refusal. refusal ≡ Refusal.OutOfMemory) }
+    ensures shape { lengths_of store.new ≡ lengths_of store.old }
+{
+    let nest = &construct.lowered;
+    confirm_cut(nest.schedule, team.sched, team.workers);
+    confirm_words(registers.as_slice(), store);
+    share_waves(
+        team.rt,
+        team.alloc,
+        team.crew,
+        nest,
+        sinks,
+        registers.as_slice(),
+        store,
+        team.workers,
+        team.sched,
+        team.gate,
+    )?;
+    confirm_words(registers.as_slice(), store);
+    Ok(())
+}
+
 // Runs a parallel loop: by the team in the way that it may be run, and as any other statement where there is one worker.
 fn run_parallel_loop<'l, R: Threads + Wait + Sync, G: Gate, S: Sink>(
     construct: &'l TeamLoop<'_>,
@@ -180,6 +216,7 @@ fn run_parallel_loop<'l, R: Threads + Wait + Sync, G: Gate, S: Sink>(
     match &construct.way {
         Way::Chunks => run_team_loop(construct, team, registers, store, sink),
         Way::Scan(first) => run_scan_loop(construct, first, team, registers, store, sink),
+        Way::Waves(sinks) => run_wave_loop(construct, sinks, team, registers, store),
         Way::Alone => run_by_one(team.alloc, construct, team.gate, registers, store, sink),
     }
 }

@@ -1,13 +1,17 @@
 -- The loops behind directive lines, as they are looked up by their places.
-use Rattle.std.specs.Prelude.{ℕ, suc, Bool, true, false, ◌≡◌, ◌+◌, ◌<◌, ◌≤◌, ◌&&◌, ◌==◌, if◌then◌else◌, List, [], ◌∷◌, ◌++◌, length, map, take, drop, Option, Some, All}
+use Rattle.std.specs.Prelude.{ℕ, suc, Bool, true, false, ◌≡◌, ◌+◌, ◌<◌, ◌≤◌, ◌&&◌, ◌==◌, if◌then◌else◌, List, [], ◌∷◌, ◌++◌, length, map, take, drop, Option, Some, All, None}
 use Rattle.std.proofs.Common.{sym, ap, ◌∙◌, get_or, drop-cons, add-one}
 use Rattle.std.proofs.lemmas.Bool.{eqb-true, eq-eqb}
-use Rattle.std.proofs.lemmas.List.{take_more, take_all}
+use Rattle.std.proofs.lemmas.List.{take_more, take_all, drop_all}
 use Rattle.std.proofs.lemmas.List.Elements.{All-same, All-push}
+use Rattle.semantics.specs.Loops.Order.{Distance}
 use Rattle.semantics.proofs.EraseTokenLaw.{first_of, second_of, and_true}
 use Rattle.ktree.specs.declared.place.Place.{Place}
 use Rattle.flow.specs.declared.environment.ParallelLoop.{ParallelLoop}
 use Rattle.flow.specs.Phases.{PhasesSaid}
+use Rattle.flow_doacross.specs.Listed.{nest_at}
+use Rattle.flow_doacross.specs.Views.{distance_kept, nest_part}
+use Rattle.flow_doacross.specs.declared.listing.DoacrossLoop.{DoacrossLoop}
 use Rattle.flow_scan.specs.Views.{scan_part, phases_at}
 use Rattle.flow_scan.specs.declared.listing.ScanLoop.{ScanLoop}
 use Rattle.outline.specs.Handed.{StandsAt, NoneStandsAt}
@@ -67,3 +71,30 @@ scan_here scans line i s lt at here left =
 pub scan_further : (scans : List ScanLoop) (line i : ℕ) (s : ScanLoop) → i < length scans → s ≡ get_or scans i s → (s.line.line == line) ≡ false → ScanIsLeft scans line i → ScanIsLeft scans line (i + 1)
 scan_further scans line i s lt at here left =
     sym (ap (said_here s (phases_at (map scan_part (drop (i + 1) scans)) line)) here) ∙ one_left scans line i s lt at left
+
+-- ---- doacross nests
+
+-- none before this one stands behind the line
+abbrev pub NestIsLeft : List DoacrossLoop → ℕ → ℕ → Type 0
+NestIsLeft nests line i = nest_at (map nest_part (drop i nests)) line ≡ nest_at (map nest_part nests) line
+
+abbrev sinks_here : DoacrossLoop → Option (List Distance) → Bool → Option (List Distance)
+sinks_here n further here = if here then Some (map distance_kept n.distances.items) else further
+
+one_nest_left : (nests : List DoacrossLoop) (line i : ℕ) (n : DoacrossLoop) → i < length nests → n ≡ get_or nests i n → NestIsLeft nests line i
+    → sinks_here n (nest_at (map nest_part (drop (i + 1) nests)) line) (n.line.line == line) ≡ nest_at (map nest_part nests) line
+one_nest_left nests line i n lt at left =
+    let here : drop i nests ≡ n ∷ drop (i + 1) nests = rw add-one (drop-cons nests i n lt ∙ ap (λ x. x ∷ drop (suc i) nests) (sym at)) in
+    sym (ap (λ ns. nest_at (map nest_part ns) line) here) ∙ left
+
+pub nest_here : (nests : List DoacrossLoop) (line i : ℕ) (n : DoacrossLoop) → i < length nests → n ≡ get_or nests i n → (n.line.line == line) ≡ true → NestIsLeft nests line i
+    → nest_at (map nest_part nests) line ≡ Some (map distance_kept n.distances.items)
+nest_here nests line i n lt at here left =
+    sym (one_nest_left nests line i n lt at left) ∙ ap (sinks_here n (nest_at (map nest_part (drop (i + 1) nests)) line)) here
+
+pub nest_further : (nests : List DoacrossLoop) (line i : ℕ) (n : DoacrossLoop) → i < length nests → n ≡ get_or nests i n → (n.line.line == line) ≡ false → NestIsLeft nests line i → NestIsLeft nests line (i + 1)
+nest_further nests line i n lt at here left =
+    sym (ap (sinks_here n (nest_at (map nest_part (drop (i + 1) nests)) line)) here) ∙ one_nest_left nests line i n lt at left
+
+pub no_nest : (nests : List DoacrossLoop) (line i : ℕ) → length nests ≤ i → NestIsLeft nests line i → nest_at (map nest_part nests) line ≡ None
+no_nest nests line i le left = sym left ∙ ap (λ ns. nest_at (map nest_part ns) line) (drop_all i nests le)

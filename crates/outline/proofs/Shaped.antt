@@ -32,7 +32,7 @@ use Rattle.pragma.specs.Clauses.{ReadsLoop}
 use Rattle.pragma.specs.Parallel.{associated, LineHas}
 use Rattle.pragma.specs.Views.{scheduled}
 use Rattle.pragma.proofs.LoopLaw.{read_once}
-use Rattle.flow.specs.Phases.{PhasesSaid, LinePhases, item_count}
+use Rattle.flow.specs.Phases.{PhasesSaid, item_count}
 use Rattle.flow.specs.Roles.{LoopData, LineData, left_roles, ItemsHaveBy}
 use Rattle.flow_reduction.specs.Reduced.{reduced}
 use Rattle.flow.specs.Parallel.{AreRolesOf}
@@ -41,6 +41,7 @@ use Rattle.outline.specs.declared.handing.Loops.{Loops}
 use Rattle.law_commute.specs.Targets.{targets_outside}
 use Rattle.law_scans.specs.Phases.{input_of}
 use Rattle.law_scans.specs.Scanning.{whole_of, first_of}
+use Rattle.law_independence.specs.Said.{SaidInside, LinesInside}
 use Rattle.law_independence.specs.OrderLaws.{AreStepsRead, HasStepsRead, SharesAsNest, SharesBy, used_roles}
 use Rattle.law_apart.specs.Apart.{apart_items, apart_behind, handed}
 use Rattle.lower_code.specs.declared.term.Laid.{Laid}
@@ -56,12 +57,12 @@ use Rattle.lower.specs.Lowered.{IsLoweredFrom}
 use Rattle.outline.specs.declared.shape.LoweredHead.{LoweredHead}
 use Rattle.outline.specs.declared.shape.TeamLoop.{TeamLoop}
 use Rattle.outline.specs.declared.shape.Way.{Way}
-use Rattle.outline.specs.declared.shape.Way.TheVariants.{Chunks, Scan, Alone}
+use Rattle.outline.specs.declared.shape.Way.TheVariants.{Chunks, Scan, Waves, Alone}
 use Rattle.outline.specs.declared.shape.Outline.{Outline, Serial, Team, If, For, Block}
 use Rattle.outline.specs.declared.shape.OutlineItem.{OutlineItem, Plain, Statement}
 use Rattle.outline.specs.Fit.{AllFit, HeadFits, ScanFits, WayFits, TeamFits}
 use Rattle.outline.specs.Given.{IsRound, ArePrivateLocals, IsGiven}
-use Rattle.outline.specs.Handed.{IsOfText, AreOfText, phases_told, IsBodyCode, IsLowered, IsFirstHanded, IsWay, IsHanded, roles_of}
+use Rattle.outline.specs.Handed.{IsOfText, AreOfText, inside_told, IsBodyCode, IsLowered, IsFirstHanded, IsWay, IsHanded, roles_of}
 use Rattle.pragma.specs.Plain.{has_line}
 use Rattle.outline.specs.Made.{line_of, loop_with, IsInside, run_behind, items_behind, SharesBehind, ItemShares, IsMade, IsMadeItem, AreMade}
 use Rattle.outline.specs.View.{roles_in, performed, item_performed, items_performed}
@@ -169,16 +170,16 @@ module _ (layout : List Laid) (mark : ℕ) (loops : Loops) where
   }
 
   -- what the first pass of a scan runs, and the whole
-  module _ (box : List Side) (serial : List Loop) (roles : Roles) (ds : List Tree.Declaration) (d : LoopData) (said : Option PhasesSaid) (n : ℕ) (s : Stmt) (kept : LoopRoles) where
-    scan_fits : (nested : SharesAsNest ds d said serial n s) (phases : LinePhases) (line : ℕ) (first second : LoweredLoop) → said ≡ phases line → reduced kept.carried.items ≡ d.carried → IsRound mark serial box → AreLocals layout mark (declared_in s)
+  module _ (box : List Side) (serial : List Loop) (roles : Roles) (ds : List Tree.Declaration) (d : LoopData) (said : SaidInside) (n : ℕ) (s : Stmt) (kept : LoopRoles) where
+    scan_fits : (nested : SharesAsNest ds d said serial n s) (inside : LinesInside) (line : ℕ) (first second : LoweredLoop) → said ≡ inside line → reduced kept.carried.items ≡ d.carried → IsRound mark serial box → AreLocals layout mark (declared_in s)
         → ((ls : LoweredRoles) → AreRolesAt layout mark (used_roles s (roles_of kept)) ls → AreRolesAt layout mark roles ls) → IsLowered layout mark box n s kept second → IsBodyCode layout mark n s second.body
-        → IsFirstHanded layout mark box phases line n s kept first → ScanFits layout mark box roles ds d said serial n s nested first second
-    scan_fits nested phases line first second same carried round all at lowered body w =
+        → IsFirstHanded layout mark box inside line n s kept first → ScanFits layout mark box roles ds d said serial n s nested first second
+    scan_fits nested inside line first second same carried round all at lowered body w =
         let c = w.carries in
         let sole = sym carried ∙ c.sole in
         let its = nested.scans c.variable c.operator sole c.assigned in
         let whole = whole_of its.front its.back in
-        let told = same_phases said (w.inclusive, w.count) (its.inclusive, item_count its.front) (same ∙ w.told) its.told in
+        let told = same_phases said.phases (w.inclusive, w.count) (its.inclusive, item_count its.front) (ap (λ (q : SaidInside). q.phases) same ∙ w.told) its.told in
         let body_is = ap (λ (p : List Loop × Stmt). p.1) (same_nest n s (w.input.1.0, w.input.0) (its.loops, whole) w.input.1.1 its.nest) in
         let part = w.input.2 its.front its.back body_is (sym (ap (λ (p : PhasesSaid). p.1) told)) in
         let there = part ∙ ap (λ (p : PhasesSaid). input_of p.0 its.front its.back) told in
@@ -193,12 +194,13 @@ module _ (layout : List Laid) (mark : ℕ) (loops : Loops) where
           second = lowered_from box serial roles n s kept second lowered round nested.steps all (at second.roles lowered.roles) its.loops whole whole its.nest (body_performs n s its.loops whole second.body its.nest body locals);
         }
 
-    way_fits : (nested : SharesAsNest ds d said serial n s) (phases : LinePhases) (line : ℕ) (way : Way) (second : LoweredLoop) → said ≡ phases line → reduced kept.carried.items ≡ d.carried → IsRound mark serial box → AreLocals layout mark (declared_in s)
+    way_fits : (nested : SharesAsNest ds d said serial n s) (inside : LinesInside) (line : ℕ) (way : Way) (second : LoweredLoop) → said ≡ inside line → reduced kept.carried.items ≡ d.carried → IsRound mark serial box → AreLocals layout mark (declared_in s)
         → ((ls : LoweredRoles) → AreRolesAt layout mark (used_roles s (roles_of kept)) ls → AreRolesAt layout mark roles ls) → IsLowered layout mark box n s kept second → IsBodyCode layout mark n s second.body
-        → IsWay layout mark box phases line n s kept way → WayFits layout mark box roles ds d said serial n s nested second way
-    way_fits nested phases line Chunks second same carried round all at lowered body w = sym carried ∙ w
-    way_fits nested phases line (Scan first) second same carried round all at lowered body w = scan_fits nested phases line first second same carried round all at lowered body w
-    way_fits nested phases line Alone second same carried round all at lowered body w = tt
+        → IsWay layout mark box inside line n s kept way → WayFits layout mark box roles ds d said serial n s nested second way
+    way_fits nested inside line Chunks second same carried round all at lowered body w = (sym carried ∙ w.0, ap (λ (q : SaidInside). q.sinks) same ∙ w.1)
+    way_fits nested inside line (Scan first) second same carried round all at lowered body w = scan_fits nested inside line first second same carried round all at lowered body w
+    way_fits nested inside line (Waves sinks) second same carried round all at lowered body w = ap (λ (q : SaidInside). q.sinks) same ∙ w
+    way_fits nested inside line Alone second same carried round all at lowered body w = tt
 
   pub team_made : (box : List Side) (line : Place) (s : Stmt) (l : TeamLoop) → IsHanded layout mark box loops line s l → IsMade layout mark loops box (Some line) s (Team l)
   team_made box line s l h = record {
@@ -206,7 +208,7 @@ module _ (layout : List Laid) (mark : ℕ) (loops : Loops) where
     fits = λ text ds R P serial given shares all. team_fits text ds R P serial given shares all;
   }
     where
-      team_fits : (text : List ℕ) (ds : List Tree.Declaration) (R : LineData) (P : LinePhases) (serial : List Loop) → IsGiven (length layout) mark text R P loops serial box → SharesBehind text ds R P serial (Some line) s → AreLocals layout mark (declared_in s)
+      team_fits : (text : List ℕ) (ds : List Tree.Declaration) (R : LineData) (P : LinesInside) (serial : List Loop) → IsGiven (length layout) mark text R P loops serial box → SharesBehind text ds R P serial (Some line) s → AreLocals layout mark (declared_in s)
           → TeamFits layout mark R serial l
       team_fits text ds R P serial given (k, c, reads, share) all =
           let own = of_all (IsOfText text R) loops.parallel.now h.parallel given.table h.stands.0 in
@@ -237,11 +239,11 @@ module _ (layout : List Laid) (mark : ℕ) (loops : Loops) where
             declarations = ds;
             said = P line.line;
             nested = now;
-            way = way_fits box serial (roles_in R l) ds (R l.line) (P line.line) l.depth (stmt_of l.statement.now) h.parallel.roles now (phases_told loops) line.line l.way l.lowered (λ i. given.phases i line.line)
+            way = way_fits box serial (roles_in R l) ds (R l.line) (P line.line) l.depth (stmt_of l.statement.now) h.parallel.roles now (inside_told loops) line.line l.way l.lowered (λ i. given.inside i line.line)
                 (kept.carried ∙ ap (λ m. (R m).carried) (sym h.at)) given.round (subst (λ a. AreLocals layout mark (declared_in a)) (sym h.statement) all)
                 (subst (λ a. (ls : LoweredRoles) → AreRolesAt layout mark (used_roles a (roles_of h.parallel.roles)) ls → AreRolesAt layout mark (roles_in R l) ls) (sym h.statement) at)
                 (subst (λ a. IsLowered layout mark box l.depth a h.parallel.roles l.lowered) (sym h.statement) n) (subst (λ a. IsBodyCode layout mark l.depth a l.lowered.body) (sym h.statement) h.body)
-                (subst (λ a. IsWay layout mark box (phases_told loops) line.line l.depth a h.parallel.roles l.way) (sym h.statement) h.way);
+                (subst (λ a. IsWay layout mark box (inside_told loops) line.line l.depth a h.parallel.roles l.way) (sym h.statement) h.way);
           }
 
   -- ---- a serial loop
@@ -266,7 +268,7 @@ module _ (layout : List Laid) (mark : ℕ) (loops : Loops) where
         (turns greatest_trip_count (λ t. holds t (cond_of head.now.test)) (made.performs R (serial ++ head_of head.now ∷ []) i) (λ t. incremented t (increment_of head.now.step)));
     fits = λ text ds R P serial given shares all. (
       head_fits (all.0, tt),
-      made.fits text ds R P (serial ++ head_of head.now ∷ []) (record { round = inside_round box within head.now serial is all.0.1 given.round; table = given.table; phases = given.phases; privates = given.privates }) shares all.1,
+      made.fits text ds R P (serial ++ head_of head.now ∷ []) (record { round = inside_round box within head.now serial is all.0.1 given.round; table = given.table; inside = given.inside; privates = given.privates }) shares all.1,
     );
   }
 
@@ -367,11 +369,11 @@ module _ (layout : List Laid) (mark : ℕ) (loops : Loops) where
       (λ j s. then_from s (item_performed R serial o s) (items_perform box (line_of i) is os h.1 R serial j)) ∙ sym (h.0.performs R serial (items_of is))
 
   -- what may be shared of some items, also of the first where it stands behind a line
-  abbrev ShareFrom : List ℕ → List Tree.Declaration → LineData → LinePhases → List Loop → Option Place → Tree.Items → Type 0
+  abbrev ShareFrom : List ℕ → List Tree.Declaration → LineData → LinesInside → List Loop → Option Place → Tree.Items → Type 0
   ShareFrom text ds R P serial None items = ItemsHaveBy text (SharesBy ds R P) serial items
   ShareFrom text ds R P serial (Some line) items = LineHas text (SharesBy ds R P line.line) serial line.line items × ItemsHaveBy text (SharesBy ds R P) serial items
 
-  split : (text : List ℕ) (ds : List Tree.Declaration) (R : LineData) (P : LinePhases) (serial : List Loop) (d : Option Place) (i : Item) (rest : Tree.Items)
+  split : (text : List ℕ) (ds : List Tree.Declaration) (R : LineData) (P : LinesInside) (serial : List Loop) (d : Option Place) (i : Item) (rest : Tree.Items)
       → ShareFrom text ds R P serial d (with_item i rest) → ItemShares text ds R P serial d i × ShareFrom text ds R P serial (line_of i) rest
   split text ds R P serial None (Directive place) rest h = (tt, h)
   split text ds R P serial None (Local l) rest h = (tt, h)
@@ -387,7 +389,7 @@ module _ (layout : List Laid) (mark : ℕ) (loops : Loops) where
       let xs = declared_in (stmt_of s) in
       (subst (AreLocals layout mark) (sym (append-nil xs)) (locals_left layout mark xs (declared_among rest) all), locals_right layout mark xs (declared_among rest) all)
 
-  items_fitted : (box : List Side) (d : Option Place) (is : List Item) (os : List OutlineItem) → AreMade layout mark loops box d is os → (text : List ℕ) (ds : List Tree.Declaration) (R : LineData) (P : LinePhases) (serial : List Loop)
+  items_fitted : (box : List Side) (d : Option Place) (is : List Item) (os : List OutlineItem) → AreMade layout mark loops box d is os → (text : List ℕ) (ds : List Tree.Declaration) (R : LineData) (P : LinesInside) (serial : List Loop)
       → IsGiven (length layout) mark text R P loops serial box → ShareFrom text ds R P serial d (items_of is)
       → AreLocals layout mark (declared_among (items_of is)) → AllFit layout mark R serial os
   items_fitted box d [] [] h text ds R P serial given share all = tt
@@ -406,6 +408,6 @@ module _ (layout : List Laid) (mark : ℕ) (loops : Loops) where
 
   -- ---- a body
 
-  pub body_fits : (items : List Item) (os : List OutlineItem) → AreMade layout mark loops [] None items os → (text : List ℕ) (ds : List Tree.Declaration) (R : LineData) (P : LinePhases) → ArePrivateLocals (length layout) R → AreOfText text R loops.parallel.now → P ≡ phases_told loops
+  pub body_fits : (items : List Item) (os : List OutlineItem) → AreMade layout mark loops [] None items os → (text : List ℕ) (ds : List Tree.Declaration) (R : LineData) (P : LinesInside) → ArePrivateLocals (length layout) R → AreOfText text R loops.parallel.now → P ≡ inside_told loops
       → ItemsHaveBy text (SharesBy ds R P) [] (items_of items) → AreLocals layout mark (declared_among (items_of items)) → AllFit layout mark R [] os
-  body_fits items os h text ds R P privates table phases share all = items_fitted [] None items os h text ds R P [] (record { round = λ x is. absurd cc; table = table; phases = phases; privates = privates }) share all
+  body_fits items os h text ds R P privates table inside share all = items_fitted [] None items os h text ds R P [] (record { round = λ x is. absurd cc; table = table; inside = inside; privates = privates }) share all

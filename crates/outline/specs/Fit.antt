@@ -1,5 +1,5 @@
 -- Outlines whose code does what their statements do. (C11 6.8)
-use Rattle.std.specs.Prelude.{ℕ, ◌≡◌, ◌≤◌, true, List, [], ◌∷◌, ◌++◌, length, map, Contains, Option, Some}
+use Rattle.std.specs.Prelude.{ℕ, ◌≡◌, ◌≤◌, true, List, [], ◌∷◌, ◌++◌, length, map, Contains, Some, None}
 use Rattle.semantics.specs.Tree
 use Rattle.semantics.specs.Tree.{Variable, Stmt, Declaration}
 use Rattle.semantics.specs.Meaning.Agrees.{is_among, declared_in}
@@ -12,10 +12,10 @@ use Rattle.ktree.specs.declared.statement.Head.{Head}
 use Rattle.affine.specs.declared.interval.Side.{Side}
 use Rattle.affine_expr.specs.Forms.{is_counter}
 use Rattle.nest.specs.Heads.{head_of}
-use Rattle.flow.specs.Phases.{PhasesSaid}
 use Rattle.flow.specs.Roles.{LoopData, LineData}
 use Rattle.law_commute.specs.Targets.{targets_outside}
 use Rattle.law_scans.specs.Scanning.{whole_of, first_of}
+use Rattle.law_independence.specs.Said.{SaidInside}
 use Rattle.law_independence.specs.OrderLaws.{SharesAsNest}
 use Rattle.lower_code.specs.declared.term.Laid.{Laid}
 use Rattle.lower_code.specs.Meaning.{MeansTest, AreLocals}
@@ -26,7 +26,7 @@ use Rattle.lower.specs.Lowered.{IsLoweredFrom}
 use Rattle.outline.specs.declared.shape.LoweredHead.{LoweredHead}
 use Rattle.outline.specs.declared.shape.TeamLoop.{TeamLoop}
 use Rattle.outline.specs.declared.shape.Way.{Way}
-use Rattle.outline.specs.declared.shape.Way.TheVariants.{Chunks, Scan, Alone}
+use Rattle.outline.specs.declared.shape.Way.TheVariants.{Chunks, Scan, Waves, Alone}
 use Rattle.outline.specs.declared.shape.Outline.{Outline, Serial, Team, If', For', Block', Held-Outline-If-3, None', Some', Row_of-OutlineItem, end_of-OutlineItem, more_of-OutlineItem}
 use Rattle.outline.specs.declared.shape.OutlineItem.{OutlineItem, Plain, Statement'}
 use Rattle.outline.specs.View.{roles_in}
@@ -45,7 +45,7 @@ pub record HeadFits (layout : List Laid) (mark : ℕ) (h : Head) (l : LoweredHea
   pub step : StepPerforms layout mark h l.step
 
 -- a loop that carries one variable and assigns it is lowered twice, each time with its loops and roles: for what the first pass of a scan runs, and for the whole (OpenMP 5.2, 5.6)
-pub record ScanFits (layout : List Laid) (mark : ℕ) (box : List Side) (roles : Roles) (ds : List Declaration) (d : LoopData) (said : Option PhasesSaid) (serial : List Loop) (n : ℕ) (s : Stmt) (nested : SharesAsNest ds d said serial n s) (earlier later : LoweredLoop) : Type 0 where
+pub record ScanFits (layout : List Laid) (mark : ℕ) (box : List Side) (roles : Roles) (ds : List Declaration) (d : LoopData) (said : SaidInside) (serial : List Loop) (n : ℕ) (s : Stmt) (nested : SharesAsNest ds d said serial n s) (earlier later : LoweredLoop) : Type 0 where
   pub variable : Variable
   pub operator : ReduceOp
   pub sole : d.carried ≡ (variable, operator) ∷ []
@@ -53,10 +53,11 @@ pub record ScanFits (layout : List Laid) (mark : ℕ) (box : List Side) (roles :
   pub first : let its = nested.scans variable operator sole assigned in IsLoweredFrom layout mark box roles its.loops (first_of its.inclusive its.front its.back) earlier
   pub second : let its = nested.scans variable operator sole assigned in IsLoweredFrom layout mark box roles its.loops (whole_of its.front its.back) later
 
--- a loop may be run in the way that is said: in chunks where it carries nothing, and in two passes where it is lowered for them
-abbrev pub WayFits : List Laid → ℕ → List Side → Roles → (ds : List Declaration) (d : LoopData) (said : Option PhasesSaid) (serial : List Loop) (n : ℕ) (s : Stmt) → SharesAsNest ds d said serial n s → LoweredLoop → Way → Type 0
-WayFits layout mark box roles ds d said serial n s nested second Chunks = d.carried ≡ []
+-- a loop may be run in the way that is said: in chunks where it carries nothing and has no sinks, in two passes where it is lowered for them, and in the waves of the sinks that it has
+abbrev pub WayFits : List Laid → ℕ → List Side → Roles → (ds : List Declaration) (d : LoopData) (said : SaidInside) (serial : List Loop) (n : ℕ) (s : Stmt) → SharesAsNest ds d said serial n s → LoweredLoop → Way → Type 0
+WayFits layout mark box roles ds d said serial n s nested second Chunks = (d.carried ≡ []) × (said.sinks ≡ None)
 WayFits layout mark box roles ds d said serial n s nested second (Scan first) = ScanFits layout mark box roles ds d said serial n s nested first second
+WayFits layout mark box roles ds d said serial n s nested second (Waves sinks) = said.sinks ≡ Some sinks.distances
 WayFits layout mark box roles ds d said serial n s nested second Alone = Unit {0}
 
 -- a loop for a team is lowered from a nest inside serial loops with what its line says of the scalars that it assigns, it may be run in the way that is said of it, and its code does what the loop does
@@ -71,7 +72,7 @@ pub record TeamFits (layout : List Laid) (mark : ℕ) (R : LineData) (serial : L
   pub code : Performs layout mark (run (stmt_of l.statement.now)) l.code
   pub privates : (x : Variable) → is_among (roles_in R l).privates x ≡ true → length layout ≤ x
   pub declarations : List Declaration
-  pub said : Option PhasesSaid
+  pub said : SaidInside
   pub nested : SharesAsNest declarations (R l.line) said serial l.depth (stmt_of l.statement.now)
   pub way : WayFits layout mark box (roles_in R l) declarations (R l.line) said serial l.depth (stmt_of l.statement.now) nested l.lowered l.way
 

@@ -1,11 +1,12 @@
 -- Which statements are handed to a team, and as what. (OpenMP 5.2, 4.4.3 and 11.5)
-use Rattle.std.specs.Prelude.{ℕ, Bool, ◌≡◌, ◌<◌, true, List, [], ◌∷◌, ◌++◌, map, All, Contains, Some}
+use Rattle.std.specs.Prelude.{ℕ, Bool, ◌≡◌, ◌<◌, true, List, [], ◌∷◌, ◌++◌, map, All, Contains, Some, None}
 use Rattle.semantics.specs.Tree.{Variable, Stmt, Items}
 use Rattle.semantics.specs.Source.Text.{line_at}
 use Rattle.semantics.specs.Meaning.Runs.{run, run_items}
 use Rattle.semantics.specs.Meaning.Agrees.{is_among, declared_in, declared_among}
 use Rattle.semantics.specs.Loops.Nest.{Loop, nest_of}
 use Rattle.semantics.specs.Loops.Operator.{ReduceOp}
+use Rattle.semantics.specs.Loops.Order.{Distance}
 use Rattle.semantics.specs.Loops.Piece.{Roles}
 use Rattle.ktree.specs.declared.place.Place.{Place}
 use Rattle.ktree.specs.declared.place.VarId.{VarId}
@@ -17,15 +18,18 @@ use Rattle.pragma.specs.Parallel.{associated}
 use Rattle.pragma.specs.Views.{scheduled}
 use Rattle.nest.specs.Perfect.{AreRectangular}
 use Rattle.flow_reduction.specs.Reduced.{reduced}
-use Rattle.flow.specs.Phases.{LinePhases, item_count}
+use Rattle.flow.specs.Phases.{item_count}
 use Rattle.flow.specs.Roles.{LineData}
 use Rattle.flow.specs.Parallel.{numbers, AreRolesOf}
 use Rattle.flow.specs.declared.environment.LoopRoles.{LoopRoles}
 use Rattle.flow.specs.declared.environment.ParallelLoop.{ParallelLoop}
+use Rattle.flow_doacross.specs.Listed.{nest_at}
+use Rattle.flow_doacross.specs.Views.{nest_part}
 use Rattle.flow_scan.specs.Views.{scan_part, phases_at}
 use Rattle.law_commute.specs.Targets.{targets_outside}
 use Rattle.law_scans.specs.Phases.{input_of}
 use Rattle.law_scans.specs.Scanning.{whole_of}
+use Rattle.law_independence.specs.Said.{LinesInside}
 use Rattle.law_independence.specs.OrderLaws.{used_roles}
 use Rattle.lower_code.specs.declared.term.Laid.{Laid}
 use Rattle.lower_code.specs.Meaning.{AreLocals}
@@ -36,7 +40,7 @@ use Rattle.lower.specs.declared.lowered.LoweredLoop.{LoweredLoop}
 use Rattle.outline.specs.declared.handing.Loops.{Loops}
 use Rattle.outline.specs.declared.shape.TeamLoop.{TeamLoop}
 use Rattle.outline.specs.declared.shape.Way.{Way}
-use Rattle.outline.specs.declared.shape.Way.TheVariants.{Chunks, Scan, Alone}
+use Rattle.outline.specs.declared.shape.Way.TheVariants.{Chunks, Scan, Waves, Alone}
 
 -- one of these loops, which stands behind the directive line at this place
 abbrev pub StandsAt : List ParallelLoop → Place → ParallelLoop → Type 0
@@ -55,9 +59,9 @@ pub record IsOfText (text : List ℕ) (R : LineData) (l : ParallelLoop) : Type 0
 abbrev pub AreOfText : List ℕ → LineData → List ParallelLoop → Type 0
 AreOfText text R loops = All (IsOfText text R) loops
 
--- the phases of the loops of scans that are told
-abbrev pub phases_told : Loops → LinePhases
-phases_told loops = phases_at (map scan_part loops.scans.now)
+-- what is told of the lines inside the loop behind each line: the phases of scans, and how far the sinks of doacross nests lie
+abbrev pub inside_told : Loops → LinesInside
+inside_told loops line = record { phases = phases_at (map scan_part loops.scans.now) line; sinks = nest_at (map nest_part loops.nests.now) line }
 
 -- the locals among the variables of a box stand in a list
 abbrev pub ListsLocals : ℕ → List Side → List VarId → Type 0
@@ -113,21 +117,28 @@ pub record IsLowered (layout : List Laid) (mark : ℕ) (box : List Side) (n : �
   pub roles : AreRolesAt layout mark (used_roles s (roles_of kept)) l.roles
 
 -- what the first pass of a scan runs is lowered from the same nest, with its input phase in place of its body (OpenMP 5.2, 5.6)
-pub record IsFirstHanded (layout : List Laid) (mark : ℕ) (box : List Side) (phases : LinePhases) (line n : ℕ) (s : Stmt) (kept : LoopRoles) (first : LoweredLoop) : Type 0 where
+pub record IsFirstHanded (layout : List Laid) (mark : ℕ) (box : List Side) (inside : LinesInside) (line n : ℕ) (s : Stmt) (kept : LoopRoles) (first : LoweredLoop) : Type 0 where
   pub carries : CarriesOne (reduced kept.carried.items) s
   pub inclusive : Bool
   pub count : ℕ
-  pub told : phases line ≡ Some (inclusive, count)
+  pub told : (inside line).phases ≡ Some (inclusive, count)
   pub part : Items
   pub input : IsInputIn inclusive count n s part
   pub lowered : IsLowered layout mark box n s kept first
   pub code : AreItemsCode layout mark part first.body
 
+-- a loop with these sinks may be run in their waves, or by one worker (OpenMP 5.2, 15.9.6)
+abbrev pub IsWavesOf : List Distance → Way → Type 0
+IsWavesOf ds (Waves sinks) = sinks.distances ≡ ds
+IsWavesOf ds Alone = Unit {0}
+IsWavesOf ds _ = ⊥
+
 -- the way in which a loop may be run
-abbrev pub IsWay : List Laid → ℕ → List Side → LinePhases → ℕ → ℕ → Stmt → LoopRoles → Way → Type 0
-IsWay layout mark box phases line n s kept Chunks = reduced kept.carried.items ≡ []
-IsWay layout mark box phases line n s kept (Scan first) = IsFirstHanded layout mark box phases line n s kept first
-IsWay layout mark box phases line n s kept Alone = Unit {0}
+abbrev pub IsWay : List Laid → ℕ → List Side → LinesInside → ℕ → ℕ → Stmt → LoopRoles → Way → Type 0
+IsWay layout mark box inside line n s kept Chunks = (reduced kept.carried.items ≡ []) × ((inside line).sinks ≡ None)
+IsWay layout mark box inside line n s kept (Scan first) = IsFirstHanded layout mark box inside line n s kept first
+IsWay layout mark box inside line n s kept (Waves sinks) = (inside line).sinks ≡ Some sinks.distances
+IsWay layout mark box inside line n s kept Alone = Unit {0}
 
 -- a statement behind the directive line at this place is handed over, as many loops of it as that line associates, with its schedule (OpenMP 5.2, 11.5.3) and the way in which it may be run, and with code of its body and of the whole
 pub record IsHanded (layout : List Laid) (mark : ℕ) (box : List Side) (loops : Loops) (line : Place) (s : Stmt) (l : TeamLoop) : Type 0 where
@@ -137,7 +148,7 @@ pub record IsHanded (layout : List Laid) (mark : ℕ) (box : List Side) (loops :
   pub at : l.line ≡ line.line
   pub depth : l.depth ≡ associated parallel.directive.collapse
   pub schedule : l.lowered.schedule ≡ parallel.directive.schedule
-  pub way : IsWay layout mark box (phases_told loops) line.line l.depth s parallel.roles l.way
+  pub way : IsWay layout mark box (inside_told loops) line.line l.depth s parallel.roles l.way
   pub lowered : IsLowered layout mark box l.depth s parallel.roles l.lowered
   pub body : IsBodyCode layout mark l.depth s l.lowered.body
   pub code : AreLocals layout mark (declared_in s) → Performs layout mark (run s) l.code

@@ -5,14 +5,16 @@ ghost use Rattle.std.specs.Prelude.{◌≡◌, false, [], IfOk, IfErr, IfSome, M
 ghost use Rattle.nest.specs.Perfect.{NestHas, AreRectangular};
 ghost use Rattle.ktree.specs.View.{stmt_of, items_of};
 ghost use Rattle.ktree.specs.declared.refusal.Refusal.TheVariants.{OutOfMemory};
-ghost use Rattle.outline.specs.Handed.{StandsAt, NoneStandsAt, ListsLocals, IsBodyOf, IsBodyCode, AreItemsCode, IsLowered, IsInputIn, IsWay, IsHanded, phases_told};
+ghost use Rattle.outline.specs.Handed.{StandsAt, NoneStandsAt, ListsLocals, IsBodyOf, IsBodyCode, AreItemsCode, IsLowered, IsInputIn, IsWay, IsHanded, inside_told};
 
 use crate::compiling::{Target, compile_items, compile_statement};
 use crate::scanning::{carries_one, input_among, scan_at};
 use crate::shape::{TeamLoop, Way};
 use crate::spots::lower_roles;
+use crate::waving::{nest_at, waves_of};
 use affine::VarBox;
 use flow::{LoopRoles, ParallelLoop};
+use flow_doacross::DoacrossLoop;
 use flow_scan::ScanLoop;
 use ktree::{Item, Place, Refusal, Stmt, VarId};
 use lower::LoweredLoop;
@@ -21,11 +23,12 @@ use nest::{Nest, as_loop};
 use nest_loop::Canonical;
 use std::alloc::{AllocError, Global};
 
-/// What is kept of a text's directive lines: its parallel loops, and those of its scans.
+/// What is kept of a text's directive lines: its parallel loops, those of its scans, and its doacross nests.
 #[derive(Clone, Copy)]
 pub struct Loops<'l> {
     pub parallel: &'l [ParallelLoop],
     pub scans: &'l [ScanLoop],
+    pub nests: &'l [DoacrossLoop],
 }
 
 // The parallel loop behind the directive line at this place.
@@ -218,10 +221,13 @@ fn way_of(
     bounds: &VarBox,
 ) -> Result<Way, Refusal>
     ensures way { IfOk result
-        (IsWay target.entry.layout.now target.entry.registers bounds.now (phases_told loops.entry)
+        (IsWay target.entry.layout.now target.entry.registers bounds.now (inside_told loops.entry)
         parallel.now.line.line depth (stmt_of stmt.now) parallel.now.roles) }
     ensures refusal { IfErr result (λ refusal. refusal ≡ OutOfMemory) }
 {
+    if let Some(nest) = nest_at(loops.nests, parallel.line.line) {
+        return waves_of(alloc, depth, &nest.distances);
+    }
     if !carries(&parallel.roles) {
         return Ok(Way::Chunks);
     }

@@ -9,6 +9,7 @@ mod scanning;
 mod shape;
 mod spots;
 mod targets;
+mod waving;
 
 pub use compiling::Target;
 pub use handing::Loops;

@@ -8,12 +8,12 @@ ghost use Rattle.ktree.specs.declared.refusal.Refusal.TheVariants.{OutOfMemory};
 ghost use Rattle.affine.specs.declared.interval.Side.{Side};
 ghost use Rattle.outline.specs.declared.handing.Loops.{Loops};
 ghost use Rattle.semantics.specs.Tree.{Declaration};
-ghost use Rattle.flow.specs.Phases.{LinePhases};
 ghost use Rattle.flow.specs.Roles.{LineData, ItemsHaveBy};
+ghost use Rattle.law_independence.specs.Said.{LinesInside};
 ghost use Rattle.law_independence.specs.OrderLaws.{SharesBy};
 ghost use Rattle.law_apart.specs.Apart.{apart_items};
 ghost use Rattle.outline.specs.Given.{ArePrivateLocals};
-ghost use Rattle.outline.specs.Handed.{AreOfText, phases_told};
+ghost use Rattle.outline.specs.Handed.{AreOfText, inside_told};
 ghost use Rattle.pragma.specs.Plain.{has_line};
 ghost use Rattle.outline.specs.Made.{line_of, loop_with, IsInside, IsMade, IsMadeItem, AreMade};
 ghost use Rattle.outline.specs.Fit.{AllFit, WithLocals};
@@ -240,8 +240,8 @@ fn outline_items<'k>(
 }
 
 /// The outline of a kernel's body: each loop behind a directive line is lowered for a team, whatever its form and its schedule, with those
-/// reduction and lastprivate variables of its line that it assigns from outside (OpenMP 5.2, 5.4.5 and 5.5.8), and that of a scan also for
-/// the first of its two passes (5.6); all else is compiled for one thread, over registers below that number for the locals.
+/// reduction and lastprivate variables of its line that it assigns from outside (OpenMP 5.2, 5.4.5 and 5.5.8), that of a scan also for
+/// the first of its two passes (5.6), and a doacross nest with its sinks (15.9.6); all else is compiled for one thread, over registers below that number for the locals.
 ///
 /// # Errors
 ///
@@ -256,9 +256,9 @@ pub fn outline<'k>(
     ensures is { IfOk result (λ os. (R : LineData)
         → items_performed R [] os.items ≡ apart_items R [] (items_of items.now)) }
     ensures fits { IfOk result
-        (λ os. (text : List ℕ) (ds : List Declaration) (R : LineData) (P : LinePhases)
+        (λ os. (text : List ℕ) (ds : List Declaration) (R : LineData) (P : LinesInside)
         → ArePrivateLocals (length target.entry.layout.now) R → AreOfText text R loops.entry.parallel.now
-        → P ≡ phases_told loops.entry
+        → P ≡ inside_told loops.entry
         → ItemsHaveBy text (SharesBy ds R P) [] (items_of items.now)
         → WithLocals target.entry.layout.now target.entry.registers
         (declared_among (items_of items.now))

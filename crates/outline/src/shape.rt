@@ -4,6 +4,7 @@ use ktree::{Cond, Head, Item, Stmt};
 use lower::LoweredLoop;
 use lower_block::Compiled;
 use lower_code::Test;
+use waves::Sinks;
 
 /// How a team may run a loop.
 #[derive(Drop)]
@@ -12,6 +13,8 @@ pub enum Way {
     Chunks,
     /// In chunks, in two passes (OpenMP 5.2, 5.6): this is what the first pass runs.
     Scan(LoweredLoop),
+    /// Wave by wave, by these sinks, each wave in chunks (OpenMP 5.2, 15.9.6).
+    Waves(Sinks),
     /// By one worker alone.
     Alone,
 }

@@ -4,12 +4,12 @@ use Rattle.std.specs.Prelude.{◌≡◌, ℕ, List, [], None, IfOk, length}
 use Rattle.semantics.specs.Meaning.Agrees.{declared_among}
 use Rattle.ktree.specs.View.{items_of}
 use Rattle.semantics.specs.Tree.{Declaration}
-use Rattle.flow.specs.Phases.{LinePhases}
 use Rattle.flow.specs.Roles.{LineData, ItemsHaveBy}
+use Rattle.law_independence.specs.Said.{LinesInside}
 use Rattle.law_independence.specs.OrderLaws.{SharesBy}
 use Rattle.law_apart.specs.Apart.{apart_items}
 use Rattle.outline.specs.Given.{ArePrivateLocals}
-use Rattle.outline.specs.Handed.{AreOfText, phases_told}
+use Rattle.outline.specs.Handed.{AreOfText, inside_told}
 use Rattle.outline.specs.Fit.{AllFit, WithLocals}
 use Rattle.outline.specs.Made.{AreMade}
 use Rattle.outline.specs.View.{items_performed}
@@ -33,6 +33,6 @@ returns-clause-fits c =
     let items = c.args.items.now in
     let made = subst (λ b. IfOk c.outline_items.result (λ os. AreMade layout mark loops b None items os.items)) c.new-bounds.ensures c.outline_items.ensures.made in
     IfOk-weaker c.outline_items.result (λ os. AreMade layout mark loops [] None items os.items)
-    (λ os. (text : List ℕ) (ds : List Declaration) (R : LineData) (P : LinePhases) → ArePrivateLocals (length layout) R → AreOfText text R loops.parallel.now → P ≡ phases_told loops → ItemsHaveBy text (SharesBy ds R P) [] (items_of items)
+    (λ os. (text : List ℕ) (ds : List Declaration) (R : LineData) (P : LinesInside) → ArePrivateLocals (length layout) R → AreOfText text R loops.parallel.now → P ≡ inside_told loops → ItemsHaveBy text (SharesBy ds R P) [] (items_of items)
     → WithLocals layout mark (declared_among (items_of items)) (AllFit layout mark R [] os.items))
     (λ os h. body_fits layout mark loops items os.items h) made
