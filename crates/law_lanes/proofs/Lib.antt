@@ -1,0 +1,9 @@
+pub mod Ops
+pub mod Swap
+pub mod Order
+pub mod Turning
+pub mod Lanes
+pub mod Chains
+pub mod Waiting
+pub mod Rows
+pub mod Laws

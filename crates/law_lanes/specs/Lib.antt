@@ -1,0 +1,4 @@
+pub mod Reading
+pub mod Lanes
+pub mod Chains
+pub mod Rows
