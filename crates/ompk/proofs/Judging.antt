@@ -10,7 +10,6 @@ use Rattle.semantics.specs.Directives.Naming.{IsAttached}
 use Rattle.semantics.specs.Theorems.{StandsFor}
 use Rattle.semantics.proofs.EraseTextLaw.{text_erased}
 use Rattle.law_lines.proofs.Stripped.{stripped_trees_are_one}
-use Rattle.ktree.specs.Numbers.{number_of}
 use Rattle.ktree.specs.declared.refusal.Refusal.{Refusal}
 use Rattle.pragma_named.specs.Known.{Known, Lines, known_clauses, lines_known}
 use Rattle.pragma_region.specs.Regions.{is_left_out, alone}
@@ -20,12 +19,14 @@ use Rattle.flow.specs.Roles.{LineData, line_data, data_known, privates_by, Items
 use Rattle.flow.specs.Parallel.{AreParallelLoops}
 use Rattle.flow.specs.declared.environment.ParallelLoop.{ParallelLoop}
 use Rattle.flow_clauses.specs.Fitting.{fit_clauses}
-use Rattle.deptest.specs.Accepted.{Program, tree_of, clauses_said, clauses_counted, data_counted, scans_counted, HasPassed, HasLoops}
+use Rattle.flow_doacross.specs.Listed.{doacross_of}
+use Rattle.flow_doacross.specs.Views.{nest_part}
+use Rattle.deptest.specs.Accepted.{Program, tree_of, clauses_said, clauses_counted, data_counted, HasPassed, HasLoops}
 use Rattle.flow_scan.specs.Scans.{scans_of}
 use Rattle.flow_scan.specs.Views.{scan_part}
-use Rattle.flow_scan.specs.declared.listing.ScanLoop.{ScanLoop}
 use Rattle.flow_scan.proofs.Different.{scan_lines_differ}
-use Rattle.ompk.specs.Judged.{Whole, whole_found, IsLineKernel, IsScannedKernel, IsOfKernel}
+use Rattle.ompk.specs.declared.accepting.ToldLoops.{ToldLoops}
+use Rattle.ompk.specs.Judged.{Whole, whole_found, IsLineKernel, IsToldKernel, IsOfKernel}
 use Rattle.ompk.specs.Refused.{IsJudged, RefusesScalars, RefusesClauses, RefusesWhole, RefusesData, RefusesAlone, RefusesUnknown, RefusesKernel}
 
 -- what is said of each line is what the table knows
@@ -59,16 +60,22 @@ has_passed text k known whole stands judged =
       ordered = ap (λ (w : Whole). w.ordered) stands.found ∙ judged.environment.3.0;
       dissolved = stands.dissolved;
       scans = ap (λ (w : Whole). w.phased) stands.found ∙ judged.environment.3.1;
+      nests = ap (λ (w : Whole). w.nested) stands.found ∙ judged.environment.3.2;
       numbered = scan_lines_differ text (clauses_counted text stands.reads.whole stands.directives) stands.reads.whole stands.reads.reads;
     }
 
 -- and has these loops
-pub has_loops : (text : List ℕ) (k : Kernel) (known : Known) (whole : Whole) (loops : List ParallelLoop) (scans : List ScanLoop) (stands : IsLineKernel text k known whole)
-    → IsJudged text k (data_known known (length k.variables)) (lines_known known) whole → AreParallelLoops text (data_known known (length k.variables)) k loops
-    → map scan_part scans ≡ scans_counted text stands.reads.whole stands.directives → HasLoops text k loops scans
+pub has_loops : (text : List ℕ) (k : Kernel) (known : Known) (whole : Whole) (loops : List ParallelLoop) (told : ToldLoops) → IsToldKernel text k known whole told
+    → IsJudged text k (data_known known (length k.variables)) (lines_known known) whole → AreParallelLoops text (data_known known (length k.variables)) k loops → HasLoops text k loops told.scans.items told.doacross.items
 unfolding has_passed
-has_loops text k known whole loops scans stands judged listed are =
-    record { passed = has_passed text k known whole stands judged; listed = subst (λ (R : LineData). AreParallelLoops text R k loops) (sym stands.roles) listed; scans_are = are }
+has_loops text k known whole loops told its judged listed =
+    let stands = its.stands in
+    record {
+      passed = has_passed text k known whole stands judged;
+      listed = subst (λ (R : LineData). AreParallelLoops text R k loops) (sym stands.roles) listed;
+      scans_are = its.scans_are;
+      nests_are = its.nests_are;
+    }
 
 -- a kernel whose directives are attached, with its regions dissolved
 pub line_kernel : (text : List ℕ) (tree k : Kernel) (ds : Directives) (known : Known) (whole : Whole) → ReadsText text tree → IsAttached text tree ds → unknown_among text tree.body ≡ None → clauses_counted text tree ds ≡ lines_known known
@@ -85,13 +92,17 @@ line_kernel text tree k ds known whole reads attached told clauses roles is foun
       found = ap (λ (lines : Lines). whole_found text lines tree) clauses ∙ sym found;
     }
 
--- and the loops of its scans
-pub scanned_kernel : (text : List ℕ) (tree k : Kernel) (ds : Directives) (known : Known) (whole : Whole) (scans : List ScanLoop) → ReadsText text tree → IsAttached text tree ds → unknown_among text tree.body ≡ None → clauses_counted text tree ds ≡ lines_known known
-    → data_counted text tree ds ≡ data_known known (length tree.variables) → k ≡ alone text tree → whole ≡ whole_found text (lines_known known) tree → map scan_part scans ≡ scans_of text (lines_known known) tree
-    → IsScannedKernel text k known whole scans
+-- and the loops of its scans, and its doacross nests
+pub told_kernel : (text : List ℕ) (tree k : Kernel) (ds : Directives) (known : Known) (whole : Whole) (told : ToldLoops) → ReadsText text tree → IsAttached text tree ds → unknown_among text tree.body ≡ None → clauses_counted text tree ds ≡ lines_known known
+    → data_counted text tree ds ≡ data_known known (length tree.variables) → k ≡ alone text tree → whole ≡ whole_found text (lines_known known) tree → map scan_part told.scans.items ≡ scans_of text (lines_known known) tree
+    → map nest_part told.doacross.items ≡ doacross_of text (lines_known known) tree → IsToldKernel text k known whole told
 unfolding line_kernel
-scanned_kernel text tree k ds known whole scans reads attached told clauses roles is found are =
-    record { stands = line_kernel text tree k ds known whole reads attached told clauses roles is found; scans_are = are ∙ ap (λ (lines : Lines). scans_of text lines tree) (sym clauses) }
+told_kernel text tree k ds known whole told reads attached all_known clauses roles is found scans nests =
+    record {
+      stands = line_kernel text tree k ds known whole reads attached all_known clauses roles is found;
+      scans_are = scans ∙ ap (λ (lines : Lines). scans_of text lines tree) (sym clauses);
+      nests_are = nests ∙ ap (λ (lines : Lines). doacross_of text lines tree) (sym clauses);
+    }
 
 -- it is refused
 pub alone_refused : (text : List ℕ) (tree k : Kernel) (ds : Directives) (known : Known) (whole : Whole) (r : Refusal) → IsAttached text tree ds → unknown_among text tree.body ≡ None → clauses_counted text tree ds ≡ lines_known known

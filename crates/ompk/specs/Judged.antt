@@ -9,29 +9,32 @@ use Rattle.pragma_named.specs.Known.{Known, Lines, lines_known}
 use Rattle.pragma_region.specs.Regions.{alone}
 use Rattle.pragma_region.specs.NotKnown.{unknown_among}
 use Rattle.flow.specs.Roles.{data_known}
+use Rattle.flow_doacross.specs.Nests.{doacross_rightly}
+use Rattle.flow_doacross.specs.Views.{nest_part}
 use Rattle.flow_ordered.specs.Ordered.{prints_in_order}
 use Rattle.flow_scan.specs.Scans.{scans_rightly}
 use Rattle.flow_scan.specs.Views.{scan_part}
-use Rattle.flow_scan.specs.declared.listing.ScanLoop.{ScanLoop}
+use Rattle.ompk.specs.declared.accepting.ToldLoops.{ToldLoops}
 use Rattle.ompk.specs.declared.accepting.WholeFaults.{WholeFaults}
-use Rattle.deptest.specs.Accepted.{Program, clauses_counted, data_counted, scans_counted}
+use Rattle.deptest.specs.Accepted.{Program, clauses_counted, data_counted, scans_counted, nests_counted}
 
--- what only a tree with all of its directive lines shows: whether parallel loops print in order, and whether scans have their phases
+-- what only a tree with all of its directive lines shows: whether parallel loops print in order, whether scans have their phases, and doacross nests their sinks and their source
 pub record Whole : Type 0 where
   pub ordered : Bool
   pub phased : Bool
+  pub nested : Bool
 
 -- what is found of it
 abbrev pub whole_of : WholeFaults → Whole
-whole_of f = record { ordered = is_none f.disorder; phased = is_none f.misuse }
+whole_of f = record { ordered = is_none f.disorder; phased = is_none f.misuse; nested = is_none f.doacross }
 
 -- what there is to be found, by the clauses that count for each line
 abbrev pub whole_found : List ℕ → Lines → Kernel → Whole
-whole_found text lines k = record { ordered = prints_in_order text k; phased = scans_rightly text lines k }
+whole_found text lines k = record { ordered = prints_in_order text k; phased = scans_rightly text lines k; nested = doacross_rightly text lines k }
 
 -- nothing is wrong with it
 abbrev pub IsRight : Whole → Type 0
-IsRight w = (w.ordered ≡ true) × (w.phased ≡ true)
+IsRight w = (w.ordered ≡ true) × (w.phased ≡ true) × (w.nested ≡ true)
 
 -- a tree of a text, whose directives are attached to the whole of it, are known so far, and are dissolved in it; this is known of the clauses that count for each line, and of the whole
 pub record IsLineKernel (text : List ℕ) (tree : Kernel) (known : Known) (whole : Whole) : Type 0 where
@@ -44,10 +47,11 @@ pub record IsLineKernel (text : List ℕ) (tree : Kernel) (known : Known) (whole
   pub dissolved : tree ≡ alone text reads.whole
   pub found : whole_found text (clauses_counted text reads.whole directives) reads.whole ≡ whole
 
--- and these are the loops of its scans
-pub record IsScannedKernel (text : List ℕ) (tree : Kernel) (known : Known) (whole : Whole) (scans : List ScanLoop) : Type 0 where
+-- and these are the loops of its scans, and its doacross nests
+pub record IsToldKernel (text : List ℕ) (tree : Kernel) (known : Known) (whole : Whole) (told : ToldLoops) : Type 0 where
   pub stands : IsLineKernel text tree known whole
-  pub scans_are : map scan_part scans ≡ scans_counted text stands.reads.whole stands.directives
+  pub scans_are : map scan_part told.scans.items ≡ scans_counted text stands.reads.whole stands.directives
+  pub nests_are : map nest_part told.doacross.items ≡ nests_counted text stands.reads.whole stands.directives
 
 -- what is kept of a text that reads as a tree: the text, and the tree with its regions dissolved
 pub record IsOfKernel (text : List ℕ) (tree : Kernel) (p : Program) : Type 0 where

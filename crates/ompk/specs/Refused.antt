@@ -27,7 +27,7 @@ use Rattle.flow.specs.declared.fault.DataFault.{DataFault}
 use Rattle.pragma_named.specs.Known.{Lines}
 use Rattle.flow_clauses.specs.Fitting.{fit_clauses, number_told}
 use Rattle.flow_clauses.specs.declared.judging.Misuse.{Misuse}
-use Rattle.deptest.specs.Accepted.{clauses_counted, data_counted, HasPassed}
+use Rattle.deptest.specs.Accepted.{clauses_counted, data_counted}
 use Rattle.deptest.specs.Refused.{RefusesLoops}
 use Rattle.ompk.specs.Judged.{Whole, IsRight, whole_found}
 
@@ -47,7 +47,7 @@ RefusesDirectives text tree r = IsOfDirectives r × ((ds : Directives) → IsAtt
 abbrev pub RefusesLines : List ℕ → Kernel → Refusal → Type 0
 RefusesLines text tree r = (r ≡ OutOfMemory) ⊎ RefusesDirectives text tree r
 
--- the first directive or clause that is not known so far has this number (K15, K18)
+-- the first clause that is not known so far has this number (K15)
 abbrev pub RefusesUnknown : List ℕ → Kernel → Refusal → Type 0
 RefusesUnknown text tree r = unknown_among text tree.body ≡ Some (number_of r)
 
@@ -65,8 +65,12 @@ abbrev pub RefusesClauses : Lines → Kernel → Refusal → Type 0
 RefusesClauses lines tree r = (r ≡ OutOfMemory) ⊎ ((m : Misuse) × (number_of r ≡ number_told m) × (fit_clauses lines tree ≡ false))
 
 -- an ordered region stands where it may not, or a parallel loop prints outside of one (K18); or a scan is misused (K17, and K16 of its variable in an input phase)
+abbrev pub RefusesRegions : Whole → Refusal → Type 0
+RefusesRegions whole r = ((whole.ordered ≡ false) × (number_of r ≡ 18)) ⊎ ((whole.phased ≡ false) × ((number_of r ≡ 17) ⊎ (number_of r ≡ 16)))
+
+-- so it is, or a doacross nest is misused (K18)
 abbrev pub RefusesWhole : Whole → Refusal → Type 0
-RefusesWhole whole r = ((whole.ordered ≡ false) × (number_of r ≡ 18)) ⊎ ((whole.phased ≡ false) × ((number_of r ≡ 17) ⊎ (number_of r ≡ 16)))
+RefusesWhole whole r = RefusesRegions whole r ⊎ ((whole.nested ≡ false) × (number_of r ≡ 18))
 
 -- one of these
 abbrev pub RefusesData : List ℕ → Kernel → LineData → Lines → Whole → Refusal → Type 0
@@ -97,13 +101,9 @@ pub record IsJudged (text : List ℕ) (tree : Kernel) (R : LineData) (lines : Li
   pub environment : HasRightData text tree R lines whole
   pub in_range : IsInRange tree
 
--- all of that is well, and the dependence test refuses the tree, or memory was refused
-abbrev pub RefusesPairs : List ℕ → Kernel → Refusal → Type 0
-RefusesPairs text tree r = HasPassed text tree × RefusesLoops text tree r
-
--- a tree whose regions are dissolved is refused by one of these passes or by that test
+-- a tree whose regions are dissolved is refused by one of these passes, or all of that is well, and it is by the dependence test, or memory was refused
 abbrev pub RefusesAlone : List ℕ → Kernel → LineData → Lines → Whole → Refusal → Type 0
-RefusesAlone text tree R lines whole r = RefusesPasses text tree R lines whole r ⊎ RefusesPairs text tree r
+RefusesAlone text tree R lines whole r = RefusesPasses text tree R lines whole r ⊎ RefusesLoops text tree r
 
 -- each directive is known so far, and the tree with its regions dissolved is refused, by the clauses that count for its lines
 abbrev pub RefusesKnown : List ℕ → Kernel → Directives → Refusal → Type 0

@@ -1,6 +1,6 @@
 //! Which texts are accepted.
 
-ghost use Rattle.std.specs.Prelude.{◌≡◌, ◌⊎◌, [], true, None, length, MatchOption, OnOk, IfOk, IfErr};
+ghost use Rattle.std.specs.Prelude.{◌≡◌, ◌⊎◌, [], true, None, map, length, MatchOption, OnOk, IfOk, IfErr};
 ghost use Rattle.flow_clauses.specs.Fitting.{fit_clauses};
 ghost use Rattle.flow.specs.Roles.{data_known, privates_by, ItemsKeepRoles};
 ghost use Rattle.pragma_named.specs.Known.{kept, lines_known};
@@ -12,20 +12,25 @@ ghost use Rattle.ktree.specs.declared.refusal.Refusal.TheVariants.{OutOfMemory};
 ghost use Rattle.semantics.specs.Source.Grammar.{ReadsText};
 ghost use Rattle.semantics.specs.Theorems.{StandsFor};
 ghost use Rattle.semantics.specs.Meaning.Definite.{IsDefinite};
+ghost use Rattle.flow_doacross.specs.Listed as listed;
+ghost use Rattle.flow_doacross.specs.Views.{nest_part};
+ghost use Rattle.flow_scan.specs.Scans as scans;
+ghost use Rattle.flow_scan.specs.Views.{scan_part};
 ghost use Rattle.pragma.specs.Plain.{IsDirected};
 ghost use Rattle.pragma_region.specs.NotKnown.{unknown_among};
 ghost use Rattle.nest.specs.Nests.{IsInRange};
 ghost use Rattle.nest.specs.Perfect.{AreRightNests};
 ghost use Rattle.nest.specs.Judged.{IsTableOf};
 ghost use Rattle.deptest.specs.Accepted.{tree_of, clauses_counted, data_counted, AreRegions, IsAccepted};
-ghost use Rattle.ompk.specs.Judged.{whole_of, whole_found, IsRight, IsScannedKernel, IsOfKernel};
-ghost use Rattle.ompk.specs.Refused.{IsJudged, RefusesLines, RefusesUnknown, RefusesPlaces, RefusesNests, RefusesRanges, RefusesScalars, RefusesClauses, RefusesWhole, HasRightData, RefusesData, RefusesPasses, RefusesAlone, RefusesKernel, RefusesText};
+ghost use Rattle.ompk.specs.Judged.{whole_of, whole_found, IsRight, IsToldKernel, IsOfKernel};
+ghost use Rattle.ompk.specs.Refused.{IsJudged, RefusesLines, RefusesUnknown, RefusesPlaces, RefusesNests, RefusesRanges, RefusesScalars, RefusesClauses, RefusesRegions, RefusesWhole, HasRightData, RefusesData, RefusesPasses, RefusesAlone, RefusesKernel, RefusesText};
 
 use cparse::parse;
 use deptest::{Checked, Parallel, accept};
 use flow::{DataFault, ParallelLoop, classify};
 use flow_clauses::first_misuse;
 use flow_definite::definite;
+use flow_doacross::{DoacrossFault, DoacrossLoop, doacross_of};
 use flow_ordered::{Disorder, first_disorder};
 use flow_scan::{ScanFault, ScanLoop, scans_of};
 use ktree::{Kernel, Refusal};
@@ -57,7 +62,7 @@ fn judge_lines(
     Ok(lines)
 }
 
-// Refuses a kernel with a directive or a clause that is not known so far.
+// Refuses a kernel with a clause that is not known so far.
 fn judge_known(kernel: &Kernel, directives: &Directives) -> Result<(), Refusal>
     ensures ok { OnOk result (unknown_among directives.now (kernel_of kernel.now).body ≡ None) }
     ensures refusal { IfErr result (RefusesUnknown directives.now (kernel_of kernel.now)) }
@@ -219,9 +224,11 @@ fn judge_values(
 struct WholeFaults {
     disorder: Option<Disorder>,
     misuse: Option<ScanFault>,
+    doacross: Option<DoacrossFault>,
 }
 
-// What is wrong with an ordered region, with a loop that prints, or with a scan, in a kernel with all of its directive lines.
+// What is wrong with an ordered region, with a loop that prints, with a scan, or with a doacross nest, in a kernel with all of its
+// directive lines.
 fn whole_faults(
     alloc: Global,
     kernel: &Kernel,
@@ -234,18 +241,37 @@ fn whole_faults(
 {
     let disorder = first_disorder(kernel, directives);
     let misuse = flow_scan::first_misuse(alloc, kernel, directives, lines)?;
-    Ok(WholeFaults { disorder, misuse })
+    let doacross = flow_doacross::first_misuse(alloc, kernel, directives, lines)?;
+    Ok(WholeFaults {
+        disorder,
+        misuse,
+        doacross,
+    })
 }
 
-// What tells of that, of what comes first in the text.
-fn whole_refusal(faults: WholeFaults) -> Option<Refusal>
-    ensures { MatchOption result (IsRight (whole_of faults)) (RefusesWhole (whole_of faults)) }
+// What tells of ordered regions, loops that print and scans, of what comes first in the text.
+fn region_refusal(faults: WholeFaults) -> Option<Refusal>
+    ensures { MatchOption result
+        (((whole_of faults).ordered ≡ true) × ((whole_of faults).phased ≡ true))
+        (RefusesRegions (whole_of faults)) }
 {
     match (faults.disorder, faults.misuse) {
         (None, None) => None,
         (Some(disorder), None) => Some(disorder.refusal()),
         (None, Some(misuse)) => Some(misuse.refusal()),
         (Some(disorder), Some(misuse)) => Some(first_of(disorder.refusal(), misuse.refusal())),
+    }
+}
+
+// What tells of all of that, of what comes first in the text.
+fn whole_refusal(faults: WholeFaults) -> Option<Refusal>
+    ensures { MatchOption result (IsRight (whole_of faults)) (RefusesWhole (whole_of faults)) }
+{
+    match (region_refusal(faults), faults.doacross) {
+        (None, None) => None,
+        (Some(refusal), None) => Some(refusal),
+        (None, Some(doacross)) => Some(doacross.refusal()),
+        (Some(refusal), Some(doacross)) => Some(first_of(refusal, doacross.refusal())),
     }
 }
 
@@ -311,6 +337,32 @@ fn judge(
     Ok(KnownLoops { table, loops })
 }
 
+// The loops of a kernel of which the directive lines inside them tell more: those of scans, and doacross nests.
+#[derive(Drop)]
+struct ToldLoops {
+    scans: Vec<ScanLoop>,
+    doacross: Vec<DoacrossLoop>,
+}
+
+// Those of a kernel with all of its directive lines.
+fn told_loops(
+    alloc: Global,
+    kernel: &Kernel,
+    directives: &Directives,
+    lines: &LineClauses,
+) -> Result<ToldLoops, Refusal>
+    ensures scans { IfOk result (λ told. map scan_part told.scans.items
+        ≡ scans.scans_of directives.now (lines_known (kept lines.now)) (kernel_of kernel.now)) }
+    ensures nests { IfOk result (λ told. map nest_part told.doacross.items
+        ≡ listed.doacross_of directives.now (lines_known (kept lines.now))
+        (kernel_of kernel.now)) }
+    ensures refusal { IfErr result (λ refusal. refusal ≡ OutOfMemory) }
+{
+    let scans = scans_of(alloc, kernel, directives, lines)?;
+    let doacross = doacross_of(alloc, kernel, directives, lines)?;
+    Ok(ToldLoops { scans, doacross })
+}
+
 // Accepts a kernel whose regions are dissolved, or refuses it.
 fn accept_alone(
     alloc: Global,
@@ -318,12 +370,12 @@ fn accept_alone(
     text: &[u8],
     directives: &Directives,
     lines: &LineClauses,
-    scans: Vec<ScanLoop>,
+    told: ToldLoops,
     regions: Vec<RegionPart>,
     faults: WholeFaults,
 ) -> Result<Checked, Refusal>
-    requires stands { IsScannedKernel text.now (kernel_of kernel) (kept lines.now) (whole_of faults)
-        scans.items }
+    requires stands { IsToldKernel text.now (kernel_of kernel) (kept lines.now) (whole_of faults)
+        told }
     requires lines { directives.now ≡ text.now }
     requires regions { AreRegions text.now (kernel_of kernel) regions.items }
     ensures is { IfOk result (λ checked. checked ≡ record { text = text.now; kernel = kernel }) }
@@ -332,9 +384,11 @@ fn accept_alone(
         (lines_known (kept lines.now)) (whole_of faults)) }
 {
     let KnownLoops { table, loops } = judge(alloc, &kernel, directives, lines, faults)?;
+    let ToldLoops { scans, doacross } = told;
     let parallel = Parallel {
         loops,
         scans,
+        doacross,
         regions,
     };
     accept(alloc, directives, &table, text, kernel, parallel)
@@ -356,10 +410,10 @@ fn accept_directed(
     judge_known(&kernel, directives)?;
     let faults = whole_faults(alloc, &kernel, directives, &lines)?;
     let regions = regions_of(alloc, directives, &kernel)?;
-    let scans = scans_of(alloc, &kernel, directives, &lines)?;
+    let told = told_loops(alloc, &kernel, directives, &lines)?;
     let kernel = dissolve_regions(alloc, directives, kernel)?;
     accept_alone(
-        alloc, kernel, text, directives, &lines, scans, regions, faults,
+        alloc, kernel, text, directives, &lines, told, regions, faults,
     )
 }
 
@@ -375,7 +429,7 @@ fn accept_kernel(alloc: Global, kernel: Kernel, text: &[u8]) -> Result<Checked, 
 
 /// Reads a text, and finds out whether it is one of those that are run: its tree is there, its directive lines are read, each
 /// loop and each subscript is of a form that is run and stays inside its array, no local is read before it is assigned, and the
-/// iterations of its parallel loops are shown to be independent (C11 5.1.1.2; OpenMP 5.2, 3.1 and 11.5).
+/// iterations of its parallel loops are shown to be independent, or ordered by their sinks (C11 5.1.1.2; OpenMP 5.2, 3.1, 11.5 and 15.9.6).
 ///
 /// # Errors
 ///

@@ -5,11 +5,10 @@ use Rattle.ktree.specs.View.{kernel_of}
 use Rattle.pragma_named.specs.Known.{kept, lines_known}
 use Rattle.flow.specs.Roles.{data_known}
 use Rattle.flow.specs.Parallel.{AreParallelLoops}
-use Rattle.deptest.specs.Accepted.{HasPassed}
 use Rattle.deptest.specs.Refused.{RefusesLoops}
 use Rattle.ompk.specs.Judged.{whole_of}
 use Rattle.ompk.specs.Refused.{IsJudged, RefusesPasses, RefusesAlone}
-use Rattle.ompk.proofs.Judging.{has_passed, has_loops}
+use Rattle.ompk.proofs.Judging.{has_loops}
 use Rattle.ompk.proofs.accepting.accept_alone.Goals as goal
 
 pub accept-requires-clause-passed : goal.accept-requires-clause-passed
@@ -19,16 +18,15 @@ accept-requires-clause-passed c =
     let R = data_known known (length k.variables) in
     let loops = c.in_ok-table.field-0.loops.items in
     let whole = whole_of c.args.faults in
-    has_loops c.args.text.now k known whole loops c.args.scans.items c.requires.stands.stands (subst (λ (text : List ℕ). IsJudged text k R (lines_known known) whole) c.requires.lines c.in_ok-table.ensures.judged)
-    (subst (λ (text : List ℕ). AreParallelLoops text R k loops) c.requires.lines c.in_ok-table.ensures.listed) c.requires.stands.scans_are
+    has_loops c.args.text.now k known whole loops c.args.told c.requires.stands (subst (λ (text : List ℕ). IsJudged text k R (lines_known known) whole) c.requires.lines c.in_ok-table.ensures.judged)
+    (subst (λ (text : List ℕ). AreParallelLoops text R k loops) c.requires.lines c.in_ok-table.ensures.listed)
 
 pub returns-clause-refusal : goal.returns-clause-refusal
 returns-clause-refusal c =
     let k = kernel_of c.args.kernel in
     let known = kept c.args.lines.now in
     let whole = whole_of c.args.faults in
-    let passed : HasPassed c.args.text.now k = has_passed c.args.text.now k known whole c.requires.stands.stands (subst (λ (text : List ℕ). IsJudged text k (data_known known (length k.variables)) (lines_known known) whole) c.requires.lines c.in_ok-table.ensures.judged) in
-    IfErr-weaker c.accept.result (RefusesLoops c.args.text.now k) (RefusesAlone c.args.text.now k (data_known known (length k.variables)) (lines_known known) whole) (λ r h. inr (passed, h)) c.accept.ensures.err
+    IfErr-weaker c.accept.result (RefusesLoops c.args.text.now k) (RefusesAlone c.args.text.now k (data_known known (length k.variables)) (lines_known known) whole) (λ r h. inr h) c.accept.ensures.err
 
 pub returns-in_err-table-clause-refusal : goal.returns-in_err-table-clause-refusal
 returns-in_err-table-clause-refusal c =

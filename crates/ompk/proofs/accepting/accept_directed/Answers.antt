@@ -8,11 +8,12 @@ use Rattle.pragma_named.specs.Known.{kept, lines_known}
 use Rattle.pragma_region.specs.Regions.{alone}
 use Rattle.pragma_region.specs.NotKnown.{unknown_among}
 use Rattle.flow.specs.Roles.{data_known}
+use Rattle.flow_doacross.specs.Listed.{doacross_of}
 use Rattle.flow_scan.specs.Scans.{scans_of}
 use Rattle.ompk.specs.Judged.{whole_of, whole_found}
 use Rattle.deptest.specs.Accepted.{clauses_counted, data_counted}
 use Rattle.ompk.specs.Refused.{RefusesUnknown, RefusesAlone, RefusesKernel}
-use Rattle.ompk.proofs.Judging.{scanned_kernel, alone_refused, unknown_refused}
+use Rattle.ompk.proofs.Judging.{told_kernel, alone_refused, unknown_refused}
 use Rattle.ompk.proofs.accepting.accept_directed.Goals as goal
 
 pub accept_alone-requires-clause-stands : goal.accept_alone-requires-clause-stands
@@ -22,13 +23,14 @@ accept_alone-requires-clause-stands c =
     let ds = directives_of c.args.directives.now tree in
     let said = c.in_ok-lines.ensures in
     let known = kept c.in_ok-lines.lines in
-    scanned_kernel text tree (kernel_of c.in_ok-kernel.kernel) ds known (whole_of c.in_ok-faults.faults) c.in_ok-scans.scans.items c.requires.reads (subst (λ (t : List ℕ). IsAttached t tree ds) c.requires.lines said.attached)
+    told_kernel text tree (kernel_of c.in_ok-kernel.kernel) ds known (whole_of c.in_ok-faults.faults) c.in_ok-told.told c.requires.reads (subst (λ (t : List ℕ). IsAttached t tree ds) c.requires.lines said.attached)
     (subst (λ (t : List ℕ). unknown_among t tree.body ≡ None) c.requires.lines c.in_ok-judge_known.ensures.ok)
     (subst (λ (t : List ℕ). clauses_counted t tree ds ≡ lines_known known) c.requires.lines said.clauses)
     (subst (λ (t : List ℕ). data_counted t tree ds ≡ data_known known (length tree.variables)) c.requires.lines said.roles)
     (c.in_ok-kernel.ensures ∙ ap (λ (t : List ℕ). alone t tree) c.requires.lines)
     (c.in_ok-faults.ensures.found ∙ ap (λ (t : List ℕ). whole_found t (lines_known known) tree) c.requires.lines)
-    (c.in_ok-scans.ensures ∙ ap (λ (t : List ℕ). scans_of t (lines_known known) tree) c.requires.lines)
+    (c.in_ok-told.ensures.scans ∙ ap (λ (t : List ℕ). scans_of t (lines_known known) tree) c.requires.lines)
+    (c.in_ok-told.ensures.nests ∙ ap (λ (t : List ℕ). doacross_of t (lines_known known) tree) c.requires.lines)
 
 pub returns-clause-refusal : goal.returns-clause-refusal
 returns-clause-refusal c =
