@@ -16,6 +16,7 @@ import tempfile
 TOP = pathlib.Path(__file__).resolve().parent.parent
 DIRECTIVE = re.compile(r"^[ \t]*#[ \t]*pragma[ \t]+omp(?:[ \t].*)?$", re.M)
 COMMENT = re.compile(r"//[^\n]*|/\*[^\n]*?\*/")
+DOACROSS = re.compile(r"\bdoacross\(\s*(?:(sink)\s*:|(source)\s*:?)([^)]*)\)")
 NAME = re.compile(r"uint64_t\s+([A-Za-z]\w*)\s*(?:\[[^\];]*\]\s*)*;")
 
 
@@ -40,6 +41,11 @@ def driver(text, given):
     return "\n".join(["#include <inttypes.h>", "#include <stdint.h>", "#include <stdio.h>"] + lines) + "\n"
 
 
+def spelled_before(text):
+    """The clause `doacross` of OpenMP 5.2 as compilers of 5.1 and before have it."""
+    return DOACROSS.sub(lambda clause: f"depend(sink: {clause[3]})" if clause[1] else "depend(source)", text)
+
+
 def compiled(work, text, given, *flags):
     """What the C compiler's program writes."""
     source, program = work / "program.c", work / "program"
@@ -55,7 +61,7 @@ def judge(work, kernel):
     words = ["--input", str(file)] if file.exists() else []
     text = kernel.read_text()
     wanted = compiled(work, DIRECTIVE.sub("", text), given)
-    faults = [] if compiled(work, text, given, "-fopenmp") == wanted else ["the C program with OpenMP"]
+    faults = [] if compiled(work, spelled_before(text), given, "-fopenmp") == wanted else ["the C program with OpenMP"]
     ways = [["seq"]] + [["run", "--workers", str(workers)] for workers in (1, 3, 64)]
     for command, *options in ways:
         ran = subprocess.run([TOP / "ompk", command, kernel, *words, *options], capture_output=True)

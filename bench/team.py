@@ -7,7 +7,7 @@ A line for each kernel: seconds from start to end (the median of five rounds, in
 loops by so many workers, of the same text without its directive lines, and of gcc with as many threads. Then chunks of one iteration:
 nanoseconds for each, and bytes of memory for each beside the store, of a million chunks and of 2^24. Then a loop of 8 iterations inside 10,000
 turns of a serial loop: microseconds a turn, also by more workers than there are processors. Every program has to print the same. The machine
-should be idle. The status is 1 where a target is missed: by one worker at most 1.5 times the time of the text without directive lines; a chunk
+should be idle. The status is 1 where a target is missed: by one worker at most 1.5 times the time of the text without directive lines; of a doacross nest at most the time of gcc; a chunk
 of one iteration below 500 ns, and at most 64 bytes for it beside the 16 of its write; and on four processors at least 2.5 times the speed by
 4 workers of a hash and a product, and at most 3 us a turn by 4.
 """
@@ -127,6 +127,52 @@ void kernel(void)
 }
 """
 
+DISTANCE = """uint64_t D[1001][1001];
+
+void kernel(void)
+{
+    uint64_t best;
+
+    for (uint64_t i = 0; i < 1001; i++) {
+        D[i][0] = i;
+        D[0][i] = i;
+    }
+    #pragma omp parallel for ordered(2) private(best)
+    for (uint64_t i = 1; i < 1001; i++) {
+        for (uint64_t j = 1; j < 1001; j++) {
+            #pragma omp ordered doacross(sink: i-1, j-1)
+            #pragma omp ordered doacross(sink: i-1, j)
+            #pragma omp ordered doacross(sink: i, j-1)
+            best = D[i-1][j-1] + (i * 7 % 4 != j * 5 % 4 ? 1 : 0);
+            if (D[i-1][j] + 1 < best) best = D[i-1][j] + 1;
+            if (D[i][j-1] + 1 < best) best = D[i][j-1] + 1;
+            D[i][j] = best;
+            #pragma omp ordered doacross(source:)
+        }
+    }
+}
+"""
+SWEEP = """uint64_t G[1002][1002];
+
+void kernel(void)
+{
+    for (uint64_t i = 0; i < 1002; i++) {
+        for (uint64_t j = 0; j < 1002; j++) {
+            G[i][j] = i * 31 + j * 17 & 255;
+        }
+    }
+    #pragma omp parallel for ordered(2)
+    for (uint64_t i = 1; i < 1001; i++) {
+        for (uint64_t j = 1; j < 1001; j++) {
+            #pragma omp ordered doacross(sink: i-1, j)
+            #pragma omp ordered doacross(sink: i, j-1)
+            G[i][j] = (G[i-1][j] + G[i][j-1] + G[i+1][j] + G[i][j+1]) / 4;
+            #pragma omp ordered doacross(source:)
+        }
+    }
+}
+"""
+
 
 def reduced(operator, update):
     """A kernel that reduces 16 million elements by an operator."""
@@ -141,6 +187,8 @@ KERNELS = {
     "max": reduced("max", "if ((A[i] ^ i) > s) s = (A[i] ^ i);"),
     "xor": reduced("^", "s ^= A[i] + i;"),
     "prefix": PREFIX,
+    "distance": DISTANCE,
+    "sweep": SWEEP,
 }
 COMPUTED = ("hash", "product")
 
@@ -163,6 +211,8 @@ class Runner:
             f'printf("{array} ="); for (long i = 0; i < (long)(sizeof {array} / 8); i++) printf(" %lu", ((uint64_t *)&{array})[i]); printf("\\n");\n'
             for array in re.findall(r"^uint64_t (\w+)", text, re.M)
         )
+        # the clause `doacross` of OpenMP 5.2 is `depend` in the compilers of 5.1 and before
+        text = re.sub(r"doacross\(sink: (.*)\)", r"depend(sink: \1)", text).replace("doacross(source:)", "depend(source)")
         path = self.folder / f"{name}_main.c"
         path.write_text(f"#include <stdint.h>\n#include <stdio.h>\n{text}int main(void)\n{{\nkernel();\n{dump}return 0;\n}}\n")
         subprocess.run(["gcc", "-O2", "-fopenmp", "-o", self.folder / name, path], check=True)
@@ -230,6 +280,8 @@ def main(program):
             print(f"{kernel:10}" + "".join(f"{it:11.3f}" for it in found.values()), flush=True)
             if kernel in COMPUTED and os.cpu_count() >= 4 and found["1 workers"] < FASTER * found["4 workers"]:
                 missed.append(f"{kernel}: 4 workers are {found['1 workers'] / found['4 workers']:.1f} times as fast as one")
+            if "doacross" in text:
+                missed += [f"{kernel}: {workers} workers are slower than gcc with as many threads" for workers in TEAMS if found[f"{workers} workers"] > found[f"gcc {workers}"]]
             if found["1 workers"] > SLOWER * found["serial"]:
                 missed.append(f"{kernel}: one worker takes {found['1 workers'] / found['serial']:.1f} times the time without directive lines")
         for count in (1000000, 1 << 24):

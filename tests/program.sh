@@ -58,6 +58,7 @@ expect 0 "$all" '' run examples/increment.c --input examples/increment.in
 expect 0 $'A = 0 1 2 3 4 5 6 7\n' '' run examples/increment.c
 for workers in 1 2 3 4 64; do
     expect 0 $'A = 3 1 4 1 5 9 2 6 5 3\nbefore = 0 3 4 8 9 14 23 25 31 36\nmost = 3 3 4 4 5 9 9 9 9 9\nsum = 39\ngreatest = 9\n' '' run examples/prefix.c --input examples/prefix.in --workers "$workers"
+    expect 0 $'one = 107 105 116 116 101 110\nother = 115 105 116 116 105 110 103\nD = 0 1 2 3 4 5 6 7 1 1 2 3 4 5 6 7 2 2 1 2 3 4 5 6 3 3 2 1 2 3 4 5 4 4 3 2 1 2 3 4 5 5 4 3 2 2 3 4 6 6 5 4 3 3 2 3\ndistance = 3\n' '' run examples/distance.c --input examples/distance.in --workers "$workers"
 done
 expect 0 $'1.0 __kmpc_fork_call\n1.1 __kmpc_dispatch_init_8u dynamic,3\n1.1 __kmpc_dispatch_next_8u\n1.1 __kmpc_barrier\n' '' lower examples/increment.c
 expect 3 '' $'K19 9:9 conflict: A at 9:9 and 9:16, iterations 0 and 1, element A[1]\n' lower examples/shift.c
@@ -107,6 +108,9 @@ body 'K11 6:1 directive' $'\n#pragma omp simd\nfor (uint64_t i = 0; i < 3; i++) 
 body 'K11 8:1 directive' $'\n#pragma omp parallel for\nfor (uint64_t i = 0; i < 3; i++) {\n#pragma omp parallel for\nfor (uint64_t j = 0; j < 3; j++) { d[j] = i; } }'
 body 'K12 7:1 nest not perfect' $'\n#pragma omp parallel for collapse(2)\nfor (uint64_t i = 0; i < 3; i++) { d[i] = i; }'
 body 'K21 7:1 limit' $'\n#pragma omp parallel for\nfor (uint64_t i = 0; i < 16777217; i++) { d[0] = 1; }'
+body 'K21 7:1 limit' $'\n#pragma omp parallel for ordered(1)\nfor (uint64_t i = 0; i < 1048577; i++) {\n#pragma omp ordered doacross(sink: i-1)\nd[0] = 1;\n#pragma omp ordered doacross(source:)\n}'
+body 'K18 8:1 ordered' $'\n#pragma omp parallel for ordered(1)\nfor (uint64_t i = 0; i < 3; i++) {\n#pragma omp ordered doacross(sink: i+1)\nd[i] = 1;\n#pragma omp ordered doacross(source:)\n}'
+body 'K18 8:36 ordered' $'\n#pragma omp parallel for ordered(1)\nfor (uint64_t i = 0; i < 3; i++) {\n#pragma omp ordered doacross(sink: j-1)\nd[i] = 1;\n#pragma omp ordered doacross(source:)\n}'
 body 'K11 6:1 directive' $'\n#pragma omp parallel for schedule(auto, 2)\nfor (uint64_t i = 0; i < 3; i++) { d[i] = i; }'
 body 'K11 6:1 directive' $'\n#pragma omp parallel for schedule(dynamic, 2)\ns = 1;'
 body 'K11 6:1 directive' $'\n#pragma omp parallel for schedule(dynamic, 2)\n'

@@ -412,7 +412,7 @@ fn clauses_of_regions_count_for_their_loops(rt: HostRuntime) {
 }
 
 #[test]
-fn clauses_that_are_not_known_so_far_are_refused(rt: HostRuntime) {
+fn conditional_clauses_and_ordered_regions_are_refused(rt: HostRuntime) {
     const ROWS: &[(&str, u8)] = &[
         (
             "uint64_t x = 1;\n#pragma omp parallel for lastprivate(conditional: x)\nfor (uint64_t i = 0; i < 3; i++) { x = i; d[i] = x; }",
@@ -424,14 +424,6 @@ fn clauses_that_are_not_known_so_far_are_refused(rt: HostRuntime) {
         ),
         (
             "\n#pragma omp parallel for\nfor (uint64_t i = 0; i < 3; i++) {\n#pragma omp ordered\nprintf(\"1\"); }",
-            18,
-        ),
-        (
-            "\n#pragma omp parallel for ordered(1)\nfor (uint64_t i = 1; i < 3; i++) {\n#pragma omp ordered doacross(sink: i-1)\nd[i] = d[i-1];\n#pragma omp ordered doacross(source:)\n}",
-            18,
-        ),
-        (
-            "\n#pragma omp parallel for\nfor (uint64_t i = 0; i < 3; i++) { d[i] = i;\n#pragma omp ordered doacross(source:)\n}",
             18,
         ),
     ];

@@ -5,6 +5,8 @@
 #[cfg(test)]
 mod calls;
 #[cfg(test)]
+mod doacross;
+#[cfg(test)]
 mod first_faults;
 #[cfg(test)]
 mod kernels;

@@ -139,3 +139,18 @@ fn regions_are_numbered_in_the_order_of_the_text(rt: HostRuntime) {
     ];
     no_other(&rt, first_other(rt.alloc(), ROWS));
 }
+
+#[test]
+fn doacross_nests_are_listed(rt: HostRuntime) {
+    const ROWS: &[Row] = &[
+        Row {
+            body: "#pragma omp parallel for ordered(2)\nfor (uint64_t i = 1; i < 4; i++) for (uint64_t j = 1; j < 4; j++) {\n#pragma omp ordered doacross(sink: i-1, j)\n#pragma omp ordered doacross(sink: i, j-1)\nB[i][j] = B[i-1][j] + B[i][j-1];\n#pragma omp ordered doacross(source:)\n}",
+            listing: "1.0 __kmpc_fork_call\n1.1 __kmpc_doacross_init 2\n1.1 __kmpc_for_static_init_8u static\n1.1 __kmpc_doacross_wait -1,0\n1.1 __kmpc_doacross_wait 0,-1\n1.1 __kmpc_doacross_post\n1.1 __kmpc_for_static_fini\n1.1 __kmpc_doacross_fini\n1.1 __kmpc_barrier\n",
+        },
+        Row {
+            body: "#pragma omp parallel\n{\n#pragma omp for\nfor (uint64_t i = 0; i < 8; i++) { A[i] = i; }\n#pragma omp for ordered(1) schedule(dynamic, 2)\nfor (uint64_t i = 2; i < 8; i++) {\n#pragma omp ordered doacross(sink: i-2)\n#pragma omp ordered doacross(sink: i-6)\nA[i] = A[i-2] + 1;\n#pragma omp ordered doacross(source:)\n}\n}",
+            listing: "1.0 __kmpc_fork_call\n1.1 __kmpc_for_static_init_8u static\n1.1 __kmpc_for_static_fini\n1.1 __kmpc_barrier\n1.2 __kmpc_doacross_init 1\n1.2 __kmpc_dispatch_init_8u dynamic,2\n1.2 __kmpc_dispatch_next_8u\n1.2 __kmpc_doacross_wait -2\n1.2 __kmpc_doacross_wait -6\n1.2 __kmpc_doacross_post\n1.2 __kmpc_doacross_fini\n1.2 __kmpc_barrier\n",
+        },
+    ];
+    no_other(&rt, first_other(rt.alloc(), ROWS));
+}
