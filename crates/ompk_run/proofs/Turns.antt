@@ -15,7 +15,7 @@ use Rattle.seqrun.proofs.RunLemmas.{turns_on, turns_over, turns_last}
 use Rattle.lower_code.specs.declared.term.Laid.{Laid}
 use Rattle.lower_code.specs.declared.term.Test.{Test}
 use Rattle.lower_code.specs.Machine.{machine, truth}
-use Rattle.lower_block.specs.declared.op.Compiled.{Compiled}
+use Rattle.lower_block.specs.declared.tree.Compiled.{Compiled}
 use Rattle.lower_run.specs.Walk.{Stage, Performs, Walks, Begins}
 use Rattle.outline.specs.declared.shape.LoweredHead.{LoweredHead}
 use Rattle.outline.specs.declared.shape.Outline.{Outline, If, For, For', Block}

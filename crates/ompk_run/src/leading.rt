@@ -9,6 +9,8 @@ ghost use Rattle.ompk_run.specs.Led.{AreWalked, AreBegun};
 use crate::teaming::{Teaming, team_block};
 use crew::{Crew, dismiss, serve_all};
 use ktree::{Refusal, Workers};
+use lane_rows::Bench;
+use lower_lanes::new_bench;
 use outline::OutlineItem;
 use schedule::Sched;
 use seqrun_io::Sink;
@@ -24,6 +26,7 @@ fn lead<'l, R: Threads + Wait + Sync, G: Gate, S: Sink>(
     team: &Teaming<'_, '_, '_, 'l, R, G>,
     registers: &mut Vec<u64>,
     store: &mut Store,
+    bench: &mut Bench,
     sink: &mut S,
 ) -> Result<(), Refusal>
     requires room { S.failed sink.old + 1 < 2 ^ 64 }
@@ -36,7 +39,7 @@ fn lead<'l, R: Threads + Wait + Sync, G: Gate, S: Sink>(
     ensures refusal { IfErr result (Refuses (S.failed sink.old) (S.failed sink.new)) }
     ensures shape { lengths_of store.new ≡ lengths_of store.old }
 {
-    let end = team_block(items, team, registers, store, sink);
+    let end = team_block(items, team, registers, store, bench, sink);
     dismiss(team.crew);
     end
 }
@@ -47,6 +50,7 @@ fn run_led<'l, R: Threads + Wait + Sync, G: Gate + Sync, S: Sink>(
     team: &Teaming<'_, '_, '_, 'l, R, G>,
     registers: &mut Vec<u64>,
     store: &mut Store,
+    bench: &mut Bench,
     sink: &mut S,
 ) -> Result<(), Refusal>
     requires room { S.failed sink.old + 1 < 2 ^ 64 }
@@ -60,7 +64,7 @@ fn run_led<'l, R: Threads + Wait + Sync, G: Gate + Sync, S: Sink>(
     ensures shape { lengths_of store.new ≡ lengths_of store.old }
 {
     if team.crew.others() == 0 {
-        return lead(items, team, registers, store, sink);
+        return lead(items, team, registers, store, bench, sink);
     }
     let (rt, alloc, crew, gate) = (team.rt, team.alloc, team.crew, team.gate);
     let (_, end) = join_mut(
@@ -68,7 +72,7 @@ fn run_led<'l, R: Threads + Wait + Sync, G: Gate + Sync, S: Sink>(
         &mut || serve_all(rt, alloc, crew, gate),
         &mut || -> Result<(), Refusal>
             requires { S.failed sink.now + 1 < 2 ^ 64 }
-        { lead(items, team, registers, store, sink) },
+        { lead(items, team, registers, store, bench, sink) },
     );
     end
 }
@@ -96,6 +100,7 @@ pub(crate) fn run_body<'l, R: Threads + Wait + Sync, G: Gate + Sync, S: Sink>(
     ensures refusal { IfErr result (Refuses (S.failed sink.old) (S.failed sink.new)) }
     ensures shape { lengths_of store.new ≡ lengths_of store.old }
 {
+    let mut bench = new_bench(alloc)?;
     let crew = Crew::new(alloc, others)?;
     let team = Teaming {
         rt,
@@ -105,5 +110,5 @@ pub(crate) fn run_body<'l, R: Threads + Wait + Sync, G: Gate + Sync, S: Sink>(
         sched,
         gate,
     };
-    run_led(items, &team, registers, store, sink)
+    run_led(items, &team, registers, store, &mut bench, sink)
 }

@@ -13,6 +13,7 @@ ghost use Rattle.lower_run.specs.Walk.{Walks, Begins, stage};
 ghost use Rattle.ompk_run.specs.Taken.{taken_at, taken_each, reduced_at, taken};
 
 use ktree::Refusal;
+use lane_rows::Bench;
 use lower::{LoweredReduction, LoweredRoles, Spot};
 use lower_run::{confirm_words, perform};
 use outline::TeamLoop;
@@ -82,6 +83,7 @@ pub(crate) fn run_by_one<G: Gate, S: Sink>(
     gate: &G,
     registers: &mut Vec<u64>,
     store: &mut Store,
+    bench: &mut Bench,
     sink: &mut S,
 ) -> Result<(), Refusal>
     requires room { S.failed sink.old + 1 < 2 ^ 64 }
@@ -105,7 +107,7 @@ pub(crate) fn run_by_one<G: Gate, S: Sink>(
         chunk: 0,
         chunks: 1,
     });
-    perform(&construct.code, &mut own, store, sink)?;
+    perform(&construct.code, &mut own, store, bench, sink)?;
     take_roles(own.as_slice(), &construct.lowered.roles, registers);
     confirm_words(registers.as_slice(), store);
     Ok(())

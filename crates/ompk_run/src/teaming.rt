@@ -18,6 +18,7 @@ ghost use Rattle.lower_run.specs.Walk.{Walks, Begins, stage};
 
 use crate::single::run_by_one;
 use ktree::{Refusal, Schedule, Workers};
+use lane_rows::Bench;
 use lower::LoweredLoop;
 use lower_code::{Test, truth};
 use lower_run::{confirm_words, perform};
@@ -194,6 +195,7 @@ fn run_parallel_loop<'l, R: Threads + Wait + Sync, G: Gate, S: Sink>(
     team: &Teaming<'_, '_, '_, 'l, R, G>,
     registers: &mut Vec<u64>,
     store: &mut Store,
+    bench: &mut Bench,
     sink: &mut S,
 ) -> Result<(), Refusal>
     requires room { S.failed sink.old + 1 < 2 ^ 64 }
@@ -211,13 +213,13 @@ fn run_parallel_loop<'l, R: Threads + Wait + Sync, G: Gate, S: Sink>(
     ensures shape { lengths_of store.new ≡ lengths_of store.old }
 {
     if team.workers.get() == 1 {
-        return run_by_one(team.alloc, construct, team.gate, registers, store, sink);
+        return run_by_one(team.alloc, construct, team.gate, registers, store, bench, sink);
     }
     match &construct.way {
         Way::Chunks => run_team_loop(construct, team, registers, store, sink),
         Way::Scan(first) => run_scan_loop(construct, first, team, registers, store, sink),
         Way::Waves(sinks) => run_wave_loop(construct, sinks, team, registers, store),
-        Way::Alone => run_by_one(team.alloc, construct, team.gate, registers, store, sink),
+        Way::Alone => run_by_one(team.alloc, construct, team.gate, registers, store, bench, sink),
     }
 }
 
@@ -228,6 +230,7 @@ fn team_statement<'l, R: Threads + Wait + Sync, G: Gate, S: Sink>(
     team: &Teaming<'_, '_, '_, 'l, R, G>,
     registers: &mut Vec<u64>,
     store: &mut Store,
+    bench: &mut Bench,
     sink: &mut S,
 ) -> Result<(), Refusal>
     requires room { S.failed sink.old + 1 < 2 ^ 64 }
@@ -243,29 +246,29 @@ fn team_statement<'l, R: Threads + Wait + Sync, G: Gate, S: Sink>(
     ensures shape { lengths_of store.new ≡ lengths_of store.old }
 {
     match outline {
-        Outline::Serial(code, _stmt) => perform(code, registers, store, sink),
-        Outline::Team(construct) => run_parallel_loop(construct, team, registers, store, sink),
+        Outline::Serial(code, _stmt) => perform(code, registers, store, bench, sink),
+        Outline::Team(construct) => run_parallel_loop(construct, team, registers, store, bench, sink),
         Outline::If(test, _cond, then, other) => {
             if holds(test, registers, store) {
-                team_statement(then, team, registers, store, sink)
+                team_statement(then, team, registers, store, bench, sink)
             } else if let Some(other) = other {
-                team_statement(other, team, registers, store, sink)
+                team_statement(other, team, registers, store, bench, sink)
             } else {
                 Ok(())
             }
         }
         Outline::For(lowered, _head, body) => {
-            perform(&lowered.entry, registers, store, sink)?;
+            perform(&lowered.entry, registers, store, bench, sink)?;
             for _turn in 0..u64::MAX {
                 if !holds(&lowered.test, registers, store) {
                     return Ok(());
                 }
-                team_statement(body, team, registers, store, sink)?;
-                perform(&lowered.step, registers, store, sink)?;
+                team_statement(body, team, registers, store, bench, sink)?;
+                perform(&lowered.step, registers, store, bench, sink)?;
             }
             Ok(())
         }
-        Outline::Block(items) => team_block(items, team, registers, store, sink),
+        Outline::Block(items) => team_block(items, team, registers, store, bench, sink),
     }
 }
 
@@ -276,6 +279,7 @@ pub(crate) fn team_block<'l, R: Threads + Wait + Sync, G: Gate, S: Sink>(
     team: &Teaming<'_, '_, '_, 'l, R, G>,
     registers: &mut Vec<u64>,
     store: &mut Store,
+    bench: &mut Bench,
     sink: &mut S,
 ) -> Result<(), Refusal>
     requires room { S.failed sink.old + 1 < 2 ^ 64 }
@@ -293,7 +297,7 @@ pub(crate) fn team_block<'l, R: Threads + Wait + Sync, G: Gate, S: Sink>(
     ensures shape { lengths_of store.new ≡ lengths_of store.old }
 {
     for item in items {
-        team_item(item, team, registers, store, sink)?;
+        team_item(item, team, registers, store, bench, sink)?;
     }
     Ok(())
 }
@@ -305,6 +309,7 @@ fn team_item<'l, R: Threads + Wait + Sync, G: Gate, S: Sink>(
     team: &Teaming<'_, '_, '_, 'l, R, G>,
     registers: &mut Vec<u64>,
     store: &mut Store,
+    bench: &mut Bench,
     sink: &mut S,
 ) -> Result<(), Refusal>
     requires room { S.failed sink.old + 1 < 2 ^ 64 }
@@ -322,7 +327,7 @@ fn team_item<'l, R: Threads + Wait + Sync, G: Gate, S: Sink>(
     ensures shape { lengths_of store.new ≡ lengths_of store.old }
 {
     match item {
-        OutlineItem::Plain(code, _item) => perform(code, registers, store, sink),
-        OutlineItem::Statement(inner) => team_statement(inner, team, registers, store, sink),
+        OutlineItem::Plain(code, _item) => perform(code, registers, store, bench, sink),
+        OutlineItem::Statement(inner) => team_statement(inner, team, registers, store, bench, sink),
     }
 }

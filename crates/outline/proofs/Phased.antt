@@ -17,7 +17,7 @@ use Rattle.lower_code.specs.declared.term.Code.{Code, Nothing}
 use Rattle.lower_code.specs.Meaning.{AreLocals, Does}
 use Rattle.lower_code.proofs.Doing.{then_does, nothing_declares}
 use Rattle.lower_code.proofs.Whole.{locals_left, locals_right}
-use Rattle.lower_block.specs.declared.op.Compiled.{Compiled}
+use Rattle.lower_block.specs.declared.tree.Compiled.{Compiled}
 use Rattle.lower_run.specs.Walk.{Performs}
 use Rattle.outline.specs.Handed.{IsInputOf, AreItemsCode}
 

@@ -48,7 +48,7 @@ use Rattle.lower_code.specs.declared.term.Laid.{Laid}
 use Rattle.lower_code.specs.declared.term.Test.{Test}
 use Rattle.lower_code.specs.Meaning.{AreLocals, MeansTest}
 use Rattle.lower_code.proofs.Whole.{locals_left, locals_right}
-use Rattle.lower_block.specs.declared.op.Compiled.{Compiled}
+use Rattle.lower_block.specs.declared.tree.Compiled.{Compiled}
 use Rattle.lower_run.specs.Walk.{Performs}
 use Rattle.lower.specs.Roles.{StandEach, AreReduced, AreRolesAt}
 use Rattle.lower.specs.declared.roles.LoweredRoles.{LoweredRoles}

@@ -19,7 +19,7 @@ use Rattle.law_independence.specs.Said.{SaidInside}
 use Rattle.law_independence.specs.OrderLaws.{SharesAsNest}
 use Rattle.lower_code.specs.declared.term.Laid.{Laid}
 use Rattle.lower_code.specs.Meaning.{MeansTest, AreLocals}
-use Rattle.lower_block.specs.declared.op.Compiled.{Compiled}
+use Rattle.lower_block.specs.declared.tree.Compiled.{Compiled}
 use Rattle.lower_run.specs.Walk.{Performs}
 use Rattle.lower.specs.declared.lowered.LoweredLoop.{LoweredLoop}
 use Rattle.lower.specs.Lowered.{IsLoweredFrom}

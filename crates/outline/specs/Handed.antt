@@ -33,7 +33,7 @@ use Rattle.law_independence.specs.Said.{LinesInside}
 use Rattle.law_independence.specs.OrderLaws.{used_roles}
 use Rattle.lower_code.specs.declared.term.Laid.{Laid}
 use Rattle.lower_code.specs.Meaning.{AreLocals}
-use Rattle.lower_block.specs.declared.op.Compiled.{Compiled}
+use Rattle.lower_block.specs.declared.tree.Compiled.{Compiled}
 use Rattle.lower_run.specs.Walk.{Performs}
 use Rattle.lower.specs.Roles.{AreRolesAt}
 use Rattle.lower.specs.declared.lowered.LoweredLoop.{LoweredLoop}

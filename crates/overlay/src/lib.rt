@@ -11,4 +11,4 @@ mod worker;
 
 pub use beginning::Start;
 pub use positions::Order;
-pub use worker::{Bench, Piece, Work, Worker};
+pub use worker::{Piece, Tools, Work, Worker};

@@ -13,6 +13,7 @@ use crate::ending::{Told, put_roles_back, tell};
 use crate::positions::Order;
 use crate::walking::{copy_registers, end_of, run_iterations};
 use crate::worker::Work;
+use lane_rows::Bench;
 use lower::{LoweredLoop, LoweredReduction, Spot};
 use nest_space::Space;
 use overlay_pages::Chunk;
@@ -51,6 +52,7 @@ fn run_from(
     start: Start,
     registers: &mut [u64],
     cells: &mut Chunk<'_>,
+    bench: &mut Bench,
 ) -> Result<Told, AllocError>
     requires loops { length space.now ≡ length lowered.now.loops.items }
     requires work { work.first + work.count ≤ length (ordered order (vectors space.now)) }
@@ -65,7 +67,7 @@ fn run_from(
     let reductions = lowered.roles.reductions.as_slice();
     begin(reductions, start, registers, cells);
     bring_near(reductions, cells);
-    let text = run_iterations(alloc, lowered, space, order, work, registers, cells)?;
+    let text = run_iterations(alloc, lowered, space, order, work, registers, cells, bench)?;
     let has_last = has_last(space, order, work);
     let told = tell(
         alloc,
@@ -97,6 +99,7 @@ pub fn run_copied(
     start: Start,
     own: &mut Vec<u64>,
     cells: &mut Chunk<'_>,
+    bench: &mut Bench,
 ) -> Result<Told, AllocError>
     requires loops { length space.now ≡ length lowered.now.loops.items }
     requires work { work.first + work.count ≤ length (ordered order (vectors space.now)) }
@@ -117,5 +120,6 @@ pub fn run_copied(
         start,
         own.as_mut_slice(),
         cells,
+        bench,
     )
 }

@@ -9,7 +9,7 @@ ghost use Rattle.overlay.specs.Spots.{held_at, with_at, back_at};
 use crate::walking::put;
 use ktree::VarId;
 use lower::Spot;
-use lower_block::Cells;
+use lower_op::Cells;
 use overlay_pages::Chunk;
 
 // What a variable's register holds, and 0 where it has none.

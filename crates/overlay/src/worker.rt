@@ -15,7 +15,9 @@ use crate::ending::Told;
 use crate::positions::Order;
 use crate::running::run_copied;
 use ktree::{ChunkNo, Refusal};
+use lane_rows::Bench;
 use lower::LoweredLoop;
+use lower_lanes::new_bench;
 use nest_space::Space;
 use overlay_pages::{Changes, Chunk, Own};
 use reduce::Partial;
@@ -46,11 +48,12 @@ pub struct Piece {
     pub text: Memory,
 }
 
-/// What a worker leaves to one of a later loop: memory, in which nothing is written.
+/// What a worker leaves to one of a later loop: memory, and nothing written in the cells of its own.
 #[derive(Drop)]
-pub struct Bench {
+pub struct Tools {
     own: Own,
     registers: Vec<u64>,
+    bench: Bench,
     pub ghost unwritten: { own ≡ replicate (length own) None },
 }
 
@@ -59,6 +62,7 @@ pub struct Bench {
 pub struct Worker<'s> {
     cells: Chunk<'s>,
     registers: Vec<u64>,
+    bench: Bench,
 }
 
 impl<'s> Model for Worker<'s> {
@@ -109,6 +113,7 @@ fn run_whole(
     start: Start,
     own: &mut Vec<u64>,
     cells: &mut Chunk<'_>,
+    bench: &mut Bench,
 ) -> Result<Piece, Refusal>
     requires loops { length space.now ≡ length lowered.now.loops.items }
     requires space { IsSpaceOf lowered.now registers.now space.now }
@@ -128,7 +133,7 @@ fn run_whole(
         ≡ replicate (length (values_of cells.new.store)) None }
 {
     match run_copied(
-        alloc, lowered, registers, space, order, work, start, own, cells,
+        alloc, lowered, registers, space, order, work, start, own, cells, bench,
     ) {
         Ok(told) => Ok(finish(alloc, told, cells)?),
         Err(AllocError) => {
@@ -138,14 +143,34 @@ fn run_whole(
     }
 }
 
-// A worker with this memory, in which nothing is written.
-fn worker_over<'s>(store: &'s Store, own: Own, registers: Vec<u64>) -> Worker<'s>
-    requires { own ≡ replicate (length (values_of store.now)) None }
+// Tools over the cells of a store.
+fn new_tools(alloc: Global, store: &Store) -> Result<Tools, Refusal>
+    ensures many { IfOk result (λ tools. length tools.own ≡ length (values_of store.now)) }
+    ensures refusal { IfErr result (λ refusal. refusal ≡ OutOfMemory) }
+{
+    let own = Own::new(alloc, store)?;
+    let bench = new_bench(alloc)?;
+    Ok(Tools {
+        own,
+        registers: Vec::new(alloc),
+        bench,
+    })
+}
+
+// A worker with these tools.
+fn worker_over<'s>(store: &'s Store, tools: Tools) -> Worker<'s>
+    requires { length tools.own ≡ length (values_of store.now) }
     ensures { result ≡ store.now }
 {
+    let Tools {
+        own,
+        registers,
+        bench,
+    } = tools;
     Worker {
         cells: Chunk::over(store, own),
         registers,
+        bench,
     }
 }
 
@@ -159,8 +184,8 @@ impl<'s> Worker<'s> {
         ensures store { IfOk result (λ worker. worker ≡ store.now) }
         ensures refusal { IfErr result (λ refusal. refusal ≡ OutOfMemory) }
     {
-        let own = Own::new(alloc, store)?;
-        Ok(worker_over(store, own, Vec::new(alloc)))
+        let tools = new_tools(alloc, store)?;
+        Ok(worker_over(store, tools))
     }
 
     /// A worker with what another one left, if that is of as many cells as the store has; else as a new one.
@@ -171,29 +196,33 @@ impl<'s> Worker<'s> {
     pub fn resume(
         alloc: Global,
         store: &'s Store,
-        left: Option<Bench>,
+        left: Option<Tools>,
     ) -> Result<Worker<'s>, Refusal>
         ensures store { IfOk result (λ worker. worker ≡ store.now) }
         ensures refusal { IfErr result (λ refusal. refusal ≡ OutOfMemory) }
     {
-        let Some(bench) = left else {
+        let Some(tools) = left else {
             return Worker::new(alloc, store);
         };
-        if bench.own.cells() != store.cells().len() as u64 {
+        if tools.own.cells() != store.cells().len() as u64 {
             return Worker::new(alloc, store);
         }
-        let Bench { own, registers } = bench;
-        Ok(worker_over(store, own, registers))
+        Ok(worker_over(store, tools))
     }
 
     /// What it leaves to one of a later loop.
-    pub fn leave(self) -> Bench
+    pub fn leave(self) -> Tools
         ensures { length result.own ≡ length (values_of self.entry) }
     {
-        let Worker { cells, registers } = self;
-        Bench {
+        let Worker {
+            cells,
+            registers,
+            bench,
+        } = self;
+        Tools {
             own: cells.release(),
             registers,
+            bench,
         }
     }
 
@@ -239,6 +268,7 @@ impl<'s> Worker<'s> {
             start,
             &mut self.registers,
             &mut self.cells,
+            &mut self.bench,
         )
     }
 }

@@ -8,7 +8,7 @@ ghost use Rattle.overlay_pages.specs.Seen.{cells_of, lent_of};
 
 use crate::changes::Changes;
 use crate::own::Own;
-use lower_block::Cells;
+use lower_op::Cells;
 use std::alloc::{AllocError, Global};
 use std::marker::Model;
 use store::Store;

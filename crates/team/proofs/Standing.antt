@@ -14,7 +14,7 @@ use Rattle.lower_code.specs.declared.term.Laid.{Laid}
 use Rattle.lower_code.specs.Machine.{Machine}
 use Rattle.lower_code.specs.Layout.{shapes_of, spot, cell_at}
 use Rattle.lower_code.proofs.Spots.{apart}
-use Rattle.lower_block.proofs.Joins.{length_set, index_same, index_other}
+use Rattle.lower_op.proofs.Stepping.{length_set, index_same, index_other}
 use Rattle.lower.specs.declared.roles.Spot.{Spot}
 use Rattle.lower.specs.declared.roles.Spot.TheVariants.{Register, Cell}
 use Rattle.lower.specs.declared.roles.LoweredReduction.{LoweredReduction}

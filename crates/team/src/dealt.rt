@@ -18,11 +18,11 @@ use crate::log::ChunkLog;
 use crate::place::Place;
 use crate::worker::run_taken;
 use ktree::{Refusal, Workers};
-use overlay::{Bench, Worker};
+use overlay::{Tools, Worker};
 use schedule::static_init;
 use std::alloc::Global;
 
-/// Runs a worker's own chunks, in their order: those of `static, k` for `Some(k)`, else those of plain `static`. The bench is what the
+/// Runs a worker's own chunks, in their order: those of `static, k` for `Some(k)`, else those of plain `static`. The tools are what the
 /// thread keeps from loop to loop.
 pub(crate) fn run_own<G: Gate>(
     alloc: Global,
@@ -31,7 +31,7 @@ pub(crate) fn run_own<G: Gate>(
     worker: u64,
     size: Option<u64>,
     gate: &G,
-    bench: &mut Option<Bench>,
+    tools: &mut Option<Tools>,
 ) -> Result<ChunkLog, Refusal>
     requires ready { IsReady job }
     requires chunks { job.chunks.now
@@ -43,7 +43,7 @@ pub(crate) fn run_own<G: Gate>(
     ensures refusal { IfErr result (λ refusal. refusal ≡ Refusal.OutOfMemory) }
 {
     let part = static_init(job.pass.count(job.space), workers, worker, size);
-    let mut runner = Worker::resume(alloc, job.store, bench.take())?;
+    let mut runner = Worker::resume(alloc, job.store, tools.take())?;
     let mut log = ChunkLog::new(alloc);
     let mut turn = 0;
     while let Some(number) = part.number(turn) {
@@ -56,7 +56,7 @@ pub(crate) fn run_own<G: Gate>(
         log.push(run_taken(alloc, job, &mut runner, taken, gate)?)?;
         turn += 1;
     }
-    *bench = Some(runner.leave());
+    *tools = Some(runner.leave());
     Ok(log)
 }
 

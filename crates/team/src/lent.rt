@@ -19,7 +19,7 @@ use crate::worker::{Member, work};
 use crew::{Crew, Part, lend};
 use ktree::{Refusal, Workers};
 use lower::LoweredLoop;
-use overlay::Bench;
+use overlay::Tools;
 use schedule::Sched;
 use std::alloc::Global;
 use std::mem;
@@ -42,8 +42,8 @@ pub struct LentLoop<'l> {
     pub ghost made: { AreFor (aim_of lowered.now grounds store way workers) places.items },
 }
 
-/// A crew to which loops are lent. Each thread keeps a bench from loop to loop.
-pub type LoopCrew<'l> = Crew<LentLoop<'l>, Option<Bench>>;
+/// A crew to which loops are lent. Each thread keeps its tools from loop to loop.
+pub type LoopCrew<'l> = Crew<LentLoop<'l>, Option<Tools>>;
 
 /// A place for each of so many workers.
 fn places_for(
@@ -105,7 +105,7 @@ fn end_of<G: Gate>(
     lent: &LentLoop<'_>,
     number: u64,
     gate: &G,
-    bench: &mut Option<Bench>,
+    tools: &mut Option<Tools>,
 ) -> Option<End>
     requires { number < lent.now.workers }
     ensures { IfSome result (IsEnd (record (aim_of lent.now.lowered.now lent.now.grounds
@@ -121,7 +121,7 @@ fn end_of<G: Gate>(
     };
     match &lent.way {
         Way::Dealt(size) => {
-            let Ok(log) = run_own(lent.alloc, job, lent.workers, number, *size, gate, bench) else {
+            let Ok(log) = run_own(lent.alloc, job, lent.workers, number, *size, gate, tools) else {
                 return None;
             };
             Some(End::Share(log))
@@ -129,7 +129,7 @@ fn end_of<G: Gate>(
         Way::Drawn(draw) => {
             let seat = seat_of(draw, number)?;
             let member = Member { number, seat };
-            let Ok(finished) = work(lent.alloc, job, &draw.drawing, member, gate, bench) else {
+            let Ok(finished) = work(lent.alloc, job, &draw.drawing, member, gate, tools) else {
                 return None;
             };
             Some(End::Draws(finished))
@@ -138,24 +138,24 @@ fn end_of<G: Gate>(
 }
 
 /// Runs the worker of a number, and leaves its end at its place.
-fn run_worker<G: Gate>(lent: &LentLoop<'_>, number: u64, gate: &G, bench: &mut Option<Bench>) {
+fn run_worker<G: Gate>(lent: &LentLoop<'_>, number: u64, gate: &G, tools: &mut Option<Tools>) {
     let Some(place) = lent.places.get(number as usize) else {
         return;
     };
-    if let Some(end) = end_of(lent, number, gate, bench) {
+    if let Some(end) = end_of(lent, number, gate, tools) {
         place.hand_in(end);
     }
 }
 
-impl<'l, G: Gate> crew::Job<G, Option<Bench>> for LentLoop<'l> {
+impl<'l, G: Gate> crew::Job<G, Option<Tools>> for LentLoop<'l> {
     // A part is the worker of its number, and of each number that is as many parts further on.
-    fn work(&self, part: Part, gate: &G, bench: &mut Option<Bench>) {
+    fn work(&self, part: Part, gate: &G, tools: &mut Option<Tools>) {
         let mut number = part.number;
         for _worker in 0..self.workers.get() {
             if number >= self.workers.get() {
                 return;
             }
-            run_worker(self, number, gate, bench);
+            run_worker(self, number, gate, tools);
             number = number.saturating_add(part.of);
         }
     }

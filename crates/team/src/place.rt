@@ -39,7 +39,7 @@ pub struct Plan {
 
 impl Model for Plan {
     ghost use Rattle.std.specs.Coded.{codes};
-    ghost use Rattle.lower_block.specs.contracts.op.Block as block;
+    ghost use Rattle.lower_block.specs.contracts.tree.Block as block;
     ghost use Rattle.team.specs.Places.{Aim};
 
     ghost Value = { Aim };
@@ -111,7 +111,7 @@ pub struct Place {
 
 impl Model for Place {
     ghost use Rattle.std.specs.Coded.{codes};
-    ghost use Rattle.lower_block.specs.contracts.op.Block as block;
+    ghost use Rattle.lower_block.specs.contracts.tree.Block as block;
     ghost use Rattle.team.specs.Places.{Aim};
 
     ghost Value = { Aim };

@@ -10,7 +10,7 @@ use crate::job::Job;
 use crate::log::ChunkLog;
 use draw::{DrawSeat, Drawing, RestingSeat};
 use ktree::{ChunkNo, Refusal};
-use overlay::{Bench, Piece, Work, Worker};
+use overlay::{Piece, Tools, Work, Worker};
 use std::alloc::Global;
 
 /// What the chunk of a number leaves.
@@ -74,14 +74,14 @@ pub(crate) fn run_taken<G: Gate>(
     Ok(ChunkPiece { number, piece })
 }
 
-/// Draws until the end, and runs each chunk drawn. The bench is what the thread keeps from loop to loop.
+/// Draws until the end, and runs each chunk drawn. The tools are what the thread keeps from loop to loop.
 pub(crate) fn work<G: Gate>(
     alloc: Global,
     job: Job,
     drawing: &Drawing,
     member: Member,
     gate: &G,
-    bench: &mut Option<Bench>,
+    tools: &mut Option<Tools>,
 ) -> Result<Finished, Refusal>
     requires ready { IsReady job }
     requires count { drawing.now.count ≡ length job.chunks.now }
@@ -94,7 +94,7 @@ pub(crate) fn work<G: Gate>(
         number: worker,
         mut seat,
     } = member;
-    let mut runner = Worker::resume(alloc, job.store, bench.take())?;
+    let mut runner = Worker::resume(alloc, job.store, tools.take())?;
     let mut log = ChunkLog::new(alloc);
     while let Some(ticket) = drawing.next(&mut seat) {
         let taken = Taken {
@@ -105,7 +105,7 @@ pub(crate) fn work<G: Gate>(
         };
         log.push(run_taken(alloc, job, &mut runner, taken, gate)?)?;
     }
-    *bench = Some(runner.leave());
+    *tools = Some(runner.leave());
     Ok(Finished {
         seat: RestingSeat::new(seat),
         log,

@@ -3,7 +3,9 @@
 use crate::codes::code_of;
 use cparse::parse;
 use ktree::Kernel;
-use lower_block::{Cells, Compiled, FlatCells, run};
+use lower_block::Compiled;
+use lower_op::{Cells, FlatCells};
+use lower_runner::run;
 use seqrun_io::Memory;
 use std::alloc::Global;
 

@@ -3,7 +3,9 @@
 use crate::codes::code_of;
 use crate::stores::long_array_and_a_scalar;
 use cparse::parse;
-use lower_block::{Cells, Compiled, FlatCells, run};
+use lower_block::Compiled;
+use lower_op::{Cells, FlatCells};
+use lower_runner::run;
 use overlay_pages::{Change, Changes, Chunk, Own};
 use seqrun_io::Memory;
 use std::alloc::Global;

@@ -8,4 +8,4 @@ abbrev nothing_over : List Kept → List (Option ℕ)
 nothing_over ks = replicate (length (values_of ks)) None
 
 pub invariant_of-result : goal.invariant_of-result
-invariant_of-result c = c.over.ensures.written ∙ (c.requires ∙ ap nothing_over (sym c.over.ensures.store))
+invariant_of-result c = c.over.ensures.written ∙ (c.args.tools.unwritten ∙ (ap (λ n. replicate n None) c.requires ∙ ap nothing_over (sym c.over.ensures.store)))
