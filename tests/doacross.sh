@@ -16,7 +16,7 @@ compare() {
     done
     { printf '#include <inttypes.h>\n#include <stdio.h>\n%s\nint main(void) { kernel(); %s }\n' "${kernel//SCHEDULE/}" "$print"; } >"$work/$name.c"
     cc -w -O1 -o "$work/$name" "$work/$name.c" && "$work/$name" >"$work/wanted" || { echo "$name: no C program"; return; }
-    for clause in '' 'schedule(static, 3)' 'schedule(dynamic)' 'schedule(dynamic, 7)' 'schedule(guided, 2)' 'schedule(runtime)'; do
+    for clause in '' 'schedule(static)' 'schedule(static, 1)' 'schedule(static, 3)' 'schedule(dynamic)' 'schedule(dynamic, 7)' 'schedule(guided)' 'schedule(guided, 2)' 'schedule(auto)' 'schedule(runtime)'; do
         printf '%s\n' "${kernel//SCHEDULE/$clause}" >"$work/text.c"
         for workers in 1 2 3 64; do
             "$program" run "$work/text.c" --workers "$workers" --schedule dynamic,5 >"$work/out" 2>&1

@@ -76,6 +76,19 @@ refuse 'K09 5:38 subscript out of range' "$(loop 'parallel for schedule(dynamic,
 refuse 'K11 4:1 directive' "$(loop 'parallel for schedule(dynamic, 0)' 8)"$'\n'
 refuse 'K21 4:1 limit' "$(loop 'parallel for schedule(dynamic, 16777217)' 8)"$'\n'
 
+refuse 'K19 4:36 conflict: A at 4:36 and 4:43, iterations 0 and 1, element A[1]' $'uint64_t A[8];\nvoid kernel(void) {\n#pragma omp parallel for\nfor (uint64_t i = 1; i < 8; i++) { A[i] = A[i-1]; }\n}\n'
+# the inner of two serial loops has no first turn at the outer's, and then it has
+serial() { printf 'uint64_t A[8];\nvoid kernel(void)\n{\nfor (uint64_t t = %s; t < 2; t++) { for (uint64_t s = 0; s < t; s++) {\n#pragma omp parallel for\nfor (uint64_t i = 1; i < 8; i++) { A[i] = A[i-1]; } } }\n}\n' "$1"; }
+refuse 'K20 6:36 not shown: A at 6:36 and 6:43' "$(serial 0)"$'\n'
+refuse 'K19 6:36 conflict: A at 6:36 and 6:43, iterations 0 and 1, element A[1]' "$(serial 1)"$'\n'
+
+# pair LINE ELEMENTS COUNT STATEMENT: a parallel loop of so many iterations that is refused, over an array of so many elements.
+pair() { refuse "$1" "$(printf 'uint64_t A[%s];\nvoid kernel(void)\n{\n#pragma omp parallel for\nfor (uint64_t i = 0; i < %s; i++) { %s }\n}' "$2" "$3" "$4")"$'\n'; }
+pair 'K19 5:37 conflict: A at 5:37 and 5:44, iterations 7 and 8, element A[7]' 16 16 'A[i] = A[15-i];'
+pair 'K20 5:36 not shown: A at 5:36 and 5:43' 16 8 'A[i] = A[15-i];'
+pair 'K20 5:38 not shown: A at 5:38 and 5:45' 300 200 'A[i] = A[i+100];'
+pair 'K09 5:47 subscript out of range' 300 200 'A[i] = A[i+200];'
+
 refuse 'K01 1:20 syntax' 'void kernel(void) {'
 refuse 'K01 1:4 syntax' $'/* ?? */\nvoid kernel(void)\n{\n}\n'
 refuse 'K21 2:10 limit' $'uint64_t A[4096][4096];\nuint64_t s;\nvoid kernel(void)\n{\n}\n'
@@ -109,6 +122,7 @@ body 'K11 8:1 directive' $'\n#pragma omp parallel for\nfor (uint64_t i = 0; i < 
 body 'K12 7:1 nest not perfect' $'\n#pragma omp parallel for collapse(2)\nfor (uint64_t i = 0; i < 3; i++) { d[i] = i; }'
 body 'K21 7:1 limit' $'\n#pragma omp parallel for\nfor (uint64_t i = 0; i < 16777217; i++) { d[0] = 1; }'
 body 'K21 7:1 limit' $'\n#pragma omp parallel for ordered(1)\nfor (uint64_t i = 0; i < 1048577; i++) {\n#pragma omp ordered doacross(sink: i-1)\nd[0] = 1;\n#pragma omp ordered doacross(source:)\n}'
+body 'K14 7:36 shared scalar written' $'\n#pragma omp parallel for\nfor (uint64_t i = 0; i < 3; i++) { s = i; }'
 body 'K18 8:1 ordered' $'\n#pragma omp parallel for ordered(1)\nfor (uint64_t i = 0; i < 3; i++) {\n#pragma omp ordered doacross(sink: i+1)\nd[i] = 1;\n#pragma omp ordered doacross(source:)\n}'
 body 'K18 8:36 ordered' $'\n#pragma omp parallel for ordered(1)\nfor (uint64_t i = 0; i < 3; i++) {\n#pragma omp ordered doacross(sink: j-1)\nd[i] = 1;\n#pragma omp ordered doacross(source:)\n}'
 body 'K11 6:1 directive' $'\n#pragma omp parallel for schedule(auto, 2)\nfor (uint64_t i = 0; i < 3; i++) { d[i] = i; }'
