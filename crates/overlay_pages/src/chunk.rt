@@ -125,4 +125,21 @@ impl<'s> Cells for Chunk<'s> {
     fn write(&mut self, place: u64, n: u64) {
         self.own.write(place, n);
     }
+
+    // They stand so in the store where the chunk wrote none of them.
+    fn stretch(&self, first: u64, count: u64) -> Option<&[u64]> {
+        if first >= 1 << 62 || count >= 1 << 62 {
+            return None;
+        }
+        if !self.own.are_bare(first, count) {
+            return None;
+        }
+        self.store.stretch(first, count)
+    }
+
+    fn write_beside(&mut self, first: u64, numbers: &[u64]) {
+        for (k, n) in numbers.iter().enumerate() {
+            self.write(first + k as u64, *n);
+        }
+    }
 }

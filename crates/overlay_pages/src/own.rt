@@ -1,13 +1,13 @@
 //! What a worker writes.
 
-ghost use Rattle.std.specs.Prelude.{◌≡◌, ℕ, ◌<◌, ◌^◌, List, Option, length, replicate, slice_set, IfOk, None, Some};
+ghost use Rattle.std.specs.Prelude.{◌≡◌, ◌≢◌, ℕ, ◌+◌, ◌<◌, ◌^◌, true, List, Option, length, replicate, slice_set, IfOk, None, Some};
 ghost use Rattle.store.specs.Flat.{values_of};
 ghost use Rattle.overlay_pages.specs.Over.{or_else, writes_of, writes_in, changing, AreOnce};
 ghost use Rattle.overlay_pages.specs.Table.{table_of, slots, IsRoomy};
 
 use crate::changes::Changes;
 use crate::gathering::gather;
-use crate::pages::{Pages, clear, empty_pages, slot_at, write_at, written_words};
+use crate::pages::{Pages, are_bare, clear, empty_pages, slot_at, write_at, written_words};
 use std::alloc::{AllocError, Global};
 use std::marker::Model;
 use store::Store;
@@ -61,6 +61,14 @@ fn near_value(near: u64, value: u64, size: u64) -> Option<u64>
     if near < size { Some(value) } else { None }
 }
 
+// Whether a place is none of so many side by side.
+fn lies_apart(place: u64, first: u64, count: u64) -> bool
+    requires { first + count < 2 ^ 64 }
+    ensures { result ≡ true → (k : ℕ) → k < count → first + k ≢ place }
+{
+    place < first || place >= first + count
+}
+
 // A number has 64 bits, as its type says.
 fn is_word(_value: u64)
     ensures { _value < 2 ^ 64 }
@@ -100,6 +108,17 @@ impl Own {
         } else {
             slot_at(&self.pages, place)
         }
+    }
+
+    // Whether nothing is written at so many places side by side; it may be denied where something is near them.
+    pub(crate) fn are_bare(&self, first: u64, count: u64) -> bool
+        requires { first + count < 2 ^ 64 }
+        ensures { result ≡ true → (k : ℕ) → k < count → writes_in self.now (first + k) ≡ None }
+    {
+        if !lies_apart(self.near, first, count) {
+            return false;
+        }
+        are_bare(&self.pages, first, count)
     }
 
     // Writes at a place, and nothing outside.

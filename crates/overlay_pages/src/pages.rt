@@ -1,6 +1,6 @@
 //! The tables of a worker.
 
-ghost use Rattle.std.specs.Prelude.{ℕ, ◌^◌, suc, ◌≡◌, ◌+◌, ◌-◌, ◌*◌, ◌<◌, ◌≤◌, ◌++◌, [], length, replicate, slice_index, slice_set, IfOk};
+ghost use Rattle.std.specs.Prelude.{ℕ, ◌^◌, suc, true, None, ◌≡◌, ◌+◌, ◌-◌, ◌*◌, ◌<◌, ◌≤◌, ◌++◌, [], length, replicate, slice_index, slice_set, IfOk};
 ghost use Rattle.std.specs.Vec.{vec_capacity};
 ghost use Rattle.overlay_pages.specs.Over.{or_else};
 ghost use Rattle.overlay_pages.specs.Table.{table_of, number_at, slot, slots, IsSound, IsRoomy, entering, setting};
@@ -35,6 +35,30 @@ pub fn slot_at(pages: &Pages, place: u64) -> Option<u64>
         }
         None => None,
     }
+}
+
+// Which cells of a page are written, and none where there is no such page.
+#[inline]
+fn mask_of(pages: &Pages, page: u64) -> u64
+    ensures { result ≡ slice_index pages.now.masks.items page }
+{
+    match pages.masks.get(page as usize) {
+        Some(mask) => *mask,
+        None => 0,
+    }
+}
+
+/// Whether no cell of the pages is written on which so many places side by side lie.
+pub fn are_bare(pages: &Pages, first: u64, count: u64) -> bool
+    requires { first + count < 2 ^ 64 }
+    ensures { result ≡ true → (k : ℕ) → k < count → slot (table_of pages.now) (first + k) ≡ None }
+{
+    for page in first / 64..(first + count) / 64 + 1 {
+        if mask_of(pages, page) != 0 {
+            return false;
+        }
+    }
+    true
 }
 
 // Masks and numbers for so many pages, none entered.

@@ -80,6 +80,10 @@ pub put_fills : (cells new : List ℕ) (ps : List Placed) (place value : ℕ) �
 put_fills cells new ps place value l e =
     sym (refilled cells new 0 (length cells) ps l refl) ∙ ap (λ cs. filled cs (kept_in cells ps)) (e ∙ ap (λ cs. slice_set cs place value) (sym (values_are cells ps l)))
 
+pub row_fills : (cells new : List ℕ) (ps : List Placed) (first : ℕ) (vs : List ℕ) → Lie 0 ps (length cells) → new ≡ overlaid cells first vs → kept_in new ps ≡ filled (overlaid (values_of (kept_in cells ps)) first vs) (kept_in cells ps)
+row_fills cells new ps first vs l e =
+    sym (refilled cells new 0 (length cells) ps l refl) ∙ ap (λ cs. filled cs (kept_in cells ps)) (e ∙ ap (λ cs. overlaid cs first vs) (sym (values_are cells ps l)))
+
 pub index_outside : (xs : List ℕ) (i : ℕ) → length xs ≤ i → slice_index xs i ≡ 0
 index_outside [] i le = refl
 index_outside (x ∷ xs) zero le = absurd (omega arith)

@@ -101,7 +101,7 @@ one_cell n i v values (j ∷ k ∷ js) e lt = go (nat_lt j n) (j == i) (slice_ge
     go false false x y = refl
 
 -- what was written over keeps its length
-length_overlaid : (old : List ℕ) (first : ℕ) (vs : List ℕ) → first + length vs ≤ length old → length (overlaid old first vs) ≡ length old
+pub length_overlaid : (old : List ℕ) (first : ℕ) (vs : List ℕ) → first + length vs ≤ length old → length (overlaid old first vs) ≡ length old
 length_overlaid old first [] le = ap (λ (l : List ℕ). length l) (overlaid_none old first)
 length_overlaid old first (v ∷ vs) le =
     ap (λ (l : List ℕ). length l) (overlaid_more old first v vs (omega arith))

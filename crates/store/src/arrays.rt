@@ -187,6 +187,14 @@ impl Store {
         set_entry(&mut self.cells, place, value);
     }
 
+    /// Writes these values over the cells from a place on, among all cells.
+    pub fn put_row(&mut self, first: u64, values: &[u64])
+        requires { first + length values.now ≤ length (values_of self.old) }
+        ensures { self.new ≡ filled (overlaid (values_of self.old) first values.now) self.old }
+    {
+        overwrite(&mut self.cells, first, values);
+    }
+
     /// Writes these values over those of a variable, from a position on, and changes nothing else.
     pub fn write(&mut self, variable: VarId, first: u64, values: &[u64])
         requires { HasRoom (slice_get self.old variable.0) (first + length values.now) }
