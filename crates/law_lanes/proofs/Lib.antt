@@ -4,6 +4,7 @@ pub mod Order
 pub mod Turning
 pub mod Lanes
 pub mod Chains
+pub mod Last
 pub mod Waiting
 pub mod Rows
 pub mod Laws

@@ -213,13 +213,17 @@ fn run_parallel_loop<'l, R: Threads + Wait + Sync, G: Gate, S: Sink>(
     ensures shape { lengths_of store.new ≡ lengths_of store.old }
 {
     if team.workers.get() == 1 {
-        return run_by_one(team.alloc, construct, team.gate, registers, store, bench, sink);
+        return run_by_one(
+            team.alloc, construct, team.gate, registers, store, bench, sink,
+        );
     }
     match &construct.way {
         Way::Chunks => run_team_loop(construct, team, registers, store, sink),
         Way::Scan(first) => run_scan_loop(construct, first, team, registers, store, sink),
         Way::Waves(sinks) => run_wave_loop(construct, sinks, team, registers, store),
-        Way::Alone => run_by_one(team.alloc, construct, team.gate, registers, store, bench, sink),
+        Way::Alone => run_by_one(
+            team.alloc, construct, team.gate, registers, store, bench, sink,
+        ),
     }
 }
 
@@ -247,7 +251,9 @@ fn team_statement<'l, R: Threads + Wait + Sync, G: Gate, S: Sink>(
 {
     match outline {
         Outline::Serial(code, _stmt) => perform(code, registers, store, bench, sink),
-        Outline::Team(construct) => run_parallel_loop(construct, team, registers, store, bench, sink),
+        Outline::Team(construct) => run_parallel_loop(
+            construct, team, registers, store, bench, sink,
+        ),
         Outline::If(test, _cond, then, other) => {
             if holds(test, registers, store) {
                 team_statement(then, team, registers, store, bench, sink)
