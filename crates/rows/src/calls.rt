@@ -18,6 +18,24 @@ const INCREMENT: &[u8] =
 const TWO_LINES: &[u8] =
     b"uint64_t A[8];\nvoid kernel(void)\n{\n#pragma omp parallel for schedule(dynamic, 3)\nfor (uint64_t i = 0; i < 8; i++) { A[i] = A[i] + i; }\n#pragma omp parallel for schedule(dynamic, 4)\nfor (uint64_t i = 0; i < 8; i++) { A[i] = A[i] + 0ull; }\n}\n";
 
+/// The increment of six of the eight.
+const SIX: &[u8] =
+    b"#include <stdint.h>\nuint64_t A[8];\nvoid kernel(void)\n{\n#pragma omp parallel for schedule(dynamic, 3)\nfor (uint64_t i = 0; i < 6; i++) { A[i] = A[i] + i; }\n}\n";
+
+/// Three waves of two iterations, cut and drawn.
+const NEST: &[u8] =
+    b"uint64_t A[8];\nvoid kernel(void)\n{\n#pragma omp parallel for ordered(1)\nfor (uint64_t i = 2; i < 8; i++) {\n#pragma omp ordered doacross(sink: i-2)\nA[i] = A[i-2] + 1;\n#pragma omp ordered doacross(source:)\n}\n}\n";
+
+const DRAWN_NEST: &[u8] =
+    b"uint64_t A[8];\nvoid kernel(void)\n{\n#pragma omp parallel for ordered(1) schedule(dynamic)\nfor (uint64_t i = 2; i < 8; i++) {\n#pragma omp ordered doacross(sink: i-2)\nA[i] = A[i-2] + 1;\n#pragma omp ordered doacross(source:)\n}\n}\n";
+
+/// A scan of each kind.
+const INCLUSIVE: &[u8] =
+    b"uint64_t A[5];\nuint64_t B[5];\nuint64_t s;\nvoid kernel(void)\n{\n#pragma omp parallel for reduction(inscan, +: s)\nfor (uint64_t i = 0; i < 5; i++) {\ns += A[i];\n#pragma omp scan inclusive(s)\nB[i] = s;\n}\n}\n";
+
+const EXCLUSIVE: &[u8] =
+    b"uint64_t A[5];\nuint64_t B[5];\nuint64_t s;\nvoid kernel(void)\n{\n#pragma omp parallel for reduction(inscan, +: s)\nfor (uint64_t i = 0; i < 5; i++) {\nB[i] = s;\n#pragma omp scan exclusive(s)\ns += A[i];\n}\n}\n";
+
 const SERIAL: &[u8] =
     b"uint64_t A[8];\nvoid kernel(void)\n{\nfor (uint64_t i = 0; i < 8; i++) { A[i] = A[i] + i; }\n}\n";
 
@@ -133,21 +151,45 @@ fn seen_by(gate: &Both) -> Seen {
     }
 }
 
+/// Keeps that a chunk was entered, and tells how many were before it.
+fn note(gate: &Both, taken: Taken) -> u64 {
+    if taken.worker < 2 && taken.chunk < 3 {
+        gate.chunks.fetch_add(1 << taken.chunk, Ordering::SeqCst);
+    } else {
+        gate.outside.fetch_add(1, Ordering::SeqCst);
+    }
+    gate.entered.fetch_add(1, Ordering::SeqCst)
+}
+
+/// Waits until more chunks than these were entered, each turn giving way, and keeps where they were not.
+fn hold(gate: &Both, count: u64) {
+    for _ in 0..10_000_000u64 {
+        if gate.entered.load(Ordering::SeqCst) > count {
+            return;
+        }
+        thread::yield_now();
+    }
+    gate.late.fetch_add(1, Ordering::SeqCst);
+}
+
 impl Gate for Both {
     fn entered(&self, taken: Taken) {
-        if taken.worker < 2 && taken.chunk < 3 {
-            self.chunks.fetch_add(1 << taken.chunk, Ordering::SeqCst);
-        } else {
-            self.outside.fetch_add(1, Ordering::SeqCst);
-        }
-        self.entered.fetch_add(1, Ordering::SeqCst);
-        for _ in 0..10_000_000u64 {
-            if self.entered.load(Ordering::SeqCst) >= 2 {
-                return;
-            }
-            thread::yield_now();
-        }
-        self.late.fetch_add(1, Ordering::SeqCst);
+        let _before = note(self, taken);
+        hold(self, 1);
+    }
+}
+
+// The same of chunks that come by twos, as where each wave of a nest or each pass of a scan has two: holds each worker until both were
+// entered.
+#[derive(Drop)]
+struct Twos {
+    seen: Both,
+}
+
+impl Gate for Twos {
+    fn entered(&self, taken: Taken) {
+        let before = note(&self.seen, taken);
+        hold(&self.seen, before | 1);
     }
 }
 
@@ -394,11 +436,12 @@ fn a_slow_sink_is_told_all_before_it_fails(rt: HostRuntime) {
     assert!(rt; is_told_slowly(&rt, heap, 20, failed, 1, nineteen));
 }
 
-/// What a gate sees of the kernel of a text that two workers run, where that writes what it is to write.
+/// What a gate sees of the kernel of a text that two workers run, where that writes this.
 fn seen_by_two<R: Threads + Wait + Sync>(
     rt: &R,
     alloc: Global,
     text: &'static [u8],
+    output: &[u8],
 ) -> Option<Seen> {
     let task = Task {
         text,
@@ -406,7 +449,7 @@ fn seen_by_two<R: Threads + Wait + Sync>(
         workers: 2,
     };
     let gate = Both::new();
-    if ends(rt, alloc, task, &gate, End::Done, OUTPUT) {
+    if ends(rt, alloc, task, &gate, End::Done, output) {
         Some(seen_by(&gate))
     } else {
         None
@@ -421,7 +464,68 @@ fn two_workers_are_in_the_loop_at_once(rt: HostRuntime) {
         chunks: 7,
         outside: 0,
     };
-    assert!(rt; seen_by_two(&rt, rt.alloc(), INCREMENT) == Some(all));
+    assert!(rt; seen_by_two(&rt, rt.alloc(), INCREMENT, OUTPUT) == Some(all));
+}
+
+#[test]
+fn two_workers_have_a_chunk_each(rt: HostRuntime) {
+    let all = Seen {
+        entered: 2,
+        late: 0,
+        chunks: 3,
+        outside: 0,
+    };
+    let output = b"A = 1 2 3 4 5 6 1 1\n";
+    assert!(rt; seen_by_two(&rt, rt.alloc(), SIX, output) == Some(all));
+}
+
+/// What a gate sees of the kernel of a text whose chunks come by twos, where two workers write this from an input.
+fn seen_by_twos<R: Threads + Wait + Sync>(
+    rt: &R,
+    alloc: Global,
+    text: &'static [u8],
+    input: &'static [u8],
+    output: &[u8],
+) -> Option<Seen> {
+    let task = Task {
+        text,
+        input,
+        workers: 2,
+    };
+    let gate = Twos { seen: Both::new() };
+    if ends(rt, alloc, task, &gate, End::Done, output) {
+        Some(seen_by(&gate.seen))
+    } else {
+        None
+    }
+}
+
+#[test]
+fn two_workers_are_in_each_wave_at_once(rt: HostRuntime) {
+    let all = Seen {
+        entered: 6,
+        late: 0,
+        chunks: 9,
+        outside: 0,
+    };
+    let (heap, output) = (rt.alloc(), b"A = 0 0 1 1 2 2 3 3\n");
+    assert!(rt; seen_by_twos(&rt, heap, NEST, b"", output) == Some(all));
+    assert!(rt; seen_by_twos(&rt, heap, DRAWN_NEST, b"", output) == Some(all));
+}
+
+#[test]
+fn two_workers_are_in_each_pass_at_once(rt: HostRuntime) {
+    let all = Seen {
+        entered: 4,
+        late: 0,
+        chunks: 6,
+        outside: 0,
+    };
+    let (heap, input) = (rt.alloc(), b"A 1 2 3 4 5\ns 10\n");
+    let output = b"A = 1 2 3 4 5\nB = 11 13 16 20 25\ns = 25\n";
+    assert!(rt; seen_by_twos(&rt, heap, INCLUSIVE, input, output) == Some(all));
+    let output = b"A = 1 2 3 4 5\nB = 10 11 13 16 20\ns = 25\n";
+    assert!(rt; seen_by_twos(&rt, heap, EXCLUSIVE, input, output) == Some(all));
 }
 
 #[test]
@@ -433,7 +537,7 @@ fn each_loop_has_the_chunks_of_its_own_line(rt: HostRuntime) {
         chunks: 10,
         outside: 0,
     };
-    assert!(rt; seen_by_two(&rt, rt.alloc(), TWO_LINES) == Some(all));
+    assert!(rt; seen_by_two(&rt, rt.alloc(), TWO_LINES, OUTPUT) == Some(all));
 }
 
 #[test]
@@ -444,7 +548,7 @@ fn a_loop_behind_no_line_is_run_by_no_team(rt: HostRuntime) {
         chunks: 0,
         outside: 0,
     };
-    assert!(rt; seen_by_two(&rt, rt.alloc(), SERIAL) == Some(nothing));
+    assert!(rt; seen_by_two(&rt, rt.alloc(), SERIAL, OUTPUT) == Some(nothing));
 }
 
 /// How the kernel of a text ends that one thread runs on an input.

@@ -1,7 +1,7 @@
-//! Doacross nests: what they write by teams of one worker and more, what is listed of them, and how they are refused.
+//! Doacross nests: what they write by teams of one worker and more and by one thread, what is listed of them, and how they are refused.
 
 use crate::first_faults::told_of;
-use crate::kernels::is_written_by;
+use crate::kernels::{is_written_by, is_written_by_thread};
 use crate::outcome::no_other;
 use ompk::{Checked, Sched, check};
 use std::alloc::{AllocError, Global};
@@ -21,7 +21,7 @@ fn text(alloc: Global, declarations: &str, body: &str) -> Result<String, AllocEr
     format!(in alloc; "{declarations}\nvoid kernel(void) {{\n{body}\n}}\n")
 }
 
-/// Whether teams of these sizes write this.
+/// Whether teams of these sizes write this, and one thread too.
 fn is_written<R: Threads + Wait + Sync>(
     rt: &R,
     alloc: Global,
@@ -35,7 +35,7 @@ fn is_written<R: Threads + Wait + Sync>(
             return false;
         }
     }
-    true
+    is_written_by_thread(alloc, checked, b"", output.as_bytes())
 }
 
 /// Whether the kernel of a text writes this by them.
@@ -146,7 +146,7 @@ fn nests_write_what_c_does(rt: HostRuntime) {
 fn number_of(alloc: Global, body: &str) -> u8 {
     match text(
         alloc,
-        "uint64_t s;\nuint64_t A[8];\nuint64_t B[1048580];",
+        "uint64_t s;\nuint64_t A[8];\nuint64_t B[1048580];\nuint64_t C[5][5];\nuint64_t E[5][5][2];",
         body,
     ) {
         Ok(text) => told_of(alloc, text.as_bytes()).0,
@@ -264,4 +264,262 @@ fn nests_are_refused(rt: HostRuntime) {
         ),
     ];
     no_other(&rt, first_other_number(rt.alloc(), ROWS));
+}
+
+#[test]
+fn sinks_order_pairs_or_do_not(rt: HostRuntime) {
+    const ROWS: &[(&str, u8)] = &[
+        // Each distance is a whole number of steps of one sink.
+        (
+            "#pragma omp parallel for ordered(2)\nfor (uint64_t i = 1; i < 4; i++) for (uint64_t j = 1; j < 4; j++) {\n#pragma omp ordered doacross(sink: i-1, j)\n#pragma omp ordered doacross(sink: i, j-1)\nC[i][j] = C[i-1][j] + C[i][j-1];\n#pragma omp ordered doacross(source:)\n}",
+            0,
+        ),
+        (
+            "#pragma omp parallel for ordered(2)\nfor (uint64_t i = 2; i < 5; i++) for (uint64_t j = 2; j < 5; j++) {\n#pragma omp ordered doacross(sink: i-1, j-1)\nC[i][j] = C[i-2][j-2] + 1;\n#pragma omp ordered doacross(source:)\n}",
+            0,
+        ),
+        (
+            "#pragma omp parallel for ordered(2)\nfor (uint64_t i = 1; i < 4; i++) for (uint64_t j = 1; j < 4; j++) {\n#pragma omp ordered doacross(sink: i-1, j+1)\nC[i][j] = C[i-1][j+1] + 1;\n#pragma omp ordered doacross(source:)\n}",
+            0,
+        ),
+        (
+            "#pragma omp parallel for ordered(2)\nfor (uint64_t i = 1; i < 4; i++) for (uint64_t j = 1; j < 4; j++) {\n#pragma omp ordered doacross(sink: i, j-1)\nC[i][j] = C[i][j-1] + 1;\n#pragma omp ordered doacross(source:)\n}",
+            0,
+        ),
+        // It is one of two sinks, a part of a step, or of another direction, though later.
+        (
+            "#pragma omp parallel for ordered(2)\nfor (uint64_t i = 1; i < 4; i++) for (uint64_t j = 1; j < 4; j++) {\n#pragma omp ordered doacross(sink: i-1, j)\n#pragma omp ordered doacross(sink: i, j-1)\nC[i][j] = C[i-1][j-1] + 1;\n#pragma omp ordered doacross(source:)\n}",
+            20,
+        ),
+        (
+            "#pragma omp parallel for ordered(2)\nfor (uint64_t i = 2; i < 5; i++) for (uint64_t j = 2; j < 5; j++) {\n#pragma omp ordered doacross(sink: i-1, j-1)\nC[i][j] = C[i-2][j-1] + 1;\n#pragma omp ordered doacross(source:)\n}",
+            20,
+        ),
+        (
+            "#pragma omp parallel for ordered(2)\nfor (uint64_t i = 1; i < 4; i++) for (uint64_t j = 1; j < 4; j++) {\n#pragma omp ordered doacross(sink: i-1, j)\nC[i][j] = C[i-1][j+1] + 1;\n#pragma omp ordered doacross(source:)\n}",
+            20,
+        ),
+        (
+            "#pragma omp parallel for ordered(2)\nfor (uint64_t i = 1; i < 4; i++) for (uint64_t j = 1; j < 4; j++) {\n#pragma omp ordered doacross(sink: i, j-1)\nC[i][j] = C[i-1][j] + 1;\n#pragma omp ordered doacross(source:)\n}",
+            20,
+        ),
+        (
+            "#pragma omp parallel for ordered(2)\nfor (uint64_t i = 1; i < 4; i++) for (uint64_t j = 1; j < 4; j++) {\n#pragma omp ordered doacross(sink: i-2, j)\nC[i][j] = C[i-1][j] + 1;\n#pragma omp ordered doacross(source:)\n}",
+            20,
+        ),
+        // One counter stands nowhere, two stand in one subscript, or two dimensions say different things.
+        (
+            "#pragma omp parallel for ordered(2)\nfor (uint64_t i = 1; i < 4; i++) for (uint64_t j = 1; j < 4; j++) {\n#pragma omp ordered doacross(sink: i, j-1)\nC[2][j] = C[2][j-1] + 1;\n#pragma omp ordered doacross(source:)\n}",
+            20,
+        ),
+        (
+            "#pragma omp parallel for ordered(2)\nfor (uint64_t i = 1; i < 4; i++) for (uint64_t j = 1; j < 4; j++) {\n#pragma omp ordered doacross(sink: i-1, j)\nB[4*i+j] = B[4*i+j-4] + 1;\n#pragma omp ordered doacross(source:)\n}",
+            20,
+        ),
+        (
+            "#pragma omp parallel for ordered(1)\nfor (uint64_t i = 2; i < 5; i++) {\n#pragma omp ordered doacross(sink: i-1)\nE[i][i][0] = E[i-1][i-2][0] + 1;\n#pragma omp ordered doacross(source:)\n}",
+            20,
+        ),
+    ];
+    no_other(&rt, first_other_number(rt.alloc(), ROWS));
+}
+
+/// What is told of the kernel of a body, and where; 23 too where there is no memory for its text.
+fn told_at(alloc: Global, body: &str) -> (u8, u32, u32) {
+    match text(
+        alloc,
+        "uint64_t A[8]; uint64_t B[2][3]; uint64_t s; uint64_t x;",
+        body,
+    ) {
+        Ok(text) => told_of(alloc, text.as_bytes()),
+        Err(_error) => (23, 0, 0),
+    }
+}
+
+/// The first body of some rows that is not refused by 18 at the place beside it.
+fn first_other_place(alloc: Global, rows: &[(&'static str, u32, u32)]) -> Option<&'static str> {
+    for (body, line, column) in rows {
+        if told_at(alloc, *body) != (18, *line, *column) {
+            return Some(*body);
+        }
+    }
+    None
+}
+
+#[test]
+fn nests_are_refused_at_their_directives(rt: HostRuntime) {
+    const ROWS: &[(&str, u32, u32)] = &[
+        // A loop that falls, goes by 2, or ends where a variable says.
+        (
+            "#pragma omp parallel for ordered(1)\nfor (uint64_t i = 7; i > 1; i--) {\n#pragma omp ordered doacross(sink: i-2)\nA[i] = 1;\n#pragma omp ordered doacross(source:)\n}",
+            3,
+            1,
+        ),
+        (
+            "#pragma omp parallel for ordered(1)\nfor (uint64_t i = 2; i < 8; i += 2) {\n#pragma omp ordered doacross(sink: i-2)\nA[i] = 1;\n#pragma omp ordered doacross(source:)\n}",
+            3,
+            1,
+        ),
+        (
+            "for (uint64_t k = 3; k < 5; k++)\n{\n#pragma omp parallel for ordered(1)\nfor (uint64_t i = 2; i < k; i++) {\n#pragma omp ordered doacross(sink: i-2)\nA[i] = 1;\n#pragma omp ordered doacross(source:)\n} }",
+            5,
+            1,
+        ),
+        // The second loop of two.
+        (
+            "#pragma omp parallel for ordered(2)\nfor (uint64_t i = 1; i < 2; i++) for (uint64_t j = 2; j > 0; j--) {\n#pragma omp ordered doacross(sink: i-1, j)\nB[i][j] = 1;\n#pragma omp ordered doacross(source:)\n}",
+            3,
+            1,
+        ),
+        // No sink, no source, or one in front of the other.
+        (
+            "#pragma omp parallel for ordered(1)\nfor (uint64_t i = 2; i < 8; i++) {\nA[i] = 1;\n#pragma omp ordered doacross(source:)\n}",
+            3,
+            1,
+        ),
+        (
+            "#pragma omp parallel for ordered(1)\nfor (uint64_t i = 2; i < 8; i++) {\n#pragma omp ordered doacross(sink: i-2)\nA[i] = 1;\n}",
+            3,
+            1,
+        ),
+        (
+            "#pragma omp parallel for ordered(1)\nfor (uint64_t i = 2; i < 8; i++) {\n#pragma omp ordered doacross(source:)\nA[i] = 1;\n#pragma omp ordered doacross(sink: i-2)\n}",
+            3,
+            1,
+        ),
+        // Clauses that do not go with it.
+        (
+            "#pragma omp parallel for ordered(1) collapse(1)\nfor (uint64_t i = 2; i < 8; i++) {\n#pragma omp ordered doacross(sink: i-2)\nA[i] = 1;\n#pragma omp ordered doacross(source:)\n}",
+            3,
+            1,
+        ),
+        (
+            "#pragma omp parallel for ordered(1) reduction(+: s)\nfor (uint64_t i = 2; i < 8; i++) {\n#pragma omp ordered doacross(sink: i-2)\nA[i] = 1; s += 1;\n#pragma omp ordered doacross(source:)\n}",
+            3,
+            1,
+        ),
+        (
+            "#pragma omp parallel for ordered(1) lastprivate(x)\nfor (uint64_t i = 2; i < 8; i++) {\n#pragma omp ordered doacross(sink: i-2)\nx = i; A[i] = x;\n#pragma omp ordered doacross(source:)\n}",
+            3,
+            1,
+        ),
+    ];
+    no_other(&rt, first_other_place(rt.alloc(), ROWS));
+}
+
+#[test]
+fn sinks_and_sources_are_refused_at_their_places(rt: HostRuntime) {
+    const ROWS: &[(&str, u32, u32)] = &[
+        // In no nest.
+        (
+            "#pragma omp parallel for\nfor (uint64_t i = 2; i < 8; i++) {\nA[i] = 1;\n#pragma omp ordered doacross(source:)\n}",
+            6,
+            1,
+        ),
+        (
+            "for (uint64_t i = 2; i < 8; i++) {\n#pragma omp ordered doacross(sink: i-2)\nA[i] = 1; }",
+            4,
+            1,
+        ),
+        // Behind a statement, in an inner one, and a second source.
+        (
+            "#pragma omp parallel for ordered(1)\nfor (uint64_t i = 2; i < 8; i++) {\n#pragma omp ordered doacross(sink: i-2)\nA[i] = 1;\n#pragma omp ordered doacross(sink: i-1)\nA[i] = 2;\n#pragma omp ordered doacross(source:)\n}",
+            7,
+            1,
+        ),
+        (
+            "#pragma omp parallel for ordered(1)\nfor (uint64_t i = 2; i < 8; i++) {\n#pragma omp ordered doacross(sink: i-2)\nif (i > 4) {\n#pragma omp ordered doacross(source:)\nA[i] = 2; }\n#pragma omp ordered doacross(source:)\n}",
+            7,
+            1,
+        ),
+        (
+            "#pragma omp parallel for ordered(1)\nfor (uint64_t i = 2; i < 8; i++) {\n#pragma omp ordered doacross(sink: i-2)\n#pragma omp ordered doacross(source:)\nA[i] = 1;\n#pragma omp ordered doacross(source:)\n}",
+            6,
+            1,
+        ),
+    ];
+    no_other(&rt, first_other_place(rt.alloc(), ROWS));
+}
+
+#[test]
+fn sinks_of_no_earlier_iteration_are_refused_at_their_places(rt: HostRuntime) {
+    const ROWS: &[(&str, u32, u32)] = &[
+        // The iteration itself, a later one, and one that is later in the first loop.
+        (
+            "#pragma omp parallel for ordered(1)\nfor (uint64_t i = 2; i < 8; i++) {\n#pragma omp ordered doacross(sink: i)\nA[i] = 1;\n#pragma omp ordered doacross(source:)\n}",
+            5,
+            1,
+        ),
+        (
+            "#pragma omp parallel for ordered(1)\nfor (uint64_t i = 2; i < 8; i++) {\n#pragma omp ordered doacross(sink: i-1)\n#pragma omp ordered doacross(sink: i+1)\nA[i] = 1;\n#pragma omp ordered doacross(source:)\n}",
+            6,
+            1,
+        ),
+        (
+            "#pragma omp parallel for ordered(2)\nfor (uint64_t i = 1; i < 2; i++) for (uint64_t j = 1; j < 3; j++) {\n#pragma omp ordered doacross(sink: i+1, j-1)\nB[i][j] = 1;\n#pragma omp ordered doacross(source:)\n}",
+            5,
+            1,
+        ),
+        (
+            "#pragma omp parallel for ordered(2)\nfor (uint64_t i = 1; i < 2; i++) for (uint64_t j = 1; j < 3; j++) {\n#pragma omp ordered doacross(sink: i, j+1)\nB[i][j] = 1;\n#pragma omp ordered doacross(source:)\n}",
+            5,
+            1,
+        ),
+        // Fewer elements and more.
+        (
+            "#pragma omp parallel for ordered(2)\nfor (uint64_t i = 1; i < 2; i++) for (uint64_t j = 1; j < 3; j++) {\n#pragma omp ordered doacross(sink: i-1)\nB[i][j] = 1;\n#pragma omp ordered doacross(source:)\n}",
+            5,
+            1,
+        ),
+        (
+            "#pragma omp parallel for ordered(1)\nfor (uint64_t i = 2; i < 8; i++) {\n#pragma omp ordered doacross(sink: i-1, i-1)\nA[i] = 1;\n#pragma omp ordered doacross(source:)\n}",
+            5,
+            1,
+        ),
+        // Other names, and the right ones in another order.
+        (
+            "#pragma omp parallel for ordered(1)\nfor (uint64_t i = 2; i < 8; i++) {\n#pragma omp ordered doacross(sink: k-1)\nA[i] = 1;\n#pragma omp ordered doacross(source:)\n}",
+            5,
+            36,
+        ),
+        (
+            "#pragma omp parallel for ordered(2)\nfor (uint64_t i = 1; i < 2; i++) for (uint64_t j = 1; j < 3; j++) {\n#pragma omp ordered doacross(sink: i-1, x)\nB[i][j] = 1;\n#pragma omp ordered doacross(source:)\n}",
+            5,
+            41,
+        ),
+        (
+            "#pragma omp parallel for ordered(2)\nfor (uint64_t i = 1; i < 2; i++) for (uint64_t j = 1; j < 3; j++) {\n#pragma omp ordered doacross(sink: j-1, i)\nB[i][j] = 1;\n#pragma omp ordered doacross(source:)\n}",
+            5,
+            36,
+        ),
+    ];
+    no_other(&rt, first_other_place(rt.alloc(), ROWS));
+}
+
+#[test]
+fn nests_that_print_are_refused_at_their_places(rt: HostRuntime) {
+    const ROWS: &[(&str, u32, u32)] = &[
+        // A `printf` is told, and of two faults the first.
+        (
+            "#pragma omp parallel for ordered(1)\nfor (uint64_t i = 2; i < 8; i++) {\n#pragma omp ordered doacross(sink: i-2)\nA[i] = 1; printf(\"a\");\n#pragma omp ordered doacross(source:)\n}",
+            6,
+            11,
+        ),
+        (
+            "#pragma omp parallel for ordered(1)\nfor (uint64_t i = 2; i < 8; i++) {\n#pragma omp ordered doacross(sink: i-2)\nif (i > 3) { A[i] = 1; } else printf(\"a\");\n#pragma omp ordered doacross(source:)\n}",
+            6,
+            31,
+        ),
+        (
+            "#pragma omp parallel for ordered(1)\nfor (uint64_t i = 2; i < 8; i++) {\n#pragma omp ordered doacross(sink: i+2)\nprintf(\"a\");\n#pragma omp ordered doacross(source:)\n}",
+            5,
+            1,
+        ),
+        (
+            "#pragma omp parallel for ordered(1)\nfor (uint64_t i = 2; i < 8; i++) {\n#pragma omp ordered doacross(sink: i-2)\nprintf(\"a\");\n#pragma omp ordered doacross(sink: i-1)\n#pragma omp ordered doacross(source:)\n}",
+            6,
+            1,
+        ),
+    ];
+    no_other(&rt, first_other_place(rt.alloc(), ROWS));
 }

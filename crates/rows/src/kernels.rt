@@ -25,11 +25,12 @@ enum Outcome {
 
 use Outcome::{Other, Refused, Written};
 
-/// Whether a team of so many workers writes these bytes, where a schedule stands for `runtime`.
-pub(crate) fn is_written_by<R: Threads + Wait + Sync>(
+/// Whether a team of so many workers writes these bytes from an input, where a schedule stands for `runtime`.
+fn is_written_from<R: Threads + Wait + Sync>(
     rt: &R,
     alloc: Global,
     checked: &Checked,
+    input: &[u8],
     count: u64,
     runtime: &Sched,
     output: &[u8],
@@ -39,10 +40,50 @@ pub(crate) fn is_written_by<R: Threads + Wait + Sync>(
     };
     let mut sink = Memory::new(alloc);
     run(
-        rt, alloc, checked, b"", workers, *runtime, &OpenGate, &mut sink,
+        rt, alloc, checked, input, workers, *runtime, &OpenGate, &mut sink,
     )
     .is_ok()
         && sink.bytes() == output
+}
+
+/// Whether it does without input.
+pub(crate) fn is_written_by<R: Threads + Wait + Sync>(
+    rt: &R,
+    alloc: Global,
+    checked: &Checked,
+    count: u64,
+    runtime: &Sched,
+    output: &[u8],
+) -> bool {
+    is_written_from(rt, alloc, checked, b"", count, runtime, output)
+}
+
+/// Whether one thread writes these bytes from an input.
+pub(crate) fn is_written_by_thread(
+    alloc: Global,
+    checked: &Checked,
+    input: &[u8],
+    output: &[u8],
+) -> bool {
+    let mut sink = Memory::new(alloc);
+    seq(alloc, checked, input, &mut sink).is_ok() && sink.bytes() == output
+}
+
+/// Whether 1, 3 and 64 workers write these bytes from an input, and one thread too.
+pub(crate) fn is_written_by_each<R: Threads + Wait + Sync>(
+    rt: &R,
+    alloc: Global,
+    checked: &Checked,
+    input: &[u8],
+    output: &[u8],
+) -> bool {
+    let plain = Sched::PlainStatic;
+    for count in [1, 3, 64] {
+        if !is_written_from(rt, alloc, checked, input, count, &plain, output) {
+            return false;
+        }
+    }
+    is_written_by_thread(alloc, checked, input, output)
 }
 
 /// What comes of a kernel that was checked, where these bytes are wanted, or any.

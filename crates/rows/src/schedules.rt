@@ -1,11 +1,11 @@
-//! Parallel loops of many forms under each schedule: teams of 1, 2, 3 and 64 workers write what C writes.
+//! Parallel loops of many forms under each schedule: teams of 1, 2, 3 and 64 workers, and one thread, write what C writes.
 
 mod forms;
 mod ordered;
 mod results;
 mod scans;
 
-use crate::kernels::is_written_by;
+use crate::kernels::{is_written_by, is_written_by_thread};
 use crate::outcome::no_other;
 use ktree::ChunkSize;
 use ompk::{Checked, Sched, check};
@@ -49,7 +49,7 @@ fn text(alloc: Global, declarations: &str, row: Row, schedule: &str) -> Result<S
     )
 }
 
-/// Whether 1, 2, 3 and 64 workers write a kernel's output, where a schedule stands for `runtime`.
+/// Whether 1, 2, 3 and 64 workers write a kernel's output, where a schedule stands for `runtime`, and one thread too.
 fn is_written_by_all<R: Threads + Wait + Sync>(
     rt: &R,
     alloc: Global,
@@ -62,7 +62,7 @@ fn is_written_by_all<R: Threads + Wait + Sync>(
             return false;
         }
     }
-    true
+    is_written_by_thread(alloc, checked, b"", output)
 }
 
 /// Whether they write that of a text.

@@ -114,6 +114,24 @@ fn nests_have_levels(rt: HostRuntime) {
             },
             &[99, 0, 99, 1, 99, 2, 99, 3, 99, 4, 99, 5],
         ),
+        // A chain.
+        (
+            Nest {
+                counts: (1, 1, 7),
+                first: 1,
+                sinks: (&[0, 0, 1], &[0, 0, 1]),
+            },
+            &[99, 0, 99, 1, 99, 2, 99, 3, 99, 4, 99, 5, 99, 6],
+        ),
+        // The sinks `i-1, j` and `i, j-1` of 3 by 3.
+        (
+            Nest {
+                counts: (1, 3, 3),
+                first: 1,
+                sinks: (&[0, 1, 0], &[0, 0, 1]),
+            },
+            &[99, 0, 99, 1, 3, 99, 2, 4, 6, 99, 5, 7, 99, 8],
+        ),
         // No sink lies in the space: too far before, or not ahead and not taken.
         (
             Nest {
