@@ -4,6 +4,8 @@
 #[cfg(test)]
 mod affine_expr_rows;
 #[cfg(test)]
+mod flow_doacross_rows;
+#[cfg(test)]
 mod flow_ordered_rows;
 #[cfg(test)]
 mod flow_reduction_rows;

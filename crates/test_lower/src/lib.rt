@@ -8,6 +8,8 @@ mod lower_block_rows;
 #[cfg(test)]
 mod lower_code_rows;
 #[cfg(test)]
+mod lower_lanes_rows;
+#[cfg(test)]
 mod overlay_pages_rows;
 #[cfg(test)]
 mod overlay_rows;

@@ -4,6 +4,7 @@ use crate::codes::code_of;
 use cparse::parse;
 use ktree::Kernel;
 use lower_block::Compiled;
+use lower_lanes::new_bench;
 use lower_op::{Cells, FlatCells};
 use lower_runner::run;
 use seqrun_io::Memory;
@@ -14,8 +15,18 @@ fn prints_over(alloc: Global, compiled: &Compiled, cells: &mut FlatCells, expect
     let Ok(mut registers) = Vec::from_elem(alloc, 0u64, compiled.registers as usize) else {
         return false;
     };
+    let Ok(mut bench) = new_bench(alloc) else {
+        return false;
+    };
     let mut sink = Memory::new(alloc);
-    run(compiled, registers.as_mut_slice(), cells, &mut sink).is_ok()
+    run(
+        compiled,
+        registers.as_mut_slice(),
+        cells,
+        &mut bench,
+        &mut sink,
+    )
+    .is_ok()
         && sink.bytes() == expected.as_bytes()
 }
 

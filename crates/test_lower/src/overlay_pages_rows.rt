@@ -4,6 +4,7 @@ use crate::codes::code_of;
 use crate::stores::long_array_and_a_scalar;
 use cparse::parse;
 use lower_block::Compiled;
+use lower_lanes::new_bench;
 use lower_op::{Cells, FlatCells};
 use lower_runner::run;
 use overlay_pages::{Change, Changes, Chunk, Own};
@@ -34,8 +35,18 @@ fn runs<M: Cells>(alloc: Global, compiled: &Compiled, cells: &mut M) -> bool {
     let Ok(mut registers) = Vec::from_elem(alloc, 0u64, compiled.registers as usize) else {
         return false;
     };
+    let Ok(mut bench) = new_bench(alloc) else {
+        return false;
+    };
     let mut sink = Memory::new(alloc);
-    run(compiled, registers.as_mut_slice(), cells, &mut sink).is_ok()
+    run(
+        compiled,
+        registers.as_mut_slice(),
+        cells,
+        &mut bench,
+        &mut sink,
+    )
+    .is_ok()
 }
 
 /// A number for what all cells hold.

@@ -1,0 +1,236 @@
+//! Loops whose turns are run in lanes, or one after another where they may not be, over the arrays `A` and `B` of 20000 and `M` and `N` of 60
+//! times 70 elements and the scalar `s`. What all cells hold in the end is told by a number, which C's own run gave.
+
+use crate::codes::code_of;
+use cparse::parse;
+use lane_rows::Bench;
+use lower_block::Compiled;
+use lower_op::{Cells, FlatCells};
+use lower_runner::run;
+use seqrun_io::Memory;
+use std::alloc::Global;
+
+/// Cells of all variables.
+const CELLS: usize = 48401;
+
+/// The first lines of each kernel: every element holds another number.
+const FILLING: &str =
+    "for (uint64_t i = 0; i < 20000; i++) { A[i] = i * 1103515245 ^ i >> 3; B[i] = i * i + 12345; } for (uint64_t i = 0; i < 60; i++) { for (uint64_t j = 0; j < 70; j++) { M[i][j] = i * 1000 + j; N[i][j] = j * j + i; } }";
+
+/// A number for what all cells hold.
+fn digest(cells: &FlatCells) -> u64 {
+    let mut sum = 0u64;
+    for place in 0..CELLS as u64 {
+        sum = sum.wrapping_mul(1000003).wrapping_add(cells.read(place));
+    }
+    sum
+}
+
+/// What code leaves of cells that are 0, with so many rows for lanes.
+fn left(alloc: Global, compiled: &Compiled, bench: &mut Bench) -> Option<u64> {
+    let Ok(mut registers) = Vec::from_elem(alloc, 0u64, compiled.registers as usize) else {
+        return None;
+    };
+    let Ok(numbers) = Vec::from_elem(alloc, 0u64, CELLS) else {
+        return None;
+    };
+    let mut cells = FlatCells { numbers };
+    let mut sink = Memory::new(alloc);
+    match run(
+        compiled,
+        registers.as_mut_slice(),
+        &mut cells,
+        bench,
+        &mut sink,
+    ) {
+        Ok(()) => Some(digest(&cells)),
+        Err(_refusal) => None,
+    }
+}
+
+/// Whether code leaves this with so many rows for lanes.
+fn leaves(alloc: Global, compiled: &Compiled, rows: u32, expected: u64) -> bool {
+    let Ok(mut bench) = Bench::new(alloc, rows) else {
+        return false;
+    };
+    left(alloc, compiled, &mut bench) == Some(expected)
+}
+
+/// Whether the kernel of a text leaves this in lanes, and without.
+fn text_leaves(alloc: Global, text: &[u8], expected: u64) -> bool {
+    let Ok(kernel) = parse(alloc, text) else {
+        return false;
+    };
+    match code_of(alloc, &kernel) {
+        Some(compiled) => {
+            leaves(alloc, &compiled, 64, expected) && leaves(alloc, &compiled, 0, expected)
+        }
+        None => false,
+    }
+}
+
+/// Whether the kernel with these lines does.
+fn is_right(alloc: Global, lines: &str, expected: u64) -> bool {
+    match format!(in alloc;
+        "#include <stdint.h>\nuint64_t A[20000]; uint64_t B[20000]; uint64_t M[60][70]; uint64_t N[60][70]; uint64_t s; void kernel(void) {{\n{FILLING}\n{lines}\n}}\n"
+    ) {
+        Ok(text) => text_leaves(alloc, text.as_bytes(), expected),
+        Err(_error) => false,
+    }
+}
+
+/// The number of the first row, from 1, that leaves something else; 0 where none does.
+fn first_wrong(alloc: Global, rows: &[(&str, u64)]) -> u64 {
+    let mut number = 1u64;
+    for (lines, expected) in rows {
+        if !is_right(alloc, lines, *expected) {
+            return number;
+        }
+        number = number.saturating_add(1);
+    }
+    0
+}
+
+/// Loops of every length about those of blocks, steps, and turns apart by less than a block, by one, and by more.
+#[test]
+fn loops_of_one_array_after_another_run(rt: HostRuntime) {
+    const ROWS: &[(&str, u64)] = &[
+        (
+            "for (uint64_t i = 0; i < 20000; i++) { A[i] = A[i] * 3 + i; }",
+            615590796928213936,
+        ),
+        (
+            "for (uint64_t i = 0; i < 15; i++) { A[i] += B[i]; } for (uint64_t i = 0; i < 16; i++) { A[i] ^= B[i]; } for (uint64_t i = 0; i < 17; i++) { A[i] -= B[i]; }",
+            15669814451658776205,
+        ),
+        (
+            "for (uint64_t i = 0; i < 255; i++) { A[i] += B[i]; } for (uint64_t i = 1; i < 257; i++) { A[i] *= B[i]; } for (uint64_t i = 0; i < 257; i++) { A[i] |= B[i]; }",
+            14750512070312513229,
+        ),
+        (
+            "for (uint64_t i = 0; i < 16384; i++) { A[i] = B[i] - A[i]; } for (uint64_t i = 0; i < 16385; i++) { B[i] = A[i] & i; }",
+            16214849925614532423,
+        ),
+        (
+            "for (uint64_t i = 1; i < 20000; i++) { A[i] = A[i - 1] + B[i]; }",
+            2206739996722234592,
+        ),
+        (
+            "for (uint64_t i = 2; i < 20000; i++) { A[i] = A[i - 2] * 5 + 1; }",
+            15457862063477402576,
+        ),
+        (
+            "for (uint64_t i = 255; i < 20000; i++) { A[i] = A[i - 255] + 7; }",
+            1420081114717842298,
+        ),
+        (
+            "for (uint64_t i = 256; i < 20000; i++) { A[i] = A[i - 256] + 7; }",
+            4272601356346237248,
+        ),
+        (
+            "for (uint64_t i = 257; i < 20000; i++) { A[i] ^= A[i - 257] << 1; }",
+            10778028305868471444,
+        ),
+        (
+            "for (uint64_t i = 0; i < 19999; i++) { A[i] = A[i + 1] + A[i]; }",
+            9144084077458527968,
+        ),
+        (
+            "for (uint64_t i = 0; i < 10000; i++) { A[2 * i] = A[2 * i + 1] * 3; }",
+            2006143340447351600,
+        ),
+        (
+            "for (uint64_t i = 0; i < 10000; i++) { A[2 * i] = A[i] + 1; }",
+            2617569815822640810,
+        ),
+        (
+            "for (uint64_t i = 0; i < 6000; i += 3) { A[i] = B[3 * i]; }",
+            16012762103691875542,
+        ),
+        (
+            "for (uint64_t i = 0; i < 20000; i++) { A[19999 - i] = B[i]; }",
+            16530185547345440464,
+        ),
+        (
+            "for (uint64_t i = 0; i < 20000; i++) { A[19999 - i] = A[i]; }",
+            6170032852764525312,
+        ),
+    ];
+    assert_eq!(rt; first_wrong(rt.alloc(), ROWS), 0);
+}
+
+/// Sums into one cell, products in both orders, stencils and recurrences.
+#[test]
+fn sums_and_nests_run(rt: HostRuntime) {
+    const ROWS: &[(&str, u64)] = &[
+        (
+            "for (uint64_t i = 0; i < 20000; i++) { s += A[i] * A[i]; }",
+            11897205967805736880,
+        ),
+        (
+            "for (uint64_t i = 0; i < 20000; i++) { s = s + A[i]; B[i] = s; }",
+            4674783837707943016,
+        ),
+        (
+            "for (uint64_t i = 0; i < 20000; i++) { s += A[i]; A[0] = i; }",
+            3928603633165130447,
+        ),
+        (
+            "for (uint64_t i = 0; i < 60; i++) { for (uint64_t k = 0; k < 60; k++) { for (uint64_t j = 0; j < 70; j++) { M[i][j] += N[i][k] * N[k][j]; } } }",
+            6821485537207397376,
+        ),
+        (
+            "for (uint64_t i = 0; i < 60; i++) { for (uint64_t j = 0; j < 70; j++) { for (uint64_t k = 0; k < 60; k++) { M[i][j] += N[i][k] * N[k][j]; } } }",
+            6821485537207397376,
+        ),
+        (
+            "for (uint64_t i = 1; i < 59; i++) { for (uint64_t j = 1; j < 69; j++) { M[i][j] = (N[i - 1][j] + N[i][j - 1] + N[i][j] + N[i][j + 1] + N[i + 1][j]) / 5; } }",
+            5693584161364947192,
+        ),
+        (
+            "for (uint64_t i = 1; i < 59; i++) { for (uint64_t j = 1; j < 69; j++) { M[i][j] = M[i - 1][j] + M[i][j - 1]; } }",
+            12011702427792509177,
+        ),
+        (
+            "for (uint64_t i = 1; i < 60; i++) { for (uint64_t j = 0; j < 70; j++) { M[i][j] = M[i - 1][j] * 2 + N[i][69 - j]; } }",
+            4313569111366188232,
+        ),
+        (
+            "for (uint64_t j = 0; j < 70; j++) { for (uint64_t i = 0; i < 60; i++) { M[i][j] = N[59 - i][j] << 3; } }",
+            12729724970987144020,
+        ),
+    ];
+    assert_eq!(rt; first_wrong(rt.alloc(), ROWS), 0);
+}
+
+/// Choices, locals of a turn, loops that do not turn or fall, and a scalar that turns hand on.
+#[test]
+fn choices_and_locals_run(rt: HostRuntime) {
+    const ROWS: &[(&str, u64)] = &[
+        (
+            "for (uint64_t i = 0; i < 20000; i++) { A[i] = A[i] % 7 < 3 ? B[i] / 3 : ~A[i] % 1000; }",
+            16772669149700164689,
+        ),
+        (
+            "for (uint64_t i = 0; i < 20000; i++) { uint64_t t = A[i]; t ^= t << 13; t ^= t >> 7; t ^= t << 17; B[i] = t; A[i] = t == B[0]; }",
+            11510346491311835721,
+        ),
+        (
+            "for (uint64_t i = 0; i < 20000; i++) { uint64_t t = B[i]; if (t > 5000) { t = 5000; } A[i] = t; }",
+            451451876326797664,
+        ),
+        (
+            "for (uint64_t i = 5; i < 4; i++) { A[i] = 1; } for (uint64_t i = 0; i <= 300; i++) { A[i] = i; } for (uint64_t i = 300; i > 0; i--) { A[i] += A[i - 1]; }",
+            6861533349759741493,
+        ),
+        (
+            "for (uint64_t r = 0; r < 20; r++) { for (uint64_t i = 0; i < 40; i++) { A[r + i] = A[r + i + 40] + r; } }",
+            13048506976184240296,
+        ),
+        (
+            "for (uint64_t i = 0; i < 20000; i++) { A[i] = s; s = 3; }",
+            7464904809137133280,
+        ),
+    ];
+    assert_eq!(rt; first_wrong(rt.alloc(), ROWS), 0);
+}
