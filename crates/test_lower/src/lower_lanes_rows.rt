@@ -234,3 +234,35 @@ fn choices_and_locals_run(rt: HostRuntime) {
     ];
     assert_eq!(rt; first_wrong(rt.alloc(), ROWS), 0);
 }
+
+/// Branches that set a local alone, in which neither arm is run where it may not be: one divides by a number that may be 0, one reads before the array.
+#[test]
+fn branches_that_set_a_local_run(rt: HostRuntime) {
+    const ROWS: &[(&str, u64)] = &[
+        (
+            "for (uint64_t i = 0; i < 20000; i++) { uint64_t t = i; if (A[i] & 1) { t = A[i] / 3; } else { t = B[i] + t; } B[i] = t; }",
+            2275736800820564614,
+        ),
+        (
+            "for (uint64_t i = 0; i < 20000; i++) { uint64_t t = 7; if (B[i] % 3 != 0) { t = 1000000 / (B[i] % 3); } A[i] = t; }",
+            11288822502132920923,
+        ),
+        (
+            "for (uint64_t i = 0; i < 20000; i++) { uint64_t t = 1; if (i > 0) { t = A[i - 1]; } B[i] = t; }",
+            11345870518359486305,
+        ),
+        (
+            "uint64_t t = 0; for (uint64_t i = 0; i < 20000; i++) { if (A[i] > t) { t = A[i]; } } s = t;",
+            16163217306530885424,
+        ),
+        (
+            "uint64_t t = 5; for (uint64_t i = 0; i < 20000; i++) { if (A[i] > B[i]) { if (B[i] & 4) { t = t + 1; } else { t = t * 3; } } B[i] = t; }",
+            13354964092333325024,
+        ),
+        (
+            "for (uint64_t i = 1; i < 60; i++) { for (uint64_t j = 1; j < 70; j++) { uint64_t t = M[i - 1][j - 1] + (N[i][j] != N[j % 60][i]); if (M[i - 1][j] + 1 < t) { t = M[i - 1][j] + 1; } if (M[i][j - 1] + 1 < t) { t = M[i][j - 1] + 1; } M[i][j] = t; } }",
+            1084670336898800078,
+        ),
+    ];
+    assert_eq!(rt; first_wrong(rt.alloc(), ROWS), 0);
+}
