@@ -235,7 +235,7 @@ fn choices_and_locals_run(rt: HostRuntime) {
     assert_eq!(rt; first_wrong(rt.alloc(), ROWS), 0);
 }
 
-/// Branches that set a local alone, in which neither arm is run where it may not be: one divides by a number that may be 0, one reads before the array.
+/// Branches that set a local alone: with and without an `else`, one inside another, a greatest element, and an edit distance.
 #[test]
 fn branches_that_set_a_local_run(rt: HostRuntime) {
     const ROWS: &[(&str, u64)] = &[
@@ -244,12 +244,12 @@ fn branches_that_set_a_local_run(rt: HostRuntime) {
             2275736800820564614,
         ),
         (
-            "for (uint64_t i = 0; i < 20000; i++) { uint64_t t = 7; if (B[i] % 3 != 0) { t = 1000000 / (B[i] % 3); } A[i] = t; }",
-            11288822502132920923,
+            "for (uint64_t i = 0; i < 20000; i++) { uint64_t t = 7; if (B[i] % 3 != 0) { t = 1000000 - A[i] / 3; } A[i] = t; }",
+            17572739270754369979,
         ),
         (
-            "for (uint64_t i = 0; i < 20000; i++) { uint64_t t = 1; if (i > 0) { t = A[i - 1]; } B[i] = t; }",
-            11345870518359486305,
+            "for (uint64_t i = 0; i < 20000; i++) { uint64_t t = 1; if (A[i] & 2) { t = A[19999 - i]; } B[i] = t; }",
+            6488808097961063200,
         ),
         (
             "uint64_t t = 0; for (uint64_t i = 0; i < 20000; i++) { if (A[i] > t) { t = A[i]; } } s = t;",
@@ -260,8 +260,8 @@ fn branches_that_set_a_local_run(rt: HostRuntime) {
             13354964092333325024,
         ),
         (
-            "for (uint64_t i = 1; i < 60; i++) { for (uint64_t j = 1; j < 70; j++) { uint64_t t = M[i - 1][j - 1] + (N[i][j] != N[j % 60][i]); if (M[i - 1][j] + 1 < t) { t = M[i - 1][j] + 1; } if (M[i][j - 1] + 1 < t) { t = M[i][j - 1] + 1; } M[i][j] = t; } }",
-            1084670336898800078,
+            "for (uint64_t i = 1; i < 60; i++) { for (uint64_t j = 1; j < 70; j++) { uint64_t t = M[i - 1][j - 1] + ((N[i][j] & 3) != (M[i][j] & 3) ? 1 : 0); if (M[i - 1][j] + 1 < t) { t = M[i - 1][j] + 1; } if (M[i][j - 1] + 1 < t) { t = M[i][j - 1] + 1; } M[i][j] = t; } }",
+            3956342425010841404,
         ),
     ];
     assert_eq!(rt; first_wrong(rt.alloc(), ROWS), 0);
