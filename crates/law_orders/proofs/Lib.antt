@@ -1,0 +1,8 @@
+pub mod Mixed
+pub mod Going
+pub mod Turned
+pub mod Variables
+pub mod Ordered
+pub mod Carried
+pub mod Scanned
+pub mod Rows
