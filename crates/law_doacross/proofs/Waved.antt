@@ -5,8 +5,9 @@ use Rattle.std.proofs.Common.{refl, sym, ap, ◌∙◌, subst, arith, inl}
 use Rattle.std.proofs.lemmas.Option.{same_Some}
 use Rattle.semantics.specs.Tree.{Variable, Stmt, Declaration}
 use Rattle.semantics.specs.Meaning.State.{State}
+use Rattle.semantics.specs.Meaning.Runs.{Effect, run}
 use Rattle.semantics.specs.Meaning.Agrees.{is_among}
-use Rattle.semantics.specs.Loops.Nest.{Loop, nest_of, loop_values, at_value}
+use Rattle.semantics.specs.Loops.Nest.{Loop, Vector, nest_of, loop_values, at_value, iterations}
 use Rattle.semantics.specs.Loops.Operator.{ReduceOp}
 use Rattle.semantics.specs.Loops.Order.{Distance}
 use Rattle.semantics.specs.Loops.Piece.{Roles, SharedLoop}
@@ -25,20 +26,20 @@ use Rattle.flow_doacross.specs.Nests.{counts_up}
 use Rattle.deptest_verdict.specs.Shown.{IsShownBody, IsShownNest, IsShownLoop, no_loops}
 use Rattle.law_commute.specs.Targets.{targets_outside, KeepsApart}
 use Rattle.law_commute.proofs.Values.{first_of, second_of}
-use Rattle.law_commute.specs.Joining.{plain_loop}
+use Rattle.law_commute.specs.Joining.{DeclaresLocals, plain_loop}
 use Rattle.law_roles.specs.Reducing.{takes_all}
 use Rattle.law_roles.specs.Sharing.{assigned_first, role_variables, IsScalar}
 use Rattle.law_turns.specs.Turns.{AreEntered}
 use Rattle.law_turns.proofs.Iterating.{nested, StandsAt, outer_stands, run_is, loop_values_are, steps_with, turn_at}
 use Rattle.law_waves.specs.Silent.{is_silent}
 use Rattle.law_waves.specs.Rising.{TheyRise}
-use Rattle.law_waves.specs.Doacross.{KeepsPrivates}
+use Rattle.law_waves.specs.Doacross.{KeepsPrivates, IsDoacross}
 use Rattle.law_waves.proofs.Doacross.{join}
 use Rattle.law_waves.proofs.Iterating.{Pairs, all_pairs, rise}
 use Rattle.law_waves.proofs.Rising.{respect}
 use Rattle.law_independence.specs.Inside.{LoopsAreRead, HaveShort}
 use Rattle.law_independence.specs.Said.{SaidInside}
-use Rattle.law_independence.specs.OrderLaws.{used_roles, WavesAtTurns, WavesInChunks, SharesAsNest}
+use Rattle.law_independence.specs.OrderLaws.{used_roles, AreAtHand, WavesAtTurns, WavesInChunks, SharesAsNest}
 use Rattle.law_independence.proofs.PrivateNests.{nest_first}
 use Rattle.law_independence.proofs.ReorderedBodies.{IsStmtRead, IsNestRead, nest_read}
 use Rattle.law_independence.proofs.ReorderedNests.{assigned, leaves_others, have_turns, steps_are_read, iterates, nest_keeps_apart, inside_keeps_apart, same_nest, used_assigned, at_turn, ready}
@@ -173,11 +174,13 @@ module _ (ds : List Declaration) (around : List Loop) (round : Nesting) (n : ℕ
   covered : (loop : SharedLoop) → nest_of n s ≡ Some (loop.loops, loop.body) → IsCovered around loop sinks
   covered = shown_nests_are_covered ds around round sinks n s short entered there stays shown (λ loops body is. same_as_suits (λ ls b. list_all counts_up ls ≡ true) loops body is suits.up)
 
-  waves : WavesAtTurns used sinks around n s
-  waves loops body outside us e is turn alone at are ran =
+  -- what is known of it wherever it has a run at a turn, and its private variables are at hand
+  pub nest_is_doacross : (loops : List Loop) (body : Stmt) (outside : State) (us : List Vector) (e : Effect)
+      → nest_of n s ≡ Some (loops, body) → IsTurn around outside → DeclaresLocals s outside → AreAtHand used s outside
+      → iterations loops outside ≡ Some us → run s outside ≡ Some e → IsDoacross used sinks n s loops body outside us e
+  nest_is_doacross loops body outside us e is turn alone at are ran =
       let r = ready ds short round far serial n s found stmt stays roles private around entered loops body outside us is turn are in
-      join used sinks n s loops body outside us e
-      (record {
+      record {
         nest = is;
         keeps = keeps_privates loops body outside is at.scalars;
         silent = same_as_suits (λ ls b. is_silent b ≡ true) loops body is suits.silent;
@@ -189,7 +192,10 @@ module _ (ds : List Declaration) (around : List Loop) (round : Nesting) (n : ℕ
         in_order = respect us sinks suits.ahead (rise loops outside us (rising loops body outside is turn) are);
         covered = λ u v in_u in_v conflict. covered (plain_loop loops body) is outside us u v turn are in_u in_v conflict;
         ran = ran;
-      })
+      }
+
+  waves : WavesAtTurns used sinks around n s
+  waves loops body outside us e is turn alone at are ran = join used sinks n s loops body outside us e (nest_is_doacross loops body outside us e is turn alone at are ran)
 
   pub nest_shares_in_waves : (said : SaidInside) → said.sinks ≡ Some sinks → SharesAsNest ds d said around n s
   nest_shares_in_waves said doacross =

@@ -23,6 +23,7 @@ use Rattle.law_commute.specs.Targets.{targets_outside}
 use Rattle.law_roles.specs.Updates.{is_plain, reduces}
 use Rattle.law_roles.specs.Reducing.{takes_all}
 use Rattle.law_roles.specs.Sharing.{assigned_first, role_variables, are_different, AssignsAll}
+use Rattle.law_scans.proofs.Scanning.{join}
 use Rattle.law_independence.specs.Inside.{LoopsAreRead, HaveShort}
 use Rattle.law_independence.specs.Said.{SaidInside}
 use Rattle.law_independence.specs.IndependenceLaws.{IsIndependentNest}
@@ -31,7 +32,7 @@ use Rattle.law_independence.proofs.IndependentNests.{shown_loops_are_independent
 use Rattle.law_independence.proofs.ReorderedBodies.{IsStmtRead, IsNestRead, nest_read}
 use Rattle.law_independence.proofs.ReorderedNests.{assigned, leaves_others, have_turns, steps_are_read, iterates, takes_updated, in_chunks}
 use Rattle.law_independence.proofs.RoleNests.{used_updates, used_apart}
-use Rattle.law_independence.proofs.ScanNests.{in_passes}
+use Rattle.law_independence.proofs.ScanNests.{IsScannedAtTurns, is_scanned}
 use Rattle.law_independence.proofs.ScanTaken.{takes_scanned}
 
 -- ---- what is left
@@ -108,28 +109,34 @@ module _ (ds : List Declaration) (around : List Loop) (round : Nesting) (n : ℕ
   scan_reduces said its b target =
       ap (λ (roles : Roles). (used_roles s roles).reductions) (one_carried d its.variable its.operator its.sole its.alone) ∙ ap (λ b. if b then (its.variable, its.operator) ∷ [] else []) target
 
+  -- no private or lastprivate variable is reduced
+  left_apart : (said : Option PhasesSaid) → HasPhases d said n s → list_all (is_plain (left_roles d).reductions) (assigned_first (left_roles d)) ≡ true
+  left_apart said its =
+      subst (λ (roles : Roles). list_all (is_plain roles.reductions) (assigned_first roles) ≡ true) (sym (one_carried d its.variable its.operator its.sole its.alone)) (plain_each its.variable its.operator (assigned_first d.roles) its.plain)
+
+  pub nest_is_scanned : (said : Option PhasesSaid) (its : HasPhases d said n s) → is_among (targets_outside s) its.variable ≡ true
+      → IsScannedAtTurns used its.variable its.operator its.inclusive n s its.loops its.front its.back around
+  nest_is_scanned said its target =
+      let back = sym (one_carried d its.variable its.operator its.sole its.alone) in
+      is_scanned ds short round outer serial n s found stmt stays (left_roles d) private
+      (subst (λ (roles : Roles). are_different (map (λ r. r.0) roles.reductions) ≡ true) back refl) (left_apart said its)
+      (subst (λ (roles : Roles). IsSome (definite no_privates s (λ y. not (is_among (assigned_first roles) y)))) back kept.first)
+      (subst (λ (roles : Roles). (roles.lasts ≡ [] → ⊥) → AssignsAll (assigned_first roles) roles.lasts found.nest.body) back last)
+      around entered independent its.variable its.operator its.inclusive its.front its.back its.loops (scan_reduces said its true target) its.nest its.keeps
+
   scanned : (said : Option PhasesSaid) (its : HasPhases d said n s) → is_among (targets_outside s) its.variable ≡ true → ScansInChunks said its.variable its.operator used around n s
   scanned said its target =
-      let x = its.variable in
-      let op = its.operator in
-      let same = one_carried d x op its.sole its.alone in
-      let back = sym same in
-      let only : used.reductions ≡ (x, op) ∷ [] = scan_reduces said its true target in
-      let apart = subst (λ (roles : Roles). list_all (is_plain roles.reductions) (assigned_first roles) ≡ true) back (plain_each x op (assigned_first d.roles) its.plain) in
       record {
-        only = only;
-        apart = used_apart s (left_roles d) apart;
+        only = scan_reduces said its true target;
+        apart = used_apart s (left_roles d) (left_apart said its);
         inclusive = its.inclusive;
         front = its.front;
         back = its.back;
         told = its.told;
         loops = its.loops;
         nest = its.nest;
-        passes = in_passes ds short round outer serial n s found stmt stays (left_roles d) private
-            (subst (λ (roles : Roles). are_different (map (λ r. r.0) roles.reductions) ≡ true) back refl) apart
-            (subst (λ (roles : Roles). IsSome (definite no_privates s (λ y. not (is_among (assigned_first roles) y)))) back kept.first)
-            (subst (λ (roles : Roles). (roles.lasts ≡ [] → ⊥) → AssignsAll (assigned_first roles) roles.lasts found.nest.body) back last)
-            around entered independent x op its.inclusive its.front its.back its.loops only its.nest its.keeps;
+        passes = λ outside us chunks e turn alone at are all ran.
+            join used its.variable its.operator its.inclusive n s its.loops its.front its.back outside chunks e (nest_is_scanned said its target outside us chunks e turn alone at are all ran);
       }
 
   sole_same : (a b : Variable × ReduceOp) → (d.carried ≡ a ∷ []) → (d.carried ≡ b ∷ []) → a ≡ b

@@ -1,5 +1,5 @@
--- Chunks of a scan that is shown to be independent, in two passes.
-use Rattle.std.specs.Prelude.{ℕ, Bool, true, false, not, ◌≡◌, ◌==◌, ◌||◌, List, [], ◌∷◌, map, Option, Some, None, IsSome, is_none}
+-- A scan that is shown to be independent is one that may be run in two passes.
+use Rattle.std.specs.Prelude.{ℕ, Bool, true, false, not, ◌≡◌, ◌==◌, ◌||◌, List, [], ◌∷◌, map, flat_map, Option, Some, None, IsSome, is_none}
 use Rattle.std.specs.List.{list_all}
 use Rattle.std.proofs.Common.{refl, sym, ap, ◌∙◌, subst, cond, inl, inr}
 use Rattle.std.proofs.lemmas.Bool.{true≢false, eqb-true, eq-eqb}
@@ -11,13 +11,14 @@ use Rattle.semantics.specs.Meaning.Definite.{no_privates, definite}
 use Rattle.semantics.specs.Loops.Nest.{Loop, Vector, nest_of, iterations}
 use Rattle.semantics.specs.Loops.Operator.{ReduceOp}
 use Rattle.semantics.specs.Loops.Piece.{Roles}
+use Rattle.semantics.specs.Theorems.{IsTurn}
 use Rattle.pairtest_counter.specs.Levels.{Nesting}
 use Rattle.nest.specs.Nests.{Has, StaysInside}
 use Rattle.flow.specs.Private.{is_private_body}
 use Rattle.deptest_verdict.specs.Shown.{no_loops}
 use Rattle.law_turns.specs.Turns.{AreEntered}
 use Rattle.law_commute.specs.Targets.{KeepsApart}
-use Rattle.law_commute.specs.Joining.{plain_loop}
+use Rattle.law_commute.specs.Joining.{DeclaresLocals, plain_loop}
 use Rattle.law_commute.proofs.Values.{first_of, second_of}
 use Rattle.law_roles.specs.Updates.{operator_of, is_plain, operands}
 use Rattle.law_roles.specs.Sharing.{assigned_first, role_variables, are_different, AssignsAll, TakesOperands}
@@ -25,11 +26,10 @@ use Rattle.law_roles.proofs.Followed.{walked}
 use Rattle.law_roles.proofs.Operands.{nest_operands}
 use Rattle.law_scans.specs.Phases.{keeps_phases}
 use Rattle.law_scans.specs.Scanning as scan
-use Rattle.law_scans.specs.Scanning.{whole_of, TakesInputs}
-use Rattle.law_scans.proofs.Scanning.{join}
+use Rattle.law_scans.specs.Scanning.{whole_of, TakesInputs, IsScanned}
 use Rattle.law_independence.specs.Inside.{HaveShort}
 use Rattle.law_independence.specs.IndependenceLaws.{IsIndependentNest}
-use Rattle.law_independence.specs.OrderLaws.{used_roles, ScansAtTurns}
+use Rattle.law_independence.specs.OrderLaws.{used_roles, AreAtHand}
 use Rattle.law_independence.proofs.PrivateNests.{nest_first}
 use Rattle.law_independence.proofs.ReorderedBodies.{IsStmtRead, IsNestRead}
 use Rattle.law_independence.proofs.ReorderedNests.{used_assigned, nest_keeps_apart, inside_keeps_apart, first_used, last_assigned, same_nest, ready}
@@ -50,6 +50,13 @@ some_run : (o : Option Effect) → IsSome o → (e : Effect) × (o ≡ Some e)
 some_run None h = absurd (true≢false (sym h))
 some_run (Some e) h = (e, refl)
 
+-- wherever a nest of two phases has a run at a turn, and its variables are at hand, it is a scan, whatever the chunks of its iterations
+abbrev pub IsScannedAtTurns : Roles → Variable → ReduceOp → Bool → ℕ → Stmt → List Loop → Items → Items → List Loop → Type 0
+IsScannedAtTurns roles x op inclusive n s loops front back serial =
+    (outer : State) (us : List Vector) (chunks : List (List Vector)) (e : Effect)
+    → IsTurn serial outer → DeclaresLocals s outer → AreAtHand roles s outer → iterations loops outer ≡ Some us → flat_map (λ vs. vs) chunks ≡ us → run s outer ≡ Some e
+    → IsScanned roles x op inclusive n s loops front back outer chunks e
+
 module _ (ds : List Declaration) (short : HaveShort ds) (round : Nesting) (outer : ℕ) (serial : List ℕ) (n : ℕ) (s : Stmt) (found : IsNestRead ds round outer serial n s) (stmt : IsStmtRead ds round.box s) (stays : Has (StaysInside ds) round.box s)
     (roles : Roles) (private : is_private_body (role_variables roles) found.nest.body ≡ true)
     (different : are_different (map (λ r. r.0) roles.reductions) ≡ true) (apart : list_all (is_plain roles.reductions) (assigned_first roles) ≡ true) (first : IsSome (definite no_privates s (λ x. not (is_among (assigned_first roles) x))))
@@ -60,13 +67,12 @@ module _ (ds : List Declaration) (short : HaveShort ds) (round : Nesting) (outer
   abbrev xs : List Variable
   xs = role_variables used
 
-  pub in_passes : (around : List Loop) → AreEntered no_loops around round → IsIndependentNest around n s → (x : Variable) (op : ReduceOp) (inclusive : Bool) (front back : Items) (loops : List Loop) → used.reductions ≡ (x, op) ∷ []
-      → nest_of n s ≡ Some (loops, whole_of front back) → keeps_phases x op inclusive front back ≡ true → ScansAtTurns used x op around loops (scan.first_of inclusive front back) (whole_of front back) s
-  in_passes around entered independent x op inclusive front back loops only is phases outside us chunks e turn alone at are all ran =
+  pub is_scanned : (around : List Loop) → AreEntered no_loops around round → IsIndependentNest around n s → (x : Variable) (op : ReduceOp) (inclusive : Bool) (front back : Items) (loops : List Loop) → used.reductions ≡ (x, op) ∷ []
+      → nest_of n s ≡ Some (loops, whole_of front back) → keeps_phases x op inclusive front back ≡ true → IsScannedAtTurns used x op inclusive n s loops front back around
+  is_scanned around entered independent x op inclusive front back loops only is phases outside us chunks e turn alone at are all ran =
       let reduced : operator_of used.reductions x ≡ Some op = ap (λ rs. operator_of rs x) only ∙ ap (λ b. cond b (Some op) None) (eq-eqb x x refl) in
       let r = ready ds short round outer serial n s found stmt stays roles private around entered loops (whole_of front back) outside us is turn are in
-      join used x op inclusive n s loops front back outside chunks e
-      (record {
+      record {
         nest = is;
         keeps = record {
           no_firsts = refl;
@@ -91,7 +97,7 @@ module _ (ds : List Declaration) (short : HaveShort ds) (round : Nesting) (outer
         independent = λ u v in_u in_v. independent.1 (plain_loop loops (whole_of front back)) is outside us u v turn are in_u in_v;
         whole = all;
         ran = ran;
-      })
+      }
     where
       inside : KeepsApart xs (whole_of front back)
       inside = same_nest ds short round outer serial n s found stmt stays roles private (λ ls b. KeepsApart xs b) loops (whole_of front back) is (inside_keeps_apart ds short round outer serial n s found stmt stays roles private)
