@@ -1,11 +1,10 @@
 -- The rows.
-use Rattle.std.specs.Prelude.{ℕ, true, false, ◌≡◌, ◌≢◌, ◌==◌, ◌%◌, ◌⊎◌, nat_eq, List, [], ◌∷◌, Option, Some, None, IsSome}
+use Rattle.std.specs.Prelude.{ℕ, true, false, ◌≡◌, ◌≢◌, ◌%◌, ◌⊎◌, nat_eq, List, [], ◌∷◌, Option, Some, None, IsSome}
 use Rattle.std.specs.List.{AllByRecursion as Each}
 use Rattle.std.proofs.Common.{refl, sym, ap, ◌∙◌, subst, inl, inr}
-use Rattle.std.proofs.lemmas.Bool.{true≢false, eqb-true, or_cases}
+use Rattle.std.proofs.lemmas.Bool.{true≢false, or_cases}
 use Rattle.std.proofs.lemmas.Option.{same_Some}
 use lib.Pointwise.{pointwise}
-use Rattle.semantics.specs.Tree.{Variable}
 use Rattle.semantics.specs.Meaning.Runs.{greatest_trip_count}
 use Rattle.semantics.specs.Meaning.Agrees.{is_among, visible_behind}
 use Rattle.semantics.specs.Loops.Arrangement.{picked}
@@ -18,18 +17,12 @@ use Rattle.law_roles.proofs.Chunked.{each_at}
 use Rattle.law_waves.specs.Rising.{is_earlier}
 use Rattle.law_waves.proofs.Rising.{respect, same_vector}
 use Rattle.law_waves.proofs.Iterating.{all_pairs}
+use Rattle.law_waves.proofs.Rows.{only}
 use Rattle.law_commute.proofs.Lists.{Among, contains_among}
 use Rattle.law_orders.specs.Orders.{IsOrdered}
 use Rattle.law_orders.specs.Scans.{IsCarried}
 use Rattle.law_orders.specs.Rows.{skip_body, skipping, skip_sinks, skip_space, skip_start, sums, sum_space, sum_start, OrderRows}
 use Rattle.law_orders.proofs.Mixed.{Stands, stands_in}
-
-only : (x y : Variable) → is_among (y ∷ []) x ≡ true → y ≡ x
-only x y h = at (or_cases (y == x) false h)
-  where
-    at : ((y == x) ≡ true) ⊎ (false ≡ true) → y ≡ x
-    at (inl e) = eqb-true y x e
-    at (inr e) = absurd (true≢false (sym e))
 
 -- ---- the nest
 

@@ -17,7 +17,7 @@ use Rattle.law_waves.specs.Rows.{chain_body, chain_loop, chain, chain_roles, cha
 use Rattle.law_waves.proofs.Rising.{respect}
 use Rattle.law_waves.proofs.Iterating.{all_pairs}
 
-only : (x y : Variable) → is_among (y ∷ []) x ≡ true → y ≡ x
+pub only : (x y : Variable) → is_among (y ∷ []) x ≡ true → y ≡ x
 only x y h = at (or_cases (y == x) false h)
   where
     at : ((y == x) ≡ true) ⊎ (false ≡ true) → y ≡ x
