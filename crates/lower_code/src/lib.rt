@@ -15,7 +15,10 @@ pub use behind::are_behind;
 pub use expression::test;
 pub use layout::layout_of;
 pub use lowering::{lower_items, run};
-pub use making::{beside, box_both};
+pub use making::{
+    beside, binary, both, box_both, branch, comparison, conditional, either, element, negation,
+    number, then, unary,
+};
 pub use mark::mark_among;
 pub use running::{compare, obey, operate, truth, worth};
 pub use statements::{entry, increment, item, items, statement};

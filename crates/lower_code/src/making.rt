@@ -51,14 +51,18 @@ pub fn box_both<A: Drop, B: Drop>(alloc: Global, a: A, b: B) -> Result<(Box<A>, 
 }
 
 /// A number.
-pub(crate) fn number(n: u64) -> Term
+pub fn number(n: u64) -> Term
     ensures { (m : Machine) → worth result m ≡ n }
 {
     Term::Number(Word { number: n })
 }
 
 /// The cell at a place.
-pub(crate) fn element(alloc: Global, at: Term) -> Result<Term, AllocError>
+///
+/// # Errors
+///
+/// Where memory runs out.
+pub fn element(alloc: Global, at: Term) -> Result<Term, AllocError>
     ensures { IfOk result (λ t. (m : Machine) → worth t m ≡ slice_index m.cells (worth at m)) }
 {
     let at = Box::new(alloc, at)?;
@@ -66,7 +70,11 @@ pub(crate) fn element(alloc: Global, at: Term) -> Result<Term, AllocError>
 }
 
 /// An operator on one term.
-pub(crate) fn unary(alloc: Global, op: UnaryOp, a: Term) -> Result<Term, AllocError>
+///
+/// # Errors
+///
+/// Where memory runs out.
+pub fn unary(alloc: Global, op: UnaryOp, a: Term) -> Result<Term, AllocError>
     ensures { IfOk result
         (λ t. (m : Machine) → worth t m ≡ change (unary_of op) (worth a m)) }
 {
@@ -75,7 +83,11 @@ pub(crate) fn unary(alloc: Global, op: UnaryOp, a: Term) -> Result<Term, AllocEr
 }
 
 /// An operator on two terms.
-pub(crate) fn binary(alloc: Global, op: BinaryOp, a: Term, b: Term) -> Result<Term, AllocError>
+///
+/// # Errors
+///
+/// Where memory runs out.
+pub fn binary(alloc: Global, op: BinaryOp, a: Term, b: Term) -> Result<Term, AllocError>
     ensures { IfOk result (λ t. (m : Machine)
         → worth t m ≡ operate_or_zero (binary_of op) (worth a m) (worth b m)) }
 {
@@ -84,7 +96,11 @@ pub(crate) fn binary(alloc: Global, op: BinaryOp, a: Term, b: Term) -> Result<Te
 }
 
 /// One of two terms.
-pub(crate) fn conditional(alloc: Global, c: Test, a: Term, b: Term) -> Result<Term, AllocError>
+///
+/// # Errors
+///
+/// Where memory runs out.
+pub fn conditional(alloc: Global, c: Test, a: Term, b: Term) -> Result<Term, AllocError>
     ensures { IfOk result (λ t. (m : Machine)
         → worth t m ≡ (if truth c m then worth a m else worth b m)) }
 {
@@ -94,7 +110,11 @@ pub(crate) fn conditional(alloc: Global, c: Test, a: Term, b: Term) -> Result<Te
 }
 
 /// A comparison.
-pub(crate) fn comparison(alloc: Global, op: CompareOp, a: Term, b: Term) -> Result<Test, AllocError>
+///
+/// # Errors
+///
+/// Where memory runs out.
+pub fn comparison(alloc: Global, op: CompareOp, a: Term, b: Term) -> Result<Test, AllocError>
     ensures { IfOk result (λ t. (m : Machine)
         → truth t m ≡ compare (compare_of op) (worth a m) (worth b m)) }
 {
@@ -103,7 +123,11 @@ pub(crate) fn comparison(alloc: Global, op: CompareOp, a: Term, b: Term) -> Resu
 }
 
 /// What does not hold.
-pub(crate) fn negation(alloc: Global, c: Test) -> Result<Test, AllocError>
+///
+/// # Errors
+///
+/// Where memory runs out.
+pub fn negation(alloc: Global, c: Test) -> Result<Test, AllocError>
     ensures { IfOk result (λ t. (m : Machine) → truth t m ≡ not (truth c m)) }
 {
     let c = Box::new(alloc, c)?;
@@ -111,7 +135,11 @@ pub(crate) fn negation(alloc: Global, c: Test) -> Result<Test, AllocError>
 }
 
 /// Two tests that both hold.
-pub(crate) fn both(alloc: Global, c: Test, d: Test) -> Result<Test, AllocError>
+///
+/// # Errors
+///
+/// Where memory runs out.
+pub fn both(alloc: Global, c: Test, d: Test) -> Result<Test, AllocError>
     ensures { IfOk result (λ t. (m : Machine) → truth t m ≡ (truth c m && truth d m)) }
 {
     let (c, d) = box_both(alloc, c, d)?;
@@ -119,7 +147,11 @@ pub(crate) fn both(alloc: Global, c: Test, d: Test) -> Result<Test, AllocError>
 }
 
 /// Two tests of which one holds.
-pub(crate) fn either(alloc: Global, c: Test, d: Test) -> Result<Test, AllocError>
+///
+/// # Errors
+///
+/// Where memory runs out.
+pub fn either(alloc: Global, c: Test, d: Test) -> Result<Test, AllocError>
     ensures { IfOk result (λ t. (m : Machine) → truth t m ≡ (truth c m || truth d m)) }
 {
     let (c, d) = box_both(alloc, c, d)?;
@@ -127,7 +159,11 @@ pub(crate) fn either(alloc: Global, c: Test, d: Test) -> Result<Test, AllocError
 }
 
 /// The one, and then the other.
-pub(crate) fn then(alloc: Global, a: Code, b: Code) -> Result<Code, AllocError>
+///
+/// # Errors
+///
+/// Where memory runs out.
+pub fn then(alloc: Global, a: Code, b: Code) -> Result<Code, AllocError>
     ensures { IfOk result (λ t. (r : Running) → after t r ≡ after b (after a r)) }
 {
     let (a, b) = box_both(alloc, a, b)?;
@@ -135,7 +171,11 @@ pub(crate) fn then(alloc: Global, a: Code, b: Code) -> Result<Code, AllocError>
 }
 
 /// One of two, by a test.
-pub(crate) fn branch(alloc: Global, c: Test, a: Code, b: Code) -> Result<Code, AllocError>
+///
+/// # Errors
+///
+/// Where memory runs out.
+pub fn branch(alloc: Global, c: Test, a: Code, b: Code) -> Result<Code, AllocError>
     ensures { IfOk result (λ t. (r : Running)
         → after t r ≡ (if truth c r.machine then after a r else after b r)) }
 {

@@ -1,0 +1,4 @@
+pub mod Registers
+pub mod Copies
+pub mod Counts
+pub mod Parts
