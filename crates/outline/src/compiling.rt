@@ -18,6 +18,7 @@ use lower_code::{
     Code, Laid, Test, entry, increment, item as code_of_item, items as code_of_items, statement,
     test,
 };
+use lower_unroll::unroll;
 use std::alloc::Global;
 
 /// What code is made for: where the file-scope variables lie among the cells, and how many registers the locals have.
@@ -27,13 +28,14 @@ pub struct Target<'l> {
     pub registers: u64,
 }
 
-// Code as a block over at least so many registers.
+// Code as a block over at least so many registers, its short loops over locals written out.
 fn compile_code(alloc: Global, code: Code, registers: u64) -> Result<Compiled, Refusal>
     ensures ok { IfOk result
         (λ c. Compiles code registers c × registers ≤ c.registers) }
     ensures refusal { IfErr result (λ refusal. refusal ≡ OutOfMemory) }
 {
-    Ok(compile(alloc, &code, registers)?)
+    let unrolled = unroll(alloc, code, registers)?;
+    Ok(compile(alloc, &unrolled, registers)?)
 }
 
 // The code of a statement.
