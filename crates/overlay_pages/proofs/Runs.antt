@@ -3,16 +3,17 @@ use Rattle.std.specs.Prelude.{ℕ, zero, suc, true, false, ◌≡◌, ◌+◌, �
 use Rattle.std.specs.Int.{bit_at}
 use Rattle.std.proofs.Common.{refl, sym, ap, ◌∙◌, subst, cond, arith, append-nil, get_or}
 use Rattle.std.proofs.lemmas.Bool.{ne_eqb, eqb-true}
-use Rattle.std.proofs.lemmas.List.{append_assoc, length-append, length-drop, length-take, length-take-le, get_or-take, get_or-drop, take_all, take_more, take-append-le, drop-append-le}
+use Rattle.std.proofs.lemmas.List.{append_assoc, length-append, length-set, length-drop, length-take, length-take-le, get_or-take, get_or-drop, take_all, take_more, take-append-le, drop-append-le}
 use Rattle.std.proofs.lemmas.Nat.Bits.{bit_at_ones}
-use Rattle.store.specs.Kept.{Kept}
+use Rattle.store.specs.Kept.{Kept, overlaid}
+use Rattle.store.proofs.Writing.{overlaid_none, overlaid_more}
 use Rattle.store.specs.Flat.{values_of, filled}
 use Rattle.lower_code.proofs.Keeping.{filled_values}
 use Rattle.overlay_pages.specs.declared.changes.Change.{Change}
 use Rattle.overlay_pages.specs.Over.{Writes, or_else, written_over, and_at, last_of, writes_of}
 use Rattle.overlay_pages.specs.Runs.{row, cells_in, changes_in, AllDiffer}
 use Rattle.overlay_pages.specs.Table.{Table, IsSound, IsWhole, Gathers}
-use Rattle.overlay_pages.proofs.Overlays.{length_over, over_same, over_and_at, filled_twice}
+use Rattle.overlay_pages.proofs.Overlays.{length_over, over_same, over_nothing, over_and_at, filled_twice}
 use Rattle.overlay_pages.proofs.Gathered.{with_change, gathers_on}
 
 -- ---- runs one behind another
@@ -108,6 +109,21 @@ applied_one ks now place value e =
     none : (ns : List ℕ) → written_over (writes_of []) ns ≡ ns
     none [] = refl
     none (n ∷ ns) = λ i. n ∷ none ns i
+
+-- a run over cells that are all there
+pub over_row : (place : ℕ) (vs ns : List ℕ) → place + length vs ≤ length ns → overlaid ns place vs ≡ written_over (writes_of (row place vs)) ns
+over_row place [] ns le = overlaid_none ns place ∙ sym (over_nothing (writes_of []) ns (λ p. refl))
+over_row place (v ∷ vs) ns le =
+    overlaid_more ns place v vs (omega arith)
+    ∙ over_row (suc place) vs (slice_set ns place v) (omega (arith, length-set ns place v))
+    ∙ ap (written_over (writes_of (row (suc place) vs))) (sym one)
+    ∙ sym (over_both (record { place = place; value = v } ∷ []) (row (suc place) vs) ns)
+  where
+    one : written_over (writes_of (record { place = place; value = v } ∷ [])) ns ≡ slice_set ns place v
+    one =
+        over_same (writes_of (record { place = place; value = v } ∷ [])) (and_at (writes_of []) place v) ns (λ p. refl)
+        ∙ over_and_at (writes_of []) ns place v
+        ∙ ap (λ l. slice_set l place v) (over_nothing (writes_of []) ns (λ p. refl))
 
 -- ---- a whole page
 
