@@ -1,18 +1,18 @@
 -- Cells side by side: their bits, their values, and their entries in a table.
-use Rattle.std.proofs.Common.{w64, ℕ, zero, suc, ◌≡◌, ◌≢◌, ◌+◌, ◌-◌, ◌*◌, ◌/◌, ◌%◌, ◌^◌, ◌<◌, ◌≤◌, ◌⊎◌, inl, inr, List, [], ◌∷◌, ◌++◌, length, Option, Some, refl, sym, ap, ◌∙◌, subst, arith, mul_comm}
+use Rattle.std.proofs.Common.{w64, ℕ, zero, suc, ◌≡◌, ◌≢◌, ◌+◌, ◌-◌, ◌*◌, ◌/◌, ◌%◌, ◌^◌, ◌<◌, ◌≤◌, ◌⊎◌, inl, inr, List, [], ◌∷◌, ◌++◌, length, take, drop, Option, Some, refl, sym, ap, ◌∙◌, subst, arith, mul_comm}
 use Rattle.std.specs.Prelude.{slice_index, slice_set, bit_or, bit_and, max, min}
 use Rattle.std.specs.Int.{bit_at}
 use Rattle.std.proofs.lemmas.Bool.{cases_lt}
-use Rattle.std.proofs.lemmas.List.{length-set, get_or-set_same, set-set, set-get_or, set_comm}
+use Rattle.std.proofs.lemmas.List.{length-set, length-take-le, length-drop, get_or-take, get_or-drop, get_or-set_same, set-set, set-get_or, set_comm}
 use Rattle.std.proofs.Math.Nat.{mul-sub, mod-eq_of_lt, pow-le-pow_right}
 use Rattle.std.proofs.lemmas.Nat.{pow-add, pow_pos}
 use Rattle.std.proofs.lemmas.Nat.Bits.{ones_shr, bit_at_or, bit_at_and, bit_at_set_same, bit_at_set_other, bit_at-lt, bit_at_mask_inside, bit_at_mask_below, bit_at_mask_above, same_from_bits}
 use Rattle.store.specs.Kept.{overlaid}
 use Rattle.store.proofs.Writing.{overlaid_none, overlaid_more}
 use Rattle.lower_op.specs.Stretches.{written}
-use Rattle.overlay_pages.specs.Over.{writes_in, written_over, set_beside}
-use Rattle.overlay_pages.specs.Table.{Table, number_at, bit, spot, slot, slots, IsSound, setting, setting_row}
-use Rattle.overlay_pages.proofs.Tables.{inside, same_or_not, slot_set, sound_setting, slots_setting}
+use Rattle.overlay_pages.specs.Over.{writes_in, written_over, set_beside, IsRow}
+use Rattle.overlay_pages.specs.Table.{Table, number_at, bit, spot, slot, slots, IsSound, setting, StandFrom, setting_row}
+use Rattle.overlay_pages.proofs.Tables.{inside, same_or_not, slot_set, spot_within, sound_setting, slots_setting}
 use Rattle.overlay_pages.proofs.Overlays.{over_set}
 
 -- ---- entries of a table
@@ -98,22 +98,38 @@ ones_are from count some few =
         omega arith
 
 -- where a mask has all of a run of ones, each bit of them is set
-pub ones_set : (m from count : ℕ) → bit_and m (2 ^ (from + count) - 2 ^ from) ≡ 2 ^ (from + count) - 2 ^ from → (i : ℕ) → from ≤ i → i < from + count → bit_at m i ≡ 1
+ones_set : (m from count : ℕ) → bit_and m (2 ^ (from + count) - 2 ^ from) ≡ 2 ^ (from + count) - 2 ^ from → (i : ℕ) → from ≤ i → i < from + count → bit_at m i ≡ 1
 ones_set m from count e i le lt =
     let one : bit_at (2 ^ (from + count) - 2 ^ from) i ≡ 1 = bit_at_mask_inside from (from + count) i le lt in
     let both : min (bit_at m i) (bit_at (2 ^ (from + count) - 2 ^ from) i) ≡ bit_at (2 ^ (from + count) - 2 ^ from) i = sym (bit_at_and m (2 ^ (from + count) - 2 ^ from) i) ∙ ap (λ n. bit_at n i) e in
     let few = bit_at-lt m i in
     omega arith
 
+-- and such a mask has all of them
+set_ones : (m from count : ℕ) → ((i : ℕ) → from ≤ i → i < from + count → bit_at m i ≡ 1) → bit_and m (2 ^ (from + count) - 2 ^ from) ≡ 2 ^ (from + count) - 2 ^ from
+set_ones m from count all = same_from_bits (bit_and m (2 ^ (from + count) - 2 ^ from)) (2 ^ (from + count) - 2 ^ from) (λ i. bit_at_and m (2 ^ (from + count) - 2 ^ from) i ∙ go i (cases_lt i from) (cases_lt i (from + count)))
+  where
+    go : (i : ℕ) → (i < from) ⊎ (from ≤ i) → (i < from + count) ⊎ (from + count ≤ i) → min (bit_at m i) (bit_at (2 ^ (from + count) - 2 ^ from) i) ≡ bit_at (2 ^ (from + count) - 2 ^ from) i
+    go i (inl before) b =
+        let none : bit_at (2 ^ (from + count) - 2 ^ from) i ≡ 0 = bit_at_mask_below from (from + count) i before in
+        omega arith
+    go i (inr le) (inl lt) =
+        let set = all i le lt in
+        let one : bit_at (2 ^ (from + count) - 2 ^ from) i ≡ 1 = bit_at_mask_inside from (from + count) i le lt in
+        omega arith
+    go i (inr le) (inr past) =
+        let none : bit_at (2 ^ (from + count) - 2 ^ from) i ≡ 0 = bit_at_mask_above from (from + count) i past in
+        omega arith
+
 -- ---- cells of one page
 
 -- cells that are written one after another
-abbrev pub settings : Table → ℕ → List ℕ → Table
+abbrev settings : Table → ℕ → List ℕ → Table
 settings t first [] = t
 settings t first (n ∷ ns) = settings (setting t first n) (first + 1) ns
 
 -- such tables are sound, and their entries are set one after another
-pub settled : (t : Table) (first : ℕ) (ns : List ℕ) → IsSound t → first + length ns ≤ t.size → ((k : ℕ) → k < length ns → 0 < number_at t (first + k)) → IsSound (settings t first ns) × (slots (settings t first ns) ≡ set_beside (slots t) first ns)
+settled : (t : Table) (first : ℕ) (ns : List ℕ) → IsSound t → first + length ns ≤ t.size → ((k : ℕ) → k < length ns → 0 < number_at t (first + k)) → IsSound (settings t first ns) × (slots (settings t first ns) ≡ set_beside (slots t) first ns)
 settled t first [] s le there = (s, refl)
 settled t first (n ∷ ns) s le there =
     let here : 0 < number_at t first = subst (λ (p : ℕ). 0 < number_at t p) (let e : first + 0 ≡ first = omega arith in e) (there 0 (omega arith)) in
@@ -153,9 +169,6 @@ row_none t page from start = λ i. record { size = t.size; masks = masks i; numb
 row_more : (t : Table) (first n : ℕ) (ns : List ℕ) → first / 64 < length t.masks → spot t first < length t.values → first % 64 + suc (length ns) ≤ 64 → setting_row t first (n ∷ ns) ≡ row_from (setting t first n) (first / 64) (suc (first % 64)) (suc (spot t first)) ns
 row_more t first n ns page inside few = λ i. record { size = t.size; masks = masks i; numbers = t.numbers; entered = t.entered; values = overlaid_more t.values (spot t first) n ns inside i }
   where
-    one : ℕ → ℕ
-    one m = bit_or m (1 * 2 ^ (first % 64) % 2 ^ 64)
-
     masks : slice_set t.masks (first / 64) (bit_or (slice_index t.masks (first / 64)) (2 ^ (first % 64 + suc (length ns)) - 2 ^ (first % 64))) ≡ slice_set (setting t first n).masks (first / 64) (bit_or (slice_index (setting t first n).masks (first / 64)) (2 ^ (suc (first % 64) + length ns) - 2 ^ suc (first % 64)))
     masks =
         ap (slice_set t.masks (first / 64)) (sym (one_more (slice_index t.masks (first / 64)) (first % 64) (length ns) few))
@@ -163,7 +176,7 @@ row_more t first n ns page inside few = λ i. record { size = t.size; masks = ma
         ∙ ap (λ m. slice_set (setting t first n).masks (first / 64) (bit_or m (2 ^ (suc (first % 64) + length ns) - 2 ^ suc (first % 64)))) (sym (get_or-set_same t.masks (first / 64) (bit_or (slice_index t.masks (first / 64)) (1 * 2 ^ (first % 64) % 2 ^ 64)) 0 page))
 
 -- at once is one after another
-pub row_is : (t : Table) (first : ℕ) (ns : List ℕ) → first / 64 < length t.masks → spot t first + length ns ≤ length t.values → first % 64 + length ns ≤ 64 → setting_row t first ns ≡ settings t first ns
+row_is : (t : Table) (first : ℕ) (ns : List ℕ) → first / 64 < length t.masks → spot t first + length ns ≤ length t.values → first % 64 + length ns ≤ 64 → setting_row t first ns ≡ settings t first ns
 row_is t first [] page inside few = row_none t (first / 64) (first % 64) (spot t first)
 row_is t first (n ∷ []) page inside few = row_more t first n [] page (omega arith) (omega arith) ∙ row_none (setting t first n) (first / 64) (suc (first % 64)) (suc (spot t first))
 row_is t first (n ∷ m ∷ ms) page inside few =
@@ -209,24 +222,68 @@ bits_set t first count few e k lt =
     (λ i. bit_at (slice_index t.masks (page i)) (rest i))
     ∙ ones_set (slice_index t.masks (first / 64)) (first % 64) count e (first % 64 + k) (omega arith) (omega arith)
 
--- what is written at a cell of a page, by the spot of another one before it
-pub slot_behind : (t : Table) (place k start : ℕ) → place % 64 + k < 64 → spot t place ≡ start → bit t (place + k) ≡ 1 → slot t (place + k) ≡ Some (slice_index t.values (start + k))
-slot_behind t place k start few at one =
-    let page : (place + k) / 64 ≡ place / 64 = omega arith in
-    let rest : (place + k) % 64 ≡ place % 64 + k = omega arith in
-    let there : spot t (place + k) ≡ start + k = (λ i. 64 * slice_index t.numbers (page i) + rest i) ∙ (let e : 64 * number_at t place + (place % 64 + k) ≡ start + k = omega arith in e) in
-    slot_set t (place + k) one ∙ ap (λ n. Some (slice_index t.values n)) there
+pub mask_set : (t : Table) (first count : ℕ) → first % 64 + count ≤ 64 → ((k : ℕ) → k < count → bit t (first + k) ≡ 1) → bit_and (slice_index t.masks (first / 64)) (2 ^ (first % 64 + count) - 2 ^ (first % 64)) ≡ 2 ^ (first % 64 + count) - 2 ^ (first % 64)
+mask_set t first count few all = set_ones (slice_index t.masks (first / 64)) (first % 64) count (λ i le lt.
+    let k = i - first % 64 in
+    let page : first / 64 ≡ (first + k) / 64 = omega arith in
+    let rest : i ≡ (first + k) % 64 = omega arith in
+    (λ j. bit_at (slice_index t.masks (page j)) (rest j)) ∙ all k (omega arith))
 
--- the number of a page is small
-pub number_small : (t : Table) → IsSound t → (q : ℕ) → 64 * slice_index t.numbers q + 64 < 2 ^ 64
-number_small t s q = go (slice_index t.numbers q) refl
+-- the cells of one page behind those that stand so
+pub stand_on : (t : Table) (first done part start : ℕ) → StandFrom t first done start → (first + done) % 64 + part ≤ 64 → spot t (first + done) ≡ start + done → ((k : ℕ) → k < part → bit t (first + done + k) ≡ 1) → StandFrom t first (done + part) start
+stand_on t first done part start before few at set k lt = go (cases_lt k done)
   where
-    go : (n : ℕ) → slice_index t.numbers q ≡ n → 64 * slice_index t.numbers q + 64 < 2 ^ 64
+    go : (k < done) ⊎ (done ≤ k) → (bit t (first + k) ≡ 1) × (spot t (first + k) ≡ start + k)
+    go (inl less) = before k less
+    go (inr le) =
+        let i = k - done in
+        let place : first + k ≡ first + done + i = omega arith in
+        let page : (first + k) / 64 ≡ (first + done) / 64 = omega arith in
+        let rest : (first + k) % 64 ≡ (first + done) % 64 + i = omega arith in
+        let there : 64 * number_at t (first + done) + ((first + done) % 64 + i) ≡ start + k = omega arith in
+        (ap (bit t) place ∙ set i (omega arith), (λ j. 64 * slice_index t.numbers (page j) + rest j) ∙ there)
+
+-- the values of such cells are all there
+stand_within : (t : Table) → IsSound t → (first count start : ℕ) → StandFrom t first count start → 0 < count → start + count ≤ length t.values
+stand_within t s first count start stand some =
+    let last = stand (count - 1) (omega arith) in
+    let at = last.1 in
+    let number = (s.within (first + (count - 1)) last.0).1 in
+    let below = spot_within t s (first + (count - 1)) number in
+    omega arith
+
+-- and no page stands behind them
+spot_inside : (t : Table) → IsSound t → (place : ℕ) → spot t place ≤ length t.values
+spot_inside t s place = go (number_at t place) refl
+  where
+    go : (n : ℕ) → number_at t place ≡ n → spot t place ≤ length t.values
+    go zero e = let sized = s.sized in omega arith
+    go (suc n) e = let below = spot_within t s place (omega arith) in omega arith
+
+-- so where the first stands, all of them do
+pub stand_room : (t : Table) → IsSound t → (first count start : ℕ) → start ≡ spot t first → StandFrom t first count start → start + count ≤ length t.values
+stand_room t s first count start at stand = go count refl
+  where
+    go : (n : ℕ) → count ≡ n → start + count ≤ length t.values
+    go zero e = let below = spot_inside t s first in omega arith
+    go (suc n) e = stand_within t s first count start stand (omega arith)
+
+-- and the spots of those that stand so are numbers of 64 bits
+pub stand_fits : (t : Table) → IsSound t → (first count start : ℕ) → start < 2 ^ 64 → length t.values < 2 ^ 64 → StandFrom t first count start → start + count < 2 ^ 64
+stand_fits t s first count start fits long stand = go count refl
+  where
+    go : (n : ℕ) → count ≡ n → start + count < 2 ^ 64
     go zero e = omega arith
-    go (suc n) e =
-        let entered = s.listed q (omega arith) in
-        let below = entered.below in
-        let number = entered.number in
-        let counted = s.counted in
-        let small = s.small in
-        omega arith
+    go (suc n) e = let within = stand_within t s first count start stand (omega arith) in omega arith
+
+-- so they are a row
+pub row_stands : (t : Table) (first count start : ℕ) (row : List ℕ) → StandFrom t first count start → row ≡ take count (drop start t.values) → start + count ≤ length t.values → IsRow (slot t) first count row
+row_stands t first count start row stand is le =
+    record {
+      long = ap (λ (l : List ℕ). length l) is ∙ length-take-le count (drop start t.values) (omega (arith, length-drop start t.values));
+      each = λ k lt.
+          let here = stand k lt in
+          slot_set t (first + k) here.0
+          ∙ ap (λ n. Some (slice_index t.values n)) here.1
+          ∙ ap Some (sym (ap (λ (l : List ℕ). slice_index l k) is ∙ get_or-take count (drop start t.values) k 0 lt ∙ get_or-drop start t.values k 0));
+    }

@@ -98,6 +98,10 @@ setting_row t first ns =
       values = overlaid t.values (spot t first) ns;
     }
 
+-- each of so many cells side by side is written, and their values stand side by side from a spot on
+abbrev pub StandFrom : Table → ℕ → ℕ → ℕ → Type 0
+StandFrom t first count start = (k : ℕ) → k < count → (bit t (first + k) ≡ 1) × (spot t (first + k) ≡ start + k)
+
 -- tables, with room for all pages
 pub record IsRoomy (p : Pages) : Type 0 where
   pub sound : IsSound (table_of p)

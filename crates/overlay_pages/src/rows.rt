@@ -1,10 +1,10 @@
 //! Cells side by side in the tables of a worker.
 
-ghost use Rattle.std.specs.Prelude.{ℕ, ◌^◌, true, ◌≡◌, ◌+◌, ◌-◌, ◌*◌, ◌/◌, ◌%◌, ◌<◌, ◌≤◌, min, length, slice_index, Some, IfSome};
+ghost use Rattle.std.specs.Prelude.{ℕ, ◌^◌, ◌≡◌, ◌↔◌, ◌+◌, ◌-◌, ◌%◌, ◌<◌, ◌≤◌, min, length, take, drop, IsTrue, MatchOption};
 ghost use Rattle.std.specs.Vec.{vec_capacity};
 ghost use Rattle.store.specs.Kept.{overlaid};
 ghost use Rattle.overlay_pages.specs.Over.{set_beside, IsRow};
-ghost use Rattle.overlay_pages.specs.Table.{table_of, number_at, bit, spot, slot, slots, IsSound, IsRoomy, setting_row};
+ghost use Rattle.overlay_pages.specs.Table.{table_of, number_at, bit, spot, slot, slots, IsSound, IsRoomy, StandFrom, setting_row};
 
 use crate::pages::{Pages, mask_of, reach};
 
@@ -29,7 +29,8 @@ fn on_page(first: u64, count: u64) -> u64
 fn are_written(pages: &Pages, first: u64, count: u64) -> bool
     requires some { 1 ≤ count }
     requires few { first % 64 + count ≤ 64 }
-    ensures { result ≡ true → (k : ℕ) → k < count → bit (table_of pages.now) (first + k) ≡ 1 }
+    ensures { IsTrue result
+        ↔ ((k : ℕ) → k < count → bit (table_of pages.now) (first + k) ≡ 1) }
 {
     let needed = ones(first % 64, count);
     mask_of(pages, first / 64) & needed == needed
@@ -46,14 +47,11 @@ fn spot_of(pages: &Pages, place: u64) -> u64
     }
 }
 
-// Whether each of so many cells side by side is written, with the values from a spot on.
+// Whether each of so many cells side by side is written, and their values stand side by side from a spot on.
 fn stand_from(pages: &Pages, first: u64, count: u64, start: u64) -> bool
     requires sound { IsSound (table_of pages.now) }
     requires places { first + count < 2 ^ 64 }
-    requires spots { start + count < 2 ^ 64 }
-    ensures { result ≡ true → (k : ℕ) → k < count
-        → slot (table_of pages.now) (first + k)
-        ≡ Some (slice_index pages.now.values.items (start + k)) }
+    ensures { IsTrue result ↔ StandFrom (table_of pages.now) first count start }
 {
     let mut done = 0;
     while done < count {
@@ -70,24 +68,29 @@ fn stand_from(pages: &Pages, first: u64, count: u64, start: u64) -> bool
     true
 }
 
+// So many values from one on.
+fn part(values: &[u64], start: u64, count: u64) -> &[u64]
+    requires { start + count ≤ length values.now }
+    ensures { result.now ≡ take count (drop start values.now) }
+{
+    let (_, behind) = values.split_at(start as usize);
+    let (row, _) = behind.split_at(count as usize);
+    row
+}
+
 /// What is written at so many places side by side, where each of them is written and the values stand so in memory.
 pub fn row_at(pages: &Pages, first: u64, count: u64) -> Option<&[u64]>
     requires sound { IsSound (table_of pages.now) }
     requires places { first + count < 2 ^ 64 }
-    ensures { IfSome result (λ row. IsRow (slot (table_of pages.now)) first count row.now) }
+    ensures { MatchOption result
+        (StandFrom (table_of pages.now) first count (spot (table_of pages.now) first) → ⊥)
+        (λ row. IsRow (slot (table_of pages.now)) first count row.now) }
 {
     let start = spot_of(pages, first);
-    let length = pages.values.len() as u64;
-    if start > length {
-        return None;
-    }
-    if count > length - start {
-        return None;
-    }
     if !stand_from(pages, first, count, start) {
         return None;
     }
-    Some(&pages.values[start as usize..(start + count) as usize])
+    Some(part(&pages.values, start, count))
 }
 
 // Writes these numbers over values from one on.
