@@ -139,6 +139,14 @@ differs_at cells place [] all r lt = absurd (omega arith)
 differs_at cells place (v ∷ vs) all zero lt = ap (λ n. v == slice_index cells n) (omega arith) ∙ ne_eqb v (slice_index cells place) all.0
 differs_at cells place (v ∷ vs) all (suc r) lt = ap (λ n. get_or vs r 0 == slice_index cells n) (omega arith) ∙ differs_at cells (suc place) vs all.1 r (omega arith)
 
+-- values that differ from what the cells hold, one by one
+pub all_differ_by : (cells : List ℕ) (place : ℕ) (vs : List ℕ) → ((k : ℕ) → k < length vs → slice_index vs k ≡ slice_index cells (place + k) → ⊥) → AllDiffer cells place vs
+all_differ_by cells place [] each = tt
+all_differ_by cells place (v ∷ vs) each = (
+  λ e. each 0 (omega arith) (e ∙ ap (slice_index cells) (let z : place ≡ place + 0 = omega arith in z)),
+  all_differ_by cells (suc place) vs (λ k lt e. each (suc k) (omega arith) (e ∙ ap (slice_index cells) (let z : suc place + k ≡ place + suc k = omega arith in z))),
+)
+
 -- it has 64 values
 pub whole_long : (cells : List ℕ) (t : Table) → IsSound t → (k : ℕ) → k < length t.entered → (vs : List ℕ) → IsWhole cells t k vs → length vs ≡ 64
 whole_long cells t s k lt vs whole =

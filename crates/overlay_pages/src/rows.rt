@@ -68,8 +68,8 @@ fn stand_from(pages: &Pages, first: u64, count: u64, start: u64) -> bool
     true
 }
 
-// So many values from one on.
-fn part(values: &[u64], start: u64, count: u64) -> &[u64]
+/// So many values from one on.
+pub fn part(values: &[u64], start: u64, count: u64) -> &[u64]
     requires { start + count ≤ length values.now }
     ensures { result.now ≡ take count (drop start values.now) }
 {
