@@ -1,3 +1,4 @@
+pub mod Beside
 pub mod Gathered
 pub mod Lent
 pub mod Near

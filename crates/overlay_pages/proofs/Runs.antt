@@ -3,16 +3,17 @@ use Rattle.std.specs.Prelude.{ℕ, zero, suc, true, false, ◌≡◌, ◌+◌, �
 use Rattle.std.specs.Int.{bit_at}
 use Rattle.std.proofs.Common.{refl, sym, ap, ◌∙◌, subst, cond, arith, append-nil, get_or}
 use Rattle.std.proofs.lemmas.Bool.{ne_eqb, eqb-true}
-use Rattle.std.proofs.lemmas.List.{append_assoc, length-append, length-drop, length-take, length-take-le, get_or-take, get_or-drop, take_all, take_more, take-append-le, drop-append-le}
+use Rattle.std.proofs.lemmas.List.{append_assoc, length-append, length-set, length-drop, length-take, length-take-le, get_or-take, get_or-drop, take_all, take_more, take-append-le, drop-append-le}
 use Rattle.std.proofs.lemmas.Nat.Bits.{bit_at_ones}
-use Rattle.store.specs.Kept.{Kept}
+use Rattle.store.specs.Kept.{Kept, overlaid}
+use Rattle.store.proofs.Writing.{overlaid_none, overlaid_more}
 use Rattle.store.specs.Flat.{values_of, filled}
 use Rattle.lower_code.proofs.Keeping.{filled_values}
 use Rattle.overlay_pages.specs.declared.changes.Change.{Change}
 use Rattle.overlay_pages.specs.Over.{Writes, or_else, written_over, and_at, last_of, writes_of}
 use Rattle.overlay_pages.specs.Runs.{row, cells_in, changes_in, AllDiffer}
 use Rattle.overlay_pages.specs.Table.{Table, IsSound, IsWhole, Gathers}
-use Rattle.overlay_pages.proofs.Overlays.{length_over, over_same, over_and_at, filled_twice}
+use Rattle.overlay_pages.proofs.Overlays.{length_over, over_same, over_nothing, over_and_at, filled_twice}
 use Rattle.overlay_pages.proofs.Gathered.{with_change, gathers_on}
 
 -- ---- runs one behind another
@@ -109,6 +110,21 @@ applied_one ks now place value e =
     none [] = refl
     none (n ∷ ns) = λ i. n ∷ none ns i
 
+-- a run over cells that are all there
+pub over_row : (place : ℕ) (vs ns : List ℕ) → place + length vs ≤ length ns → overlaid ns place vs ≡ written_over (writes_of (row place vs)) ns
+over_row place [] ns le = overlaid_none ns place ∙ sym (over_nothing (writes_of []) ns (λ p. refl))
+over_row place (v ∷ vs) ns le =
+    overlaid_more ns place v vs (omega arith)
+    ∙ over_row (suc place) vs (slice_set ns place v) (omega (arith, length-set ns place v))
+    ∙ ap (written_over (writes_of (row (suc place) vs))) (sym one)
+    ∙ sym (over_both (record { place = place; value = v } ∷ []) (row (suc place) vs) ns)
+  where
+    one : written_over (writes_of (record { place = place; value = v } ∷ [])) ns ≡ slice_set ns place v
+    one =
+        over_same (writes_of (record { place = place; value = v } ∷ [])) (and_at (writes_of []) place v) ns (λ p. refl)
+        ∙ over_and_at (writes_of []) ns place v
+        ∙ ap (λ l. slice_set l place v) (over_nothing (writes_of []) ns (λ p. refl))
+
 -- ---- a whole page
 
 row_added : (place : ℕ) (vs : List ℕ) (v : ℕ) → row place (vs ++ v ∷ []) ≡ row place vs ++ record { place = place + length vs; value = v } ∷ []
@@ -122,6 +138,14 @@ differs_at : (cells : List ℕ) (place : ℕ) (vs : List ℕ) → AllDiffer cell
 differs_at cells place [] all r lt = absurd (omega arith)
 differs_at cells place (v ∷ vs) all zero lt = ap (λ n. v == slice_index cells n) (omega arith) ∙ ne_eqb v (slice_index cells place) all.0
 differs_at cells place (v ∷ vs) all (suc r) lt = ap (λ n. get_or vs r 0 == slice_index cells n) (omega arith) ∙ differs_at cells (suc place) vs all.1 r (omega arith)
+
+-- values that differ from what the cells hold, one by one
+pub all_differ_by : (cells : List ℕ) (place : ℕ) (vs : List ℕ) → ((k : ℕ) → k < length vs → slice_index vs k ≡ slice_index cells (place + k) → ⊥) → AllDiffer cells place vs
+all_differ_by cells place [] each = tt
+all_differ_by cells place (v ∷ vs) each = (
+  λ e. each 0 (omega arith) (e ∙ ap (slice_index cells) (let z : place ≡ place + 0 = omega arith in z)),
+  all_differ_by cells (suc place) vs (λ k lt e. each (suc k) (omega arith) (e ∙ ap (slice_index cells) (let z : suc place + k ≡ place + suc k = omega arith in z))),
+)
 
 -- it has 64 values
 pub whole_long : (cells : List ℕ) (t : Table) → IsSound t → (k : ℕ) → k < length t.entered → (vs : List ℕ) → IsWhole cells t k vs → length vs ≡ 64

@@ -65,7 +65,7 @@ spot_before t s p lt =
     let n = e.number in
     omega arith
 
-spot_within : (t : Table) → IsSound t → (p : ℕ) → 0 < number_at t p → spot t p < length t.values
+pub spot_within : (t : Table) → IsSound t → (p : ℕ) → 0 < number_at t p → spot t p < length t.values
 spot_within t s p lt =
     let b = spot_before t s p lt in
     let z = s.sized in

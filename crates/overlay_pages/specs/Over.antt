@@ -1,5 +1,5 @@
 -- Cells with writes over them.
-use Rattle.std.specs.Prelude.{ℕ, suc, ◌≡◌, ◌<◌, ◌==◌, if◌then◌else◌, List, [], ◌∷◌, Option, Some, None, length, slice_index, slice_index_or}
+use Rattle.std.specs.Prelude.{ℕ, suc, ◌≡◌, ◌+◌, ◌<◌, ◌==◌, if◌then◌else◌, List, [], ◌∷◌, Option, Some, None, length, slice_index, slice_index_or, slice_set}
 use Rattle.overlay_pages.specs.declared.changes.Change.{Change}
 
 -- what is written at each place, if anything
@@ -23,6 +23,16 @@ and_at w place n p = if p == place then Some n else w p
 -- writes from a table with an entry for each place, and none behind its end
 abbrev pub writes_in : List (Option ℕ) → Writes
 writes_in slots p = slice_index_or slots p None
+
+-- such a table with numbers written side by side, from a first place on; nothing is written outside
+abbrev pub set_beside : List (Option ℕ) → ℕ → List ℕ → List (Option ℕ)
+set_beside slots first [] = slots
+set_beside slots first (n ∷ ns) = set_beside (slice_set slots first (Some n)) (first + 1) ns
+
+-- these are what is written at so many places side by side, from a first one on
+pub record IsRow (w : Writes) (first count : ℕ) (row : List ℕ) : Type 0 where
+  pub long : length row ≡ count
+  pub each : (k : ℕ) → k < count → w (first + k) ≡ Some (slice_index row k)
 
 -- the later of two writes, if there is one
 abbrev pub last_of : Option ℕ → Option ℕ → Option ℕ

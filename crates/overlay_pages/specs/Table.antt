@@ -3,6 +3,7 @@ use Rattle.std.specs.Prelude.{ℕ, zero, suc, ◌≡◌, ◌+◌, ◌-◌, ◌*�
 use Rattle.std.specs.List.{range_with_len}
 use Rattle.std.specs.Int.{bit_at}
 use Rattle.std.specs.Vec.{vec_capacity}
+use Rattle.store.specs.Kept.{overlaid}
 use Rattle.overlay_pages.specs.declared.changes.Change.{Change}
 use Rattle.overlay_pages.specs.declared.pages.Pages.{Pages}
 use Rattle.overlay_pages.specs.Over.{Writes, writes_of, changing, AreOnce}
@@ -85,6 +86,21 @@ setting t place n =
       entered = t.entered;
       values = slice_set t.values (spot t place) n;
     }
+
+-- cells side by side of a page that was entered are written
+abbrev pub setting_row : Table → ℕ → List ℕ → Table
+setting_row t first ns =
+    record {
+      size = t.size;
+      masks = slice_set t.masks (first / 64) (bit_or (slice_index t.masks (first / 64)) (2 ^ (first % 64 + length ns) - 2 ^ (first % 64)));
+      numbers = t.numbers;
+      entered = t.entered;
+      values = overlaid t.values (spot t first) ns;
+    }
+
+-- each of so many cells side by side is written, and their values stand side by side from a spot on
+abbrev pub StandFrom : Table → ℕ → ℕ → ℕ → Type 0
+StandFrom t first count start = (k : ℕ) → k < count → (bit t (first + k) ≡ 1) × (spot t (first + k) ≡ start + k)
 
 -- tables, with room for all pages
 pub record IsRoomy (p : Pages) : Type 0 where

@@ -56,6 +56,9 @@ fn apply_run(store: &mut Store, place: u64, values: &[u64])
     ensures { store.new
         ≡ filled (written_over (writes_of (row place values.now)) (values_of store.old)) store.old }
 {
+    if values.len() > 1 && place + values.len() as u64 <= store.cells().len() as u64 {
+        return store.put_row(place, values);
+    }
     for (k, value) in values.iter().enumerate() {
         store.put(place + k as u64, *value);
     }

@@ -126,20 +126,18 @@ impl<'s> Cells for Chunk<'s> {
         self.own.write(place, n);
     }
 
-    // They stand so in the store where the chunk wrote none of them.
+    // They stand so in the store where the chunk wrote none of them, and in its pages where it wrote each.
     fn stretch(&self, first: u64, count: u64) -> Option<&[u64]> {
         if first >= 1 << 62 || count >= 1 << 62 {
             return None;
         }
-        if !self.own.are_bare(first, count) {
-            return None;
+        if self.own.are_bare(first, count) {
+            return self.store.stretch(first, count);
         }
-        self.store.stretch(first, count)
+        self.own.row(first, count)
     }
 
     fn write_beside(&mut self, first: u64, numbers: &[u64]) {
-        for (k, n) in numbers.iter().enumerate() {
-            self.write(first + k as u64, *n);
-        }
+        self.own.write_beside(first, numbers);
     }
 }

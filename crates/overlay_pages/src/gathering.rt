@@ -1,12 +1,13 @@
 //! The writes that tables hold and that change cells, gathered.
 
-ghost use Rattle.std.specs.Prelude.{suc, ◌≡◌, ◌==◌, ◌*◌, ◌+◌, ◌<◌, ◌^◌, ◌++◌, ◌∷◌, [], true, cond, length, slice_index, IfOk, IfSome, OnOk};
+ghost use Rattle.std.specs.Prelude.{ℕ, suc, ◌≡◌, ◌≢◌, ◌==◌, ◌↔◌, ◌*◌, ◌+◌, ◌<◌, ◌^◌, ◌++◌, ◌∷◌, [], true, cond, length, slice_index, IsTrue, IfOk, IfSome, OnOk};
 ghost use Rattle.store.specs.Flat.{values_of};
 ghost use Rattle.overlay_pages.specs.Runs.{AllDiffer};
 ghost use Rattle.overlay_pages.specs.Table.{table_of, IsSound, IsWhole, Gathers};
 
 use crate::changes::{Change, Changes};
 use crate::pages::Pages;
+use crate::rows::part;
 use std::alloc::{AllocError, Global};
 use store::Store;
 
@@ -22,15 +23,30 @@ fn add(store: &Store, change: Change, changes: &mut Changes) -> Result<(), Alloc
     changes.push(change)
 }
 
-// Whether each of these values is another one than the cell from a place on holds.
+// Whether values and as many numbers differ at each place.
+fn differ(values: &[u64], held: &[u64]) -> bool
+    requires { length values.now ≡ length held.now }
+    ensures { IsTrue result ↔ ((k : ℕ) → k < length values.now
+        → slice_index values.now k ≢ slice_index held.now k) }
+{
+    let mut all = true;
+    for k in 0..values.len() {
+        all &= values[k] != held[k];
+    }
+    all
+}
+
+// Whether each of these values is another one than the cell from a place on holds; it may be denied where there are not so many cells.
 fn all_differ(store: &Store, place: u64, values: &[u64]) -> bool
     requires { place + length values.now < 2 ^ 64 }
     ensures { result ≡ true → AllDiffer (values_of store.now) place values.now }
 {
-    let Some((value, rest)) = values.split_first() else {
-        return true;
-    };
-    *value != store.cell(place) && all_differ(store, place + 1, rest)
+    let cells = store.cells();
+    let count = values.len() as u64;
+    if place + count > cells.len() as u64 {
+        return false;
+    }
+    differ(values, part(cells, place, count))
 }
 
 // Adds the writes of a page by the bits of its mask.

@@ -7,6 +7,7 @@ mod gathering;
 mod laws;
 mod own;
 mod pages;
+mod rows;
 
 pub use changes::{Change, Changes};
 pub use chunk::Chunk;

@@ -1,13 +1,14 @@
 //! What a worker writes.
 
-ghost use Rattle.std.specs.Prelude.{◌≡◌, ◌≢◌, ℕ, ◌+◌, ◌<◌, ◌^◌, true, List, Option, length, replicate, slice_set, IfOk, None, Some};
+ghost use Rattle.std.specs.Prelude.{◌≡◌, ◌≢◌, ℕ, ◌+◌, ◌<◌, ◌^◌, true, List, Option, length, replicate, slice_set, IfOk, IfSome, None, Some};
 ghost use Rattle.store.specs.Flat.{values_of};
-ghost use Rattle.overlay_pages.specs.Over.{or_else, writes_of, writes_in, changing, AreOnce};
+ghost use Rattle.overlay_pages.specs.Over.{or_else, writes_of, writes_in, set_beside, changing, AreOnce, IsRow};
 ghost use Rattle.overlay_pages.specs.Table.{table_of, slots, IsRoomy};
 
 use crate::changes::Changes;
 use crate::gathering::gather;
 use crate::pages::{Pages, are_bare, clear, empty_pages, slot_at, write_at, written_words};
+use crate::rows::{row_at, write_row};
 use std::alloc::{AllocError, Global};
 use std::marker::Model;
 use store::Store;
@@ -121,6 +122,17 @@ impl Own {
         are_bare(&self.pages, first, count)
     }
 
+    // What is written at so many places side by side, where each is written and the values stand so in memory, and nothing is near them.
+    pub(crate) fn row(&self, first: u64, count: u64) -> Option<&[u64]>
+        requires { first + count < 2 ^ 64 }
+        ensures { IfSome result (λ row. IsRow (writes_in self.now) first count row.now) }
+    {
+        if !lies_apart(self.near, first, count) {
+            return None;
+        }
+        row_at(&self.pages, first, count)
+    }
+
     // Writes at a place, and nothing outside.
     #[inline]
     pub(crate) fn write(&mut self, place: u64, n: u64)
@@ -130,6 +142,20 @@ impl Own {
             self.value = n;
         } else {
             write_at(&mut self.pages, place, n);
+        }
+    }
+
+    // Writes numbers side by side, from a place on, and nothing outside.
+    pub(crate) fn write_beside(&mut self, first: u64, numbers: &[u64])
+        requires { first + length numbers.now < 2 ^ 64 }
+        ensures { self.new ≡ set_beside self.old first numbers.now }
+    {
+        let count = numbers.len() as u64;
+        if lies_apart(self.near, first, count) && first + count <= self.pages.size {
+            return write_row(&mut self.pages, first, numbers);
+        }
+        for (k, n) in numbers.iter().enumerate() {
+            self.write(first + k as u64, *n);
         }
     }
 

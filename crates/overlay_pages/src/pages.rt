@@ -39,7 +39,7 @@ pub fn slot_at(pages: &Pages, place: u64) -> Option<u64>
 
 // Which cells of a page are written, and none where there is no such page.
 #[inline]
-fn mask_of(pages: &Pages, page: u64) -> u64
+pub fn mask_of(pages: &Pages, page: u64) -> u64
     ensures { result ≡ slice_index pages.now.masks.items page }
 {
     match pages.masks.get(page as usize) {
@@ -151,7 +151,7 @@ fn set(pages: &mut Pages, place: u64, n: u64)
 
 // Enters the page of a place where it was not entered.
 #[inline]
-fn reach(pages: &mut Pages, place: u64)
+pub fn reach(pages: &mut Pages, place: u64)
     requires roomy { IsRoomy pages.old }
     requires there { place < pages.old.size }
     ensures roomy { IsRoomy pages.new }

@@ -1,10 +1,10 @@
-use Rattle.std.proofs.Common.{ℕ, ◌≡◌, ◌+◌, suc, ◌∷◌, [], List, drop, get_or, ap, sym, ◌∙◌, subst, arith}
+use Rattle.std.proofs.Common.{ℕ, ◌≡◌, ◌+◌, ◌≤◌, suc, length, ◌∷◌, [], List, drop, get_or, ap, sym, ◌∙◌, subst, arith}
 use Rattle.std.proofs.lemmas.List.{drop_more, drop_all}
 use Rattle.store.specs.Flat.{values_of, filled}
 use Rattle.overlay_pages.specs.Over.{written_over, writes_of}
 use Rattle.overlay_pages.specs.Runs.{row}
 use Rattle.overlay_pages.proofs.Overlays.{changed_none}
-use Rattle.overlay_pages.proofs.Runs.{applied_both, applied_one}
+use Rattle.overlay_pages.proofs.Runs.{applied_both, applied_one, over_row}
 use Rattle.overlay_pages.proofs.changes.apply_run.Goals as goal
 
 pub loop-k-init : goal.loop-k-init
@@ -32,3 +32,10 @@ returns c =
     let now = c.loop-k.store in
     c.loop-k.invariant now
     (subst (λ (l : List ℕ). now ≡ filled (written_over (writes_of (row (c.args.place + c.loop-k.k) l)) (values_of now)) now) (sym (drop_all c.loop-k.k vs c.loop-k-test.false)) (changed_none now))
+
+pub returns-then-place-values : goal.returns-then-place-values
+returns-then-place-values c =
+    let vs = c.args.values.now in
+    let old = values_of c.args.store.now in
+    let inside : c.args.place + length vs ≤ length old = subst (λ (cs : List ℕ). c.args.place + length vs ≤ length cs) c.cells.ensures.value c.if-place-values.true in
+    c.put_row.ensures ∙ ap (λ l. filled l c.args.store.now) (over_row c.args.place vs old inside)

@@ -1,4 +1,4 @@
-use Rattle.std.proofs.Common.{◌+◌, sym, ap, ◌∙◌}
+use Rattle.std.proofs.Common.{◌+◌, sym, ap, ◌∙◌, arith}
 use Rattle.std.specs.Prelude.{slice_index}
 use Rattle.store.specs.Flat.{values_of}
 use Rattle.lower_op.proofs.Stretching.{some_weaker}
@@ -7,15 +7,27 @@ use Rattle.overlay_pages.specs.Seen.{Seen, cells_of}
 use Rattle.overlay_pages.proofs.Overlays.{read_over}
 use Rattle.overlay_pages.proofs.chunk.ChunkCells.stretch.Goals as goal
 
-pub returns : goal.returns
-returns c =
+pub returns-then-are_bare : goal.returns-then-are_bare
+returns-then-are_bare c =
     let cells = values_of c.self.inside.store.now in
     some_weaker c.stretch.result _ _ (λ row s. record {
       small = s.small;
       long = s.long;
       each = λ k lt.
           s.each k lt
-          ∙ sym (ap (λ o. or_else o (slice_index cells (c.args.first + k))) (c.are_bare.ensures c.if-not-are_bare.false k lt))
+          ∙ sym (ap (λ o. or_else o (slice_index cells (c.args.first + k))) (c.are_bare.ensures c.if-are_bare.true k lt))
           ∙ sym (read_over c.self.inside.own cells (c.args.first + k) c.self.invariant)
           ∙ ap (λ (s : Seen). slice_index (cells_of s) (c.args.first + k)) c.self.view_is;
     }) c.stretch.ensures
+
+pub returns : goal.returns
+returns c =
+    let cells = values_of c.self.inside.store.now in
+    some_weaker c.row.result _ _ (λ row r. record {
+      small = omega arith;
+      long = r.long;
+      each = λ k lt.
+          sym (ap (λ o. or_else o (slice_index cells (c.args.first + k))) (r.each k lt))
+          ∙ sym (read_over c.self.inside.own cells (c.args.first + k) c.self.invariant)
+          ∙ ap (λ (s : Seen). slice_index (cells_of s) (c.args.first + k)) c.self.view_is;
+    }) c.row.ensures
