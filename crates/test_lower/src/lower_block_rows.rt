@@ -3,12 +3,12 @@
 use crate::codes::code_of;
 use cparse::parse;
 use ktree::Kernel;
-use lower_block::Compiled;
+use lower_block::{Block, Compiled};
 use lower_lanes::new_bench;
 use lower_op::{Cells, FlatCells};
 use lower_runner::run;
 use seqrun_io::Memory;
-use std::alloc::Global;
+use std::alloc::{AllocError, Global};
 
 /// Whether a block over cells prints this.
 fn prints_over(alloc: Global, compiled: &Compiled, cells: &mut FlatCells, expected: &str) -> bool {
@@ -55,11 +55,16 @@ fn text_prints(alloc: Global, text: &[u8], expected: &str) -> bool {
     }
 }
 
+/// The text of the kernel with these lines.
+fn kernel_text(alloc: Global, lines: &str) -> Result<String, AllocError> {
+    format!(in alloc;
+        "#include <inttypes.h>\n#include <stdint.h>\n#include <stdio.h>\nuint64_t A[8]; uint64_t B[2][3]; uint64_t s; void kernel(void) {{ uint64_t x;\n{lines}\n}}\n"
+    )
+}
+
 /// Whether the kernel with these lines prints this.
 fn prints(alloc: Global, lines: &str, expected: &str) -> bool {
-    match format!(in alloc;
-        "#include <inttypes.h>\n#include <stdint.h>\n#include <stdio.h>\nuint64_t A[8]; uint64_t B[2][3]; uint64_t s; void kernel(void) {{ uint64_t x;\n{lines}\n}}\n"
-    ) {
+    match kernel_text(alloc, lines) {
         Ok(text) => text_prints(alloc, text.as_bytes(), expected),
         Err(_error) => false,
     }
@@ -197,4 +202,68 @@ fn instructions_in_place_of_two_print_what_c_prints(rt: HostRuntime) {
         ),
     ];
     assert_eq!(rt; first_wrong(rt.alloc(), ROWS), 0);
+}
+
+/// How many branches are left in a block.
+fn branches(block: &Block) -> u64 {
+    match block {
+        Block::If(_, a, b) => branches(a).wrapping_add(branches(b)).wrapping_add(1),
+        Block::Then(a, b) => branches(a).wrapping_add(branches(b)),
+        Block::Loop(_, body) => branches(body),
+        _ => 0,
+    }
+}
+
+/// Whether so many branches are left of the kernel of a text.
+fn text_keeps(alloc: Global, text: &[u8], expected: u64) -> bool {
+    let Ok(kernel) = parse(alloc, text) else {
+        return false;
+    };
+    match code_of(alloc, &kernel) {
+        Some(compiled) => branches(&compiled.block) == expected,
+        None => false,
+    }
+}
+
+/// The number of the first row, from 1, of which other branches are left; 0 where there is none.
+fn first_branching(alloc: Global, rows: &[(&str, u64)]) -> u64 {
+    let mut number = 1u64;
+    for (lines, expected) in rows {
+        let keeps = match kernel_text(alloc, lines) {
+            Ok(text) => text_keeps(alloc, text.as_bytes(), *expected),
+            Err(_error) => false,
+        };
+        if !keeps {
+            return number;
+        }
+        number = number.saturating_add(1);
+    }
+    0
+}
+
+/// Branches that set one local or save one cell, and nothing else, are none as instructions.
+#[test]
+fn branches_are_left(rt: HostRuntime) {
+    const ROWS: &[(&str, u64)] = &[
+        ("if (x > 3) A[1] = x; else A[1] = 2;", 0),
+        ("if (x > 3) { A[x] += s; }", 0),
+        (
+            "if (x > 3) { if (s > 2) { x = 1; } } else if (s == 5) { x = x + s; } else { x = 9; }",
+            0,
+        ),
+        (
+            "for (uint64_t i = 0; i < 8; i++) { if (A[i] > 3) { A[i] = 3; } else if (A[i] > 2) { A[i] = x; } }",
+            0,
+        ),
+        (
+            "for (uint64_t i = 0; i < 8; i++) { if (A[i] > 3) { if (x > 1) B[1][2] = i; } else { if (x < 1) { B[1][2] = A[i]; } } }",
+            0,
+        ),
+        ("if (x > 3) { A[1] = x; } else { A[2] = x; }", 1),
+        ("if (x > 3) { A[A[1]] = x; }", 1),
+        ("if (x > 3) { s = x; x = 1; }", 1),
+        ("if (x > 3) { s = x; } else { x = s; }", 1),
+        ("if (x > 3) { if (s > 1) { A[1] = x; } printf(\"a\"); }", 1),
+    ];
+    assert_eq!(rt; first_branching(rt.alloc(), ROWS), 0);
 }

@@ -266,3 +266,59 @@ fn branches_that_set_a_local_run(rt: HostRuntime) {
     ];
     assert_eq!(rt; first_wrong(rt.alloc(), ROWS), 0);
 }
+
+/// Branches that save one cell alone: with and without an `else`, one inside another, a chain of them, and arms that save cells at other places.
+#[test]
+fn branches_that_save_a_cell_run(rt: HostRuntime) {
+    const ROWS: &[(&str, u64)] = &[
+        (
+            "for (uint64_t i = 0; i < 20000; i++) { if (A[i] & 1) A[i] = A[i] / 3; else A[i] = B[i] + i; }",
+            4136354608710520054,
+        ),
+        (
+            "for (uint64_t i = 0; i < 20000; i++) { if (A[i] & 1) { B[i] = A[i] / 3; } else { B[i] = B[i] + A[i]; } }",
+            8794115996941052910,
+        ),
+        (
+            "for (uint64_t i = 0; i < 20000; i++) { if (A[i] > B[i]) { A[i] = 5; } }",
+            13117442914211963867,
+        ),
+        (
+            "for (uint64_t i = 0; i < 20000; i++) { if (A[i] % 7 == 2) B[i] += A[i] * 3; }",
+            4074209346690941095,
+        ),
+        (
+            "for (uint64_t i = 0; i < 60; i++) { for (uint64_t j = 0; j < 70; j++) { if (M[i][j] > N[i][j]) { M[i][j] = N[i][j]; } } }",
+            15394016849831430281,
+        ),
+        (
+            "for (uint64_t i = 0; i < 19999; i++) { if (A[i] & 4) { B[i] = i; } else { B[i + 1] = 7; } }",
+            15572139661174474058,
+        ),
+        (
+            "for (uint64_t i = 0; i < 20000; i++) { if (A[i] & 4) { A[i] = i; } else { B[i] = 7; } }",
+            9264630606890993536,
+        ),
+        (
+            "for (uint64_t i = 0; i < 20000; i++) { if (A[i] % 5 == 0) { B[i] = 1; } else if (A[i] % 5 == 1) { B[i] = A[i]; } else if (A[i] % 5 == 2) { B[i] ^= 77; } }",
+            1160311448866171316,
+        ),
+        (
+            "for (uint64_t i = 0; i < 20000; i++) { if (A[i] & 1) { if (A[i] & 2) { B[i] = 3; } } else { B[i] = B[i] * 5; } }",
+            14180052518613364988,
+        ),
+        (
+            "for (uint64_t i = 1; i < 20000; i++) { if (A[i] < A[i - 1]) { A[i] = A[i - 1]; } }",
+            16163195237329498688,
+        ),
+        (
+            "for (uint64_t i = 0; i < 20000; i++) { if (B[i] & 16) { s += A[i]; } else { s = s ^ i; } }",
+            16301123607802434450,
+        ),
+        (
+            "for (uint64_t i = 0; i < 20000; i++) { if (A[i] & 8) { A[19999 - i] = A[i] + 1; } }",
+            3841863802016452456,
+        ),
+    ];
+    assert_eq!(rt; first_wrong(rt.alloc(), ROWS), 0);
+}
