@@ -7,3 +7,4 @@ pub mod Phased
 pub mod Shaped
 pub mod Standing
 pub mod Whole
+pub mod Unrolled
