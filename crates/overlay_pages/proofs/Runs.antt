@@ -147,6 +147,11 @@ all_differ_by cells place (v ∷ vs) each = (
   all_differ_by cells (suc place) vs (λ k lt e. each (suc k) (omega arith) (e ∙ ap (slice_index cells) (let z : suc place + k ≡ place + suc k = omega arith in z))),
 )
 
+pub differs_each : (cells : List ℕ) (place : ℕ) (vs : List ℕ) → AllDiffer cells place vs → (k : ℕ) → k < length vs → slice_index vs k ≡ slice_index cells (place + k) → ⊥
+differs_each cells place [] all k lt = absurd (omega arith)
+differs_each cells place (v ∷ vs) all zero lt = λ e. all.0 (e ∙ ap (slice_index cells) (let z : place + 0 ≡ place = omega arith in z))
+differs_each cells place (v ∷ vs) all (suc k) lt = λ e. differs_each cells (suc place) vs all.1 k (omega arith) (e ∙ ap (slice_index cells) (let z : place + suc k ≡ suc place + k = omega arith in z))
+
 -- it has 64 values
 pub whole_long : (cells : List ℕ) (t : Table) → IsSound t → (k : ℕ) → k < length t.entered → (vs : List ℕ) → IsWhole cells t k vs → length vs ≡ 64
 whole_long cells t s k lt vs whole =

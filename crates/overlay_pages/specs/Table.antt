@@ -121,4 +121,5 @@ pub record Gathers (cells : List ℕ) (t : Table) (m : ℕ) (cs : List Change) :
 pub record IsWhole (cells : List ℕ) (t : Table) (k : ℕ) (vs : List ℕ) : Type 0 where
   pub mask : slice_index t.masks (slice_index t.entered k) ≡ 2 ^ 64 - 1
   pub values : vs ≡ take 64 (drop (64 * suc k) t.values)
+  pub inside : 64 * slice_index t.entered k + length vs ≤ length cells
   pub differ : AllDiffer cells (64 * slice_index t.entered k) vs

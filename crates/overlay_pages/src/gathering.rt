@@ -1,6 +1,6 @@
 //! The writes that tables hold and that change cells, gathered.
 
-ghost use Rattle.std.specs.Prelude.{ℕ, suc, ◌≡◌, ◌≢◌, ◌==◌, ◌↔◌, ◌*◌, ◌+◌, ◌<◌, ◌^◌, ◌++◌, ◌∷◌, [], true, cond, length, slice_index, IsTrue, IfOk, IfSome, OnOk};
+ghost use Rattle.std.specs.Prelude.{ℕ, List, suc, ◌≡◌, ◌≢◌, ◌==◌, ◌↔◌, ◌*◌, ◌+◌, ◌<◌, ◌≤◌, ◌^◌, ◌++◌, ◌∷◌, [], cond, length, slice_index, IsTrue, MatchOption, IfOk, OnOk};
 ghost use Rattle.store.specs.Flat.{values_of};
 ghost use Rattle.overlay_pages.specs.Runs.{AllDiffer};
 ghost use Rattle.overlay_pages.specs.Table.{table_of, IsSound, IsWhole, Gathers};
@@ -36,10 +36,11 @@ fn differ(values: &[u64], held: &[u64]) -> bool
     all
 }
 
-// Whether each of these values is another one than the cell from a place on holds; it may be denied where there are not so many cells.
+// Whether there are cells from a place on for all of these values, and each value is another one than its cell holds.
 fn all_differ(store: &Store, place: u64, values: &[u64]) -> bool
     requires { place + length values.now < 2 ^ 64 }
-    ensures { result ≡ true → AllDiffer (values_of store.now) place values.now }
+    ensures { IsTrue result ↔ ((place + length values.now ≤ length (values_of store.now))
+        × AllDiffer (values_of store.now) place values.now) }
 {
     let cells = store.cells();
     let count = values.len() as u64;
@@ -82,7 +83,9 @@ fn gather_bits(
 fn whole_page<'p>(store: &Store, pages: &'p Pages, k: usize) -> Option<&'p [u64]>
     requires sound { IsSound (table_of pages.now) }
     requires there { k < length pages.now.entered.items }
-    ensures { IfSome result (λ values. IsWhole (values_of store.now) (table_of pages.now) k values.now) }
+    ensures { MatchOption result
+        ((values : List ℕ) → IsWhole (values_of store.now) (table_of pages.now) k values → ⊥)
+        (λ values. IsWhole (values_of store.now) (table_of pages.now) k values.now) }
 {
     let page = pages.entered[k];
     if pages.masks[page as usize] != u64::MAX {

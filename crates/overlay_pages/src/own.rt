@@ -1,6 +1,6 @@
 //! What a worker writes.
 
-ghost use Rattle.std.specs.Prelude.{◌≡◌, ◌≢◌, ℕ, ◌+◌, ◌<◌, ◌^◌, true, List, Option, length, replicate, slice_set, IfOk, IfSome, None, Some};
+ghost use Rattle.std.specs.Prelude.{◌≡◌, ◌≢◌, ℕ, ◌↔◌, ◌+◌, ◌<◌, ◌^◌, true, IsTrue, List, Option, length, replicate, slice_set, IfOk, IfSome, None, Some};
 ghost use Rattle.store.specs.Flat.{values_of};
 ghost use Rattle.overlay_pages.specs.Over.{or_else, writes_of, writes_in, set_beside, changing, AreOnce, IsRow};
 ghost use Rattle.overlay_pages.specs.Table.{table_of, slots, IsRoomy};
@@ -65,7 +65,7 @@ fn near_value(near: u64, value: u64, size: u64) -> Option<u64>
 // Whether a place is none of so many side by side.
 fn lies_apart(place: u64, first: u64, count: u64) -> bool
     requires { first + count < 2 ^ 64 }
-    ensures { result ≡ true → (k : ℕ) → k < count → first + k ≢ place }
+    ensures { IsTrue result ↔ ((k : ℕ) → k < count → first + k ≢ place) }
 {
     place < first || place >= first + count
 }

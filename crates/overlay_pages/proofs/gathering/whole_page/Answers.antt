@@ -1,4 +1,4 @@
-use Rattle.std.proofs.Common.{suc, ◌≡◌, ◌+◌, ◌-◌, ◌*◌, take, drop, ap, sym, ◌∙◌, subst, arith}
+use Rattle.std.proofs.Common.{suc, ◌≡◌, ◌+◌, ◌-◌, ◌*◌, ◌≤◌, length, take, drop, ap, sym, ◌∙◌, subst, arith}
 use Rattle.std.specs.Prelude.{slice_index}
 use Rattle.std.proofs.lemmas.List.{get_or_read, length-take}
 use Rattle.store.specs.Flat.{values_of}
@@ -43,8 +43,10 @@ returns-then-all_differ c =
     let vs = take (64 * (k + 1) + 64 - 64 * (k + 1)) (drop (64 * (k + 1)) c.deref.result.now) in
     let many : 64 * (k + 1) + 64 - 64 * (k + 1) ≡ 64 = omega arith in
     let from : 64 * (k + 1) ≡ 64 * suc k = omega arith in
+    let both = c.all_differ.ensures.0 c.if-all_differ.true in
     record {
       mask = ap (slice_index p.masks.items) (sym page) ∙ sym (get_or_read p.masks.items c.index-page.result.now _ (omega arith) c.index.ensures 0) ∙ c.if-index.false;
       values = (λ i. take (many i) (drop (from i) c.deref.result.now)) ∙ ap (λ l. take 64 (drop (64 * suc k) l)) c.deref.ensures.value;
-      differ = subst (λ n. AllDiffer (values_of c.args.store.now) (64 * n) vs) page (c.all_differ.ensures c.if-all_differ.true);
+      inside = subst (λ n. 64 * n + length vs ≤ length (values_of c.args.store.now)) page both.0;
+      differ = subst (λ n. AllDiffer (values_of c.args.store.now) (64 * n) vs) page both.1;
     }

@@ -10,6 +10,6 @@ returns c = λ bare k lt.
     let t = table_of c.self.inside.pages in
     let place = c.args.first + k in
     ap (λ (l : List (Option ℕ)). writes_in l place) (sym c.self.view_is)
-    ∙ read_apart (slots t) c.self.inside.near c.self.inside.value place (c.lies_apart.ensures c.if-not-lies_apart.false k lt)
+    ∙ read_apart (slots t) c.self.inside.near c.self.inside.value place (c.lies_apart.ensures.0 c.if-not-lies_apart.false k lt)
     ∙ slots_say t c.self.invariant.sound place
     ∙ c.are_bare.ensures bare k lt

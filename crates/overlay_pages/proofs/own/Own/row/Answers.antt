@@ -18,7 +18,7 @@ returns c =
       long = r.long;
       each = λ k lt.
           ap (λ (l : List (Option ℕ)). writes_in l (c.args.first + k)) (sym c.self.view_is)
-          ∙ read_apart (slots t) c.self.inside.near c.self.inside.value (c.args.first + k) (c.lies_apart.ensures c.if-not-lies_apart.false k lt)
+          ∙ read_apart (slots t) c.self.inside.near c.self.inside.value (c.args.first + k) (c.lies_apart.ensures.0 c.if-not-lies_apart.false k lt)
           ∙ slots_say t c.self.invariant.sound (c.args.first + k)
           ∙ r.each k lt;
     }) c.row_at.ensures
