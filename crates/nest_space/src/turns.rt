@@ -198,13 +198,8 @@ impl LoopTurns {
         ensures values { (k : ℕ) → k < result.count → slice_get (values_of self) (turn + k)
             ≡ Some ((result.first + k * result.by) % 2 ^ 64) }
     {
-        let first = move_by(
-            self.stride.direction,
-            self.first,
-            u64::from(self.stride.by) * turn,
-        );
         Row {
-            first,
+            first: self.value(turn),
             by: growth(self.stride),
             count: self.count - turn,
         }
