@@ -6,7 +6,7 @@ use Rattle.overlay_pages.specs.Seen.{cells_of}
 use Rattle.overlay.specs.Walking.{Enters, RunsOver, WalksOver}
 use Rattle.overlay.proofs.Slices.{rest_is, rest_none}
 use Rattle.overlay.proofs.Going.{walks_on, walks_none}
-use Rattle.overlay.proofs.walking.run_row.Goals as goal
+use Rattle.overlay.proofs.walking.run_each.Goals as goal
 
 pub row-init : goal.row-init
 row-init c =
