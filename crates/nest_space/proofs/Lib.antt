@@ -5,3 +5,4 @@ pub mod Before
 pub mod Walks
 pub mod Nesting
 pub mod Runs
+pub mod Along

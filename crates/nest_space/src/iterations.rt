@@ -4,8 +4,10 @@ ghost use Rattle.std.specs.Prelude.{◌≡◌, ◌*◌, ◌+◌, ◌/◌, ◌<�
 ghost use Rattle.std.specs.Option.{SomeIff};
 ghost use Rattle.nest_space.specs.Space.{Turns, product, vectors, IsSpace};
 ghost use Rattle.nest_space.specs.Rises.{EachRises};
+ghost use Rattle.nest_space.specs.Rows.{turns_inside, IsRow};
 ghost use Rattle.nest_space.specs.Sinks.{IsSinkAt, HasNoSink};
 
+use crate::rows::Row;
 use crate::sinks::number_at;
 use crate::turns::LoopTurns;
 use ktree::limits::{ASSOCIATED_LOOPS, ITERATIONS};
@@ -127,6 +129,23 @@ fn rise(loops: &[LoopTurns]) -> bool
     }
 }
 
+/// The row of these loops' vectors that begins at a number.
+fn row_at(loops: &[LoopTurns], number: u64) -> Row
+    requires { number < product loops.now }
+    ensures row { IsRow (vectors loops.now) number result.first result.by result.count }
+    ensures count { number % turns_inside loops.now + result.count ≡ turns_inside loops.now }
+    ensures some { 0 < result.count }
+{
+    match loops.split_last() {
+        None => Row {
+            first: 0,
+            by: 0,
+            count: 1,
+        },
+        Some((inner, _outer)) => inner.row(number % inner.count()),
+    }
+}
+
 impl Space {
     /// The space of these loops, the outermost first; None for more than four loops or 2^24 vectors.
     pub fn new(alloc: Global, loops: &[LoopTurns]) -> Option<Space>
@@ -168,6 +187,17 @@ impl Space {
             → slice_get (vectors self.now) (n + 1) ≡ Some values.new }
     {
         step(self.loops.as_slice(), values);
+    }
+
+    /// The vectors from that of a number on to the innermost loop's last turn: its variable goes on from one to the next, and those of the other
+    /// loops stay.
+    pub fn row(&self, number: u64) -> Row
+        requires { number < length (vectors self.now) }
+        ensures row { IsRow (vectors self.now) number result.first result.by result.count }
+        ensures count { number % turns_inside self.now + result.count ≡ turns_inside self.now }
+        ensures some { 0 < result.count }
+    {
+        row_at(self.loops.as_slice(), number)
     }
 
     /// The number of the vector that lies so far before these values, the outermost loop's distance first; None where that

@@ -4,9 +4,11 @@
 mod bounds;
 mod iterations;
 mod nests;
+mod rows;
 mod sinks;
 mod turns;
 
 pub use bounds::{Value, turns_at, value_at};
 pub use iterations::{Space, product_within};
+pub use rows::Row;
 pub use turns::LoopTurns;

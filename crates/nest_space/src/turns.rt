@@ -1,11 +1,13 @@
 //! How one loop of a nest runs.
 
-ghost use Rattle.std.specs.Prelude.{◌≡◌, ◌+◌, ◌*◌, ◌-◌, ◌<◌, ◌≤◌, ◌↔◌, slice_get, Some, None, IsTrue, MatchOption};
+ghost use Rattle.std.specs.Prelude.{◌≡◌, ◌+◌, ◌*◌, ◌-◌, ◌%◌, ◌<◌, ◌≤◌, ◌^◌, ◌↔◌, slice_get, Some, None, IsTrue, MatchOption};
 ghost use Rattle.nest_loop.specs.declared.stride.Direction.TheVariants.{Rising};
 ghost use Rattle.std.specs.Option.{SomeIff};
 ghost use Rattle.std.specs.Prelude.{ℕ};
+ghost use Rattle.nest_space.specs.Rows.{growth};
 ghost use Rattle.nest_space.specs.Space.{moved, values_of, IsTurns, LastFits};
 
+use crate::rows::Row;
 use nest_loop::{Direction, Stride};
 use std::marker::Model;
 
@@ -86,6 +88,18 @@ fn steps(by: u64, count: u64, distance: u64) -> Option<u64>
         return None;
     }
     if turn < count { Some(turn) } else { None }
+}
+
+/// What is added to a loop's variable from turn to turn, modulo 2^64.
+fn growth(stride: Stride) -> u64
+    requires { 1 ≤ stride.by }
+    ensures { result ≡ growth stride.direction stride.by }
+{
+    let by = u64::from(stride.by);
+    match stride.direction {
+        Direction::Rising => by,
+        Direction::Falling => 0u64.wrapping_sub(by),
+    }
 }
 
 impl LoopTurns {
@@ -174,6 +188,20 @@ impl LoopTurns {
         match distance(self.stride.direction, self.first, value) {
             None => None,
             Some(distance) => steps(u64::from(self.stride.by), self.count, distance),
+        }
+    }
+
+    /// Its values from this turn on, counted from 0.
+    pub(crate) fn row(self, turn: u64) -> Row
+        requires { turn < self.count }
+        ensures count { turn + result.count ≡ self.count }
+        ensures values { (k : ℕ) → k < result.count → slice_get (values_of self) (turn + k)
+            ≡ Some ((result.first + k * result.by) % 2 ^ 64) }
+    {
+        Row {
+            first: self.value(turn),
+            by: growth(self.stride),
+            count: self.count - turn,
         }
     }
 }

@@ -1,3 +1,4 @@
+pub mod Along
 pub mod Chunks
 pub mod Ending
 pub mod Positions

@@ -4,6 +4,7 @@
 mod beginning;
 mod ending;
 mod positions;
+mod rows;
 mod running;
 mod spots;
 mod walking;

@@ -3,7 +3,7 @@ use Rattle.lower_code.specs.Machine.{Running, machine, running}
 use Rattle.nest_space.specs.Space.{vectors}
 use Rattle.overlay_pages.specs.Seen.{cells_of}
 use Rattle.overlay.specs.Walking.{WalksOver}
-use Rattle.overlay.proofs.walking.run_row.Given as goal
+use Rattle.overlay.proofs.walking.run_each.Given as goal
 
 -- whatever the iterations that are left lead to, all of them lead to
 abbrev pub invariant-row : goal.invariant-row
