@@ -28,14 +28,23 @@ pub struct Target<'l> {
     pub registers: u64,
 }
 
-// Code as a block over at least so many registers, its short loops over locals written out.
+// Code as a block over at least so many registers.
+fn compile_as_it_is(alloc: Global, code: Code, registers: u64) -> Result<Compiled, Refusal>
+    ensures ok { IfOk result
+        (λ c. Compiles code registers c × registers ≤ c.registers) }
+    ensures refusal { IfErr result (λ refusal. refusal ≡ OutOfMemory) }
+{
+    Ok(compile(alloc, &code, registers)?)
+}
+
+// Code as such a block, its short loops over locals written out.
 fn compile_code(alloc: Global, code: Code, registers: u64) -> Result<Compiled, Refusal>
     ensures ok { IfOk result
         (λ c. Compiles code registers c × registers ≤ c.registers) }
     ensures refusal { IfErr result (λ refusal. refusal ≡ OutOfMemory) }
 {
     let unrolled = unroll(alloc, code, registers)?;
-    Ok(compile(alloc, &unrolled, registers)?)
+    compile_as_it_is(alloc, unrolled, registers)
 }
 
 // The code of a statement.

@@ -1,8 +1,9 @@
-//! The code of kernels, as blocks.
+//! The code of kernels, its short loops written out, as blocks.
 
 use ktree::Kernel;
 use lower_block::{Compiled, compile};
 use lower_code::lower_items;
+use lower_unroll::unroll;
 use std::alloc::Global;
 
 /// The code of a kernel.
@@ -10,5 +11,9 @@ pub(crate) fn code_of(alloc: Global, kernel: &Kernel) -> Option<Compiled> {
     let Ok(lowered) = lower_items(alloc, &kernel.variables, &kernel.body) else {
         return None;
     };
-    compile(alloc, &lowered.code, lowered.registers).ok()
+    let count = lowered.registers;
+    let Ok(code) = unroll(alloc, lowered.code, count) else {
+        return None;
+    };
+    compile(alloc, &code, count).ok()
 }

@@ -322,3 +322,36 @@ fn branches_that_save_a_cell_run(rt: HostRuntime) {
     ];
     assert_eq!(rt; first_wrong(rt.alloc(), ROWS), 0);
 }
+
+/// Inner loops that turn a known number of times and set locals alone: rounds of a hash, one whose variable counts and whose last step is cut short, a
+/// product of rows, one in another, ones that never turn or turn too often to be written out, and ones that do not rise or compare otherwise.
+#[test]
+fn short_loops_over_locals_run(rt: HostRuntime) {
+    const ROWS: &[(&str, u64)] = &[
+        (
+            "for (uint64_t i = 0; i < 20000; i++) { uint64_t x = A[i] + i; for (uint64_t r = 0; r < 16; r++) { x ^= x << 13; x ^= x >> 7; x ^= x << 17; } B[i] = x; }",
+            10791751611243118782,
+        ),
+        (
+            "for (uint64_t i = 0; i < 20000; i++) { uint64_t h = i; for (uint64_t r = 3; r < 20; r += 4) { h = h * 31 + (B[i] ^ r); if (h & 1) { h += r << 2; } } A[i] = h; }",
+            17655397662567604320,
+        ),
+        (
+            "for (uint64_t i = 0; i < 60; i++) { uint64_t t = 0; for (uint64_t j = 0; j < 70; j++) { t += M[i][j] * N[59 - i][j]; } A[i] = t; }",
+            4225980019632414452,
+        ),
+        (
+            "for (uint64_t i = 0; i < 20000; i++) { uint64_t t = A[i]; for (uint64_t a = 0; a < 3; a++) { for (uint64_t b = 1; b < 5; b++) { t = t * 5 + a * b % 7; } } B[i] = t; }",
+            16055597486497355536,
+        ),
+        (
+            "for (uint64_t i = 0; i < 100; i++) { uint64_t t = 1; for (uint64_t r = 9; r < 9; r++) { t = 0; } for (uint64_t r = 0; r < 257; r++) { t = t * 3 + r; } for (uint64_t r = 0; r < 256; r += 300) { t = t ^ r + 5; } A[i] = t; }",
+            9493352867978772066,
+        ),
+        (
+            "uint64_t t = 3; for (uint64_t r = 0; r < 10; r += 4) { t = t * r + A[r + 7]; } s = t; for (uint64_t r = 10; r > 4; r -= 2) { t = t * 3 + r; } A[0] = t; for (uint64_t r = 0; r <= 5; r++) { t = t + r / 2; } A[1] = t;",
+            13303294541020918861,
+        ),
+    ];
+    assert_eq!(rt; first_wrong(rt.alloc(), ROWS), 0);
+}
