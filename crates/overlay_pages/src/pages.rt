@@ -1,6 +1,6 @@
 //! The tables of a worker.
 
-ghost use Rattle.std.specs.Prelude.{ℕ, ◌^◌, suc, true, None, ◌≡◌, ◌+◌, ◌-◌, ◌*◌, ◌<◌, ◌≤◌, ◌++◌, [], length, replicate, slice_index, slice_set, IfOk};
+ghost use Rattle.std.specs.Prelude.{ℕ, ◌^◌, suc, true, None, ◌≡◌, ◌+◌, ◌-◌, ◌*◌, ◌/◌, ◌<◌, ◌≤◌, ◌++◌, [], length, replicate, slice_index, slice_set, IfOk};
 ghost use Rattle.std.specs.Vec.{vec_capacity};
 ghost use Rattle.overlay_pages.specs.Over.{or_else};
 ghost use Rattle.overlay_pages.specs.Table.{table_of, number_at, slot, slots, IsSound, IsRoomy, entering, setting};
@@ -51,9 +51,13 @@ pub fn mask_of(pages: &Pages, page: u64) -> u64
 /// Whether no cell of the pages is written on which so many places side by side lie.
 pub fn are_bare(pages: &Pages, first: u64, count: u64) -> bool
     requires { first + count < 2 ^ 64 }
-    ensures { result ≡ true → (k : ℕ) → k < count → slot (table_of pages.now) (first + k) ≡ None }
+    ensures bare { result ≡ true
+        → (k : ℕ) → k < count → slot (table_of pages.now) (first + k) ≡ None }
+    ensures told { ((page : ℕ) → first / 64 ≤ page → 64 * page < first + count
+        → slice_index pages.now.masks.items page ≡ 0) → result ≡ true }
 {
-    for page in first / 64..(first + count) / 64 + 1 {
+    let end = first + count;
+    for page in first / 64..end / 64 + u64::from(end % 64 != 0) {
         if mask_of(pages, page) != 0 {
             return false;
         }

@@ -12,4 +12,4 @@ returns c = λ bare k lt.
     ap (λ (l : List (Option ℕ)). writes_in l place) (sym c.self.view_is)
     ∙ read_apart (slots t) c.self.inside.near c.self.inside.value place (c.lies_apart.ensures.0 c.if-not-lies_apart.false k lt)
     ∙ slots_say t c.self.invariant.sound place
-    ∙ c.are_bare.ensures bare k lt
+    ∙ c.are_bare.ensures.bare bare k lt
