@@ -355,3 +355,43 @@ fn short_loops_over_locals_run(rt: HostRuntime) {
     ];
     assert_eq!(rt; first_wrong(rt.alloc(), ROWS), 0);
 }
+
+/// Cells that take what an operator makes of them: one cell in all turns by each operator that a reduction may have, cells side by side, and cells apart.
+#[test]
+fn updates_of_cells_run(rt: HostRuntime) {
+    const ROWS: &[(&str, u64)] = &[
+        (
+            "for (uint64_t i = 0; i < 20000; i++) { s ^= A[i]; }",
+            16163207052839650176,
+        ),
+        (
+            "s = 3; for (uint64_t i = 0; i < 20000; i++) { s *= A[i] | 1; }",
+            3010352116893972227,
+        ),
+        (
+            "s = 12345; for (uint64_t i = 0; i < 20000; i++) { s -= A[i] + i; }",
+            15942503223281978841,
+        ),
+        (
+            "s = 18446744073709551615ull; for (uint64_t i = 0; i < 20000; i++) { s &= A[i] | B[i] | 1024; }",
+            16163195237329499712,
+        ),
+        (
+            "for (uint64_t i = 0; i < 20000; i++) { A[i] -= B[i]; } for (uint64_t i = 0; i < 20000; i++) { B[i] ^= A[i]; } for (uint64_t i = 0; i < 20000; i++) { A[i] <<= B[i] % 5; }",
+            46920950016792033,
+        ),
+        (
+            "for (uint64_t i = 0; i < 20000; i++) { A[i] /= 7; B[i] %= 1000; B[19999 - i] |= 4096; }",
+            10082484326438257193,
+        ),
+        (
+            "for (uint64_t i = 0; i < 60; i++) { for (uint64_t j = 0; j < 70; j++) { M[i][j] *= N[i][69 - j]; M[i][j] >>= 3; } }",
+            4926773253151431866,
+        ),
+        (
+            "for (uint64_t i = 0; i < 9999; i++) { A[2 * i] ^= A[2 * i + 1]; B[i] += B[i + 10000]; }",
+            17819161992100403074,
+        ),
+    ];
+    assert_eq!(rt; first_wrong(rt.alloc(), ROWS), 0);
+}
