@@ -4,12 +4,14 @@
     python3 bench/team.py [PROGRAM]     the program as it is proved here, or another one
 
 A line for each kernel: seconds from start to end (the median of five rounds, in each of which all programs run in turn), of its parallel
-loops by so many workers, of the same text without its directive lines, and of gcc with as many threads. Then chunks of one iteration:
-nanoseconds for each, and bytes of memory for each beside the store, of a million chunks and of 2^24. Then a loop of 8 iterations inside 10,000
-turns of a serial loop: microseconds a turn, also by more workers than there are processors. Every program has to print the same. The machine
-should be idle. The status is 1 where a target is missed: by one worker at most 1.5 times the time of the text without directive lines; of a doacross nest at most the time of gcc; a chunk
-of one iteration below 500 ns, and at most 64 bytes for it beside the 16 of its write; and on four processors at least 2.5 times the speed by
-4 workers of a hash and a product, and at most 3 us a turn by 4.
+loops by so many workers, of the same text without its directive lines, and of gcc with as many threads. Then a line for each with its loops
+alone, in milliseconds: the kernel's body many times and once, and the difference by how often more, so that starting and writing count for
+nothing (the median of three rounds). Then chunks of one iteration: nanoseconds for each, and bytes of memory for each beside the store, of a
+million chunks and of 2^24. Then a loop of 8 iterations inside 10,000 turns of a serial loop: microseconds a turn, also by more workers than
+there are processors. Every program has to print the same. The machine should be idle. The status is 1 where a target is missed. Of the loops
+alone: by one worker at most 1.5 times the time of the text without directive lines, of a scan 2.2 times; of a doacross nest at most the time of
+gcc; on four processors at least 2.5 times the speed by 4 workers of a hash and a product, and a scan faster by 4 than by one. A chunk of one
+iteration below 500 ns, and at most 64 bytes for it beside the 16 of its write; and on four processors at most 3 us a turn by 4.
 """
 import os
 import pathlib
@@ -29,6 +31,8 @@ CHUNK = 500
 HELD = 64 + 16
 FASTER = 2.5
 SLOWER = 1.5
+SCAN_SLOWER = 2.2
+ALONE_ROUNDS = 3
 TURN = 3
 
 HASH = """uint64_t A[1000000];
@@ -192,6 +196,9 @@ KERNELS = {
 }
 COMPUTED = ("hash", "product")
 
+# how often the body of a kernel runs where its loops are timed alone
+OFTEN = {"hash": 3, "product": 9, "map": 17, "sum": 9, "max": 9, "xor": 9, "prefix": 5, "distance": 9, "sweep": 9}
+
 
 class Runner:
     """Runs a kernel's programs in a folder, and keeps what they print."""
@@ -234,24 +241,66 @@ class Runner:
         return self.seconds([self.program, "run", path, "--workers", str(workers)])
 
 
-def medians(runner, name, text):
-    """The median times of a kernel's programs; each has to print the same."""
+def programs_of(runner, name, text):
+    """What runs a kernel, by its name: by teams, without its directive lines, and by gcc's program with so many threads."""
     path, serial = runner.source(name, text), runner.source(f"{name}_serial", re.sub(r" *#pragma.*\n", "", text))
     gcc = runner.compiled(name, text)
     programs = {f"{workers} workers": lambda workers=workers: runner.by_team(path, workers) for workers in TEAMS}
     programs["serial"] = lambda: runner.by_team(serial, 1)
     for workers in TEAMS:
         programs[f"gcc {workers}"] = lambda workers=workers: runner.seconds([gcc], workers)
-    times = {it: [] for it in programs}
-    printed = None
-    for _round in range(ROUNDS):
-        for it, run in programs.items():
-            took, _memory, text_out = run()
-            times[it].append(took)
-            printed = printed or text_out
-            if text_out != printed:
-                sys.exit(f"bench: {name}: {it} prints something else")
-    return {it: statistics.median(all_of) for it, all_of in times.items()}
+    return programs
+
+
+def times_of(name, programs):
+    """How long each program takes; each has to print the same."""
+    times, printed = {}, None
+    for it, run in programs.items():
+        times[it], _memory, text_out = run()
+        printed = printed or text_out
+        if text_out != printed:
+            sys.exit(f"bench: {name}: {it} prints something else")
+    return times
+
+
+def medians(runner, name, text):
+    """The median times of a kernel's programs."""
+    programs = programs_of(runner, name, text)
+    rounds = [times_of(name, programs) for _round in range(ROUNDS)]
+    return {it: statistics.median(times[it] for times in rounds) for it in programs}
+
+
+def repeated(text, often):
+    """A kernel with its body so often."""
+    head, body = text.split("{\n", 1)
+    return f"{head}{{\n    for (uint64_t t = 0; t < {often}; t++) {{\n{body.rstrip()[:-1]}    }}\n}}\n"
+
+
+def alone(runner, name, text):
+    """The median seconds of a kernel's body alone, by each of its programs."""
+    often = OFTEN[name]
+    many = programs_of(runner, f"{name}_often", repeated(text, often))
+    once = programs_of(runner, f"{name}_once", repeated(text, 1))
+    rounds = []
+    for _round in range(ALONE_ROUNDS):
+        longer, shorter = times_of(name, many), times_of(name, once)
+        rounds.append({it: (longer[it] - shorter[it]) / (often - 1) for it in many})
+    return {it: statistics.median(times[it] for times in rounds) for it in many}
+
+
+def misses(name, text, found):
+    """The targets that the loops of a kernel miss, by the times that they take alone."""
+    missed = []
+    one, four = found["1 workers"], found["4 workers"]
+    if name in COMPUTED and os.cpu_count() >= 4 and one < FASTER * four:
+        missed.append(f"{name}: 4 workers are {one / four:.1f} times as fast as one")
+    if "inscan" in text and os.cpu_count() >= 4 and one < four:
+        missed.append(f"{name}: 4 workers are slower than one")
+    if "doacross" in text:
+        missed += [f"{name}: {workers} workers are slower than gcc with as many threads" for workers in TEAMS if found[f"{workers} workers"] > found[f"gcc {workers}"]]
+    if one > (SCAN_SLOWER if "inscan" in text else SLOWER) * found["serial"]:
+        missed.append(f"{name}: one worker takes {one / found['serial']:.1f} times the time without directive lines")
+    return missed
 
 
 def chunks_of_one(runner, count):
@@ -274,16 +323,16 @@ def main(program):
     missed = []
     with tempfile.TemporaryDirectory() as name:
         runner = Runner(program, pathlib.Path(name))
-        print(f"{'seconds':10}" + "".join(f"{it:>11}" for it in [*(f"{w} workers" for w in TEAMS), "serial", *(f"gcc {w}" for w in TEAMS)]))
+        columns = "".join(f"{it:>11}" for it in [*(f"{w} workers" for w in TEAMS), "serial", *(f"gcc {w}" for w in TEAMS)])
+        print(f"{'seconds':10}{columns}")
         for kernel, text in KERNELS.items():
             found = medians(runner, kernel, text)
             print(f"{kernel:10}" + "".join(f"{it:11.3f}" for it in found.values()), flush=True)
-            if kernel in COMPUTED and os.cpu_count() >= 4 and found["1 workers"] < FASTER * found["4 workers"]:
-                missed.append(f"{kernel}: 4 workers are {found['1 workers'] / found['4 workers']:.1f} times as fast as one")
-            if "doacross" in text:
-                missed += [f"{kernel}: {workers} workers are slower than gcc with as many threads" for workers in TEAMS if found[f"{workers} workers"] > found[f"gcc {workers}"]]
-            if found["1 workers"] > SLOWER * found["serial"]:
-                missed.append(f"{kernel}: one worker takes {found['1 workers'] / found['serial']:.1f} times the time without directive lines")
+        print(f"{'ms alone':10}{columns}")
+        for kernel, text in KERNELS.items():
+            found = alone(runner, kernel, text)
+            print(f"{kernel:10}" + "".join(f"{1e3 * it:11.1f}" for it in found.values()), flush=True)
+            missed += misses(kernel, text, found)
         for count in (1000000, 1 << 24):
             missed += chunks_of_one(runner, count)
         turns = runner.source("turns", TURNS)
