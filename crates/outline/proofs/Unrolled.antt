@@ -1,5 +1,5 @@
 -- Code whose loops are written out.
-use Rattle.std.proofs.Common.{◌≡◌, ℕ, subst}
+use Rattle.std.proofs.Common.{ℕ, subst}
 use Rattle.lower_code.specs.declared.term.Code.{Code}
 use Rattle.lower_code.specs.Machine.{after}
 use Rattle.lower_unroll.specs.Turns.{DoesAs}
