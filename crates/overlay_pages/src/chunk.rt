@@ -131,6 +131,9 @@ impl<'s> Cells for Chunk<'s> {
         if first >= 1 << 62 || count >= 1 << 62 {
             return None;
         }
+        if first + count > self.store.cells().len() as u64 {
+            return None;
+        }
         if self.own.are_bare(first, count) {
             return self.store.stretch(first, count);
         }

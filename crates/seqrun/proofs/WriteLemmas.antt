@@ -3,14 +3,14 @@ use Rattle.std.proofs.Common.{◌≡◌, ℕ, ◌<◌, ◌+◌, ◌≤◌, Bool,
 use Rattle.std.specs.Prelude.{slice_get, option_and_then}
 use Rattle.std.proofs.lemmas.Option.{get_or_from_slice_get}
 use Rattle.semantics.specs.Tree.{Source}
-use Rattle.semantics.specs.Meaning.State.{State, Slot, Outside, Empty, Holds, Declared, Assigned, assign_at, with_local, is_object_in, is_there, is_object, look, look_in}
-use Rattle.semantics.specs.Meaning.Value.{source_value}
+use Rattle.semantics.specs.Meaning.State.{State, Slot, Outside, Empty, Holds, Declared, Assigned, assign_at, with_local, is_object_in, is_there, is_object, look, look_in, no_indexes}
+use Rattle.semantics.specs.Meaning.Value.{source_value, both_then}
 use Rattle.semantics.specs.Meaning.Runs.{Effect, one_write, assigned, declares, declared}
 use Rattle.store.specs.Kept.{Kept, cell_of, rewritten_at, HasRoom}
 use Rattle.seqrun_value.specs.declared.frame.Slot as kept
 use Rattle.seqrun_value.specs.Standing.{cell_in, locals_of, offset_from, place_in, standing}
 use Rattle.seqrun_value.proofs.FrameLemmas.{state_with}
-use Rattle.seqrun_value.proofs.ValueLemmas.{cell_is, found_within}
+use Rattle.seqrun_value.proofs.ValueLemmas.{cell_is, found_within, found_value}
 use Rattle.seqrun.specs.Ran.{Ended}
 use Rattle.seqrun.proofs.StateLemmas.{cells_set}
 
@@ -111,3 +111,78 @@ module _ (frame : List kept.Slot) (store : List Kept) (x : ℕ) (ks : Option (Li
               ap (λ cells. state_with cells (locals_of frame)) (cells_set a w.indexes at n q (found_within a ks at cell_there p) store x array_there)
               ∙ ap (λ slot. assign_at slot s x w.indexes n) (sym out);
         }
+
+-- what `op=` takes and gives is there
+updated_first : (s : State) (x : ℕ) (ks : Option (List ℕ)) (f : ℕ → ℕ → Option ℕ) (o : Option ℕ) (n : ℕ) → IsSome (assigned s x ks (both_then f o (Some n))) → IsSome o
+updated_first s x None f o n h = cc
+updated_first s x (Some is) f None n h = cc
+updated_first s x (Some is) f (Some old) n h = refl
+
+no_assignment : (s : State) (x : ℕ) (ks : Option (List ℕ)) (v : Option ℕ) → v ≡ None → IsSome (assigned s x ks v) → ⊥
+no_assignment s x None v e h = cc
+no_assignment s x (Some is) None e h = cc
+no_assignment s x (Some is) (Some v) e h = cc
+
+updated_value : (s : State) (x : ℕ) (ks : Option (List ℕ)) (f : ℕ → ℕ → Option ℕ) (o : Option ℕ) (old n : ℕ) → o ≡ Some old → IsSome (assigned s x ks (both_then f o (Some n))) → IsSome (f old n)
+updated_value s x ks f o old n e h = go (f old n) refl
+  where
+    go : (v : Option ℕ) → f old n ≡ v → IsSome v
+    go None g = absurd (no_assignment s x ks (both_then f o (Some n)) (ap (λ p. both_then f p (Some n)) e ∙ g) h)
+    go (Some v) g = refl
+
+-- a local that `op=` changes
+module _ (s : State) (x : ℕ) (ks : Option (List ℕ)) (f : ℕ → ℕ → Option ℕ) (old n : ℕ) (is : s.locals x ≡ Holds old) (h : IsSome (assigned s x ks (both_then f (option_and_then (λ is. look s x is) ks) (Some n)))) where
+  abbrev found : Option ℕ
+  found = option_and_then (λ is. look s x is) ks
+
+  held : found ≡ Some old
+  held = go ks (updated_first s x ks f found n h)
+    where
+      chosen : (b : Bool) → IsSome (cond b (Some old) None) → cond b (Some old) None ≡ Some old
+      chosen true h = refl
+      chosen false h = cc
+
+      go : (ks : Option (List ℕ)) → IsSome (option_and_then (λ is. look s x is) ks) → option_and_then (λ is. look s x is) ks ≡ Some old
+      go None h = cc
+      go (Some js) h = ap (λ slot. look_in slot s x js) is ∙ chosen (no_indexes js) (subst (λ slot. IsSome (look_in slot s x js)) is h)
+
+  pub local_operates : IsSome (f old n)
+  local_operates = updated_value s x ks f found old n held h
+
+  pub local_updated : (s' : State) (new : ℕ) → f old n ≡ Some new → s' ≡ with_local s x (Holds new) → Ended (assigned s x ks (both_then f found (Some n))) s s'
+  local_updated s' new e left =
+      let v : both_then f found (Some n) ≡ Some new = ap (λ o. both_then f o (Some n)) held ∙ e in
+      subst (λ v. Ended (assigned s x ks v) s s') (sym v)
+      (local_written s s' x ks new (Holds old) (λ js. refl) is (subst (λ v. IsSome (assigned s x ks v)) v h) left)
+
+-- an element that `op=` changes
+module _ (frame : List kept.Slot) (store : List Kept) (x : ℕ) (ks : Option (List ℕ)) (a : Kept) (out : (standing frame store).locals x ≡ Outside) (is : a ≡ get_or store x a) (f : ℕ → ℕ → Option ℕ) (n : ℕ) (h : IsSome (assigned (standing frame store) x ks (both_then f (option_and_then (λ is. look (standing frame store) x is) ks) (Some n)))) where
+  abbrev named : Option ℕ
+  named = option_and_then (λ is. look (standing frame store) x is) ks
+
+  lies : named ≡ cell_in a ks
+  lies = looked_in frame store x ks a out is (updated_first (standing frame store) x ks f named n h)
+
+  pub update_there : IsSome (cell_in a ks)
+  update_there = subst IsSome lies (updated_first (standing frame store) x ks f named n h)
+
+  holds_there : (at : ℕ) → place_in a ks ≡ Some at → named ≡ Some (get_or a.values at 0)
+  holds_there at p = lies ∙ found_value a ks at update_there p
+
+  pub update_within : (at : ℕ) → place_in a ks ≡ Some at → at < length a.values
+  update_within at p = found_within a ks at update_there p
+
+  pub element_operates : (at : ℕ) → place_in a ks ≡ Some at → IsSome (f (get_or a.values at 0) n)
+  element_operates at p = updated_value (standing frame store) x ks f named (get_or a.values at 0) n (holds_there at p) h
+
+  module _ (at new : ℕ) (p : place_in a ks ≡ Some at) (e : f (get_or a.values at 0) n ≡ Some new) where
+    gives : both_then f named (Some n) ≡ Some new
+    gives = ap (λ o. both_then f o (Some n)) (holds_there at p) ∙ e
+
+    pub update_room : HasRoom (slice_get store x) (at + 1)
+    update_room = room_there frame store x ks a out is new (subst (λ v. IsSome (assigned (standing frame store) x ks v)) gives h) at p
+
+    pub element_updated : Ended (assigned (standing frame store) x ks (both_then f named (Some n))) (standing frame store) (standing frame (rewritten_at store x at (new ∷ [])))
+    element_updated =
+        subst (λ v. Ended (assigned (standing frame store) x ks v) (standing frame store) (standing frame (rewritten_at store x at (new ∷ [])))) (sym gives)
+        (cell_written frame store x ks a out is new (subst (λ v. IsSome (assigned (standing frame store) x ks v)) gives h) at p)

@@ -1,34 +1,30 @@
-//! The runs of statements.
+//! The walk over statements.
 
 ghost use Rattle.std.specs.Prelude.{◌≡◌, ◌+◌, ◌<◌, ◌^◌, IsSome, OnOk, IfErr};
 ghost use Rattle.semantics.specs.Tree.{no_items};
 ghost use Rattle.semantics.specs.Meaning.Runs.{run, run_items};
 ghost use Rattle.ktree.specs.View.{stmt_of, items_of, with_item};
 ghost use Rattle.seqrun_value.specs.Standing.{standing};
-ghost use Rattle.seqrun_io.specs.Told.{AddsBeginning, Refuses};
+ghost use Rattle.seqrun_io.specs.Told.{AddsBeginning};
 ghost use Rattle.seqrun.specs.Ran.{Ran, text_of, lengths_of};
+ghost use Rattle.seqrun.specs.Stops.{Stops};
 
 use crate::printing::print;
+use crate::stop::Stop;
 use crate::writing::{assign, declare, increment, update};
-use ktree::{Item, Refusal, Stmt};
+use ktree::{Item, Stmt};
 use seqrun_io::Sink;
 use seqrun_value::{Frame, Slot, holds, source_value, value};
 use store::Store;
 
-/// Runs a statement that has a run where these locals and file-scope variables stand, and puts what it prints
-/// (C11 6.8).
-///
-/// # Errors
-///
-/// `OutputFailed` where a `put` failed, which ends the run, and else `OutOfMemory`. The variables then stand as the
-/// part of the run left them that was done.
+/// Runs a statement, as [`crate::statement`] does (C11 6.8).
 #[cycle(statement)]
-pub fn statement<S: Sink>(
+pub(crate) fn statement<S: Sink>(
     stmt: &Stmt,
     frame: &mut Frame,
     store: &mut Store,
     sink: &mut S,
-) -> Result<(), Refusal>
+) -> Result<(), Stop>
     requires room { S.failed sink.old + 1 < 2 ^ 64 }
     requires runs { IsSome (run (stmt_of stmt.now) (standing frame.old store.old)) }
     ensures ran { OnOk result (Ran (run (stmt_of stmt.now) (standing frame.old store.old))
@@ -37,7 +33,7 @@ pub fn statement<S: Sink>(
     ensures beginning { AddsBeginning (S.told sink.old) (S.told sink.new)
         (text_of (run (stmt_of stmt.now) (standing frame.old store.old))) }
     ensures sound { OnOk result (S.failed sink.new ≡ S.failed sink.old) }
-    ensures refusal { IfErr result (Refuses (S.failed sink.old) (S.failed sink.new)) }
+    ensures refusal { IfErr result (Stops (S.failed sink.old) (S.failed sink.new)) }
     ensures shape { lengths_of store.new ≡ lengths_of store.old }
 {
     match stmt {
@@ -53,9 +49,9 @@ pub fn statement<S: Sink>(
         }
         Stmt::If(cond, then, other) => {
             if holds(cond, frame, store) {
-                statement(then, frame, store, sink)
+                run_body(then, frame, store, sink)
             } else if let Some(other) = other {
-                statement(other, frame, store, sink)
+                run_body(other, frame, store, sink)
             } else {
                 Ok(())
             }
@@ -67,7 +63,7 @@ pub fn statement<S: Sink>(
                 if !holds(&head.test, frame, store) {
                     return Ok(());
                 }
-                statement(body, frame, store, sink)?;
+                run_body(body, frame, store, sink)?;
                 increment(frame, store, &head.step)?;
             }
             Ok(())
@@ -77,18 +73,77 @@ pub fn statement<S: Sink>(
     }
 }
 
-/// Runs the items of a block that have a run, in their order, as a kernel's body (C11 6.8.2).
-///
-/// # Errors
-///
-/// As for [`statement`].
+/// Runs a loop's body or the part of an `if`, which is a block as a rule.
+#[inline(always)]
 #[cycle(statement)]
-pub fn block<S: Sink>(
+fn run_body<S: Sink>(
+    stmt: &Stmt,
+    frame: &mut Frame,
+    store: &mut Store,
+    sink: &mut S,
+) -> Result<(), Stop>
+    requires room { S.failed sink.old + 1 < 2 ^ 64 }
+    requires runs { IsSome (run (stmt_of stmt.now) (standing frame.old store.old)) }
+    ensures ran { OnOk result (Ran (run (stmt_of stmt.now) (standing frame.old store.old))
+        (standing frame.old store.old) (standing frame.new store.new) (S.told sink.old)
+        (S.told sink.new)) }
+    ensures beginning { AddsBeginning (S.told sink.old) (S.told sink.new)
+        (text_of (run (stmt_of stmt.now) (standing frame.old store.old))) }
+    ensures sound { OnOk result (S.failed sink.new ≡ S.failed sink.old) }
+    ensures refusal { IfErr result (Stops (S.failed sink.old) (S.failed sink.new)) }
+    ensures shape { lengths_of store.new ≡ lengths_of store.old }
+{
+    if let Stmt::Block(items) = stmt {
+        run_few(items, frame, store, sink)
+    } else {
+        statement(stmt, frame, store, sink)
+    }
+}
+
+/// Runs a statement of a block: an assignment where this is called, as most are.
+#[inline(always)]
+#[cycle(statement)]
+fn run_inner<S: Sink>(
+    stmt: &Stmt,
+    frame: &mut Frame,
+    store: &mut Store,
+    sink: &mut S,
+) -> Result<(), Stop>
+    requires room { S.failed sink.old + 1 < 2 ^ 64 }
+    requires runs { IsSome (run (stmt_of stmt.now) (standing frame.old store.old)) }
+    ensures ran { OnOk result (Ran (run (stmt_of stmt.now) (standing frame.old store.old))
+        (standing frame.old store.old) (standing frame.new store.new) (S.told sink.old)
+        (S.told sink.new)) }
+    ensures beginning { AddsBeginning (S.told sink.old) (S.told sink.new)
+        (text_of (run (stmt_of stmt.now) (standing frame.old store.old))) }
+    ensures sound { OnOk result (S.failed sink.new ≡ S.failed sink.old) }
+    ensures refusal { IfErr result (Stops (S.failed sink.old) (S.failed sink.new)) }
+    ensures shape { lengths_of store.new ≡ lengths_of store.old }
+{
+    match stmt {
+        Stmt::Assign(target, source) => {
+            let n = source_value(source, frame, store);
+            assign(frame, store, target.variable, &target.subscripts, n)?;
+            Ok(())
+        }
+        Stmt::Update(target, op, expr) => {
+            let n = value(expr, frame, store);
+            update(frame, store, target.variable, &target.subscripts, *op, n)?;
+            Ok(())
+        }
+        _ => statement(stmt, frame, store, sink),
+    }
+}
+
+/// Runs the items of a block, a single one where this is called.
+#[inline(always)]
+#[cycle(statement)]
+fn run_few<S: Sink>(
     items: &[Item],
     frame: &mut Frame,
     store: &mut Store,
     sink: &mut S,
-) -> Result<(), Refusal>
+) -> Result<(), Stop>
     requires room { S.failed sink.old + 1 < 2 ^ 64 }
     requires runs { IsSome (run_items (items_of items.now) (standing frame.old store.old)) }
     ensures ran { OnOk result (Ran (run_items (items_of items.now) (standing frame.old store.old))
@@ -97,7 +152,33 @@ pub fn block<S: Sink>(
     ensures beginning { AddsBeginning (S.told sink.old) (S.told sink.new)
         (text_of (run_items (items_of items.now) (standing frame.old store.old))) }
     ensures sound { OnOk result (S.failed sink.new ≡ S.failed sink.old) }
-    ensures refusal { IfErr result (Refuses (S.failed sink.old) (S.failed sink.new)) }
+    ensures refusal { IfErr result (Stops (S.failed sink.old) (S.failed sink.new)) }
+    ensures shape { lengths_of store.new ≡ lengths_of store.old }
+{
+    if items.len() == 1 {
+        run_item(&items[0], frame, store, sink)
+    } else {
+        block(items, frame, store, sink)
+    }
+}
+
+/// Runs the items of a block in their order (C11 6.8.2).
+#[cycle(statement)]
+pub(crate) fn block<S: Sink>(
+    items: &[Item],
+    frame: &mut Frame,
+    store: &mut Store,
+    sink: &mut S,
+) -> Result<(), Stop>
+    requires room { S.failed sink.old + 1 < 2 ^ 64 }
+    requires runs { IsSome (run_items (items_of items.now) (standing frame.old store.old)) }
+    ensures ran { OnOk result (Ran (run_items (items_of items.now) (standing frame.old store.old))
+        (standing frame.old store.old) (standing frame.new store.new) (S.told sink.old)
+        (S.told sink.new)) }
+    ensures beginning { AddsBeginning (S.told sink.old) (S.told sink.new)
+        (text_of (run_items (items_of items.now) (standing frame.old store.old))) }
+    ensures sound { OnOk result (S.failed sink.new ≡ S.failed sink.old) }
+    ensures refusal { IfErr result (Stops (S.failed sink.old) (S.failed sink.new)) }
     ensures shape { lengths_of store.new ≡ lengths_of store.old }
 {
     for item in items {
@@ -106,19 +187,15 @@ pub fn block<S: Sink>(
     Ok(())
 }
 
-/// Runs one item of a block that has a run: a local's declaration or a statement; a directive line does nothing
-/// (C11 6.8.2).
-///
-/// # Errors
-///
-/// As for [`statement`].
+/// Runs one item of a block (C11 6.8.2).
+#[inline(always)]
 #[cycle(statement)]
-pub fn run_item<S: Sink>(
+pub(crate) fn run_item<S: Sink>(
     item: &Item,
     frame: &mut Frame,
     store: &mut Store,
     sink: &mut S,
-) -> Result<(), Refusal>
+) -> Result<(), Stop>
     requires room { S.failed sink.old + 1 < 2 ^ 64 }
     requires runs { IsSome (run_items (with_item item.now no_items)
         (standing frame.old store.old)) }
@@ -129,7 +206,7 @@ pub fn run_item<S: Sink>(
     ensures beginning { AddsBeginning (S.told sink.old) (S.told sink.new)
         (text_of (run_items (with_item item.now no_items) (standing frame.old store.old))) }
     ensures sound { OnOk result (S.failed sink.new ≡ S.failed sink.old) }
-    ensures refusal { IfErr result (Refuses (S.failed sink.old) (S.failed sink.new)) }
+    ensures refusal { IfErr result (Stops (S.failed sink.old) (S.failed sink.new)) }
     ensures shape { lengths_of store.new ≡ lengths_of store.old }
 {
     match item {
@@ -138,6 +215,6 @@ pub fn run_item<S: Sink>(
             declare(frame, store, local.variable, &local.start)?;
             Ok(())
         }
-        Item::Statement(stmt) => statement(stmt, frame, store, sink),
+        Item::Statement(stmt) => run_inner(stmt, frame, store, sink),
     }
 }

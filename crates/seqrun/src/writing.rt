@@ -1,7 +1,7 @@
 //! What declarations, assignments and a loop's steps write.
 
-ghost use Rattle.std.specs.Prelude.{◌≡◌, Some, IsSome, OnOk, option_and_then};
-ghost use Rattle.semantics.specs.Meaning.State.{look};
+ghost use Rattle.std.specs.Prelude.{◌≡◌, Some, IsSome, OnOk};
+ghost use Rattle.semantics.specs.Meaning.State.{Outside};
 ghost use Rattle.semantics.specs.Meaning.Value.{values};
 ghost use Rattle.semantics.specs.Meaning.Runs.{assigned, declared, incremented};
 ghost use Rattle.ktree.specs.View.{exprs_of, binary_of, start_of, increment_of};
@@ -9,28 +9,12 @@ ghost use Rattle.seqrun_value.specs.Standing.{standing};
 ghost use Rattle.seqrun.specs.Ran.{Ended, lengths_of, updated_by};
 
 use ktree::{BinaryOp, Expr, Increment, Source, VarId};
-use seqrun_value::{Frame, Slot, binary_value, element, place, source_value, value};
+use seqrun_value::{Frame, Slot, binary_value, place, source_value, value};
 use std::alloc::AllocError;
 use store::Store;
 
-/// What an object holds that is there and holds a number.
-fn read(variable: VarId, subscripts: &[Expr], frame: &Frame, store: &Store) -> u64
-    requires { IsSome (option_and_then (λ ks. look (standing frame.now store.now) variable.0 ks)
-        (values (standing frame.now store.now) (exprs_of subscripts.now))) }
-    ensures { option_and_then (λ ks. look (standing frame.now store.now) variable.0 ks)
-        (values (standing frame.now store.now) (exprs_of subscripts.now)) ≡ Some result }
-{
-    match frame.slot(variable) {
-        Slot::Holds(v) => v,
-        Slot::Empty => unreachable!(),
-        Slot::Outside => {
-            let array = store.array(variable.0 as usize);
-            element(subscripts, &array, frame, store)
-        }
-    }
-}
-
 /// Assigns to an object that is there: the local of that number, and else the file-scope object (C11 6.5.16).
+#[inline(always)]
 pub(crate) fn assign(
     frame: &mut Frame,
     store: &mut Store,
@@ -50,7 +34,7 @@ pub(crate) fn assign(
         Slot::Outside => {
             let array = store.array(variable.0 as usize);
             let at = place(subscripts, &array, frame, store);
-            store.write(variable, at, &[n]);
+            store.set(variable, at, n);
             Ok(())
         }
         Slot::Empty => frame.set(variable, Slot::Holds(n)),
@@ -59,6 +43,7 @@ pub(crate) fn assign(
 }
 
 /// Assigns to an object what an operator makes of its own value and another (C11 6.5.16.2).
+#[inline(always)]
 pub(crate) fn update(
     frame: &mut Frame,
     store: &mut Store,
@@ -75,9 +60,42 @@ pub(crate) fn update(
         (standing frame.new store.new)) }
     ensures shape { lengths_of store.new ≡ lengths_of store.old }
 {
-    let old = read(variable, subscripts, frame, store);
+    match frame.slot(variable) {
+        Slot::Outside => {
+            update_element(frame, store, variable, subscripts, op, n);
+            Ok(())
+        }
+        Slot::Empty => unreachable!(),
+        Slot::Holds(old) => {
+            let new = binary_value(op, old, n);
+            frame.set(variable, Slot::Holds(new))
+        }
+    }
+}
+
+/// The same where no local has that number: the subscripts are looked at once (C11 6.5.16.2, 3).
+fn update_element(
+    frame: &Frame,
+    store: &mut Store,
+    variable: VarId,
+    subscripts: &[Expr],
+    op: BinaryOp,
+    n: u64,
+)
+    requires outside { (standing frame.now store.old).locals variable.0 ≡ Outside }
+    requires runs { IsSome (updated_by (standing frame.now store.old) variable.0
+        (exprs_of subscripts.now) (binary_of op) (Some n)) }
+    ensures done { Ended
+        (updated_by (standing frame.now store.old) variable.0 (exprs_of subscripts.now)
+        (binary_of op) (Some n)) (standing frame.now store.old) (standing frame.now store.new) }
+    ensures shape { lengths_of store.new ≡ lengths_of store.old }
+{
+    let array = store.array(variable.0 as usize);
+    let at = place(subscripts, &array, frame, store);
+    let cells = array.values();
+    let old = cells[at as usize];
     let new = binary_value(op, old, n);
-    assign(frame, store, variable, subscripts, new)
+    store.set(variable, at, new);
 }
 
 /// Declares a local, with its first value where it has one (C11 6.7.9, 10 and 11).

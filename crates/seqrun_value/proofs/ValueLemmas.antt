@@ -9,7 +9,7 @@ use Rattle.semantics.specs.Meaning.State.{State, Outside, look, look_in}
 use Rattle.semantics.specs.Meaning.Value.{both, value, values}
 use Rattle.semantics.specs.Meaning.Places.{within, place_from, place}
 use Rattle.store.specs.Kept.{Kept, cell_of}
-use Rattle.seqrun_value.specs.Standing.{offset_from, way_from, place_in, cell_in, standing}
+use Rattle.seqrun_value.specs.Standing.{offset_from, way_from, place_in, cell_in, cell_among, standing}
 use Rattle.seqrun_value.specs.declared.frame.Slot.{Slot}
 use Rattle.ktree.specs.View.{expr_of, exprs_of}
 use Rattle.ktree.specs.declared.place.VarId.{VarId}
@@ -110,23 +110,6 @@ cell_is a is = go (within a.lengths is) ∙ ap (λ o. option_and_then (λ k. sli
     go true = refl
     go false = refl
 
--- an object that is no local lies in its array
-pub object_in : (frame : List Slot) (store : List Kept) (x : VarId) (subs : Vec Expr Global) (mention : NamePlaces) (a : Kept) → (standing frame store).locals x.0 ≡ Outside → a ≡ get_or store x.0 a → IsSome (value (standing frame store) (expr_of (Object x subs mention))) → value (standing frame store) (expr_of (Object x subs mention)) ≡ cell_in a (values (standing frame store) (exprs_of subs.items))
-object_in frame store x subs mention a out is h =
-    ap (value s) (object_of x subs mention) ∙ along (values s (exprs_of subs.items)) ∙ lies (values s (exprs_of subs.items)) (slice_get store x.0) refl (subst IsSome (ap (value s) (object_of x subs mention) ∙ along (values s (exprs_of subs.items))) h)
-  where
-    s : State
-    s = standing frame store
-
-    along : (ks : Option (List ℕ)) → option_and_then (λ ks. look s x.0 ks) ks ≡ option_and_then (λ ks. s.cells x.0 ks) ks
-    along None = refl
-    along (Some ks) = ap (λ slot. look_in slot s x.0 ks) out
-
-    lies : (ks : Option (List ℕ)) (o : Option Kept) → slice_get store x.0 ≡ o → IsSome (option_and_then (λ ks. cell_of (slice_get store x.0) ks) ks) → option_and_then (λ ks. cell_of (slice_get store x.0) ks) ks ≡ cell_in a ks
-    lies None o e h = refl
-    lies (Some ks) None e h = absurd (no_some (cell_of (slice_get store x.0) ks) (ap (λ o. cell_of o ks) e) h)
-    lies (Some ks) (Some b) e h = ap (λ o. cell_of o ks) (e ∙ ap Some (sym (get_or_from_slice_get store x.0 b a e) ∙ sym is)) ∙ cell_is a ks
-
 module _ (a : Kept) (s : State) (items : List Expr) (d at : ℕ) (there : IsSome (cell_in a (values s (exprs_of items)))) (way : way_from at (drop d a.lengths) (values s (exprs_of (drop d items))) ≡ place_in a (values s (exprs_of items))) where
   -- so does its first half
   pub product_below : (e : Expr) → d < length items → e ≡ get_or items d e → at * get_or a.lengths d 0 < length a.values
@@ -178,3 +161,81 @@ found_value a ks i h e =
     let same : f.at ≡ i = grind (arith, f.place, e) in
     let read : get_or a.values i 0 ≡ f.value = rw (← same) (get_or_from_slice_get a.values f.at f.value 0 f.holds) in
     ap (λ o. option_and_then (λ k. slice_get a.values k) o) f.place ∙ f.holds ∙ ap Some (sym read)
+
+-- an object that is no local lies among the variables
+pub object_among : (frame : List Slot) (store : List Kept) (x : VarId) (subs : Vec Expr Global) (mention : NamePlaces) → (standing frame store).locals x.0 ≡ Outside → value (standing frame store) (expr_of (Object x subs mention)) ≡ cell_among store x.0 (values (standing frame store) (exprs_of subs.items))
+object_among frame store x subs mention out =
+    ap (value s) (object_of x subs mention) ∙ along (values s (exprs_of subs.items)) ∙ lies (values s (exprs_of subs.items)) (slice_get store x.0)
+  where
+    s : State
+    s = standing frame store
+
+    along : (ks : Option (List ℕ)) → option_and_then (λ ks. look s x.0 ks) ks ≡ option_and_then (λ ks. s.cells x.0 ks) ks
+    along None = refl
+    along (Some ks) = ap (λ slot. look_in slot s x.0 ks) out
+
+    lies : (ks : Option (List ℕ)) (o : Option Kept) → option_and_then (λ ks. cell_of o ks) ks ≡ option_and_then (λ a. cell_in a ks) o
+    lies None None = refl
+    lies None (Some a) = refl
+    lies (Some ks) None = refl
+    lies (Some ks) (Some a) = cell_is a ks
+
+-- which is there
+pub among_there : (store : List Kept) (x : ℕ) (ks : Option (List ℕ)) → IsSome (cell_among store x ks) → x < length store
+among_there store x ks h = go (slice_get store x) refl h
+  where
+    go : (o : Option Kept) → slice_get store x ≡ o → IsSome (option_and_then (λ a. cell_in a ks) o) → x < length store
+    go None e h = cc
+    go (Some a) e h = slice_get_within store x a e
+
+module _ (a : Kept) (s : State) (items : List Expr) (there : IsSome (cell_in a (values s (exprs_of items)))) where
+  -- a subscript of an element that is there has a value
+  first_turn : (e : Expr) → 0 < length items → e ≡ get_or items 0 e → (k : ℕ) → place_in a (values s (exprs_of items)) ≡ Some k → Turn s a.lengths items 0 0 k e
+  first_turn e lt is k p = turn s a.lengths items 0 0 k e lt is p
+
+  pub first_some : (e : Expr) → 0 < length items → e ≡ get_or items 0 e → IsSome (value s (expr_of e))
+  first_some e lt is =
+      let f = found a (values s (exprs_of items)) there in
+      subst IsSome (sym (first_turn e lt is f.at f.place).is) refl
+
+  -- the place of one subscript
+  pub one_place_is : (e : Expr) (i : ℕ) → length items ≡ 1 → e ≡ get_or items 0 e → value s (expr_of e) ≡ Some i → place_in a (values s (exprs_of items)) ≡ Some i
+  one_place_is e i n is v =
+      let lt : 0 < length items = omega arith in
+      let on = turn_goes_on a s items 0 0 there refl e i lt is v in
+      let le : length items ≤ 0 + 1 = omega arith in
+      let end = way_ends a s items (0 + 1) (0 * get_or a.lengths 0 0 + i) there on le in
+      let same : 0 * get_or a.lengths 0 0 + i ≡ i = omega arith in
+      end ∙ ap Some same
+
+  -- and of two
+  module _ (e f : Expr) (i : ℕ) (n : length items ≡ 2) (is : e ≡ get_or items 0 e) (isn : f ≡ get_or items 1 f) (v : value s (expr_of e) ≡ Some i) where
+    along_first : way_from i (drop 1 a.lengths) (values s (exprs_of (drop 1 items))) ≡ place_in a (values s (exprs_of items))
+    along_first =
+        let lt : 0 < length items = omega arith in
+        let same : 0 * get_or a.lengths 0 0 + i ≡ i = omega arith in
+        subst (λ at. way_from at (drop 1 a.lengths) (values s (exprs_of (drop 1 items))) ≡ place_in a (values s (exprs_of items))) same (turn_goes_on a s items 0 0 there refl e i lt is v)
+
+    pub second_some : IsSome (value s (expr_of f))
+    second_some =
+        let g = found a (values s (exprs_of items)) there in
+        let lt : 1 < length items = omega arith in
+        subst IsSome (sym (turn s a.lengths items 1 i g.at f lt isn (along_first ∙ g.place)).is) refl
+
+    pub second_inside : 1 < length a.lengths
+    second_inside =
+        let g = found a (values s (exprs_of items)) there in
+        let lt : 1 < length items = omega arith in
+        (turn s a.lengths items 1 i g.at f lt isn (along_first ∙ g.place)).inside
+
+    pub row_below : i * get_or a.lengths 1 0 < length a.values
+    row_below = let lt : 1 < length items = omega arith in product_below a s items 1 i there along_first f lt isn
+
+    pub two_below : (j : ℕ) → value s (expr_of f) ≡ Some j → i * get_or a.lengths 1 0 + j < length a.values
+    two_below j w = let lt : 1 < length items = omega arith in turn_below a s items 1 i there along_first f j lt isn w
+
+    pub two_place_is : (j : ℕ) → value s (expr_of f) ≡ Some j → place_in a (values s (exprs_of items)) ≡ Some (i * get_or a.lengths 1 0 + j)
+    two_place_is j w =
+        let lt : 1 < length items = omega arith in
+        let le : length items ≤ 1 + 1 = omega arith in
+        way_ends a s items (1 + 1) (i * get_or a.lengths 1 0 + j) there (turn_goes_on a s items 1 i there along_first f j lt isn w) le

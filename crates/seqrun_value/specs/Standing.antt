@@ -39,3 +39,7 @@ place_in a is = way_from 0 a.lengths is
 -- and what it holds
 abbrev pub cell_in : Kept → Option (List ℕ) → Option ℕ
 cell_in a is = option_and_then (λ k. slice_get a.values k) (place_in a is)
+
+-- and where the array is that of a file-scope variable
+abbrev pub cell_among : List Kept → Variable → Option (List ℕ) → Option ℕ
+cell_among ks x is = option_and_then (λ a. cell_in a is) (slice_get ks x)

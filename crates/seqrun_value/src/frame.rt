@@ -1,6 +1,6 @@
 //! The locals of a running program.
 
-ghost use Rattle.std.specs.Prelude.{◌≡◌, List, Some, OnOk, OnErr};
+ghost use Rattle.std.specs.Prelude.{◌≡◌, ◌<◌, List, length, slice_set, Some, OnOk, OnErr};
 ghost use Rattle.seqrun_value.specs.Standing.{locals_of, slot_of, standing};
 ghost use Rattle.semantics.specs.Meaning.State.{with_local};
 ghost use Rattle.store.specs.Kept.{Kept};
@@ -51,6 +51,7 @@ impl Frame {
             None => Slot::Outside,
         }
     }
+
     /// Gives a variable's local a new content, with room made for it.
     ///
     /// # Errors
@@ -63,12 +64,36 @@ impl Frame {
         ensures err { OnErr result
             ((ks : List Kept) → standing self.new ks ≡ standing self.old ks) }
     {
-        let slots = &mut self.slots;
         let index = variable.0 as usize;
-        while slots.len() <= index {
-            slots.push(Slot::Outside)?;
+        if index < self.slots.len() {
+            set_slot(&mut self.slots, index, slot);
+            Ok(())
+        } else {
+            set_behind(&mut self.slots, index, slot)
         }
-        slots[index] = slot;
-        Ok(())
     }
+}
+
+// Gives a slot that is there a new content.
+fn set_slot(slots: &mut Vec<Slot>, index: usize, slot: Slot)
+    requires { index < length slots.old.items }
+    ensures { slots.new.items ≡ slice_set slots.old.items index slot }
+{
+    slots[index] = slot;
+}
+
+// Gives a slot a new content, with room made for it. A walk comes here once for each local.
+#[cold]
+#[inline(never)]
+fn set_behind(slots: &mut Vec<Slot>, index: usize, slot: Slot) -> Result<(), AllocError>
+    ensures ok { OnOk result ((ks : List Kept) → standing slots.new.items ks
+        ≡ with_local (standing slots.old.items ks) index (slot_of (Some slot))) }
+    ensures err { OnErr result ((ks : List Kept) → standing slots.new.items ks
+        ≡ standing slots.old.items ks) }
+{
+    while slots.len() <= index {
+        slots.push(Slot::Outside)?;
+    }
+    set_slot(slots, index, slot);
+    Ok(())
 }

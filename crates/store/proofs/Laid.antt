@@ -110,7 +110,7 @@ all_before cells from end at v [] l lt = refl
 all_before cells from end at v (p ∷ ps) (f, l) lt =
     ap (λ k. k ∷ kept_in (slice_set cells at v) ps) (before cells p at v (omega arith)) ∙ ap (λ ks. kept_at cells p ∷ ks) (all_before cells (from + p.shape.count) end at v ps l (omega arith))
 
-one_written : (cells : List ℕ) (from end : ℕ) (ps : List Placed) (x : ℕ) (p : Placed) (f v : ℕ) → Lie from ps end → end ≡ length cells → slice_get ps x ≡ Some p → f < p.shape.count → kept_in (slice_set cells (p.first + f) v) ps ≡ rewritten_at (kept_in cells ps) x f (v ∷ [])
+pub one_written : (cells : List ℕ) (from end : ℕ) (ps : List Placed) (x : ℕ) (p : Placed) (f v : ℕ) → Lie from ps end → end ≡ length cells → slice_get ps x ≡ Some p → f < p.shape.count → kept_in (slice_set cells (p.first + f) v) ps ≡ rewritten_at (kept_in cells ps) x f (v ∷ [])
 one_written cells from end [] x p f v l e at lt = absurd cc
 one_written cells from end (q ∷ ps) zero p f v (g, l) e at lt =
     let same : q ≡ p = cc in

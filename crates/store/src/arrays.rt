@@ -1,6 +1,6 @@
 //! Where the file-scope variables of a running program are kept.
 
-ghost use Rattle.std.specs.Prelude.{◌≡◌, ◌+◌, ◌<◌, ◌≤◌, ◌↔◌, [], length, map, take, drop, slice_get, slice_set, slice_index, IfOk, IsTrue, Some};
+ghost use Rattle.std.specs.Prelude.{◌≡◌, ◌+◌, ◌<◌, ◌≤◌, ◌↔◌, [], ◌∷◌, length, map, take, drop, slice_get, slice_set, slice_index, IfOk, IsTrue, Some};
 ghost use Rattle.semantics.specs.Meaning.Places.{size};
 ghost use Rattle.store.specs.Kept.{overlaid, rewritten_at, HasRoom};
 ghost use Rattle.store.specs.Flat.{values_of, filled, AreFilled, zeros_of};
@@ -109,6 +109,14 @@ fn set_entry(cells: &mut Vec<u64>, place: u64, value: u64)
     }
 }
 
+// Writes at a place that is there.
+fn set_cell(cells: &mut Vec<u64>, place: u64, value: u64)
+    requires { place < length cells.old.items }
+    ensures { cells.new.items ≡ slice_set cells.old.items place value }
+{
+    cells[place as usize] = value;
+}
+
 // Where variables of these shapes lie, one behind another, and how many cells they take.
 fn lay_out(alloc: Global, shapes: Vec<Shape>) -> Result<(Vec<Placed>, u64), AllocError>
     ensures lie { IfOk result (λ r. Lie 0 r.0.items r.1) }
@@ -203,5 +211,15 @@ impl Store {
         let placed = &self.places[variable.0 as usize];
         let at = placed.first + first;
         overwrite(&mut self.cells, at, values);
+    }
+
+    /// Writes a value over one of those of a variable, and changes nothing else.
+    pub fn set(&mut self, variable: VarId, at: u64, value: u64)
+        requires { HasRoom (slice_get self.old variable.0) (at + 1) }
+        ensures { self.new ≡ rewritten_at self.old variable.0 at (value ∷ []) }
+    {
+        let placed = &self.places[variable.0 as usize];
+        let place = placed.first + at;
+        set_cell(&mut self.cells, place, value);
     }
 }

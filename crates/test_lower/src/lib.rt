@@ -4,6 +4,8 @@
 #[cfg(test)]
 mod codes;
 #[cfg(test)]
+mod greatest_rows;
+#[cfg(test)]
 mod lower_block_rows;
 #[cfg(test)]
 mod lower_code_rows;

@@ -56,14 +56,14 @@ fn text_prints(alloc: Global, text: &[u8], expected: &str) -> bool {
 }
 
 /// The text of the kernel with these lines.
-fn kernel_text(alloc: Global, lines: &str) -> Result<String, AllocError> {
+pub(crate) fn kernel_text(alloc: Global, lines: &str) -> Result<String, AllocError> {
     format!(in alloc;
         "#include <inttypes.h>\n#include <stdint.h>\n#include <stdio.h>\nuint64_t A[8]; uint64_t B[2][3]; uint64_t s; void kernel(void) {{ uint64_t x;\n{lines}\n}}\n"
     )
 }
 
 /// Whether the kernel with these lines prints this.
-fn prints(alloc: Global, lines: &str, expected: &str) -> bool {
+pub(crate) fn prints(alloc: Global, lines: &str, expected: &str) -> bool {
     match kernel_text(alloc, lines) {
         Ok(text) => text_prints(alloc, text.as_bytes(), expected),
         Err(_error) => false,

@@ -395,3 +395,169 @@ fn updates_of_cells_run(rt: HostRuntime) {
     ];
     assert_eq!(rt; first_wrong(rt.alloc(), ROWS), 0);
 }
+
+/// Cells that take the greater or the less of them and of a number: one cell in all turns, by each order of each comparison, and cells side by side,
+/// apart and one behind another.
+#[test]
+fn greatest_and_least_cells_run(rt: HostRuntime) {
+    const ROWS: &[(&str, u64)] = &[
+        (
+            "for (uint64_t i = 0; i < 20000; i++) { if ((A[i] ^ i) > s) s = (A[i] ^ i); }",
+            16163217306530899247,
+        ),
+        (
+            "for (uint64_t i = 0; i < 20000; i++) { if (s < A[i] * 77) { s = A[i] * 77; } }",
+            16164894565836277360,
+        ),
+        (
+            "for (uint64_t i = 0; i < 19999; i++) { if (A[i] % 1000 + B[i + 1] >= s) { s = A[i] % 1000 + B[i + 1]; } }",
+            16163195237729471655,
+        ),
+        (
+            "s = 5; for (uint64_t i = 0; i < 257; i++) { if (s <= (A[i] << 7)) s = (A[i] << 7); }",
+            16163231397317050944,
+        ),
+        (
+            "s = 18446744073709551615ull; for (uint64_t i = 0; i < 20000; i++) { if ((A[i] ^ i * 3) + 9 < s) { s = (A[i] ^ i * 3) + 9; } }",
+            16163195237329498697,
+        ),
+        (
+            "s = 18446744073709551615ull; for (uint64_t i = 1; i < 20000; i++) { if (s > A[i] * B[20000 - i]) s = A[i] * B[20000 - i]; }",
+            16163503911351686060,
+        ),
+        (
+            "s = 77777777777ull; for (uint64_t i = 0; i < 16385; i++) { if (B[i] <= s) s = B[i]; }",
+            16163195237329511033,
+        ),
+        (
+            "s = 77777777777ull; for (uint64_t i = 0; i < 16383; i++) { if (s >= ~A[i]) s = ~A[i]; }",
+            16163195315107276465,
+        ),
+        (
+            "for (uint64_t i = 0; i < 20000; i++) { if (A[i] < B[i]) A[i] = B[i]; } for (uint64_t i = 0; i < 9999; i++) { if (B[2 * i] < B[2 * i + 1] - A[i]) { B[2 * i] = B[2 * i + 1] - A[i]; } }",
+            6190304954802555613,
+        ),
+        (
+            "for (uint64_t i = 0; i < 60; i++) { for (uint64_t j = 0; j < 70; j++) { if (M[i][j] > N[59 - i][j]) { M[i][j] = N[59 - i][j]; } if (M[i][j] > A[i]) { A[i] = M[i][j]; } } }",
+            11291858304827067560,
+        ),
+        (
+            "for (uint64_t i = 0; i < 60; i++) { s = 1000000; for (uint64_t j = 0; j < 70; j++) { if (M[i][j] * j % 971 < s) s = M[i][j] * j % 971; } A[i] = s; }",
+            6319558173142625962,
+        ),
+        (
+            "for (uint64_t i = 1; i < 20000; i++) { if (A[i] > A[i - 1] - 5) { A[i] = A[i - 1] - 5; } } for (uint64_t i = 0; i < 20000; i++) { if (B[i] > s) s = A[i]; }",
+            4905658070902269419,
+        ),
+    ];
+    assert_eq!(rt; first_wrong(rt.alloc(), ROWS), 0);
+}
+
+/// Cells that take what an operator makes of a cell that a turn before wrote: sums of a table along its rows and its columns, each operator with the
+/// cell left or, where its operands may be exchanged, right, and turns some apart.
+#[test]
+fn recurrences_run(rt: HostRuntime) {
+    const ROWS: &[(&str, u64)] = &[
+        (
+            "for (uint64_t i = 1; i < 60; i++) { for (uint64_t j = 1; j < 70; j++) { M[i][j] = M[i][j - 1] + M[i - 1][j]; } }",
+            15207984283072216680,
+        ),
+        (
+            "for (uint64_t j = 1; j < 70; j++) { for (uint64_t i = 1; i < 60; i++) { M[i][j] = M[i - 1][j] + M[i][j - 1]; } }",
+            15207984283072216680,
+        ),
+        (
+            "for (uint64_t j = 0; j < 70; j++) { for (uint64_t i = 1; i < 60; i++) { M[i][j] = M[i - 1][j] + N[i][j]; } }",
+            15215003041355840490,
+        ),
+        (
+            "for (uint64_t i = 1; i < 700; i++) { A[i] = A[i - 1] - B[i]; } for (uint64_t i = 1; i < 700; i++) { B[i] = A[i] - B[i - 1]; }",
+            11544361161880039187,
+        ),
+        (
+            "for (uint64_t i = 1; i < 700; i++) { A[i] = (B[i] | 1) * A[i - 1]; } for (uint64_t i = 1; i < 700; i++) { B[i] = B[i - 1] * 3; }",
+            4417727061067006152,
+        ),
+        (
+            "for (uint64_t i = 1; i < 700; i++) { A[i] = (B[i] | A[i]) & A[i - 1]; } for (uint64_t i = 1; i < 700; i++) { B[i] = (A[i] ^ B[i]) | B[i - 1]; }",
+            3289388724165456114,
+        ),
+        (
+            "for (uint64_t i = 1; i < 700; i++) { A[i] = B[i] * 5 ^ A[i - 1]; } for (uint64_t i = 1; i < 700; i++) { B[i] = B[i - 1] >> 1; }",
+            5087463742173571202,
+        ),
+    ];
+    assert_eq!(rt; first_wrong(rt.alloc(), ROWS), 0);
+}
+
+/// Others that divide, turns some apart, steps, loops that fall, and bodies of two assignments.
+#[test]
+fn recurrences_of_other_turns_run(rt: HostRuntime) {
+    const ROWS: &[(&str, u64)] = &[
+        (
+            "A[0] = 18446744073709551615ull; for (uint64_t i = 1; i < 700; i++) { A[i] = A[i - 1] / 3; } for (uint64_t i = 1; i < 700; i++) { B[i] = B[i - 1] % 1000; } for (uint64_t i = 1; i < 350; i++) { B[2 * i] = B[2 * i - 2] << 1; }",
+            124195639664835100,
+        ),
+        (
+            "for (uint64_t i = 2; i < 700; i++) { A[i] = A[i - 2] - B[i]; } for (uint64_t i = 3; i < 700; i++) { B[i] = A[i] + B[i - 3]; }",
+            14384211716967514019,
+        ),
+        (
+            "for (uint64_t i = 255; i < 700; i++) { A[i] = A[i - 255] + B[i]; } for (uint64_t i = 256; i < 700; i++) { A[i] = A[i - 256] - B[i]; } for (uint64_t i = 257; i < 700; i++) { A[i] = A[i - 257] ^ B[i]; }",
+            8562059754339176955,
+        ),
+        (
+            "for (uint64_t i = 3; i < 700; i += 3) { A[i] = A[i - 3] + B[i]; } for (uint64_t i = 0; i < 350; i++) { B[2 * i + 2] = B[2 * i] + A[i]; }",
+            1727250641021708192,
+        ),
+        (
+            "for (uint64_t i = 700; i > 0; i--) { A[i - 1] = A[i] + B[i]; } for (uint64_t i = 0; i < 699; i++) { B[698 - i] = B[699 - i] + A[i]; }",
+            6099886253780170829,
+        ),
+        (
+            "for (uint64_t i = 1; i < 700; i++) { A[i] = A[i - 1] + B[i]; B[i] = A[i] * 3; }",
+            7295360221209920709,
+        ),
+        (
+            "for (uint64_t i = 1; i < 700; i++) { B[i] = A[i] * 3; A[i] = B[i] + A[i - 1]; }",
+            3017447107652755297,
+        ),
+    ];
+    assert_eq!(rt; first_wrong(rt.alloc(), ROWS), 0);
+}
+
+/// Cells that take what an operator makes of a cell behind them, of another array or row, and of one that is written later.
+#[test]
+fn cells_of_other_places_run(rt: HostRuntime) {
+    const ROWS: &[(&str, u64)] = &[
+        (
+            "for (uint64_t i = 0; i < 700; i++) { A[i] = B[i] + A[i]; } for (uint64_t i = 0; i < 700; i++) { B[i] = A[i] * 5; }",
+            16525612534609306724,
+        ),
+        (
+            "for (uint64_t i = 0; i < 700; i++) { A[i] = A[i + 1] ^ B[i]; } for (uint64_t i = 0; i < 700; i++) { B[i] = A[i] | B[i + 3]; }",
+            9925139990148057309,
+        ),
+        (
+            "for (uint64_t i = 1; i < 700; i++) { A[i] = B[i - 1] + B[i + 1]; } for (uint64_t i = 1; i < 700; i++) { B[i] = A[i] - A[i + 1] - A[i - 1]; }",
+            11623617511330353504,
+        ),
+        (
+            "for (uint64_t i = 1; i < 60; i++) { for (uint64_t j = 0; j < 70; j++) { M[i][j] = M[i - 1][j] - N[i][j]; } } for (uint64_t i = 0; i < 59; i++) { for (uint64_t j = 1; j < 70; j++) { N[i][j] = N[i + 1][j - 1] + M[i][j]; } }",
+            13621819214847124014,
+        ),
+        (
+            "for (uint64_t j = 1; j < 70; j++) { for (uint64_t i = 0; i < 60; i++) { M[i][j] = M[i][j - 1] * 3; } }",
+            12144034316097661076,
+        ),
+        (
+            "for (uint64_t i = 0; i < 700; i++) { A[i] = A[i + 700] - i; A[i + 700] = B[i] + A[i]; }",
+            17961980254499506602,
+        ),
+        (
+            "for (uint64_t r = 0; r < 20; r++) { for (uint64_t i = 0; i < 40; i++) { A[r + i + 1] = A[r + i] + r; } }",
+            12501460836654309160,
+        ),
+    ];
+    assert_eq!(rt; first_wrong(rt.alloc(), ROWS), 0);
+}

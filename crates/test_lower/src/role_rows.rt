@@ -119,6 +119,12 @@ const MULTIPLY: &str = "for (uint64_t i = 0; i < 6; i++) s *= i + 1;";
 
 const LEAST: &str = "for (uint64_t i = 0; i < 6; i++) if (i < s) s = i;";
 
+/// What a cell takes of 200 iterations is as great as 255, at 156, and as small as 0, at 99.
+const GREATEST_OF_MANY: &str = "for (uint64_t i = 0; i < 200; i++) if ((i ^ 99) > s) s = (i ^ 99);";
+
+const LEAST_OF_MANY: &str =
+    "for (uint64_t i = 0; i < 200; i++) { if (s >= (i ^ 99)) { s = (i ^ 99); } }";
+
 const ALL: &str = "for (uint64_t i = 0; i < 6; i++) s = s && i < 4;";
 
 const ANY: &str = "for (uint64_t i = 0; i < 6; i++) s = s || i > 4;";
@@ -150,6 +156,34 @@ fn chunks_tell_partials(rt: HostRuntime) {
             1,
             (2, 4),
             Partial::Updated(2),
+        ),
+        (
+            GREATEST_OF_MANY,
+            (ReductionOperator::Max, SCALAR),
+            1000,
+            (0, 200),
+            Partial::Updated(255),
+        ),
+        (
+            GREATEST_OF_MANY,
+            (ReductionOperator::Max, SCALAR),
+            1000,
+            (0, 99),
+            Partial::Updated(127),
+        ),
+        (
+            LEAST_OF_MANY,
+            (ReductionOperator::Min, SCALAR),
+            0,
+            (100, 100),
+            Partial::Updated(4),
+        ),
+        (
+            LEAST_OF_MANY,
+            (ReductionOperator::Min, SCALAR),
+            0,
+            (90, 80),
+            Partial::Updated(0),
         ),
         // Of && and || a variable begins with what it held.
         (

@@ -1,6 +1,6 @@
 use Rattle.std.proofs.Common.{◌≡◌, ◌+◌, ◌-◌, vec_len}
 use Rattle.seqrun_value.specs.Standing.{locals_of}
-use Rattle.seqrun_value.proofs.frame.Frame.set.Given as goal
+use Rattle.seqrun_value.proofs.frame.set_behind.Given as goal
 
 -- the new slots stand for no local
 abbrev pub invariant-loop-slots : goal.invariant-loop-slots
