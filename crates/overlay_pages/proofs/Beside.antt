@@ -6,7 +6,7 @@ use Rattle.std.proofs.lemmas.Bool.{cases_lt}
 use Rattle.std.proofs.lemmas.List.{length-set, length-take-le, length-drop, get_or-take, get_or-drop, get_or-set_same, set-set, set-get_or, set_comm}
 use Rattle.std.proofs.Math.Nat.{mul-sub, mod-eq_of_lt, pow-le-pow_right}
 use Rattle.std.proofs.lemmas.Nat.{pow-add, pow_pos}
-use Rattle.std.proofs.lemmas.Nat.Bits.{ones_shr, bit_at_or, bit_at_and, bit_at_set_same, bit_at_set_other, bit_at-lt, bit_at_mask_inside, bit_at_mask_below, bit_at_mask_above, same_from_bits}
+use Rattle.std.proofs.lemmas.Nat.Bits.{ones_shr, bit_at-zero, bit_at_or, bit_at_and, bit_at_set_same, bit_at_set_other, bit_at-lt, bit_at_mask_inside, bit_at_mask_below, bit_at_mask_above, same_from_bits}
 use Rattle.store.specs.Kept.{overlaid}
 use Rattle.store.proofs.Writing.{overlaid_none, overlaid_more}
 use Rattle.lower_op.specs.Stretches.{written}
@@ -121,6 +121,15 @@ set_ones m from count all = same_from_bits (bit_and m (2 ^ (from + count) - 2 ^ 
         let none : bit_at (2 ^ (from + count) - 2 ^ from) i ≡ 0 = bit_at_mask_above from (from + count) i past in
         omega arith
 
+-- where a mask has none of a run of ones, no bit of them is set
+none_set : (m from count : ℕ) → bit_and m (2 ^ (from + count) - 2 ^ from) ≡ 0 → (i : ℕ) → from ≤ i → i < from + count → bit_at m i ≡ 0
+none_set m from count e i le lt =
+    let one : bit_at (2 ^ (from + count) - 2 ^ from) i ≡ 1 = bit_at_mask_inside from (from + count) i le lt in
+    let both : min (bit_at m i) (bit_at (2 ^ (from + count) - 2 ^ from) i) ≡ bit_at 0 i = sym (bit_at_and m (2 ^ (from + count) - 2 ^ from) i) ∙ ap (λ n. bit_at n i) e in
+    let zero : bit_at 0 i ≡ 0 = bit_at-zero i in
+    let few = bit_at-lt m i in
+    omega arith
+
 -- ---- cells of one page
 
 -- cells that are written one after another
@@ -228,6 +237,25 @@ mask_set t first count few all = set_ones (slice_index t.masks (first / 64)) (fi
     let page : first / 64 ≡ (first + k) / 64 = omega arith in
     let rest : i ≡ (first + k) % 64 = omega arith in
     (λ j. bit_at (slice_index t.masks (page j)) (rest j)) ∙ all k (omega arith))
+
+-- the same of cells that are not written
+pub bits_clear : (t : Table) (first count : ℕ) → first % 64 + count ≤ 64 → bit_and (slice_index t.masks (first / 64)) (2 ^ (first % 64 + count) - 2 ^ (first % 64)) ≡ 0 → (k : ℕ) → k < count → bit t (first + k) ≡ 0
+bits_clear t first count few e k lt =
+    let page : (first + k) / 64 ≡ first / 64 = omega arith in
+    let rest : (first + k) % 64 ≡ first % 64 + k = omega arith in
+    (λ i. bit_at (slice_index t.masks (page i)) (rest i))
+    ∙ none_set (slice_index t.masks (first / 64)) (first % 64) count e (first % 64 + k) (omega arith) (omega arith)
+
+-- the cells of one page behind those that are not written
+pub clear_on : (t : Table) (first done part : ℕ) → ((k : ℕ) → k < done → bit t (first + k) ≡ 0) → ((k : ℕ) → k < part → bit t (first + done + k) ≡ 0) → (k : ℕ) → k < done + part → bit t (first + k) ≡ 0
+clear_on t first done part before here k lt = go (cases_lt k done)
+  where
+    go : (k < done) ⊎ (done ≤ k) → bit t (first + k) ≡ 0
+    go (inl less) = before k less
+    go (inr le) =
+        let i = k - done in
+        let place : first + k ≡ first + done + i = omega arith in
+        ap (bit t) place ∙ here i (omega arith)
 
 -- the cells of one page behind those that stand so
 pub stand_on : (t : Table) (first done part start : ℕ) → StandFrom t first done start → (first + done) % 64 + part ≤ 64 → spot t (first + done) ≡ start + done → ((k : ℕ) → k < part → bit t (first + done + k) ≡ 1) → StandFrom t first (done + part) start

@@ -48,7 +48,7 @@ pub fn mask_of(pages: &Pages, page: u64) -> u64
     }
 }
 
-/// Whether no cell of the pages is written on which so many places side by side lie.
+/// Whether none of so many cells side by side is written.
 pub fn are_bare(pages: &Pages, first: u64, count: u64) -> bool
     requires { first + count < 2 ^ 64 }
     ensures bare { result ≡ true
@@ -56,11 +56,15 @@ pub fn are_bare(pages: &Pages, first: u64, count: u64) -> bool
     ensures told { ((page : ℕ) → first / 64 ≤ page → 64 * page < first + count
         → slice_index pages.now.masks.items page ≡ 0) → result ≡ true }
 {
-    let end = first + count;
-    for page in first / 64..end / 64 + u64::from(end % 64 != 0) {
-        if mask_of(pages, page) != 0 {
+    let mut done = 0;
+    while done < count {
+        let place = first + done;
+        let part = crate::rows::on_page(place, count - done);
+        let run = crate::rows::ones(place % 64, part);
+        if mask_of(pages, place / 64) & run != 0 {
             return false;
         }
+        done += part;
     }
     true
 }

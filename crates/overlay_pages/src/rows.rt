@@ -8,8 +8,8 @@ ghost use Rattle.overlay_pages.specs.Table.{table_of, number_at, bit, spot, slot
 
 use crate::pages::{Pages, mask_of, reach};
 
-// So many ones from a bit on.
-fn ones(from: u64, count: u64) -> u64
+/// So many ones from a bit on.
+pub(crate) fn ones(from: u64, count: u64) -> u64
     requires some { 1 ≤ count }
     requires few { from + count ≤ 64 }
     ensures { result ≡ 2 ^ (from + count) - 2 ^ from }
@@ -17,8 +17,8 @@ fn ones(from: u64, count: u64) -> u64
     (u64::MAX >> (64 - count)) << from
 }
 
-// How many of so many cells side by side lie on the page of the first.
-fn on_page(first: u64, count: u64) -> u64
+/// How many of so many cells side by side lie on the page of the first.
+pub(crate) fn on_page(first: u64, count: u64) -> u64
     ensures { result ≡ min (64 - first % 64) count }
 {
     let room = 64 - first % 64;

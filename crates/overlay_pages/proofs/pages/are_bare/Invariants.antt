@@ -1,7 +1,14 @@
-use Rattle.std.proofs.Common.{◌≡◌, ◌≤◌, ◌<◌, ◌/◌, ℕ}
-use Rattle.std.specs.Prelude.{slice_index}
+use Rattle.std.proofs.Common.{ℕ, ◌≡◌, ◌+◌, ◌-◌, ◌<◌, ◌≤◌}
+use Rattle.overlay_pages.specs.Table.{table_of, bit}
 use Rattle.overlay_pages.proofs.pages.are_bare.Given as goal
 
--- no cell of the pages so far is written
-abbrev pub invariant-loop-page : goal.invariant-loop-page
-invariant-loop-page l = (p : ℕ) → l.first / 64 ≤ p → p < l.page → slice_index l.pages.masks.items p ≡ 0
+-- no cell so far is written
+abbrev pub invariant-loop-done : goal.invariant-loop-done
+invariant-loop-done l =
+    record {
+      within : l.done ≤ l.count;
+      clear : (k : ℕ) → k < l.done → bit (table_of l.pages) (l.first + k) ≡ 0;
+    }
+
+abbrev pub decreases-loop-done : goal.decreases-loop-done
+decreases-loop-done l = l.count - l.done
