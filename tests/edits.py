@@ -36,6 +36,8 @@ import kit
 JOBS = ["--jobs", "1"]
 HEAD = re.compile(r"(\s*)(?:pub(?:\([^)]*\))? )?(?:const )?(?:unsafe )?fn (\w+)")
 CONST = re.compile(r"\s*(?:pub(?:\([^)]*\))? )?const (\w+):")
+UNSEEN = re.compile(r"\s*(//|#\[(inline|cold|cycle|tactic)\b)")
+IMPORT = re.compile(r"(?m)^(?P<head>\s*(?:ghost )?use )(?P<path>[^;]*);\n?")
 IMPL = re.compile(r"impl(?:<.*?>)? (?:(?P<trait>.*) for )?(?:\w+::)*(?P<type>\w+)")
 TRIED = os.path.join(TOP, "tests", "edits.tried")
 SWITCHES = ("--read", "--all", "--proved")
@@ -303,10 +305,11 @@ class Tried:
 
 
 def promises(text):
-    """What crates above rest on of a source file, as `rt fmt` lays it out: neither comments nor the bodies of functions, nor functions at its left edge that are not public."""
+    """What crates above rest on of a source file, as `rt fmt` lays it out: neither comments and empty rows nor the bodies of functions,
+    nor functions at its left edge that are not public, nor what is imported for these alone."""
     kept, indent, in_head, is_seen = [], None, False, True
     for row in text.split("\n"):
-        if row.lstrip().startswith("//"):
+        if not row or UNSEEN.match(row):
             continue
         head = HEAD.match(row) if indent is None else None
         if head:
@@ -321,7 +324,27 @@ def promises(text):
                 indent, is_seen = None, True
         elif row == f"{indent}}}":
             indent, is_seen = None, True
-    return "\n".join(kept)
+    return with_named_imports("\n".join(kept))
+
+
+def with_named_imports(text):
+    """A text in which imports bring no names but those that stand elsewhere in it."""
+    rest = IMPORT.sub("", text)
+    tokens = {*re.findall(r"\w+|[^\w\s(){},;]+", rest)}
+
+    def is_named(name):
+        return tokens.issuperset(re.findall(r"\w+|[^\w◌]+", name.split(" as ")[-1]))
+
+    def named(found):
+        path, brace, names = found["path"].partition("{")
+        if "{" in names:
+            return found[0]
+        if not brace:
+            path, names = re.fullmatch(r"(.*(?:::|\.))?(.*)", path).groups("")
+        each = (it.strip() for it in names.rstrip("}").split(","))
+        return "".join(f"{found['head']}{path}{it};\n" for it in each if it and is_named(it))
+
+    return IMPORT.sub(named, text)
 
 
 def read_all(rt):

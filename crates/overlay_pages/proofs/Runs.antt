@@ -1,10 +1,10 @@
 -- Runs of changes: one behind another, and over cells.
-use Rattle.std.specs.Prelude.{ℕ, zero, suc, true, false, ◌≡◌, ◌+◌, ◌*◌, ◌/◌, ◌%◌, ◌<◌, ◌≤◌, ◌==◌, if◌then◌else◌, List, [], ◌∷◌, ◌++◌, take, drop, length, Option, Some, None, slice_index, slice_set}
+use Rattle.std.specs.Prelude.{ℕ, zero, suc, true, false, ◌≡◌, ◌+◌, ◌-◌, ◌*◌, ◌^◌, ◌/◌, ◌%◌, ◌<◌, ◌≤◌, ◌==◌, if◌then◌else◌, List, [], ◌∷◌, ◌++◌, take, drop, length, Option, Some, None, slice_index, slice_set}
 use Rattle.std.specs.Int.{bit_at}
 use Rattle.std.proofs.Common.{refl, sym, ap, ◌∙◌, subst, cond, arith, append-nil, get_or}
 use Rattle.std.proofs.lemmas.Bool.{ne_eqb, eqb-true}
 use Rattle.std.proofs.lemmas.List.{append_assoc, length-append, length-set, length-drop, length-take, length-take-le, get_or-take, get_or-drop, take_all, take_more, take-append-le, drop-append-le}
-use Rattle.std.proofs.lemmas.Nat.Bits.{bit_at_ones}
+use Rattle.std.proofs.lemmas.Nat.Bits.{bit_at_mask_inside, bit_at_mask_below, bit_at_mask_above}
 use Rattle.store.specs.Kept.{Kept, overlaid}
 use Rattle.store.proofs.Writing.{overlaid_none, overlaid_more}
 use Rattle.store.specs.Flat.{values_of, filled}
@@ -14,7 +14,7 @@ use Rattle.overlay_pages.specs.Over.{Writes, or_else, written_over, and_at, last
 use Rattle.overlay_pages.specs.Runs.{row, cells_in, changes_in, AllDiffer}
 use Rattle.overlay_pages.specs.Table.{Table, IsSound, IsWhole, Gathers}
 use Rattle.overlay_pages.proofs.Overlays.{length_over, over_same, over_nothing, over_and_at, filled_twice}
-use Rattle.overlay_pages.proofs.Gathered.{with_change, gathers_on}
+use Rattle.overlay_pages.proofs.Gathered.{with_change, gathers_skip, none_between, gathers_on}
 
 -- ---- runs one behind another
 
@@ -158,42 +158,62 @@ whole_long cells t s k lt vs whole =
     let sized = s.sized in
     ap (λ (l : List ℕ). length l) whole.values ∙ length-take-le 64 (drop (64 * suc k) t.values) (omega (arith, length-drop (64 * suc k) t.values))
 
-module _ (cells : List ℕ) (t : Table) (s : IsSound t) (k : ℕ) (lt : k < length t.entered) (vs : List ℕ) (whole : IsWhole cells t k vs) (cs : List Change) (before : Gathers cells t (64 * suc k) cs) where
+-- cells side by side of a page, of which no other is written
+module _ (cells : List ℕ) (t : Table) (s : IsSound t) (k : ℕ) (lt : k < length t.entered) (from : ℕ) (vs : List ℕ) (few : from + length vs ≤ 64) (mask : slice_index t.masks (slice_index t.entered k) ≡ 2 ^ (from + length vs) - 2 ^ from) (values : vs ≡ take (length vs) (drop (64 * suc k + from) t.values)) (differ : AllDiffer cells (64 * slice_index t.entered k + from) vs) (cs : List Change) (before : Gathers cells t (64 * suc k) cs) where
   abbrev first : ℕ
-  first = 64 * slice_index t.entered k
+  first = 64 * slice_index t.entered k + from
 
   abbrev so_far : ℕ → List Change
   so_far r = cs ++ row first (take r vs)
 
-  long : length vs ≡ 64
-  long = whole_long cells t s k lt vs whole
+  abbrev at : ℕ → ℕ
+  at r = 64 * suc k + (from + r)
 
-  step : (r : ℕ) → r < 64 → Gathers cells t (64 * suc k + r) (so_far r) → Gathers cells t (64 * suc k + suc r) (so_far (suc r))
-  step r less g = subst (Gathers cells t (64 * suc k + suc r)) same
-      (gathers_on t s k lt cells r less (ap (λ m. bit_at m r) whole.mask ∙ bit_at_ones 64 r less) (so_far r) g c refl value)
+  step : (r : ℕ) → r < length vs → Gathers cells t (at r) (so_far r) → Gathers cells t (at (suc r)) (so_far (suc r))
+  step r less g = subst (Gathers cells t (at (suc r))) same (subst (λ n. Gathers cells t n (with_change cells (so_far r) c)) (let e : 64 * suc k + suc (from + r) ≡ 64 * suc k + (from + suc r) = omega arith in e)
+      (gathers_on t s k lt cells (from + r) (omega arith) (ap (λ m. bit_at m (from + r)) mask ∙ bit_at_mask_inside from (from + length vs) (from + r) (omega arith) (omega arith)) (so_far r) g c place value))
     where
       c : Change
       c = record { place = first + r; value = get_or vs r 0 }
 
-      there : r < length vs
-      there = omega (arith, long)
+      place : first + r ≡ 64 * slice_index t.entered k + (from + r)
+      place = omega arith
 
-      value : get_or vs r 0 ≡ slice_index t.values (64 * suc k + r)
-      value = ap (λ (l : List ℕ). get_or l r 0) whole.values ∙ get_or-take 64 (drop (64 * suc k) t.values) r 0 less ∙ get_or-drop (64 * suc k) t.values r 0
+      value : get_or vs r 0 ≡ slice_index t.values (64 * suc k + (from + r))
+      value = ap (λ (l : List ℕ). get_or l r 0) values ∙ get_or-take (length vs) (drop (64 * suc k + from) t.values) r 0 less ∙ get_or-drop (64 * suc k + from) t.values r 0 ∙ ap (slice_index t.values) (let e : 64 * suc k + from + r ≡ 64 * suc k + (from + r) = omega arith in e)
 
       on : r + 1 ≡ suc r
       on = omega arith
 
       same : with_change cells (so_far r) c ≡ so_far (suc r)
       same =
-          ap (λ b. cond b (so_far r) (so_far r ++ c ∷ [])) (differs_at cells first vs whole.differ r there)
+          ap (λ b. cond b (so_far r) (so_far r ++ c ∷ [])) (differs_at cells first vs differ r less)
           ∙ append_assoc cs (row first (take r vs)) (c ∷ [])
-          ∙ ap (λ l. cs ++ l) (ap (λ n. row first (take r vs) ++ record { place = first + n; value = get_or vs r 0 } ∷ []) (sym (length-take-le r vs (let h = there in omega arith))) ∙ sym (row_added first (take r vs) (get_or vs r 0))
-          ∙ ap (row first) (sym (take_more vs r 0 there) ∙ ap (λ n. take n vs) on))
+          ∙ ap (λ l. cs ++ l) (ap (λ n. row first (take r vs) ++ record { place = first + n; value = get_or vs r 0 } ∷ []) (sym (length-take-le r vs (let h = less in omega arith))) ∙ sym (row_added first (take r vs) (get_or vs r 0))
+          ∙ ap (row first) (sym (take_more vs r 0 less) ∙ ap (λ n. take n vs) on))
 
-  up_to_there : (r : ℕ) → r ≤ 64 → Gathers cells t (64 * suc k + r) (so_far r)
-  up_to_there zero le = subst (λ (l : List Change). Gathers cells t (64 * suc k + 0) l) (sym (append-nil cs)) (subst (λ n. Gathers cells t n cs) (omega arith) before)
+  up_to_there : (r : ℕ) → r ≤ length vs → Gathers cells t (at r) (so_far r)
+  up_to_there zero le = subst (λ (l : List Change). Gathers cells t (at 0) l) (sym (append-nil cs)) (gathers_skip cells t (64 * suc k) (at 0) cs (omega arith)
+      (λ p past lower. none_between t s k lt 0 from (omega arith) (λ r h i. ap (λ m. bit_at m r) mask ∙ bit_at_mask_below from (from + length vs) r i) p (omega arith) (omega arith))
+      before)
   up_to_there (suc r) le = step r (omega arith) (up_to_there r (omega arith))
 
-  pub gathers_row : Gathers cells t (64 * suc (suc k)) (cs ++ row first vs)
-  gathers_row = subst (λ n. Gathers cells t n (cs ++ row first vs)) (omega arith) (subst (λ l. Gathers cells t (64 * suc k + 64) (cs ++ row first l)) (take_all 64 vs (omega (arith, long))) (up_to_there 64 (omega arith)))
+  pub gathers_part : Gathers cells t (64 * suc (suc k)) (cs ++ row first vs)
+  gathers_part = gathers_skip cells t (at (length vs)) (64 * suc (suc k)) (cs ++ row first vs) (omega arith)
+      (λ p past lower. none_between t s k lt (from + length vs) 64 (omega arith) (λ r h i. ap (λ m. bit_at m r) mask ∙ bit_at_mask_above from (from + length vs) r h) p past (omega arith))
+      (subst (λ l. Gathers cells t (at (length vs)) (cs ++ row first l)) (take_all (length vs) vs (omega arith)) (up_to_there (length vs) (omega arith)))
+
+-- and all cells of a page
+pub gathers_row : (cells : List ℕ) (t : Table) → IsSound t → (k : ℕ) → k < length t.entered → (vs : List ℕ) → IsWhole cells t k vs → (cs : List Change) → Gathers cells t (64 * suc k) cs → Gathers cells t (64 * suc (suc k)) (cs ++ row (64 * slice_index t.entered k) vs)
+gathers_row cells t s k lt vs whole cs before =
+    let long = whole_long cells t s k lt vs whole in
+    let many : 64 ≡ 0 + length vs = omega (arith, long) in
+    let all : 64 ≡ length vs = omega (arith, long) in
+    let spot : 64 * suc k ≡ 64 * suc k + 0 = omega arith in
+    let place : 64 * slice_index t.entered k ≡ 64 * slice_index t.entered k + 0 = omega arith in
+    subst (λ n. Gathers cells t (64 * suc (suc k)) (cs ++ row n vs)) (sym place)
+    (gathers_part cells t s k lt 0 vs (omega (arith, long))
+    (whole.mask ∙ ap (λ n. 2 ^ n - 1) many)
+    (whole.values ∙ (λ i. take (all i) (drop (spot i) t.values)))
+    (subst (λ n. AllDiffer cells n vs) place whole.differ)
+    cs before)

@@ -1,13 +1,13 @@
 //! The writes that tables hold and that change cells, gathered.
 
-ghost use Rattle.std.specs.Prelude.{ℕ, List, suc, ◌≡◌, ◌≢◌, ◌==◌, ◌↔◌, ◌*◌, ◌+◌, ◌<◌, ◌≤◌, ◌^◌, ◌++◌, ◌∷◌, [], cond, length, slice_index, IsTrue, MatchOption, IfOk, OnOk};
+ghost use Rattle.std.specs.Prelude.{ℕ, List, suc, ◌≡◌, ◌≢◌, ◌==◌, ◌↔◌, ◌*◌, ◌+◌, ◌-◌, ◌<◌, ◌≤◌, ◌^◌, ◌++◌, ◌∷◌, [], cond, take, drop, length, slice_index, IsTrue, MatchOption, IfOk, IfSome, OnOk};
 ghost use Rattle.store.specs.Flat.{values_of};
 ghost use Rattle.overlay_pages.specs.Runs.{AllDiffer};
 ghost use Rattle.overlay_pages.specs.Table.{table_of, IsSound, IsWhole, Gathers};
 
 use crate::changes::{Change, Changes};
-use crate::pages::Pages;
-use crate::rows::part;
+use crate::pages::{Pages, mask_of};
+use crate::rows::{ones, part};
 use std::alloc::{AllocError, Global};
 use store::Store;
 
@@ -100,6 +100,53 @@ fn whole_page<'p>(store: &Store, pages: &'p Pages, k: usize) -> Option<&'p [u64]
     }
 }
 
+// The values of a page whose written cells stand side by side, where each takes another number than it holds, and the first of these cells on that page.
+fn row_of_page<'p>(store: &Store, pages: &'p Pages, k: usize) -> Option<(u64, &'p [u64])>
+    requires sound { IsSound (table_of pages.now) }
+    requires there { k < length pages.now.entered.items }
+    ensures some { IfSome result (λ r. 1 ≤ length r.1.now) }
+    ensures few { IfSome result (λ r. r.0 + length r.1.now ≤ 64) }
+    ensures mask { IfSome result (λ r. slice_index pages.now.masks.items
+        (slice_index pages.now.entered.items k) ≡ 2 ^ (r.0 + length r.1.now) - 2 ^ r.0) }
+    ensures values { IfSome result (λ r. r.1.now
+        ≡ take (length r.1.now) (drop (64 * suc k + r.0) pages.now.values.items)) }
+    ensures differ { IfSome result (λ r. AllDiffer (values_of store.now)
+        (64 * slice_index pages.now.entered.items k + r.0) r.1.now) }
+{
+    let page = pages.entered[k];
+    let mask = mask_of(pages, page);
+    let first = u64::from(mask.trailing_zeros());
+    let count = u64::from(mask.count_ones());
+    if count == 0 || first + count > 64 || ones(first, count) != mask {
+        return None;
+    }
+    let values = part(&pages.values, 64 * (k as u64 + 1) + first, count);
+    if all_differ(store, 64 * page + first, values) {
+        Some((first, values))
+    } else {
+        None
+    }
+}
+
+// Adds the changes of a page of which not each cell is written.
+fn gather_part(
+    store: &Store,
+    pages: &Pages,
+    k: usize,
+    changes: &mut Changes,
+) -> Result<(), AllocError>
+    requires sound { IsSound (table_of pages.now) }
+    requires there { k < length pages.now.entered.items }
+    requires so_far { Gathers (values_of store.now) (table_of pages.now) (64 * suc k) changes.old }
+    ensures { OnOk result (Gathers (values_of store.now) (table_of pages.now) (64 * suc (suc k))
+        changes.new) }
+{
+    match row_of_page(store, pages, k) {
+        Some((first, values)) => changes.push_row(64 * pages.entered[k] + first, values),
+        None => gather_bits(store, pages, k, changes),
+    }
+}
+
 // Adds the changes of a page that was entered.
 fn gather_page(
     store: &Store,
@@ -115,7 +162,7 @@ fn gather_page(
 {
     match whole_page(store, pages, k) {
         Some(values) => changes.push_row(64 * pages.entered[k], values),
-        None => gather_bits(store, pages, k, changes),
+        None => gather_part(store, pages, k, changes),
     }
 }
 

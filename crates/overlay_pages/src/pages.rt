@@ -5,6 +5,7 @@ ghost use Rattle.std.specs.Vec.{vec_capacity};
 ghost use Rattle.overlay_pages.specs.Over.{or_else};
 ghost use Rattle.overlay_pages.specs.Table.{table_of, number_at, slot, slots, IsSound, IsRoomy, entering, setting};
 
+use crate::rows::{on_page, ones};
 use std::alloc::{AllocError, Global};
 
 /// Which cells are written, and with what, by pages of 64 cells.
@@ -59,8 +60,8 @@ pub fn are_bare(pages: &Pages, first: u64, count: u64) -> bool
     let mut done = 0;
     while done < count {
         let place = first + done;
-        let part = crate::rows::on_page(place, count - done);
-        let run = crate::rows::ones(place % 64, part);
+        let part = on_page(place, count - done);
+        let run = ones(place % 64, part);
         if mask_of(pages, place / 64) & run != 0 {
             return false;
         }
