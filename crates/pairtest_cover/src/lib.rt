@@ -4,8 +4,6 @@
 mod cover;
 mod distance;
 mod laws;
-#[cfg(test)]
-mod rows;
 mod uniform;
 
 pub use cover::ordered;

@@ -21,3 +21,5 @@ mod nest_rows;
 mod nest_space_rows;
 #[cfg(test)]
 mod texts;
+#[cfg(test)]
+mod waves_rows;

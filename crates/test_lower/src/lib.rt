@@ -6,6 +6,8 @@ mod codes;
 #[cfg(test)]
 mod greatest_rows;
 #[cfg(test)]
+mod lane_rows_rows;
+#[cfg(test)]
 mod lower_block_rows;
 #[cfg(test)]
 mod lower_code_rows;
@@ -23,3 +25,5 @@ mod scan_rows;
 mod stores;
 #[cfg(test)]
 mod text_rows;
+#[cfg(test)]
+mod turns_rows;

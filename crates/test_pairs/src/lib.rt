@@ -8,4 +8,6 @@ mod deptest_witness_rows;
 #[cfg(test)]
 mod pairtest_access_rows;
 #[cfg(test)]
+mod pairtest_cover_rows;
+#[cfg(test)]
 mod pairtest_rows;

@@ -126,9 +126,6 @@ map_end : (f : Vector → ℕ) (xs : List Vector) (x : Vector) → map f (xs ++ 
 map_end f [] x = refl
 map_end f (y ∷ ys) x = ap (λ (zs : List ℕ). f y ∷ zs) (map_end f ys x)
 
-pub no_levels : (space : List Vector) (ds : List Distance) → AreLevels space ds []
-no_levels space ds = record { are = refl; small = λ j lt. absurd (omega arith); fit = λ j w lt e. absurd (omega arith) }
-
 pub more_levels : (space : List Vector) (ds : List Distance) (levels : List ℕ) (u : Vector) (l : ℕ) → AreLevels space ds levels → slice_get space (length levels) ≡ Some u → l ≡ level space ds u → l ≤ length levels → Fits u
     → AreLevels space ds (levels ++ l ∷ [])
 more_levels space ds levels u l are at is small fit = record {

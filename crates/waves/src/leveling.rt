@@ -17,7 +17,8 @@ use nest_space::Space;
 use std::alloc::{AllocError, Global};
 
 /// One more than the level of the iteration that lies so far before, if it is one and this is above what there is.
-fn raised(space: &Space, distance: &[i64], values: &[u64], levels: &[u64], above: u64) -> u64
+fn raised(space: &Space, distance: &[i64], values: &[u64], levels: &[u32], above: u32) -> u32
+    requires few { length levels.now < 2 ^ 32 }
     requires rise { EachRises space.now }
     requires ahead { is_ahead distance.now ≡ true }
     requires loops { length values.now ≡ length space.now }
@@ -39,7 +40,8 @@ fn raised(space: &Space, distance: &[i64], values: &[u64], levels: &[u64], above
 
 /// One more than the greatest level of the sinks of an iteration that lie in the space; 0 without one. The levels of the
 /// iterations before it are known.
-fn level_above(space: &Space, distances: &[Vec<i64>], values: &[u64], levels: &[u64]) -> u64
+fn level_above(space: &Space, distances: &[Vec<i64>], values: &[u64], levels: &[u32]) -> u32
+    requires few { length levels.now < 2 ^ 32 }
     requires rise { EachRises space.now }
     requires ahead { list_all is_ahead (map (λ d. d.items) distances.now) ≡ true }
     requires loops { length values.now ≡ length space.now }
@@ -81,14 +83,19 @@ fn levels_by(
     space: &Space,
     distances: &[Vec<i64>],
     values: &mut [u64],
-) -> Result<Vec<u64>, AllocError>
+) -> Result<Vec<u32>, AllocError>
     requires rise { EachRises space.now }
     requires ahead { list_all is_ahead (map (λ d. d.items) distances.now) ≡ true }
     requires values { length values.old ≡ length space.now }
-    ensures { IfOk result (λ ls. (length ls.items ≡ length (vectors space.now))
-        × AreLevels (vectors space.now) (map (λ d. d.items) distances.now) ls.items) }
+    ensures count { IfOk result (λ ls. length ls.items ≡ length (vectors space.now)) }
+    ensures few { IfOk result (λ ls. length ls.items < 2 ^ 32) }
+    ensures levels { IfOk result (λ ls.
+        AreLevels (vectors space.now) (map (λ d. d.items) distances.now) ls.items) }
 {
-    let count = space.count();
+    // A space has at most 2^24 iterations.
+    let Ok(count) = u32::try_from(space.count()) else {
+        return Err(AllocError);
+    };
     let mut levels = Vec::with_capacity(alloc, count as usize)?;
     begin(space, values);
     for _number in 0..count {

@@ -2,8 +2,6 @@
 #![tactic(auto)]
 
 mod leveling;
-#[cfg(test)]
-mod rows;
 mod sinks;
 mod sorting;
 

@@ -1,6 +1,6 @@
-use crate::*;
 use ktree::{Place, VarId};
 use pairtest::{Access, Mode, Nest, Subscript};
+use pairtest_cover::{counters_are_ordered, covered_pairs_lie_apart, ordered, sinks_lead_there};
 use std::alloc::{AllocError, Global};
 use std::process::Abort;
 

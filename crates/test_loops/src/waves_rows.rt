@@ -2,11 +2,11 @@ ghost use Rattle.std.specs.Prelude.{◌≡◌, ◌≤◌, IfSome};
 ghost use Rattle.nest_loop.specs.declared.stride.Direction.TheVariants.{Rising};
 ghost use Rattle.waves.specs.Wanted.{SinkList};
 
-use crate::*;
 use nest_loop::{Direction, Stride};
 use nest_space::{LoopTurns, Space};
 use std::alloc::Global;
 use std::process::Abort;
+use waves::*;
 
 /// The loop that rises by 1 from its first value and turns so often.
 fn loop_of(first: u64, count: u64) -> Option<LoopTurns>
