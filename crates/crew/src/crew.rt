@@ -126,9 +126,11 @@ fn own_again<R: Wait, J: Drop>(rt: &R, job: Arc<J>) -> J
     let mut job = job;
     let mut turns = 0;
     for _ in rt.forever() {
-        match Arc::try_unwrap(job) {
-            Ok(own) => return own,
-            Err(shared) => job = shared,
+        if Arc::strong_count(&job) == 1 {
+            match Arc::try_unwrap(job) {
+                Ok(own) => return own,
+                Err(shared) => job = shared,
+            }
         }
         pause(&mut turns);
     }

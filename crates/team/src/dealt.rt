@@ -1,6 +1,6 @@
 //! Chunks that are dealt to workers, of the schedules that fix the worker of each (OpenMP 5.2, 11.5.3).
 
-ghost use Rattle.std.specs.Prelude.{◌≡◌, ℕ, ◌<◌, ◌≤◌, ◌^◌, length, vec_len, flat_map, Option, IfOk, IfErr, IfSome};
+ghost use Rattle.std.specs.Prelude.{◌≡◌, ℕ, ◌<◌, ◌≤◌, ◌^◌, [], length, vec_len, flat_map, Option, IfOk, IfErr, IfSome, OnOk};
 ghost use Rattle.semantics.specs.Loops.Chunk.{cut};
 ghost use Rattle.semantics.specs.Meaning.Places.{below};
 ghost use Rattle.nest_space.specs.Space.{vectors};
@@ -8,7 +8,7 @@ ghost use Rattle.schedule.specs.Part.{static_kind};
 ghost use Rattle.team.specs.declared.way.Way.TheVariants.{Dealt};
 ghost use Rattle.team.specs.Ends.{IsReady, IsAccount, IsAccountOf};
 ghost use Rattle.team.specs.Dealt.{own_numbers};
-ghost use Rattle.team.specs.Logged.{joined};
+ghost use Rattle.team.specs.Logged.{joined, no_account};
 ghost use Rattle.team.specs.Places.{Aim, AreFor};
 ghost use Rattle.team.specs.Starts.{taken_in};
 
@@ -16,35 +16,35 @@ use crate::gate::{Gate, Taken};
 use crate::job::Job;
 use crate::log::ChunkLog;
 use crate::place::Place;
-use crate::worker::run_taken;
+use crate::worker::run_logged;
 use ktree::{Refusal, Workers};
 use overlay::{Tools, Worker};
 use schedule::static_init;
 use std::alloc::Global;
 
-/// Runs a worker's own chunks, in their order: those of `static, k` for `Some(k)`, else those of plain `static`. The tools are what the
-/// thread keeps from loop to loop.
-pub(crate) fn run_own<G: Gate>(
+// Runs a worker's own chunks, in their order, and enters them in its log.
+fn run_dealt<G: Gate>(
     alloc: Global,
     job: Job,
     workers: Workers,
     worker: u64,
     size: Option<u64>,
+    runner: &mut Worker,
+    log: &mut ChunkLog,
     gate: &G,
-    tools: &mut Option<Tools>,
-) -> Result<ChunkLog, Refusal>
+) -> Result<(), Refusal>
     requires ready { IsReady job }
     requires chunks { job.chunks.now
         ≡ cut (static_kind size) (length (taken_in job.pass.now (vectors job.space.now))) workers }
     requires size { IfSome size (λ k. (1 ≤ k) × (k ≤ 2 ^ 24)) }
     requires worker { worker < workers }
-    ensures dealt { IfOk result (IsAccountOf job.entry
-        (own_numbers size (length job.entry.chunks.now) workers worker)) }
+    requires runner { runner.old ≡ job.store.now }
+    requires log { IsAccountOf job [] log.old }
+    ensures dealt { OnOk result (IsAccountOf job.entry
+        (own_numbers size (length job.entry.chunks.now) workers worker) log.new) }
     ensures refusal { IfErr result (λ refusal. refusal ≡ Refusal.OutOfMemory) }
 {
     let part = static_init(job.pass.count(job.space), workers, worker, size);
-    let mut runner = Worker::resume(alloc, job.store, tools.take())?;
-    let mut log = ChunkLog::new(alloc);
     let mut turn = 0;
     while let Some(number) = part.number(turn) {
         let taken = Taken {
@@ -53,11 +53,38 @@ pub(crate) fn run_own<G: Gate>(
             chunk: number,
             chunks: job.chunks.len(),
         };
-        log.push(run_taken(alloc, job, &mut runner, taken, gate)?)?;
+        run_logged(alloc, job, runner, log, taken, gate)?;
         turn += 1;
     }
+    Ok(())
+}
+
+/// Runs a worker's own chunks, in their order, and enters them in a log: those of `static, k` for `Some(k)`, else those of plain `static`.
+/// The tools are what the thread keeps from loop to loop.
+pub(crate) fn run_own<G: Gate>(
+    alloc: Global,
+    job: Job,
+    workers: Workers,
+    worker: u64,
+    size: Option<u64>,
+    gate: &G,
+    tools: &mut Option<Tools>,
+    log: &mut ChunkLog,
+) -> Result<(), Refusal>
+    requires ready { IsReady job }
+    requires chunks { job.chunks.now
+        ≡ cut (static_kind size) (length (taken_in job.pass.now (vectors job.space.now))) workers }
+    requires size { IfSome size (λ k. (1 ≤ k) × (k ≤ 2 ^ 24)) }
+    requires worker { worker < workers }
+    requires log { log.old ≡ no_account }
+    ensures dealt { OnOk result (IsAccountOf job.entry
+        (own_numbers size (length job.entry.chunks.now) workers worker) log.new) }
+    ensures refusal { IfErr result (λ refusal. refusal ≡ Refusal.OutOfMemory) }
+{
+    let mut runner = Worker::resume(alloc, job.store, tools.take())?;
+    run_dealt(alloc, job, workers, worker, size, &mut runner, log, gate)?;
     *tools = Some(runner.leave());
-    Ok(log)
+    Ok(())
 }
 
 /// The logs of all workers, where all of them have left theirs.

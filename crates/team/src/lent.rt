@@ -1,10 +1,16 @@
 //! A loop that is lent to a crew.
 
-ghost use Rattle.std.specs.Prelude.{◌≡◌, ◌<◌, ℕ, vec_len, IfOk, IfErr, IfSome, Ok, Err};
+ghost use Rattle.std.specs.Prelude.{◌≡◌, ◌<◌, ◌≤◌, ◌^◌, ℕ, length, vec_len, All, IfOk, IfErr, IfSome};
 ghost use Rattle.semantics.specs.Loops.Chunk.{cut};
+ghost use Rattle.draw.specs.Tickets.{fresh};
+ghost use Rattle.nest_space.specs.Space.{vectors};
+ghost use Rattle.schedule.specs.Part.{static_kind};
 ghost use Rattle.schedule.specs.Sched.{kind_of};
-ghost use Rattle.team.specs.Ends.{IsReady, AreAll};
-ghost use Rattle.team.specs.Logged.{joined};
+ghost use Rattle.team.specs.declared.place.End.TheVariants.{Share, Draws};
+ghost use Rattle.team.specs.Dealt.{own_numbers};
+ghost use Rattle.team.specs.Ends.{IsReady, IsAccountOf, IsFinished, AreAll};
+ghost use Rattle.team.specs.Logged.{Account, joined};
+ghost use Rattle.team.specs.Starts.{taken_in};
 ghost use Rattle.team.specs.Places.{Aim, IsEnd, AreFor, AreLeft, AreSplit, IsWay, aim_of, count_taken};
 
 use crate::dealt::{gather, run_own};
@@ -15,7 +21,7 @@ use crate::job::Job;
 use crate::log::ChunkLog;
 use crate::place::{End, Place, Plan};
 use crate::way::{Draw, Way, seat_of, way_of};
-use crate::worker::{Member, work};
+use crate::worker::{Finished, Member, work};
 use crew::{Crew, Part, lend};
 use ktree::{Refusal, Workers};
 use lower::LoweredLoop;
@@ -100,17 +106,63 @@ fn equipped(
     Ok((way, places))
 }
 
-/// What the worker of a number leaves, if memory is left for that.
-fn end_of<G: Gate>(
-    lent: &LentLoop<'_>,
+/// Runs the chunks that are dealt to a worker, and leaves their log at its place, if memory is left for that.
+fn leave_share<G: Gate>(
+    alloc: Global,
+    job: Job,
+    workers: Workers,
     number: u64,
+    size: Option<u64>,
+    place: &Place,
     gate: &G,
     tools: &mut Option<Tools>,
-) -> Option<End>
-    requires { number < lent.now.workers }
-    ensures { IfSome result (IsEnd (record (aim_of lent.now.lowered.now lent.now.grounds
-        lent.now.store lent.now.way lent.now.workers) { number = number })) }
+)
+    requires ready { IsReady job }
+    requires chunks { job.chunks.now
+        ≡ cut (static_kind size) (length (taken_in job.pass.now (vectors job.space.now))) workers }
+    requires size { IfSome size (λ k. (1 ≤ k) × (k ≤ 2 ^ 24)) }
+    requires number { number < workers }
+    requires place { (log : Account) → IsAccountOf job (own_numbers size (length job.chunks.now)
+        workers number) log → IsEnd place.now (Share log) }
 {
+    let mut log = ChunkLog::new(alloc);
+    if let Ok(()) = run_own(alloc, job, workers, number, size, gate, tools, &mut log) {
+        place.hand_in(End::Share(log));
+    }
+}
+
+/// Draws and runs chunks as a worker, and leaves what it drew at its place, if memory is left for that.
+fn leave_draws<G: Gate>(
+    alloc: Global,
+    job: Job,
+    draw: &Draw,
+    number: u64,
+    place: &Place,
+    gate: &G,
+    tools: &mut Option<Tools>,
+)
+    requires ready { IsReady job }
+    requires count { draw.now.drawing.count ≡ length job.chunks.now }
+    requires number { number < draw.now.drawing.seats }
+    requires seats { All (λ seat. seat ≡ fresh draw.now.drawing) draw.now.seats.items }
+    requires place { (finished : Finished) → IsFinished job.lowered.now job.registers.now
+        job.store.now job.pass.now job.chunks.now draw.now.drawing finished
+        → IsEnd place.now (Draws finished) }
+{
+    let Some(seat) = seat_of(draw, number) else {
+        return;
+    };
+    let member = Member { number, seat };
+    if let Ok(finished) = work(alloc, job, &draw.drawing, member, gate, tools) {
+        place.hand_in(End::Draws(finished));
+    }
+}
+
+/// Runs the worker of a number, and leaves its end at its place, if memory is left for that.
+fn run_worker<G: Gate>(lent: &LentLoop<'_>, number: u64, gate: &G, tools: &mut Option<Tools>) {
+    let Some(place) = lent.places.get(number as usize) else {
+        return;
+    };
     let job = Job {
         lowered: lent.lowered,
         registers: lent.grounds.registers.as_slice(),
@@ -120,30 +172,17 @@ fn end_of<G: Gate>(
         pass: &lent.grounds.pass,
     };
     match &lent.way {
-        Way::Dealt(size) => {
-            let Ok(log) = run_own(lent.alloc, job, lent.workers, number, *size, gate, tools) else {
-                return None;
-            };
-            Some(End::Share(log))
-        }
-        Way::Drawn(draw) => {
-            let seat = seat_of(draw, number)?;
-            let member = Member { number, seat };
-            let Ok(finished) = work(lent.alloc, job, &draw.drawing, member, gate, tools) else {
-                return None;
-            };
-            Some(End::Draws(finished))
-        }
-    }
-}
-
-/// Runs the worker of a number, and leaves its end at its place.
-fn run_worker<G: Gate>(lent: &LentLoop<'_>, number: u64, gate: &G, tools: &mut Option<Tools>) {
-    let Some(place) = lent.places.get(number as usize) else {
-        return;
-    };
-    if let Some(end) = end_of(lent, number, gate, tools) {
-        place.hand_in(end);
+        Way::Dealt(size) => leave_share(
+            lent.alloc,
+            job,
+            lent.workers,
+            number,
+            *size,
+            place,
+            gate,
+            tools,
+        ),
+        Way::Drawn(draw) => leave_draws(lent.alloc, job, draw, number, place, gate, tools),
     }
 }
 
@@ -190,40 +229,29 @@ pub(crate) struct Returned {
     pub(crate) logs: Vec<ChunkLog>,
 }
 
-/// Takes a loop back from its workers: its store, what it was run from, and the logs of all chunks.
-fn taken_back(lent: LentLoop<'_>) -> (Store, Grounds, Result<Vec<ChunkLog>, Refusal>)
-    ensures store { result.0 ≡ lent.entry.store }
-    ensures grounds { result.1 ≡ lent.entry.grounds }
-    ensures all { IfOk result.2 (λ logs. AreAll lent.entry.lowered.now
+/// Takes a loop back from its workers: its store, and beside what it was run from the logs of all chunks.
+fn taken_back(lent: LentLoop<'_>, store: &mut Store) -> Result<Returned, Refusal>
+    ensures store { store.new ≡ lent.entry.store }
+    ensures grounds { IfOk result (λ r. r.grounds ≡ lent.entry.grounds) }
+    ensures all { IfOk result (λ r. AreAll lent.entry.lowered.now
         lent.entry.grounds.registers.items lent.entry.store lent.entry.grounds.pass
         lent.entry.grounds.chunks
-        (joined logs.items)) }
-    ensures refusal { IfErr result.2 (λ refusal. refusal ≡ Refusal.OutOfMemory) }
+        (joined r.logs.items)) }
+    ensures refusal { IfErr result (λ refusal. refusal ≡ Refusal.OutOfMemory) }
 {
     let _count = lent.workers.get();
     let LentLoop {
         alloc,
         lowered: _,
         grounds,
-        store,
+        store: whole,
         workers: _,
         way,
         places,
     } = lent;
-    let logs = logs_left(alloc, way, places);
-    (store, grounds, logs)
-}
-
-/// Both, where there are logs.
-fn with_logs(grounds: Grounds, logs: Result<Vec<ChunkLog>, Refusal>) -> Result<Returned, Refusal>
-    ensures grounds { IfOk result (λ r. r.grounds ≡ grounds) }
-    ensures logs { IfOk result (λ r. logs ≡ Ok r.logs) }
-    ensures refusal { IfErr result (λ refusal. logs ≡ Err refusal) }
-{
-    match logs {
-        Ok(logs) => Ok(Returned { grounds, logs }),
-        Err(refusal) => Err(refusal),
-    }
+    *store = whole;
+    let logs = logs_left(alloc, way, places)?;
+    Ok(Returned { grounds, logs })
 }
 
 /// Lends a loop to a crew until all of its chunks have been run; what it was run from comes back beside their logs.
@@ -257,9 +285,7 @@ pub(crate) fn lent_whole<'l, R: Wait, G: Gate>(
         way,
         places,
     };
-    let (whole, grounds, logs) = taken_back(lend(rt, alloc, crew, gate, lent));
-    *store = whole;
-    with_logs(grounds, logs)
+    taken_back(lend(rt, alloc, crew, gate, lent), store)
 }
 
 /// The logs of all chunks of a loop that is lent to a crew.
@@ -281,8 +307,10 @@ pub(crate) fn lent_logs<'l, R: Wait, G: Gate>(
     ensures store { store.new ≡ store.old }
     ensures refusal { IfErr result (λ refusal. refusal ≡ Refusal.OutOfMemory) }
 {
-    let Returned { logs, grounds: _ } = lent_whole(
+    match lent_whole(
         rt, alloc, crew, lowered, grounds, store, workers, sched, gate,
-    )?;
-    Ok(logs)
+    ) {
+        Ok(Returned { logs, grounds: _ }) => Ok(logs),
+        Err(refusal) => Err(refusal),
+    }
 }

@@ -1,6 +1,6 @@
 //! One worker of a team.
 
-ghost use Rattle.std.specs.Prelude.{◌≡◌, ◌<◌, ◌∷◌, [], length, IfOk, IfErr};
+ghost use Rattle.std.specs.Prelude.{◌≡◌, ◌<◌, ◌++◌, ◌∷◌, [], true, ℕ, List, length, IfOk, IfErr, OnOk};
 ghost use Rattle.draw.specs.Tickets.{fresh};
 ghost use Rattle.team.specs.Ends.{IsReady, IsAccountOf, IsFinished};
 ghost use Rattle.team.specs.Logged.{account_of};
@@ -35,21 +35,23 @@ pub struct Finished {
     pub log: ChunkLog,
 }
 
-/// Runs a chunk that a worker has taken, after the gate is told of it.
-pub(crate) fn run_taken<G: Gate>(
+/// Runs a chunk that a worker has taken, after the gate is told of it, and enters what it leaves in the worker's log.
+pub(crate) fn run_logged<G: Gate>(
     alloc: Global,
     job: Job,
     runner: &mut Worker,
+    log: &mut ChunkLog,
     taken: Taken,
     gate: &G,
-) -> Result<ChunkPiece, Refusal>
+) -> Result<(), Refusal>
     requires ready { IsReady job }
     requires runner { runner.old ≡ job.store.now }
     requires worker { taken.worker < taken.workers }
     requires chunk { taken.chunk < taken.chunks }
     requires count { taken.chunks ≡ length job.chunks.now }
     ensures runner { runner.new ≡ runner.old }
-    ensures account { IfOk result (λ c. IsAccountOf job.entry (taken.chunk ∷ []) (account_of c)) }
+    ensures account { OnOk result ((numbers : List ℕ) → IsAccountOf job.entry numbers log.old
+        → IsAccountOf job.entry (numbers ++ taken.chunk ∷ []) log.new) }
     ensures refusal { IfErr result (λ refusal. refusal ≡ Refusal.OutOfMemory) }
 {
     gate.entered(taken);
@@ -71,7 +73,42 @@ pub(crate) fn run_taken<G: Gate>(
         work,
         start,
     )?;
-    Ok(ChunkPiece { number, piece })
+    log.push(ChunkPiece { number, piece })?;
+    Ok(())
+}
+
+// Draws until the end, and runs each chunk drawn.
+fn run_drawn<G: Gate>(
+    alloc: Global,
+    job: Job,
+    drawing: &Drawing,
+    worker: u64,
+    seat: &mut DrawSeat,
+    runner: &mut Worker,
+    log: &mut ChunkLog,
+    gate: &G,
+) -> Result<(), Refusal>
+    requires ready { IsReady job }
+    requires count { drawing.now.count ≡ length job.chunks.now }
+    requires worker { worker < drawing.now.seats }
+    requires seat { seat.old ≡ fresh drawing.now }
+    requires runner { runner.old ≡ job.store.now }
+    requires log { IsAccountOf job [] log.old }
+    ensures seat { OnOk result (seat.new.of ≡ drawing.now) }
+    ensures ended { OnOk result (seat.new.ended ≡ true) }
+    ensures account { OnOk result (IsAccountOf job.entry seat.new.tickets log.new) }
+    ensures refusal { IfErr result (λ refusal. refusal ≡ Refusal.OutOfMemory) }
+{
+    while let Some(ticket) = drawing.next(seat) {
+        let taken = Taken {
+            worker,
+            workers: drawing.seats(),
+            chunk: ticket,
+            chunks: drawing.count(),
+        };
+        run_logged(alloc, job, runner, log, taken, gate)?;
+    }
+    Ok(())
 }
 
 /// Draws until the end, and runs each chunk drawn. The tools are what the thread keeps from loop to loop.
@@ -96,15 +133,16 @@ pub(crate) fn work<G: Gate>(
     } = member;
     let mut runner = Worker::resume(alloc, job.store, tools.take())?;
     let mut log = ChunkLog::new(alloc);
-    while let Some(ticket) = drawing.next(&mut seat) {
-        let taken = Taken {
-            worker,
-            workers: drawing.seats(),
-            chunk: ticket,
-            chunks: drawing.count(),
-        };
-        log.push(run_taken(alloc, job, &mut runner, taken, gate)?)?;
-    }
+    run_drawn(
+        alloc,
+        job,
+        drawing,
+        worker,
+        &mut seat,
+        &mut runner,
+        &mut log,
+        gate,
+    )?;
     *tools = Some(runner.leave());
     Ok(Finished {
         seat: RestingSeat::new(seat),

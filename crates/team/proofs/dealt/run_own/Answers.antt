@@ -1,74 +1,9 @@
-use Rattle.std.proofs.Common.{ℕ, ◌≡◌, ◌<◌, ◌≤◌, Some, None, List, [], ◌∷◌, ◌++◌, length, take, slice_get, sym, ap, subst, ◌∙◌, arith, rules}
-use Rattle.std.proofs.lemmas.List.{take_all}
-use Rattle.std.proofs.lemmas.Option.{slice_get_within}
-use Rattle.semantics.specs.Loops.Chunk.{cut}
-use Rattle.nest_space.specs.Space.{vectors}
-use Rattle.schedule.specs.Part.{static_kind}
+use Rattle.std.proofs.Common.{[], sym, subst}
 use Rattle.team.specs.Ends.{IsAccountOf}
-use Rattle.team.specs.Logged.{account_of}
-use Rattle.team.specs.Dealt.{own_numbers}
-use Rattle.team.specs.Starts.{taken_in}
-use Rattle.team.proofs.Accounts.{account_none, account_both}
-use Rattle.team.proofs.Cutting.{few_chunks}
-use Rattle.team.proofs.Dealing.{own_few, part_numbers, next_own, past_end}
+use Rattle.team.proofs.Accounts.{account_none}
 use Rattle.team.proofs.dealt.run_own.Goals as goal
 
-pub overflow_add-turn : goal.overflow_add-turn
-overflow_add-turn g c =
-    let n = length (taken_in c.args.job.pass.now (vectors c.args.job.space.now)) in
-    let chunks = c.args.job.chunks.now in
-    let own = own_numbers c.args.size (length chunks) c.args.workers c.args.worker in
-    let cut_is : chunks ≡ cut (static_kind c.args.size) c.count.result c.args.workers = c.requires.chunks ∙ ap (λ (m : ℕ). cut (static_kind c.args.size) m c.args.workers) (sym c.count.ensures) in
-    let same = part_numbers c.static_init-part.result c.args.size c.count.result c.args.workers c.args.worker chunks c.static_init-part.ensures cut_is in
-    let there : slice_get own c.loop-number.turn ≡ Some c.in-Some.number = ap (λ (k : List ℕ). slice_get k c.loop-number.turn) (sym same) ∙ sym c.number.ensures.number ∙ c.in-Some.is in
-    let within : c.loop-number.turn < length own = slice_get_within own c.loop-number.turn c.in-Some.number there in
-    let least : length own ≤ length chunks = own_few c.args.size (length chunks) c.args.workers c.args.worker in
-    let few : length chunks ≤ n = few_chunks n chunks c.requires.ready.cut in
-    let most : n ≤ 16777216 = c.requires.ready.few in
-    search (rules, arith)
-
-pub loop-number-init : goal.loop-number-init
-loop-number-init g c =
+pub run_dealt-requires-clause-log : goal.run_dealt-requires-clause-log
+run_dealt-requires-clause-log g c =
     let job = c.args.job in
-    record {
-      runner = c.in_ok-runner.ensures.store;
-      account = subst (IsAccountOf job []) (sym c.new-log.ensures) (account_none job.lowered.now job.registers.now job.store.now job.pass.now job.chunks.now);
-    }
-
-pub loop-number-smaller : goal.loop-number-smaller
-loop-number-smaller g c =
-    let n = length (taken_in c.args.job.pass.now (vectors c.args.job.space.now)) in
-    let chunks = c.args.job.chunks.now in
-    let own = own_numbers c.args.size (length chunks) c.args.workers c.args.worker in
-    let cut_is : chunks ≡ cut (static_kind c.args.size) c.count.result c.args.workers = c.requires.chunks ∙ ap (λ (m : ℕ). cut (static_kind c.args.size) m c.args.workers) (sym c.count.ensures) in
-    let same = part_numbers c.static_init-part.result c.args.size c.count.result c.args.workers c.args.worker chunks c.static_init-part.ensures cut_is in
-    let there : slice_get own c.loop-number.turn ≡ Some c.in-Some.number = ap (λ (k : List ℕ). slice_get k c.loop-number.turn) (sym same) ∙ sym c.number.ensures.number ∙ c.in-Some.is in
-    let within : c.loop-number.turn < length own = slice_get_within own c.loop-number.turn c.in-Some.number there in
-    omega arith
-
-pub loop-number-preserved : goal.loop-number-preserved
-loop-number-preserved g c =
-    let n = length (taken_in c.args.job.pass.now (vectors c.args.job.space.now)) in
-    let chunks = c.args.job.chunks.now in
-    let own = own_numbers c.args.size (length chunks) c.args.workers c.args.worker in
-    let cut_is : chunks ≡ cut (static_kind c.args.size) c.count.result c.args.workers = c.requires.chunks ∙ ap (λ (m : ℕ). cut (static_kind c.args.size) m c.args.workers) (sym c.count.ensures) in
-    let same = part_numbers c.static_init-part.result c.args.size c.count.result c.args.workers c.args.worker chunks c.static_init-part.ensures cut_is in
-    let there : slice_get own c.loop-number.turn ≡ Some c.in-Some.number = ap (λ (k : List ℕ). slice_get k c.loop-number.turn) (sym same) ∙ sym c.number.ensures.number ∙ c.in-Some.is in
-    let was = c.loop-number.invariant in
-    let job = c.args.job in
-    let piece = c.in_ok-run_taken.field-0 in
-    let more = account_both job.lowered.now job.registers.now job.store.now job.pass.now job.chunks.now (take c.loop-number.turn own) (c.in-Some.number ∷ []) c.loop-number.log (account_of piece) was.account c.in_ok-run_taken.ensures.account in
-    record {
-      runner = c.in_ok-run_taken.ensures.runner ∙ was.runner;
-      account = subst (λ ns. IsAccountOf job ns c.push.new.self) (sym (next_own own c.loop-number.turn c.in-Some.number there)) (subst (IsAccountOf job (take c.loop-number.turn own ++ c.in-Some.number ∷ [])) (sym c.in_ok-push.ensures) more);
-    }
-
-pub returns-clause-dealt : goal.returns-clause-dealt
-returns-clause-dealt g c =
-    let n = length (taken_in c.args.job.pass.now (vectors c.args.job.space.now)) in
-    let chunks = c.args.job.chunks.now in
-    let own = own_numbers c.args.size (length chunks) c.args.workers c.args.worker in
-    let cut_is : chunks ≡ cut (static_kind c.args.size) c.count.result c.args.workers = c.requires.chunks ∙ ap (λ (m : ℕ). cut (static_kind c.args.size) m c.args.workers) (sym c.count.ensures) in
-    let same = part_numbers c.static_init-part.result c.args.size c.count.result c.args.workers c.args.worker chunks c.static_init-part.ensures cut_is in
-    let none : slice_get own c.loop-number.turn ≡ None = ap (λ (k : List ℕ). slice_get k c.loop-number.turn) (sym same) ∙ sym c.number.ensures.number ∙ c.in_default.is in
-    subst (λ ns. IsAccountOf c.args.job ns c.loop-number.log) (take_all c.loop-number.turn own (past_end own c.loop-number.turn none)) c.loop-number.invariant.account
+    subst (IsAccountOf job []) (sym c.requires.log) (account_none job.lowered.now job.registers.now job.store.now job.pass.now job.chunks.now)

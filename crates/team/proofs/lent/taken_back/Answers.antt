@@ -2,8 +2,8 @@ use Rattle.std.proofs.Common.{◌≤◌, refl, subst, sym, ◌∙◌}
 use Rattle.team.specs.Places.{AreLeft, aim_of, count_taken}
 use Rattle.team.proofs.lent.taken_back.Goals as goal
 
-pub logs_left-logs-requires : goal.logs_left-logs-requires
-logs_left-logs-requires c =
+pub logs_left-requires : goal.logs_left-requires
+logs_left-requires c =
     let lent = c.args.lent in
     let aim = aim_of lent.lowered.now lent.grounds lent.store lent.way lent.workers in
     let left : AreLeft aim (count_taken lent.grounds) lent.way lent.places.items =
@@ -28,4 +28,4 @@ returns-clause-all c =
       all = sym lent.places.ok.0 ∙ lent.all;
       made = lent.made;
     } in
-    c.logs_left-logs.ensures.all aim (count_taken lent.grounds) left
+    c.in_ok-logs.ensures.all aim (count_taken lent.grounds) left

@@ -1,37 +1,9 @@
-use Rattle.std.proofs.Common.{◌≡◌, [], ◌∷◌, ◌++◌, sym, ap, subst, ◌∙◌, arith}
-use Rattle.draw.specs.Tickets.{SeatState}
-use Rattle.draw.proofs.Rising.{above, fewer_left}
+use Rattle.std.proofs.Common.{[], sym, subst}
 use Rattle.team.specs.Ends.{IsAccountOf}
-use Rattle.team.specs.Logged.{account_of}
-use Rattle.team.proofs.Accounts.{account_none, account_both}
+use Rattle.team.proofs.Accounts.{account_none}
 use Rattle.team.proofs.worker.work.Goals as goal
 
-pub loop-ticket-init : goal.loop-ticket-init
-loop-ticket-init g c =
+pub run_drawn-requires-clause-log : goal.run_drawn-requires-clause-log
+run_drawn-requires-clause-log g c =
     let job = c.args.job in
-    record {
-      runner = c.in_ok-runner.ensures.store;
-      seat = ap (λ (s : SeatState). s.of) c.requires.seat;
-      account = subst (λ ns. IsAccountOf job ns c.new-log.result) (ap (λ (s : SeatState). s.tickets) (sym c.requires.seat)) (subst (IsAccountOf job []) (sym c.new-log.ensures) (account_none job.lowered.now job.registers.now job.store.now job.pass.now job.chunks.now));
-    }
-
-pub loop-ticket-smaller : goal.loop-ticket-smaller
-loop-ticket-smaller g c =
-    let told = c.in-Some.ensures in
-    let fewer = fewer_left c.args.drawing.now.count c.in-Some.ticket c.loop-ticket.seat.tickets told.ticket.0 told.ticket.1 in
-    let is : above c.next.new.seat.tickets ≡ above (c.loop-ticket.seat.tickets ++ c.in-Some.ticket ∷ []) = ap (λ (s : SeatState). above s.tickets) told.seat in
-    omega arith
-
-pub loop-ticket-preserved : goal.loop-ticket-preserved
-loop-ticket-preserved g c =
-    let told = c.in-Some.ensures in
-    let was = c.loop-ticket.invariant in
-    let job = c.args.job in
-    let piece = c.in_ok-run_taken.field-0 in
-    let tickets = c.loop-ticket.seat.tickets in
-    let all = account_both job.lowered.now job.registers.now job.store.now job.pass.now job.chunks.now tickets (c.in-Some.ticket ∷ []) c.loop-ticket.log (account_of piece) was.account c.in_ok-run_taken.ensures.account in
-    record {
-      runner = c.in_ok-run_taken.ensures.runner ∙ was.runner;
-      seat = ap (λ (s : SeatState). s.of) told.seat ∙ was.seat;
-      account = subst (λ ns. IsAccountOf job ns c.push.new.self) (sym (ap (λ (s : SeatState). s.tickets) told.seat)) (subst (IsAccountOf job (tickets ++ c.in-Some.ticket ∷ [])) (sym c.in_ok-push.ensures) all);
-    }
+    subst (IsAccountOf job []) (sym c.new-log.ensures) (account_none job.lowered.now job.registers.now job.store.now job.pass.now job.chunks.now)

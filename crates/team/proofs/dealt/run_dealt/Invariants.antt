@@ -1,7 +1,7 @@
 use Rattle.std.proofs.Common.{◌≡◌, ◌-◌, take, length}
 use Rattle.team.specs.Ends.{IsAccountOf}
 use Rattle.team.specs.Dealt.{own_numbers}
-use Rattle.team.proofs.dealt.run_own.Given as goal
+use Rattle.team.proofs.dealt.run_dealt.Given as goal
 
 -- the own chunks so far
 abbrev pub invariant-loop-number : goal.invariant-loop-number

@@ -1,7 +1,7 @@
 use Rattle.std.proofs.Common.{◌≡◌, ◌-◌}
 use Rattle.draw.proofs.Rising.{above}
 use Rattle.team.specs.Ends.{IsAccountOf}
-use Rattle.team.proofs.worker.work.Given as goal
+use Rattle.team.proofs.worker.run_drawn.Given as goal
 
 abbrev pub invariant-loop-ticket : goal.invariant-loop-ticket
 invariant-loop-ticket g l =
