@@ -2,6 +2,7 @@ pub mod Texts
 pub mod Course
 pub mod Spots
 pub mod Sizes
+pub mod Masks
 pub mod Values
 pub mod Doing
 pub mod Whole
