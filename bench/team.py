@@ -9,8 +9,8 @@ alone, in milliseconds: the kernel's body many times and once, and the differenc
 nothing (the median of three rounds). Then chunks of one iteration: nanoseconds for each, and bytes of memory for each beside the store, of a
 million chunks and of 2^24. Then a loop of 8 iterations inside 10,000 turns of a serial loop: microseconds a turn, also by more workers than
 there are processors. Every program has to print the same. The machine should be idle. The status is 1 where a target is missed. Of the loops
-alone: by one worker at most 1.5 times the time of the text without directive lines, of a scan 2.2 times; of a doacross nest at most the time of
-gcc; on four processors at least 2.5 times the speed by 4 workers of a hash and a product, and a scan faster by 4 than by one. A chunk of one
+alone: by one worker at most 1.5 times the time of the text without directive lines, of a scan 2.2 times; of a doacross nest of light iterations at
+most the time of gcc; on four processors at least 2.5 times the speed by 4 workers of a hash and a product, and a scan faster by 4 than by one. A chunk of one
 iteration below 500 ns, and at most 64 bytes for it beside the 16 of its write; and on four processors at most 3 us a turn by 4.
 """
 import os
@@ -176,6 +176,29 @@ void kernel(void)
     }
 }
 """
+RELAX = """uint64_t G[302][302];
+
+void kernel(void)
+{
+    uint64_t x;
+
+    #pragma omp parallel for ordered(2) private(x)
+    for (uint64_t i = 1; i < 301; i++) {
+        for (uint64_t j = 1; j < 301; j++) {
+            #pragma omp ordered doacross(sink: i-1, j)
+            #pragma omp ordered doacross(sink: i, j-1)
+            x = G[i-1][j] + G[i][j-1] + G[i+1][j] + G[i][j+1] + 1;
+            for (uint64_t k = 0; k < 64; k++) {
+                x ^= x << 13;
+                x ^= x >> 7;
+                x ^= x << 17;
+            }
+            G[i][j] = x;
+            #pragma omp ordered doacross(source:)
+        }
+    }
+}
+"""
 
 
 def reduced(operator, update):
@@ -193,11 +216,13 @@ KERNELS = {
     "prefix": PREFIX,
     "distance": DISTANCE,
     "sweep": SWEEP,
+    "relax": RELAX,
 }
 COMPUTED = ("hash", "product")
+LIGHT = ("distance", "sweep")
 
 # how often the body of a kernel runs where its loops are timed alone
-OFTEN = {"hash": 3, "product": 9, "map": 17, "sum": 9, "max": 9, "xor": 9, "prefix": 5, "distance": 9, "sweep": 9}
+OFTEN = {"hash": 3, "product": 9, "map": 17, "sum": 9, "max": 9, "xor": 9, "prefix": 5, "distance": 9, "sweep": 9, "relax": 5}
 
 
 class Runner:
@@ -296,7 +321,7 @@ def misses(name, text, found):
         missed.append(f"{name}: 4 workers are {one / four:.1f} times as fast as one")
     if "inscan" in text and os.cpu_count() >= 4 and one < four:
         missed.append(f"{name}: 4 workers are slower than one")
-    if "doacross" in text:
+    if name in LIGHT:
         missed += [f"{name}: {workers} workers are slower than gcc with as many threads" for workers in TEAMS if found[f"{workers} workers"] > found[f"gcc {workers}"]]
     if one > (SCAN_SLOWER if "inscan" in text else SLOWER) * found["serial"]:
         missed.append(f"{name}: one worker takes {one / found['serial']:.1f} times the time without directive lines")

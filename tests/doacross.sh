@@ -58,6 +58,40 @@ void kernel(void)
         }
     }
 }'
+# iterations with a loop in them, which are run in waves where those above are run by one thread
+compare sums 'P:4096' 'uint64_t P[64][64];
+void kernel(void)
+{
+    for (uint64_t i = 0; i < 64; i++) { P[i][0] = 1; P[0][i] = 1; }
+    #pragma omp parallel
+    {
+        #pragma omp for ordered(2) SCHEDULE
+        for (uint64_t i = 1; i < 64; i++) for (uint64_t j = 1; j < 64; j++) {
+            #pragma omp ordered doacross(sink: i-1, j)
+            #pragma omp ordered doacross(sink: i, j-1)
+            for (uint64_t k = 0; k < j; k++) P[i][j] += (P[i-1][j] ^ k) * 3 + (P[i][j-1] >> 1);
+            #pragma omp ordered doacross(source:)
+        }
+    }
+}'
+compare rounds 'G:2704' 'uint64_t G[52][52];
+void kernel(void)
+{
+    uint64_t x;
+    #pragma omp parallel for collapse(2)
+    for (uint64_t i = 0; i < 52; i++) for (uint64_t j = 0; j < 52; j++) { G[i][j] = i * 31 + j * 17 & 255; }
+    for (uint64_t t = 0; t < 4; t++) {
+        #pragma omp parallel for ordered(2) private(x) SCHEDULE
+        for (uint64_t i = 1; i < 51; i++) for (uint64_t j = 1; j < 51; j++) {
+            #pragma omp ordered doacross(sink: i-1, j)
+            #pragma omp ordered doacross(sink: i, j-1)
+            x = G[i-1][j] + G[i][j-1] + G[i+1][j] + G[i][j+1];
+            for (uint64_t k = t; k < 8 + t; k++) { x ^= x << 13; x ^= x >> 7; x += k; }
+            G[i][j] = x / 4;
+            #pragma omp ordered doacross(source:)
+        }
+    }
+}'
 compare sweep 'G:10404' 'uint64_t G[102][102];
 void kernel(void)
 {

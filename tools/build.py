@@ -5,8 +5,8 @@
 
 A library that is there and of these sources is left as it is, so that a build that was stopped goes on where it was. The
 libraries with the longest chain of others behind them come first, and one that no other runs beside gets more processors than
-one, as the program does at the end. The program is run with --help as soon as it is there, which writes to standard output.
-The status is 0 where all are there, and of one state of the sources.
+one, as the program does at the end. The program is compiled for the processor at hand, and run with --help as soon as it is there, which
+writes to standard output. The status is 0 where all are there, and of one state of the sources.
 """
 import copy
 import os
@@ -20,12 +20,27 @@ sys.dont_write_bytecode = True
 import kit
 
 
+# What a processor of the level x86-64-v3 has beside that of x86-64-v2, in the words of /proc/cpuinfo.
+LEVEL_3 = {"avx", "avx2", "bmi1", "bmi2", "f16c", "fma", "abm", "movbe", "xsave"}
+
+
+def processor():
+    """The flag that has the program compiled for this processor's level of instructions; none where the compiler's own is as good. Rows of 256
+    bits make lanes up to twice as fast."""
+    try:
+        with open("/proc/cpuinfo", encoding="utf-8") as it:
+            found = next((set(line.partition(":")[2].split()) for line in it if line.startswith("flags")), set())
+    except OSError:
+        found = set()
+    return ["--cpu=x86-64-v3"] if LEVEL_3 <= found else []
+
+
 def build(crate, flags):
     """Whether a library, or a program, is there in the end."""
     if not crate.is_program:
         return crate.build_rlib(flags, anew=False) == 0
     os.makedirs(f"{crate.folder}/out", exist_ok=True)
-    if crate.run(flags, ["--help"]):
+    if crate.run([*flags, *processor()], ["--help"]):
         return False
     if os.path.isfile(f"{crate.folder}/out/{crate.name}.stamp"):
         return True

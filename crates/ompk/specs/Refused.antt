@@ -1,5 +1,6 @@
 -- Why a text is not accepted.
-use Rattle.std.specs.Prelude.{ℕ, ◌≡◌, ◌⊎◌, true, false, List, [], Some, None}
+use Rattle.std.specs.Prelude.{ℕ, ◌≡◌, ◌==◌, ◌⊎◌, true, false, List, [], ◌∷◌, Some, None}
+use Rattle.std.specs.List.{list_any}
 use Rattle.semantics.specs.Tree.{Kernel}
 use Rattle.semantics.specs.Source.Grammar.{ReadsText}
 use Rattle.semantics.specs.Meaning.Definite.{IsDefinite}
@@ -11,11 +12,6 @@ use Rattle.cparse.specs.Parsed.{RefusesTree}
 use Rattle.semantics.specs.Directives.Annotated.{Directives}
 use Rattle.semantics.specs.Directives.Naming.{IsAttached}
 use Rattle.pragma.specs.Plain.{IsDirected}
-use Rattle.pragma_attach.specs.Faults.{IsOfDirectives}
-use Rattle.pragma.specs.Faults as lines
-use Rattle.pragma.specs.declared.faults.Fault as line_faults
-use Rattle.affine_expr.specs.Faults as loops
-use Rattle.affine_expr.specs.declared.faults.Fault as loop_faults
 use Rattle.pragma_region.specs.Regions.{alone}
 use Rattle.pragma_region.specs.NotKnown.{unknown_among}
 use Rattle.nest.specs.Nests.{IsNested, IsInRange}
@@ -31,9 +27,13 @@ use Rattle.deptest.specs.Accepted.{clauses_counted, data_counted}
 use Rattle.deptest.specs.Refused.{RefusesLoops}
 use Rattle.ompk.specs.Judged.{Whole, IsRight, whole_found}
 
--- memory was refused, or a loop is not canonical or may wrap, or a subscript is not affine, or a parallel loop has no right nest
+-- its number is one of these
+abbrev pub TellsOneOf : List ℕ → Refusal → Type 0
+TellsOneOf numbers r = list_any (λ n. number_of r == n) numbers ≡ true
+
+-- memory was refused, or a loop is not canonical (K06) or may wrap (K07), or a subscript is not affine (K08), or a parallel loop has no right nest (K12), or one of too many iterations, or a number passes its limit (K21)
 abbrev pub RefusesNests : List ℕ → Kernel → Refusal → Type 0
-RefusesNests text tree r = (r ≡ OutOfMemory) ⊎ ((f : loop_faults.Fault) × (r ≡ loops.refusal_of f) × (IsNested tree × AreRightNests text tree → ⊥))
+RefusesNests text tree r = (r ≡ OutOfMemory) ⊎ (TellsOneOf (6 ∷ 7 ∷ 8 ∷ 12 ∷ 21 ∷ []) r × (IsNested tree × AreRightNests text tree → ⊥))
 
 -- a subscript leaves its array
 abbrev pub RefusesRanges : Kernel → Refusal → Type 0
@@ -41,7 +41,7 @@ RefusesRanges tree r = (place : Place) × (r ≡ SubscriptOutOfRange place) × L
 
 -- K03, K11, K13 or K21: the text's directives are not attached to the tree, since one is not read, does not stand where it may, names what is no variable, or has a variable in the wrong clause, in two or in none
 abbrev pub RefusesDirectives : List ℕ → Kernel → Refusal → Type 0
-RefusesDirectives text tree r = IsOfDirectives r × ((ds : Directives) → IsAttached text tree ds → ⊥)
+RefusesDirectives text tree r = TellsOneOf (3 ∷ 11 ∷ 13 ∷ 21 ∷ []) r × ((ds : Directives) → IsAttached text tree ds → ⊥)
 
 -- memory was refused, or so it is
 abbrev pub RefusesLines : List ℕ → Kernel → Refusal → Type 0
@@ -53,7 +53,7 @@ RefusesUnknown text tree r = unknown_among text tree.body ≡ Some (number_of r)
 
 -- not each directive line is that of a loop, with known clauses, before a loop and inside no parallel loop (K11, K21)
 abbrev pub RefusesPlaces : List ℕ → Kernel → Refusal → Type 0
-RefusesPlaces text tree r = (IsDirected text tree → ⊥) × ((f : line_faults.Fault) × (r ≡ lines.refusal_of f))
+RefusesPlaces text tree r = (IsDirected text tree → ⊥) × TellsOneOf (11 ∷ 21 ∷ []) r
 
 -- memory was refused, or a local may be read before it is assigned; or a parallel loop writes a shared scalar, or does not keep the roles of its scalars, or a line has no nest, whichever is told
 abbrev pub RefusesScalars : List ℕ → Kernel → LineData → Refusal → Type 0

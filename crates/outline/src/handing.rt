@@ -8,6 +8,7 @@ ghost use Rattle.ktree.specs.declared.refusal.Refusal.TheVariants.{OutOfMemory};
 ghost use Rattle.outline.specs.Handed.{StandsAt, NoneStandsAt, ListsLocals, IsBodyOf, IsBodyCode, AreItemsCode, IsLowered, IsInputIn, IsWay, IsHanded, inside_told};
 
 use crate::compiling::{Target, compile_items, compile_statement};
+use crate::grain::is_run_alone;
 use crate::scanning::{carries_one, input_among, scan_at};
 use crate::shape::{TeamLoop, Way};
 use crate::spots::lower_roles;
@@ -210,7 +211,7 @@ fn input_of<'s>(depth: u64, stmt: &'s Stmt, scan: &ScanLoop) -> Option<&'s [Item
     input_among(body, scan)
 }
 
-// The way in which the nest of a parallel loop may be run.
+// The way in which the nest of a parallel loop may be run, which is lowered to this.
 fn way_of(
     alloc: Global,
     loops: Loops<'_>,
@@ -219,6 +220,7 @@ fn way_of(
     stmt: &Stmt,
     target: Target<'_>,
     bounds: &VarBox,
+    lowered: &LoweredLoop,
 ) -> Result<Way, Refusal>
     ensures way { IfOk result
         (IsWay target.entry.layout.now target.entry.registers bounds.now (inside_told loops.entry)
@@ -226,6 +228,9 @@ fn way_of(
     ensures refusal { IfErr result (λ refusal. refusal ≡ OutOfMemory) }
 {
     if let Some(nest) = nest_at(loops.nests, parallel.line.line) {
+        if is_run_alone(alloc, &nest.distances, lowered)? {
+            return Ok(Way::Alone);
+        }
         return waves_of(alloc, depth, &nest.distances);
     }
     if !carries(&parallel.roles) {
@@ -269,7 +274,9 @@ pub(crate) fn loop_for_team<'k>(
     let depth = parallel.directive.associated_loops();
     let code = compile_statement(alloc, stmt, target)?;
     let lowered = lower_whole(alloc, depth, stmt, parallel, target, bounds)?;
-    let way = way_of(alloc, loops, parallel, depth, stmt, target, bounds)?;
+    let way = way_of(
+        alloc, loops, parallel, depth, stmt, target, bounds, &lowered,
+    )?;
     Ok(TeamLoop {
         statement: stmt,
         line: directive.line,

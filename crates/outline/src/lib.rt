@@ -2,6 +2,7 @@
 #![tactic(auto)]
 
 mod compiling;
+mod grain;
 mod handing;
 mod lines;
 mod making;

@@ -29,6 +29,18 @@ const NEST: &[u8] =
 const DRAWN_NEST: &[u8] =
     b"uint64_t A[8];\nvoid kernel(void)\n{\n#pragma omp parallel for ordered(1) schedule(dynamic)\nfor (uint64_t i = 2; i < 8; i++) {\n#pragma omp ordered doacross(sink: i-2)\nA[i] = A[i-2] + 1;\n#pragma omp ordered doacross(source:)\n}\n}\n";
 
+/// The same with 64 iterations.
+const LIGHT_NEST: &[u8] =
+    b"uint64_t A[66];\nvoid kernel(void)\n{\n#pragma omp parallel for ordered(1)\nfor (uint64_t i = 2; i < 66; i++) {\n#pragma omp ordered doacross(sink: i-2)\nA[i] = A[i-2] + 1;\n#pragma omp ordered doacross(source:)\n}\n}\n";
+
+/// With a loop in each of them.
+const HEAVY_NEST: &[u8] =
+    b"uint64_t A[66];\nvoid kernel(void)\n{\n#pragma omp parallel for ordered(1)\nfor (uint64_t i = 2; i < 66; i++) {\n#pragma omp ordered doacross(sink: i-2)\nA[i] = A[i-2];\nfor (uint64_t k = 0; k < i; k++) { A[i] += 1; }\n#pragma omp ordered doacross(source:)\n}\n}\n";
+
+/// Where each of them waits for the one before.
+const HEAVY_CHAIN: &[u8] =
+    b"uint64_t A[65];\nvoid kernel(void)\n{\n#pragma omp parallel for ordered(1)\nfor (uint64_t i = 1; i < 65; i++) {\n#pragma omp ordered doacross(sink: i-1)\nA[i] = A[i-1];\nfor (uint64_t k = 0; k < i; k++) { A[i] += 1; }\n#pragma omp ordered doacross(source:)\n}\n}\n";
+
 /// A scan of each kind.
 const INCLUSIVE: &[u8] =
     b"uint64_t A[5];\nuint64_t B[5];\nuint64_t s;\nvoid kernel(void)\n{\n#pragma omp parallel for reduction(inscan, +: s)\nfor (uint64_t i = 0; i < 5; i++) {\ns += A[i];\n#pragma omp scan inclusive(s)\nB[i] = s;\n}\n}\n";
@@ -511,6 +523,54 @@ fn two_workers_are_in_each_wave_at_once(rt: HostRuntime) {
     let (heap, output) = (rt.alloc(), b"A = 0 0 1 1 2 2 3 3\n");
     assert!(rt; seen_by_twos(&rt, heap, NEST, b"", output) == Some(all));
     assert!(rt; seen_by_twos(&rt, heap, DRAWN_NEST, b"", output) == Some(all));
+}
+
+/// Counts how often it is told of a chunk.
+#[derive(Drop)]
+struct Counting {
+    told: AtomicU64,
+}
+
+impl Gate for Counting {
+    fn entered(&self, _taken: Taken) {
+        self.told.fetch_add(1, Ordering::SeqCst);
+    }
+}
+
+/// How many chunks the kernel of a text is run in, where two workers write this.
+fn chunks_by_two<R: Threads + Wait + Sync>(
+    rt: &R,
+    alloc: Global,
+    text: &'static [u8],
+    output: &[u8],
+) -> Option<u64> {
+    let task = Task {
+        text,
+        input: b"",
+        workers: 2,
+    };
+    let gate = Counting {
+        told: AtomicU64::new(0),
+    };
+    if ends(rt, alloc, task, &gate, End::Done, output) {
+        Some(gate.told.load(Ordering::SeqCst))
+    } else {
+        None
+    }
+}
+
+#[test]
+fn a_nest_that_a_team_would_not_run_sooner_is_run_by_one_thread(rt: HostRuntime) {
+    let heap = rt.alloc();
+    let output =
+        b"A = 0 0 1 1 2 2 3 3 4 4 5 5 6 6 7 7 8 8 9 9 10 10 11 11 12 12 13 13 14 14 15 15 16 16 17 17 18 18 19 19 20 20 21 21 22 22 23 23 24 24 25 25 26 26 27 27 28 28 29 29 30 30 31 31 32 32\n";
+    assert!(rt; chunks_by_two(&rt, heap, LIGHT_NEST, output) == Some(1));
+    let output =
+        b"A = 0 1 3 6 10 15 21 28 36 45 55 66 78 91 105 120 136 153 171 190 210 231 253 276 300 325 351 378 406 435 465 496 528 561 595 630 666 703 741 780 820 861 903 946 990 1035 1081 1128 1176 1225 1275 1326 1378 1431 1485 1540 1596 1653 1711 1770 1830 1891 1953 2016 2080\n";
+    assert!(rt; chunks_by_two(&rt, heap, HEAVY_CHAIN, output) == Some(1));
+    let output =
+        b"A = 0 0 2 3 6 8 12 15 20 24 30 35 42 48 56 63 72 80 90 99 110 120 132 143 156 168 182 195 210 224 240 255 272 288 306 323 342 360 380 399 420 440 462 483 506 528 552 575 600 624 650 675 702 728 756 783 812 840 870 899 930 960 992 1023 1056 1088\n";
+    assert!(rt; chunks_by_two(&rt, heap, HEAVY_NEST, output) == Some(64));
 }
 
 #[test]
