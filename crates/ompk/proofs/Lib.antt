@@ -1,2 +1,1 @@
 pub mod Judging
-pub mod Numbered
