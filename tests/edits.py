@@ -13,8 +13,8 @@ that is not shown, it is tried alone. Unless --proved says that it was, the crat
 kept work. It prints a line for each crate, the edits that are not refused, and their number; the status is 0 where each edit
 is refused.
 
-Whether an edit is refused depends on the sources of its crate, on what the crates below promise and on the toolchain alone.
-Where all edits of a crate were refused, the sum of these is noted in tests/edits.tried, and they are tried anew once it differs.
+Whether an edit is refused depends on the sources of its crate, on what it rests on of the crates below (tests/promises.py) and on the
+toolchain alone. Where all edits of a crate were refused, the sum of these is noted in tests/edits.tried, and they are tried anew once it differs.
 """
 import dataclasses
 import glob
@@ -32,15 +32,13 @@ sys.path.insert(0, os.path.join(TOP, "tools"))
 sys.dont_write_bytecode = True
 
 import kit
+from promises import HEAD, IMPL, read, rested_on
 
 JOBS = ["--jobs", "1"]
-HEAD = re.compile(r"(\s*)(?:pub(?:\([^)]*\))? )?(?:const )?(?:unsafe )?fn (\w+)")
 CONST = re.compile(r"\s*(?:pub(?:\([^)]*\))? )?const (\w+):")
-UNSEEN = re.compile(r"\s*(//|#\[(inline|cold|cycle|tactic)\b)")
-IMPORT = re.compile(r"(?m)^(?P<head>\s*(?:ghost )?use )(?P<path>[^;]*);\n?")
-IMPL = re.compile(r"impl(?:<.*?>)? (?:(?P<trait>.*) for )?(?:\w+::)*(?P<type>\w+)")
 TRIED = os.path.join(TOP, "tests", "edits.tried")
 SWITCHES = ("--read", "--all", "--proved")
+PARTS = ("src", "specs", "proofs", "edits")
 NAMES_ALONE = "only because a proof file names what the edit took away"
 NAMES = re.compile(r"has no field|is not in scope|has no `|was not admitted")
 
@@ -89,11 +87,6 @@ class Edit:
     def is_shown(self, crate, lines):
         """Whether these lines refuse a goal of each function that it changes, or of one that names its constant."""
         return (any if self.is_constant else all)(own_goal(crate, it, lines) for it in self.functions)
-
-
-def read(path):
-    with open(path, encoding="utf-8") as it:
-        return it.read()
 
 
 def function_at(path, rows, at):
@@ -282,13 +275,13 @@ class Tried:
         return dict(row.split() for row in rows)
 
     def sum_of(self, crate):
-        """The sum of a crate's sources with its edits, of what those below promise, and of the toolchain's logic, which its kits share."""
+        """The sum of a crate's sources with its edits, of what it rests on of the crates below, and of the toolchain's logic, which its kits share."""
         found = hashlib.sha256(read(f"{self.rt.KIT}/KIT-ID").partition(" ")[2].strip().encode())
-        own = [(crate, it, str) for it in ("src", "specs", "proofs", "edits")]
-        below = [(dep, part, seen) for dep in crate.below() for part, seen in (("src", promises), ("specs", str))]
-        for owner, part, seen in own + below:
-            for file in sorted(glob.glob(f"{owner.folder}/{part}/**/*.*", recursive=True)):
-                found.update(f"{owner.name}/{os.path.relpath(file, owner.folder)}\n{seen(read(file))}\n".encode())
+        files = [it for part in PARTS for it in sorted(glob.glob(f"{crate.folder}/{part}/**/*.*", recursive=True))]
+        own = {os.path.relpath(it, crate.folder): read(it) for it in files}
+        below = rested_on(own.values(), [(it.name, it.folder) for it in crate.below()])
+        for text in [*(f"{file}\n{text}\n" for file, text in own.items()), *below]:
+            found.update(text.encode())
         return found.hexdigest()[:32]
 
     def has(self, crate):
@@ -302,49 +295,6 @@ class Tried:
             with open(TRIED, "w", encoding="utf-8") as it:
                 it.writelines(rows)
             return self.sums[crate.name]
-
-
-def promises(text):
-    """What crates above rest on of a source file, as `rt fmt` lays it out: neither comments and empty rows nor the bodies of functions,
-    nor functions at its left edge that are not public, nor what is imported for these alone."""
-    kept, indent, in_head, is_seen = [], None, False, True
-    for row in text.split("\n"):
-        if not row or UNSEEN.match(row):
-            continue
-        head = HEAD.match(row) if indent is None else None
-        if head:
-            indent, in_head, is_seen = head[1], True, bool(head[1]) or row.startswith("pub ")
-        if is_seen and (indent is None or in_head):
-            kept.append(row)
-        if in_head:
-            opens = row == f"{indent}{{" or row.endswith(" {") and (head or row.startswith(f"{indent})"))
-            is_whole = not opens and row.endswith((";", "{}"))
-            in_head = not opens and not is_whole
-            if is_whole:
-                indent, is_seen = None, True
-        elif row == f"{indent}}}":
-            indent, is_seen = None, True
-    return with_named_imports("\n".join(kept))
-
-
-def with_named_imports(text):
-    """A text in which imports bring no names but those that stand elsewhere in it."""
-    rest = IMPORT.sub("", text)
-    tokens = {*re.findall(r"\w+|[^\w\s(){},;]+", rest)}
-
-    def is_named(name):
-        return tokens.issuperset(re.findall(r"\w+|[^\w◌]+", name.split(" as ")[-1]))
-
-    def named(found):
-        path, brace, names = found["path"].partition("{")
-        if "{" in names:
-            return found[0]
-        if not brace:
-            path, names = re.fullmatch(r"(.*(?:::|\.))?(.*)", path).groups("")
-        each = (it.strip() for it in names.rstrip("}").split(","))
-        return "".join(f"{found['head']}{path}{it};\n" for it in each if it and is_named(it))
-
-    return IMPORT.sub(named, text)
 
 
 def read_all(rt):

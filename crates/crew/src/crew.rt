@@ -9,7 +9,7 @@ use std::alloc::{AllocError, Global};
 use std::marker::Model;
 use std::sync::{Arc, Mutex, Wait};
 
-/// A part of a job: its number, and how many parts there are, which is one for each of a crew.
+/// A part of a job: its number, and how many parts there are.
 #[derive(Clone, Copy, Debug, PartialEq, Eq)]
 pub struct Part {
     pub number: u64,
@@ -18,6 +18,9 @@ pub struct Part {
 
 /// Work in parts. Threads do these at once, each with these tools and with what it keeps from job to job.
 pub trait Job<T, K> {
+    /// How many parts it can be done in at most. It is done in one part at least, and in no more than there are threads in a crew.
+    fn parts(&self) -> u64;
+
     /// Does a part.
     fn work(&self, part: Part, tools: &T, kept: &mut K);
 }
@@ -76,22 +79,30 @@ impl<J: Drop, K: Default + Drop> Crew<J, K> {
         self.places.len() as u64
     }
 
-    /// How many parts a job has.
-    fn parts(&self) -> u64 {
-        self.others().saturating_add(1)
-    }
-
-    /// The part of the thread at this place.
-    pub(crate) fn part_at(&self, place: usize) -> Part {
-        Part {
-            number: (place as u64).saturating_add(1),
-            of: self.parts(),
-        }
-    }
-
     pub(crate) fn bell(&self) -> &Bell {
         &self.bell
     }
+}
+
+/// How many others are asked to take part in a job: those at the first places.
+fn asked<T, K: Default + Drop, J: Job<T, K> + Drop>(crew: &Crew<J, K>, job: &J) -> usize {
+    let wanted = job.parts().saturating_sub(1);
+    crew.others().min(wanted) as usize
+}
+
+/// Does the part of a job that is for the thread at this place.
+pub(crate) fn work_at<T, K: Default + Drop, J: Job<T, K> + Drop>(
+    crew: &Crew<J, K>,
+    place: usize,
+    tools: &T,
+    kept: &mut K,
+    job: &J,
+) {
+    let part = Part {
+        number: (place as u64).saturating_add(1),
+        of: (asked(crew, job) as u64).saturating_add(1),
+    };
+    job.work(part, tools, kept);
 }
 
 /// Takes the job that lies for the thread of a number, if any does.
@@ -110,9 +121,14 @@ fn put<R: Wait, J: Drop>(rt: &R, place: &Mutex<Option<Arc<J>>>, job: Arc<J>) {
     *place = Some(job);
 }
 
-/// Puts a job where each of the others finds it.
-fn post<R: Wait, J: Drop, K: Default + Drop>(rt: &R, crew: &Crew<J, K>, job: &Arc<J>) {
-    for place in &crew.places {
+/// Puts a job where each of so many others finds it.
+fn post<R: Wait, J: Drop, K: Default + Drop>(
+    rt: &R,
+    crew: &Crew<J, K>,
+    asked: usize,
+    job: &Arc<J>,
+) {
+    for place in crew.places.iter().take(asked) {
         if let Ok(lent) = Arc::try_clone(job) {
             put(rt, place, lent);
         }
@@ -145,17 +161,18 @@ fn lead<R: Wait, T, K: Default + Drop, J: Job<T, K> + Drop>(
     kept: &mut K,
     job: &J,
 ) {
-    let of = crew.parts();
+    let asked = asked(crew, job);
+    let of = (asked as u64).saturating_add(1);
     job.work(Part { number: 0, of }, tools, kept);
-    for place in 0..crew.places.len() {
+    for place in 0..asked {
         if let Some(left) = take_job(rt, crew, place) {
-            left.work(crew.part_at(place), tools, kept);
+            work_at(crew, place, tools, kept, &*left);
         }
     }
 }
 
-/// Lends a job to a crew, each of whom does a part of it; the first also does the parts of those who come too late. It comes back as it
-/// was lent, once all are done with it. Where memory is refused nobody works on it.
+/// Lends a job to a crew, as many of whom as it can be done in parts do a part of it; the first also does the parts of those who come too
+/// late. It comes back as it was lent, once all are done with it. Where memory is refused nobody works on it.
 pub fn lend<R: Wait, T, K: Default + Drop, J: Job<T, K> + Drop>(
     rt: &R,
     alloc: Global,
@@ -166,13 +183,14 @@ pub fn lend<R: Wait, T, K: Default + Drop, J: Job<T, K> + Drop>(
     ensures { result ≡ job }
 {
     let mut kept = crew.kept.lock(rt);
-    if crew.places.is_empty() {
+    let asked = asked(crew, &job);
+    if asked == 0 {
         lead(rt, crew, tools, &mut kept, &job);
         return job;
     }
     match Arc::new(alloc, job) {
         Ok(shared) => {
-            post(rt, crew, &shared);
+            post(rt, crew, asked, &shared);
             crew.bell().ring();
             lead(rt, crew, tools, &mut kept, &shared);
             own_again(rt, shared)

@@ -1,6 +1,6 @@
 //! The threads of a crew beside the first.
 
-use crate::crew::{Crew, Job, take_job};
+use crate::crew::{Crew, Job, take_job, work_at};
 use std::alloc::Global;
 use std::sync::Wait;
 use std::thread::{Threads, map_indices};
@@ -20,7 +20,7 @@ fn serve<R: Wait, T, K: Default + Drop, J: Job<T, K> + Drop>(
         };
         seen = word;
         if let Some(job) = take_job(rt, crew, place) {
-            job.work(crew.part_at(place), tools, &mut kept);
+            work_at(crew, place, tools, &mut kept, &*job);
         }
     }
 }

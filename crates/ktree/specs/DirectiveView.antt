@@ -1,6 +1,6 @@
 -- What the code's directives stand for: those of the definitions, over names or over variables.
-use Rattle.std.specs.Prelude.{ℕ, ℤ, pos, neg_ℤ, List, map, string_bytes}
-use Rattle.semantics.specs.Tree.{Name, Variable}
+use Rattle.std.specs.Prelude.{ℤ, pos, neg_ℤ, map, string_bytes}
+use Rattle.semantics.specs.Tree.{Name}
 use Rattle.semantics.specs.Loops.Operator as meant
 use Rattle.semantics.specs.Directives.Directive as meaning
 use Rattle.ktree.specs.declared.directive.ReductionOperator.{ReductionOperator}
@@ -8,7 +8,6 @@ use Rattle.ktree.specs.declared.directive.ReductionOperator.TheVariants.{Sum, Pr
 use Rattle.ktree.specs.declared.directive.Schedule.{Schedule}
 use Rattle.ktree.specs.declared.directive.Schedule.TheVariants as scheduled
 use Rattle.ktree.specs.declared.directive.Written.{Written}
-use Rattle.ktree.specs.declared.directive.Resolved.{Resolved}
 use Rattle.ktree.specs.declared.directive.Clause.{Clause}
 use Rattle.ktree.specs.declared.directive.Clause.TheVariants as clause
 use Rattle.ktree.specs.declared.directive.Offset.{Offset}
@@ -16,8 +15,6 @@ use Rattle.ktree.specs.declared.directive.Offset.TheVariants.{Forward, Back}
 use Rattle.ktree.specs.declared.directive.SinkElement.{SinkElement}
 use Rattle.ktree.specs.declared.directive.Directive.{Directive}
 use Rattle.ktree.specs.declared.directive.Directive.TheVariants as directive
-use Rattle.ktree.specs.declared.directive.DirectiveLine.{DirectiveLine}
-use Rattle.ktree.specs.declared.directive.Annotated.{Annotated}
 
 -- the operator of a reduction
 abbrev pub operator_of : ReductionOperator → meant.ReduceOp
@@ -43,10 +40,6 @@ schedule_of scheduled.Runtime = meaning.Runtime
 -- the name itself
 abbrev pub name_of : Written → Name
 name_of w = string_bytes w.name
-
--- the variable that is meant
-abbrev pub variable_of : Resolved → Variable
-variable_of r = r.variable.0
 
 -- a clause, each name seen by this view
 abbrev pub clause_of : {N A : Type 0} → (N → A) → Clause N → meaning.Clause A
@@ -84,15 +77,3 @@ directive_of view (directive.ScanExclusive x) = meaning.ScanExclusive (view x)
 directive_of view directive.Ordered = meaning.OrderedRegion
 directive_of view directive.DoacrossSource = meaning.DoacrossSource
 directive_of view (directive.DoacrossSink es) = meaning.DoacrossSink (map (element_of view) es.items)
-
--- a resolved name as it is written
-abbrev pub written_name : Resolved → Name
-written_name r = string_bytes r.name
-
--- a directive line by its number, its names as they are written
-abbrev pub line_of : DirectiveLine → ℕ × meaning.Directive Name
-line_of l = (l.place.line, directive_of written_name l.directive)
-
--- all of them
-abbrev pub directives_of : Annotated → List (ℕ × meaning.Directive Name)
-directives_of a = map line_of a.directives.items

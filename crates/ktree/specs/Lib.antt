@@ -2,3 +2,4 @@ pub mod Numbers
 pub mod Places
 pub mod View
 pub mod DirectiveView
+pub mod Words

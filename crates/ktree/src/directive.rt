@@ -4,8 +4,7 @@ ghost use Rattle.std.specs.Prelude.{◌≡◌, ◌≤◌, ◌^◌};
 ghost use Rattle.std.specs.Option.{SomeIff};
 
 use crate::limits::{ASSOCIATED_LOOPS, CHUNK_ITERATIONS};
-use crate::place::{Place, VarId};
-use crate::statement::Kernel;
+use crate::place::Place;
 use std::marker::Model;
 
 /// The size of a chunk, 1 to 2^24 iterations.
@@ -120,14 +119,6 @@ pub struct Written {
     pub place: Place,
 }
 
-/// The variable that a name of a directive stands for, with the name and its place.
-#[derive(Drop)]
-pub struct Resolved {
-    pub variable: VarId,
-    pub name: String,
-    pub place: Place,
-}
-
 /// A clause over names, written or resolved (OpenMP 5.2, 4.4.3, 4.4.4, 5.4, 5.5.8, 11.5.3, 15.6).
 #[derive(Drop)]
 pub enum Clause<N> {
@@ -175,18 +166,4 @@ pub enum Directive<N> {
     Ordered,
     DoacrossSource,
     DoacrossSink(Vec<SinkElement<N>>),
-}
-
-/// A directive line: where its `#` stands, and its directive.
-#[derive(Drop)]
-pub struct DirectiveLine {
-    pub place: Place,
-    pub directive: Directive<Resolved>,
-}
-
-/// A kernel with its directives, in text order.
-#[derive(Drop)]
-pub struct Annotated {
-    pub kernel: Kernel,
-    pub directives: Vec<DirectiveLine>,
 }

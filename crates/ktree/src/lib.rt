@@ -10,8 +10,8 @@ mod statement;
 mod workers;
 
 pub use directive::{
-    Annotated, AssociatedLoops, ChunkSize, Clause, Directive, DirectiveLine, Offset,
-    ReductionOperator, Resolved, Schedule, SinkElement, Written,
+    AssociatedLoops, ChunkSize, Clause, Directive, Offset, ReductionOperator, Schedule,
+    SinkElement, Written,
 };
 pub use expression::{BinaryOp, CompareOp, Cond, Expr, NamePlaces, Suffix, UnaryOp};
 pub use place::{Place, VarId};

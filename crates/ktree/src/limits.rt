@@ -22,8 +22,11 @@ pub const DIMENSIONS: usize = 4;
 /// The elements of all variables of a text together: the declaration with which there are more is refused.
 pub const ELEMENTS: u64 = 1 << 24;
 
-/// The iterations of a parallel loop, by the product of the greatest counts of its loops: one with more is refused.
+/// The iterations of a parallel loop that is no doacross nest, by the product of the greatest counts of its loops: one with more is refused.
 pub const ITERATIONS: u64 = 1 << 24;
+
+/// The iterations of a doacross nest, counted so: one with more is refused.
+pub const DOACROSS_ITERATIONS: u64 = 1 << 20;
 
 /// The iterations of a chunk: a `schedule` with larger chunks is refused.
 pub const CHUNK_ITERATIONS: u64 = 1 << 24;

@@ -3,6 +3,7 @@
 ghost use Rattle.std.specs.Prelude.{◌≡◌};
 ghost use Rattle.ktree.specs.Numbers.{number_of};
 ghost use Rattle.ktree.specs.Places.{place_of};
+ghost use Rattle.ktree.specs.Words.{cause_words, words_of};
 
 use crate::place::Place;
 use std::alloc::{AllocError, AllocFailed};
@@ -32,6 +33,21 @@ pub enum Cause {
     Twice,
     Count,
     Number,
+}
+
+impl Cause {
+    /// What is said of it.
+    pub fn wording(self) -> &'static [u8]
+        ensures { result.now ≡ cause_words self }
+    {
+        match self {
+            Cause::Form => b"form",
+            Cause::Name => b"name",
+            Cause::Twice => b"twice",
+            Cause::Count => b"count",
+            Cause::Number => b"number",
+        }
+    }
 }
 
 /// The first faulty line of an input, from 1, and its first cause.
@@ -136,6 +152,38 @@ impl Refusal {
             Refusal::NotShown(accesses) => Some(accesses.first),
             Refusal::Limit(place) => Some(*place),
             Refusal::Input(_) | Refusal::OutOfMemory | Refusal::OutputFailed => None,
+        }
+    }
+
+    /// What is said of it: what is wrong, in the words of its message.
+    pub fn wording(&self) -> &'static [u8]
+        ensures { result.now ≡ words_of self.now }
+    {
+        match self {
+            Refusal::Syntax(_) => b"syntax",
+            Refusal::NumberOutOfRange(_) => b"number out of range",
+            Refusal::UnknownName(_) => b"unknown name",
+            Refusal::NameTwice(_) => b"name twice",
+            Refusal::Operands(_) => b"operands",
+            Refusal::LoopNotCanonical(_) => b"loop not canonical",
+            Refusal::LoopMayWrap(_) => b"loop may wrap",
+            Refusal::NotAffine(_) => b"not affine",
+            Refusal::SubscriptOutOfRange(_) => b"subscript out of range",
+            Refusal::MayBeUnassigned(_) => b"may be unassigned",
+            Refusal::Directive(_) => b"directive",
+            Refusal::NestNotPerfect(_) => b"nest not perfect",
+            Refusal::ClauseForVariable(_) => b"clause for variable",
+            Refusal::SharedScalarWritten(_) => b"shared scalar written",
+            Refusal::PrivateVariable(_) => b"private variable",
+            Refusal::Reduction(_) => b"reduction",
+            Refusal::Scan(_) => b"scan",
+            Refusal::Ordered(_) => b"ordered",
+            Refusal::Conflict(_) => b"conflict",
+            Refusal::NotShown(_) => b"not shown",
+            Refusal::Limit(_) => b"limit",
+            Refusal::Input(_) => b"line ",
+            Refusal::OutOfMemory => b"out of memory",
+            Refusal::OutputFailed => b"output failed",
         }
     }
 }

@@ -14,7 +14,7 @@ ghost use Rattle.nest.specs.Perfect.{FirstNestWithin, LineNests, DoacrossIsSmall
 use crate::perfect::right_nest;
 use affine::VarBox;
 use affine_expr::Fault;
-use ktree::limits::ITERATIONS;
+use ktree::limits::{DOACROSS_ITERATIONS, ITERATIONS};
 use ktree::{Directive, Item, Place, Stmt, Written};
 use nest_loop::{LoopFacts, go_into};
 use pragma::{Directives, doacross_loops, loop_of};
@@ -27,10 +27,6 @@ pub struct Found<'n> {
     pub loops: &'n [LoopFacts],
     pub missing: Fault,
 }
-
-/// The iterations of a doacross nest, by the product of the greatest counts of its loops: one with more is refused. Those of all other
-/// parallel loops are limited by [`ITERATIONS`].
-const DOACROSS_ITERATIONS: u64 = 1 << 20;
 
 /// How many iterations the loops behind a directive may have.
 fn most_iterations(directive: &Directive<Written>) -> u64

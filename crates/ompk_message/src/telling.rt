@@ -3,12 +3,12 @@
 ghost use Rattle.std.specs.Prelude.{◌≡◌, ◌+◌, ◌<◌, ◌^◌, ◌++◌, ◌∷◌, [], map, codes, decimal, IfErr, OnErr, OnOk};
 ghost use Rattle.ktree.specs.Numbers.{number_of};
 ghost use Rattle.ktree.specs.Places.{place_of};
+ghost use Rattle.ktree.specs.Words.{words_of};
 ghost use Rattle.seqrun_io.specs.Told.{AddsBeginning};
-ghost use Rattle.ompk_message.specs.Message as message;
-ghost use Rattle.ompk_message.specs.Message.{joined, head_text, start_parts, access_parts, iteration_parts, index_text, cause_text, detail_parts, message_of, status_of};
+ghost use Rattle.ompk_message.specs.Message.{joined, head_text, start_parts, access_parts, iteration_parts, index_text, detail_parts, message_of, status_of};
 
 use itoa::Buffer;
-use ktree::{Cause, Conflict, NotShown, Place, Refusal};
+use ktree::{Conflict, NotShown, Place, Refusal};
 use seqrun_io::{Sink, put_all};
 
 // `K`, two digits and a space.
@@ -17,51 +17,6 @@ fn head_of(number: u8) -> [u8; 4]
     ensures { result ≡ head_text number }
 {
     [b'K', b'0' + number / 10, b'0' + number % 10, b' ']
-}
-
-// What is wrong.
-fn words_of(refusal: &Refusal) -> &'static [u8]
-    ensures { result.now ≡ message.words_of refusal.now }
-{
-    match refusal {
-        Refusal::Syntax(_) => b"syntax",
-        Refusal::NumberOutOfRange(_) => b"number out of range",
-        Refusal::UnknownName(_) => b"unknown name",
-        Refusal::NameTwice(_) => b"name twice",
-        Refusal::Operands(_) => b"operands",
-        Refusal::LoopNotCanonical(_) => b"loop not canonical",
-        Refusal::LoopMayWrap(_) => b"loop may wrap",
-        Refusal::NotAffine(_) => b"not affine",
-        Refusal::SubscriptOutOfRange(_) => b"subscript out of range",
-        Refusal::MayBeUnassigned(_) => b"may be unassigned",
-        Refusal::Directive(_) => b"directive",
-        Refusal::NestNotPerfect(_) => b"nest not perfect",
-        Refusal::ClauseForVariable(_) => b"clause for variable",
-        Refusal::SharedScalarWritten(_) => b"shared scalar written",
-        Refusal::PrivateVariable(_) => b"private variable",
-        Refusal::Reduction(_) => b"reduction",
-        Refusal::Scan(_) => b"scan",
-        Refusal::Ordered(_) => b"ordered",
-        Refusal::Conflict(_) => b"conflict",
-        Refusal::NotShown(_) => b"not shown",
-        Refusal::Limit(_) => b"limit",
-        Refusal::Input(_) => b"line ",
-        Refusal::OutOfMemory => b"out of memory",
-        Refusal::OutputFailed => b"output failed",
-    }
-}
-
-// What is wrong with an input's line.
-fn cause_words(cause: Cause) -> &'static [u8]
-    ensures { result.now ≡ cause_text cause }
-{
-    match cause {
-        Cause::Form => b"form",
-        Cause::Name => b"name",
-        Cause::Twice => b"twice",
-        Cause::Count => b"count",
-        Cause::Number => b"number",
-    }
 }
 
 // Puts these one behind another.
@@ -307,7 +262,7 @@ fn tell_details<S: Sink>(sink: &mut S, refusal: &Refusal) -> Result<(), Refusal>
     match refusal {
         Refusal::Conflict(conflict) => tell_conflict(sink, conflict),
         Refusal::NotShown(accesses) => tell_accesses(sink, accesses),
-        Refusal::Input(fault) => tell_line(sink, fault.line, cause_words(fault.cause)),
+        Refusal::Input(fault) => tell_line(sink, fault.line, fault.cause.wording()),
         _ => put_all(sink, b"\n"),
     }
 }
@@ -316,24 +271,24 @@ fn tell_details<S: Sink>(sink: &mut S, refusal: &Refusal) -> Result<(), Refusal>
 fn put_words<S: Sink>(sink: &mut S, refusal: &Refusal) -> Result<(), Refusal>
     requires { S.failed sink.old + 1 < 2 ^ 64 }
     ensures all { OnOk result (S.told sink.new
-        ≡ S.told sink.old ++ joined (message.words_of refusal.now ∷ [])) }
+        ≡ S.told sink.old ++ joined (words_of refusal.now ∷ [])) }
     ensures beginning { AddsBeginning (S.told sink.old) (S.told sink.new)
-        (joined (message.words_of refusal.now ∷ [])) }
+        (joined (words_of refusal.now ∷ [])) }
     ensures sound { OnOk result (S.failed sink.new ≡ S.failed sink.old) }
     ensures counted { OnErr result (S.failed sink.new ≡ S.failed sink.old + 1) }
     ensures refusal { IfErr result (λ refusal. refusal ≡ Refusal.OutputFailed) }
 {
-    put_parts(sink, &[words_of(refusal)])
+    put_parts(sink, &[refusal.wording()])
 }
 
 // What is wrong, and what is said further.
 fn tell_words<S: Sink>(sink: &mut S, refusal: &Refusal) -> Result<(), Refusal>
     requires { S.failed sink.old + 1 < 2 ^ 64 }
     ensures all { OnOk result (S.told sink.new
-        ≡ S.told sink.old ++ joined (message.words_of refusal.now
+        ≡ S.told sink.old ++ joined (words_of refusal.now
         ∷ (detail_parts refusal.now ++ codes "\n" ∷ []))) }
     ensures beginning { AddsBeginning (S.told sink.old) (S.told sink.new)
-        (joined (message.words_of refusal.now ∷ (detail_parts refusal.now ++ codes "\n" ∷ []))) }
+        (joined (words_of refusal.now ∷ (detail_parts refusal.now ++ codes "\n" ∷ []))) }
     ensures sound { OnOk result (S.failed sink.new ≡ S.failed sink.old) }
     ensures counted { OnErr result (S.failed sink.new ≡ S.failed sink.old + 1) }
     ensures refusal { IfErr result (λ refusal. refusal ≡ Refusal.OutputFailed) }

@@ -187,6 +187,11 @@ fn run_worker<G: Gate>(lent: &LentLoop<'_>, number: u64, gate: &G, tools: &mut O
 }
 
 impl<'l, G: Gate> crew::Job<G, Option<Tools>> for LentLoop<'l> {
+    // Workers that come to no chunk need no thread of their own.
+    fn parts(&self) -> u64 {
+        self.grounds.chunks.len().min(self.workers.get())
+    }
+
     // A part is the worker of its number, and of each number that is as many parts further on.
     fn work(&self, part: Part, gate: &G, tools: &mut Option<Tools>) {
         let mut number = part.number;
