@@ -1,7 +1,6 @@
 //! What is wrong with a loop or a subscript.
 
 ghost use Rattle.std.specs.Prelude.{◌≡◌, ◌⊎◌, ◌↔◌, IfErr};
-ghost use Rattle.affine_expr.specs.Faults.{refusal_of};
 
 use ktree::{Place, Refusal};
 use std::alloc::{AllocError, AllocFailed};
@@ -23,12 +22,13 @@ pub enum Fault {
     OutOfMemory,
 }
 
-impl Fault {
-    /// The refusal that tells it.
-    pub fn refusal(self) -> Refusal
-        ensures { result ≡ refusal_of self }
-    {
-        match self {
+impl From<Fault> for Refusal {
+    ghost use Rattle.affine_expr.specs.Faults.{refusal_of};
+
+    ghost from_gives = { λ fault refusal. refusal ≡ refusal_of fault };
+
+    fn from(fault: Fault) -> Refusal {
+        match fault {
             Fault::NotCanonical(place) => Refusal::LoopNotCanonical(place),
             Fault::MayWrap(place) => Refusal::LoopMayWrap(place),
             Fault::NotAffine(place) => Refusal::NotAffine(place),
@@ -36,16 +36,6 @@ impl Fault {
             Fault::Limit(place) => Refusal::Limit(place),
             Fault::OutOfMemory => Refusal::OutOfMemory,
         }
-    }
-}
-
-impl From<Fault> for Refusal {
-    ghost use Rattle.affine_expr.specs.Faults.{refusal_of};
-
-    ghost from_gives = { λ fault refusal. refusal ≡ refusal_of fault };
-
-    fn from(fault: Fault) -> Refusal {
-        fault.refusal()
     }
 }
 

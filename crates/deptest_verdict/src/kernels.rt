@@ -35,7 +35,8 @@ fn item_line_shown(
         (map declaration_of given.entry.variables.now) chain.old
         (with_item item.now no_items) (items_of rest.now))) }
     ensures ok { OnOk result (FirstLineShown given.entry.directives.now
-        (line_sinks given.entry.doacross.now) chain.old (with_item item.now no_items) (items_of rest.now)) }
+        (line_sinks given.entry.doacross.now) chain.old (with_item item.now no_items)
+        (items_of rest.now)) }
     ensures back { OnOk result (chain.new ≡ chain.old) }
 {
     match item {

@@ -68,7 +68,7 @@ fn pair_refused(
 {
     match verdict_on(alloc, chain, outer, loops, body, pair, sinks, variables) {
         Ok(refusal) => refusal,
-        Err(fault) => fault.refusal(),
+        Err(fault) => Refusal::from(fault),
     }
 }
 

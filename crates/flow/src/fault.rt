@@ -26,12 +26,13 @@ pub enum DataFault {
     OutOfMemory,
 }
 
-impl DataFault {
-    /// The refusal that tells it.
-    pub fn refusal(self) -> Refusal
-        ensures { result ≡ data_refusal_of self }
-    {
-        match self {
+impl From<DataFault> for Refusal {
+    ghost use Rattle.flow.specs.Told.{data_refusal_of};
+
+    ghost from_gives = { λ fault refusal. refusal ≡ data_refusal_of fault };
+
+    fn from(fault: DataFault) -> Refusal {
+        match fault {
             DataFault::Written(place) => Refusal::SharedScalarWritten(place),
             DataFault::Copied(place) => Refusal::PrivateVariable(place),
             DataFault::Unassigned(place) => Refusal::PrivateVariable(place),

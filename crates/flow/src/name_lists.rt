@@ -159,7 +159,8 @@ fn is_role(variable: VarId, line: u32, lines: &LineClauses, files: usize) -> boo
 
 /// Whether it is so, or is the variable of a scan.
 pub(crate) fn has_role(variable: VarId, line: u32, lines: &LineClauses, files: usize) -> bool
-    ensures { result ≡ is_among (role_variables (left_roles (data_known (kept lines.now) files line)))
+    ensures { result ≡ is_among (role_variables (left_roles (data_known
+        (kept lines.now) files line)))
         variable.0 }
 {
     is_role(variable, line, lines, files) || is_listed(ListKind::Inscan, variable, line, lines)

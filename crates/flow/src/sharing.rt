@@ -84,11 +84,13 @@ fn target_fault(
 ) -> Option<DataFault>
     ensures judged { is_none result
         ≡ is_own (is_among (declared_in (stmt_of body.now)
-        ++ role_variables (left_roles (data_known (kept lines.now) files line)))) target.now.variable.0
+        ++ role_variables (left_roles (data_known (kept lines.now) files line))))
+        target.now.variable.0
         (exprs_of target.now.subscripts.items) }
     ensures cause { IfSome result
         (λ f. TellsOfWrite f (is_among (declared_in (stmt_of body.now)
-        ++ role_variables (left_roles (data_known (kept lines.now) files line)))) target.now.variable.0
+        ++ role_variables (left_roles (data_known (kept lines.now) files line))))
+        target.now.variable.0
         (exprs_of target.now.subscripts.items)) }
 {
     if !target.subscripts.is_empty() {
@@ -114,10 +116,12 @@ fn statement_fault(
 ) -> Option<DataFault>
     ensures judged { is_none result
         ≡ keeps (is_among (declared_in (stmt_of body.now)
-        ++ role_variables (left_roles (data_known (kept lines.now) files line)))) (stmt_of statement.now) }
+        ++ role_variables (left_roles (data_known (kept lines.now) files line))))
+        (stmt_of statement.now) }
     ensures cause { IfSome result
         (λ f. TellsOf f (is_among (declared_in (stmt_of body.now)
-        ++ role_variables (left_roles (data_known (kept lines.now) files line)))) (stmt_of statement.now)) }
+        ++ role_variables (left_roles (data_known (kept lines.now) files line))))
+        (stmt_of statement.now)) }
 {
     match statement {
         Stmt::Assign(target, _) => target_fault(target, body, line, lines, files),
@@ -148,10 +152,12 @@ fn block_fault(
 ) -> Option<DataFault>
     ensures judged { is_none result
         ≡ keeps_all (is_among (declared_in (stmt_of body.now)
-        ++ role_variables (left_roles (data_known (kept lines.now) files line)))) (items_of items.now) }
+        ++ role_variables (left_roles (data_known (kept lines.now) files line))))
+        (items_of items.now) }
     ensures cause { IfSome result
         (λ f. TellsOfAny f (is_among (declared_in (stmt_of body.now)
-        ++ role_variables (left_roles (data_known (kept lines.now) files line)))) (items_of items.now)) }
+        ++ role_variables (left_roles (data_known (kept lines.now) files line))))
+        (items_of items.now)) }
 {
     for item in items {
         if let Some(fault) = item_fault(item, body, line, lines, files) {
@@ -172,7 +178,8 @@ fn item_fault(
 ) -> Option<DataFault>
     ensures judged { is_none result
         ≡ keeps_all (is_among (declared_in (stmt_of body.now)
-        ++ role_variables (left_roles (data_known (kept lines.now) files line)))) (with_item item.now no_items) }
+        ++ role_variables (left_roles (data_known (kept lines.now) files line))))
+        (with_item item.now no_items) }
     ensures cause { IfSome result
         (λ f. TellsOfAny f (is_among (declared_in (stmt_of body.now)
         ++ role_variables (left_roles (data_known (kept lines.now) files line))))
@@ -195,7 +202,8 @@ pub(crate) fn body_fault(
     ensures judged { is_none result ≡ is_private_body
         (role_variables (left_roles (data_known (kept lines.now) files line)))
         (stmt_of body.now) }
-    ensures cause { IfSome result (λ f. TellsOfBody f (left_roles (data_known (kept lines.now) files line))
+    ensures cause { IfSome result (λ f. TellsOfBody f (left_roles (data_known
+        (kept lines.now) files line))
         (stmt_of body.now)) }
 {
     statement_fault(body, body, line, lines, files)

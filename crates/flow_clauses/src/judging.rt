@@ -21,12 +21,14 @@ pub enum Misuse {
     Reduced(Place),
 }
 
-impl Misuse {
-    /// The refusal that tells it.
-    pub fn refusal(self) -> Refusal
-        ensures { number_of result ≡ number_told self }
-    {
-        match self {
+impl From<Misuse> for Refusal {
+    ghost use Rattle.ktree.specs.Numbers.{number_of};
+    ghost use Rattle.flow_clauses.specs.Fitting.{number_told};
+
+    ghost from_gives = { λ misuse refusal. number_of refusal ≡ number_told misuse };
+
+    fn from(misuse: Misuse) -> Refusal {
+        match misuse {
             Misuse::Privatised(place) => Refusal::PrivateVariable(place),
             Misuse::Reduced(place) => Refusal::Reduction(place),
         }

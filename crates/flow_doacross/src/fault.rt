@@ -25,15 +25,21 @@ pub enum DoacrossFault {
     Name(Place),
 }
 
-impl DoacrossFault {
-    /// The refusal that tells it.
-    pub fn refusal(self) -> Refusal
-        ensures number { number_of result ≡ 18 }
-        ensures place { place_of result ≡ Some (place_told self) }
-    {
-        Refusal::Ordered(self.place())
-    }
+impl From<DoacrossFault> for Refusal {
+    ghost use Rattle.std.specs.Prelude.{Some};
+    ghost use Rattle.ktree.specs.Numbers.{number_of};
+    ghost use Rattle.ktree.specs.Places.{place_of};
+    ghost use Rattle.flow_doacross.specs.Views.{place_told};
 
+    ghost from_gives = { λ fault refusal. (number_of refusal ≡ 18)
+        × (place_of refusal ≡ Some (place_told fault)) };
+
+    fn from(fault: DoacrossFault) -> Refusal {
+        Refusal::Ordered(fault.place())
+    }
+}
+
+impl DoacrossFault {
     /// Where it is.
     pub fn place(self) -> Place
         ensures { result ≡ place_told self }

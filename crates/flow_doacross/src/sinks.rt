@@ -84,7 +84,8 @@ fn misnamed(elements: &[SinkElement<Written>], statement: &Stmt) -> Option<Place
 /// The same where these loops are the only one of some items.
 #[cycle(naming)]
 fn misnamed_among(elements: &[SinkElement<Written>], items: &[Item]) -> Option<Place>
-    ensures { is_none result ≡ in_order (only_names (items_of items.now)) (elements_of elements.now) }
+    ensures { is_none result ≡ in_order (only_names (items_of items.now))
+        (elements_of elements.now) }
 {
     match items {
         [] => unnamed(elements),

@@ -15,12 +15,13 @@ pub enum Disorder {
     Printed(Place),
 }
 
-impl Disorder {
-    /// The refusal that tells it.
-    pub fn refusal(self) -> Refusal
-        ensures { number_of result ≡ 18 }
-    {
-        match self {
+impl From<Disorder> for Refusal {
+    ghost use Rattle.ktree.specs.Numbers.{number_of};
+
+    ghost from_gives = { λ _ refusal. number_of refusal ≡ 18 };
+
+    fn from(disorder: Disorder) -> Refusal {
+        match disorder {
             Disorder::Region(place) | Disorder::Printed(place) => Refusal::Ordered(place),
         }
     }

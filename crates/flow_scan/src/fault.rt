@@ -18,18 +18,24 @@ pub enum ScanFault {
     Reduced(Place),
 }
 
-impl ScanFault {
-    /// The refusal that tells it.
-    pub fn refusal(self) -> Refusal
-        ensures number { number_of result ≡ number_told self }
-        ensures place { place_of result ≡ Some (place_told self) }
-    {
-        match self {
+impl From<ScanFault> for Refusal {
+    ghost use Rattle.std.specs.Prelude.{Some};
+    ghost use Rattle.ktree.specs.Numbers.{number_of};
+    ghost use Rattle.ktree.specs.Places.{place_of};
+    ghost use Rattle.flow_scan.specs.Views.{number_told, place_told};
+
+    ghost from_gives = { λ fault refusal. (number_of refusal ≡ number_told fault)
+        × (place_of refusal ≡ Some (place_told fault)) };
+
+    fn from(fault: ScanFault) -> Refusal {
+        match fault {
             ScanFault::Scan(place) => Refusal::Scan(place),
             ScanFault::Reduced(place) => Refusal::Reduction(place),
         }
     }
+}
 
+impl ScanFault {
     /// Where it is.
     pub fn place(self) -> Place
         ensures { result ≡ place_told self }

@@ -53,7 +53,8 @@ fn add_next_loop(
 fn add_part(text: &mut Vec<u8>, before: Listed, part: &RegionPart) -> Result<Listed, AllocError>
     requires regions { before.regions + 1 < 2 ^ 64 }
     requires loops { before.loops + 1 < 2 ^ 64 }
-    ensures added { IfOk result (AddsPart (part_said part.now) before text.old.items text.new.items) }
+    ensures added { IfOk result (AddsPart (part_said part.now) before text.old.items
+        text.new.items) }
     ensures front { Begins text.old.items text.new.items }
 {
     match &part.said {

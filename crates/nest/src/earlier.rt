@@ -5,7 +5,7 @@ ghost use Rattle.affine_expr.specs.declared.faults.Fault.TheVariants.{OutOfMemor
 ghost use Rattle.std.specs.declared.result.Result.TheVariants.{Err};
 
 use affine_expr::Fault;
-use ktree::Place;
+use ktree::{Place, Refusal};
 
 /// Where a fault stands; want of memory stands nowhere.
 fn place_of(fault: Fault) -> Option<Place>
@@ -37,7 +37,7 @@ fn is_second(first: Fault, second: Fault) -> bool
     if second_place.column != first_place.column {
         return second_place.column < first_place.column;
     }
-    second.refusal().number() < first.refusal().number()
+    Refusal::from(second).number() < Refusal::from(first).number()
 }
 
 /// The fault that stands first in the text, or the one with the lower number at the same place; the first, if there is no

@@ -69,7 +69,7 @@ fn judge_known(kernel: &Kernel, directives: &Directives) -> Result<(), Refusal>
 {
     match first_unknown(kernel, directives) {
         None => Ok(()),
-        Some(unknown) => Err(unknown.refusal()),
+        Some(unknown) => Err(Refusal::from(unknown)),
     }
 }
 
@@ -80,7 +80,7 @@ fn judge_places(kernel: &Kernel, directives: &Directives) -> Result<(), Refusal>
 {
     match first_fault(kernel, directives) {
         None => Ok(()),
-        Some(fault) => Err(fault.refusal()),
+        Some(fault) => Err(Refusal::from(fault)),
     }
 }
 
@@ -140,11 +140,11 @@ fn judge_scalars(
         classify(alloc, kernel, directives, lines),
     ) {
         (Ok(()), Ok(loops)) => Ok(loops),
-        (Ok(()), Err(fault)) => Err(fault.refusal()),
+        (Ok(()), Err(fault)) => Err(Refusal::from(fault)),
         (Err(refusal), Ok(_loops)) => Err(refusal),
         (Err(refusal), Err(fault)) => {
             if stands_before(fault, &refusal) {
-                Err(fault.refusal())
+                Err(Refusal::from(fault))
             } else {
                 Err(refusal)
             }
@@ -161,7 +161,7 @@ fn judge_clauses(alloc: Global, kernel: &Kernel, lines: &LineClauses) -> Result<
 {
     match first_misuse(alloc, kernel, lines)? {
         None => Ok(()),
-        Some(misuse) => Err(misuse.refusal()),
+        Some(misuse) => Err(Refusal::from(misuse)),
     }
 }
 
@@ -257,9 +257,12 @@ fn region_refusal(faults: WholeFaults) -> Option<Refusal>
 {
     match (faults.disorder, faults.misuse) {
         (None, None) => None,
-        (Some(disorder), None) => Some(disorder.refusal()),
-        (None, Some(misuse)) => Some(misuse.refusal()),
-        (Some(disorder), Some(misuse)) => Some(first_of(disorder.refusal(), misuse.refusal())),
+        (Some(disorder), None) => Some(Refusal::from(disorder)),
+        (None, Some(misuse)) => Some(Refusal::from(misuse)),
+        (Some(disorder), Some(misuse)) => Some(first_of(
+            Refusal::from(disorder),
+            Refusal::from(misuse),
+        )),
     }
 }
 
@@ -270,8 +273,8 @@ fn whole_refusal(faults: WholeFaults) -> Option<Refusal>
     match (region_refusal(faults), faults.doacross) {
         (None, None) => None,
         (Some(refusal), None) => Some(refusal),
-        (None, Some(doacross)) => Some(doacross.refusal()),
-        (Some(refusal), Some(doacross)) => Some(first_of(refusal, doacross.refusal())),
+        (None, Some(doacross)) => Some(Refusal::from(doacross)),
+        (Some(refusal), Some(doacross)) => Some(first_of(refusal, Refusal::from(doacross))),
     }
 }
 

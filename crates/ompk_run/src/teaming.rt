@@ -243,7 +243,8 @@ fn team_statement<'l, R: Threads + Wait + Sync, G: Gate, S: Sink>(
         (stage registers.old.items store.old (S.told sink.old))
         (stage registers.new.items store.new (S.told sink.new))) }
     ensures beginning { (layout : List Laid) (mark : ℕ) (R : LineData) (serial : List Loop)
-        → Fits layout mark R serial outline.now → Begins layout mark (performed R serial outline.now)
+        → Fits layout mark R serial outline.now → Begins layout mark
+        (performed R serial outline.now)
         (stage registers.old.items store.old (S.told sink.old)) (S.told sink.new) }
     ensures sound { OnOk result (S.failed sink.new ≡ S.failed sink.old) }
     ensures refusal { IfErr result (Refuses (S.failed sink.old) (S.failed sink.new)) }

@@ -204,7 +204,8 @@ fn carries(kept: &LoopRoles) -> bool
 
 // The items in the input phase of a nest's body; None where that is no block without directive lines, with so many items in front.
 fn input_of<'s>(depth: u64, stmt: &'s Stmt, scan: &ScanLoop) -> Option<&'s [Item]>
-    ensures { IfSome result (λ part. IsInputIn scan.now.inclusive scan.now.front depth (stmt_of stmt.now)
+    ensures { IfSome result (λ part. IsInputIn scan.now.inclusive scan.now.front depth
+        (stmt_of stmt.now)
         (items_of part.now)) }
 {
     let body = body_of(depth, stmt)?;

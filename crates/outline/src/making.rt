@@ -48,7 +48,8 @@ fn outline_serial<'k>(
     bounds: &VarBox,
 ) -> Result<Box<Outline<'k>>, Refusal>
     requires { has_line (stmt_of stmt.now) ≡ false }
-    ensures made { IfOk result (λ o. IsMade target.entry.layout.now target.entry.registers loops.entry
+    ensures made { IfOk result (λ o. IsMade target.entry.layout.now target.entry.registers
+        loops.entry
         bounds.now None (stmt_of stmt.now) o.value) }
     ensures refusal { IfErr result (λ refusal. refusal ≡ OutOfMemory) }
 {
@@ -132,7 +133,8 @@ fn outline_inside<'k>(
     target: Target<'_>,
     bounds: &mut VarBox,
 ) -> Result<Box<Outline<'k>>, Refusal>
-    ensures made { IfOk result (λ o. IsMade target.entry.layout.now target.entry.registers loops.entry
+    ensures made { IfOk result (λ o. IsMade target.entry.layout.now target.entry.registers
+        loops.entry
         bounds.old None (stmt_of stmt.now) o.value) }
     ensures back { OnOk result (bounds.new ≡ bounds.old) }
     ensures refusal { IfErr result (λ refusal. refusal ≡ OutOfMemory) }
@@ -178,7 +180,8 @@ fn outline_behind<'k>(
     target: Target<'_>,
     bounds: &mut VarBox,
 ) -> Result<Box<Outline<'k>>, Refusal>
-    ensures made { IfOk result (λ o. IsMade target.entry.layout.now target.entry.registers loops.entry
+    ensures made { IfOk result (λ o. IsMade target.entry.layout.now target.entry.registers
+        loops.entry
         bounds.old directive (stmt_of stmt.now) o.value) }
     ensures back { OnOk result (bounds.new ≡ bounds.old) }
     ensures refusal { IfErr result (λ refusal. refusal ≡ OutOfMemory) }
@@ -257,7 +260,8 @@ pub fn outline<'k>(
         → items_performed R [] os.items ≡ apart_items R [] (items_of items.now)) }
     ensures fits { IfOk result
         (λ os. (text : List ℕ) (ds : List Declaration) (R : LineData) (P : LinesInside)
-        → ArePrivateLocals (length target.entry.layout.now) R → AreOfText text R loops.entry.parallel.now
+        → ArePrivateLocals (length target.entry.layout.now) R
+        → AreOfText text R loops.entry.parallel.now
         → P ≡ inside_told loops.entry
         → ItemsHaveBy text (SharesBy ds R P) [] (items_of items.now)
         → WithLocals target.entry.layout.now target.entry.registers

@@ -50,7 +50,8 @@ fn first_cell(layout: &[Laid], variable: usize) -> Option<u64>
 // The cell of a scalar at file scope.
 fn cell_of(layout: &[Laid], variable: VarId) -> Option<u64>
     requires { variable.0 < length layout.now }
-    ensures { IfSome result (λ place. cells.spot (shapes_of layout.now) variable.0 [] ≡ Some place) }
+    ensures { IfSome result (λ place. cells.spot (shapes_of layout.now) variable.0 []
+        ≡ Some place) }
 {
     let own = &layout[variable.0 as usize];
     if own.lengths.is_empty() {

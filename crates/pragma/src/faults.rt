@@ -1,7 +1,6 @@
 //! What is wrong with the directive lines of a kernel.
 
 ghost use Rattle.std.specs.Prelude.{◌≡◌};
-ghost use Rattle.pragma.specs.Faults.{refusal_of};
 
 use ktree::{Place, Refusal};
 
@@ -15,12 +14,13 @@ pub enum Fault {
     Size(Place),
 }
 
-impl Fault {
-    /// The refusal that tells it.
-    pub fn refusal(self) -> Refusal
-        ensures { result ≡ refusal_of self }
-    {
-        match self {
+impl From<Fault> for Refusal {
+    ghost use Rattle.pragma.specs.Faults.{refusal_of};
+
+    ghost from_gives = { λ fault refusal. refusal ≡ refusal_of fault };
+
+    fn from(fault: Fault) -> Refusal {
+        match fault {
             Fault::Directive(place) => Refusal::Directive(place),
             Fault::Size(place) => Refusal::Limit(place),
         }

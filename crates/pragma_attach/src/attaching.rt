@@ -25,7 +25,7 @@ use std::collections::HashMap;
 fn first_refusal(place: Place, flaw: Flaw, placing: Option<Fault>) -> Refusal
     ensures { IsOfDirectives result }
 {
-    first(Fault { place, flaw }, placing).refusal()
+    Refusal::from(first(Fault { place, flaw }, placing))
 }
 
 /// Why names are not resolved, or what is wrong before that in the text.
@@ -87,7 +87,7 @@ pub fn attach(
         Err(stop) => Err(refuse_names(stop, fault)),
         Ok(()) => match fault {
             None => Ok(lines),
-            Some(fault) => Err(fault.refusal()),
+            Some(fault) => Err(Refusal::from(fault)),
         },
     }
 }

@@ -1,7 +1,6 @@
 //! What is wrong with the directives of a kernel.
 
 ghost use Rattle.std.specs.Prelude.{◌≡◌};
-ghost use Rattle.pragma_attach.specs.Faults.{refusal_of};
 
 use ktree::{Place, Refusal};
 
@@ -28,16 +27,19 @@ impl Fault {
         let there = (other.place.line, other.place.column, other.flaw as u8);
         here < there
     }
+}
 
-    /// The refusal that tells it.
-    pub(crate) fn refusal(self) -> Refusal
-        ensures { result ≡ refusal_of self }
-    {
-        match self.flaw {
-            Flaw::UnknownName => Refusal::UnknownName(self.place),
-            Flaw::Directive => Refusal::Directive(self.place),
-            Flaw::ClauseForVariable => Refusal::ClauseForVariable(self.place),
-            Flaw::Limit => Refusal::Limit(self.place),
+impl From<Fault> for Refusal {
+    ghost use Rattle.pragma_attach.specs.Faults.{refusal_of};
+
+    ghost from_gives = { λ fault refusal. refusal ≡ refusal_of fault };
+
+    fn from(fault: Fault) -> Refusal {
+        match fault.flaw {
+            Flaw::UnknownName => Refusal::UnknownName(fault.place),
+            Flaw::Directive => Refusal::Directive(fault.place),
+            Flaw::ClauseForVariable => Refusal::ClauseForVariable(fault.place),
+            Flaw::Limit => Refusal::Limit(fault.place),
         }
     }
 }

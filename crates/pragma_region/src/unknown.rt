@@ -19,12 +19,14 @@ pub enum Unknown {
     Conditional(Place),
 }
 
-impl Unknown {
-    /// The refusal that tells it.
-    pub fn refusal(self) -> Refusal
-        ensures { number_of result ≡ number_told self }
-    {
-        match self {
+impl From<Unknown> for Refusal {
+    ghost use Rattle.ktree.specs.Numbers.{number_of};
+    ghost use Rattle.pragma_region.specs.NotKnown.{number_told};
+
+    ghost from_gives = { λ unknown refusal. number_of refusal ≡ number_told unknown };
+
+    fn from(unknown: Unknown) -> Refusal {
+        match unknown {
             Unknown::Conditional(place) => Refusal::PrivateVariable(place),
         }
     }

@@ -36,7 +36,8 @@ pub(crate) fn collect(
     places: Vec<Place>,
 ) -> Result<(Vec<DrawSeat>, Vec<ChunkLog>), Refusal>
     ensures taken { (aim : Aim) (draw : Draw) → aim.way ≡ Drawn draw → AreFor aim places.items
-        → IfOk result (λ r. AreTaken aim.lowered aim.registers aim.store aim.pass aim.chunks draw.drawing
+        → IfOk result (λ r. AreTaken aim.lowered aim.registers aim.store aim.pass aim.chunks
+        draw.drawing
         r.0.items (joined r.1.items)) }
     ensures len { IfOk result (λ r. length r.0.items ≡ vec_len places) }
     ensures refusal { IfErr result (λ refusal. refusal ≡ Refusal.OutOfMemory) }
@@ -64,7 +65,8 @@ pub(crate) struct TeamEnd {
 /// The logs of all chunks of a loop: where all seats are back, no chunk was left out.
 pub(crate) fn all_logs(end: TeamEnd) -> Vec<ChunkLog>
     requires { AreBack end.drawing end.seats.items }
-    ensures { (l : LoweredLoop) (registers : List ℕ) (ks : List Kept) (pass : Pass) (chunks : List Chunk)
+    ensures { (l : LoweredLoop) (registers : List ℕ) (ks : List Kept) (pass : Pass)
+        (chunks : List Chunk)
         → AreDrawn l registers ks pass chunks end.drawing end.seats.items (joined end.logs.items)
         → AreAll l registers ks pass chunks (joined result.items) }
 {

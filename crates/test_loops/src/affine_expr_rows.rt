@@ -171,7 +171,7 @@ fn subscripts_have_places(rt: HostRuntime) {
 /// The first of some faults whose refusal has another number.
 fn first_other_fault(rows: &[(Fault, u8)]) -> Option<Fault> {
     for (fault, expected) in rows {
-        if fault.refusal().number() != *expected {
+        if Refusal::from(*fault).number() != *expected {
             return Some(*fault);
         }
     }

@@ -658,7 +658,7 @@ fn parallel_loops_come_in_the_order_of_the_text(rt: HostRuntime) {
 
 /// The number of the refusal that tells a fault.
 fn number(fault: DataFault) -> u8 {
-    fault.refusal().number()
+    Refusal::from(fault).number()
 }
 
 #[test]

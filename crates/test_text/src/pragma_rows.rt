@@ -320,7 +320,7 @@ fn a_directive_stands_in_no_parallel_loop(rt: HostRuntime) {
 /// no kernel.
 fn number_of(alloc: Global, text: &str) -> Option<u8> {
     match fault_of(alloc, text.as_bytes()) {
-        Some(Some(fault)) => Some(fault.refusal().number()),
+        Some(Some(fault)) => Some(Refusal::from(fault).number()),
         _ => None,
     }
 }
