@@ -32,7 +32,7 @@ sys.path.insert(0, os.path.join(TOP, "tools"))
 sys.dont_write_bytecode = True
 
 import kit
-from promises import HEAD, IMPL, read, rested_on
+from promises import HEAD, IMPL, as_laid_out, read, rested_on
 
 JOBS = ["--jobs", "1"]
 CONST = re.compile(r"\s*(?:pub(?:\([^)]*\))? )?const (\w+):")
@@ -279,8 +279,9 @@ class Tried:
         found = hashlib.sha256(read(f"{self.rt.KIT}/KIT-ID").partition(" ")[2].strip().encode())
         files = [it for part in PARTS for it in sorted(glob.glob(f"{crate.folder}/{part}/**/*.*", recursive=True))]
         own = {os.path.relpath(it, crate.folder): read(it) for it in files}
-        below = rested_on(own.values(), [(it.name, it.folder) for it in crate.below()])
-        for text in [*(f"{file}\n{text}\n" for file, text in own.items()), *below]:
+        below = rested_on(own, [(it.name, it.folder) for it in crate.below()])
+        laid_out = {file: as_laid_out(text) if file.endswith(".rt") else text for file, text in own.items()}
+        for text in [*(f"{file}\n{text}\n" for file, text in laid_out.items()), *below]:
             found.update(text.encode())
         return found.hexdigest()[:32]
 

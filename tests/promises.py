@@ -2,7 +2,7 @@
 
 A part is a function, type or trait of a source file with its contract, or a paragraph of a file of definitions. It counts for a crate where
 what counts already names its crate, or its file of definitions by the path, and the part itself; a method with its type, and an `impl` of
-a trait by the type alone. So a crate does not rest on what neither it nor anything that it rests on speaks of.
+a trait by the type and what the trait is given. So a crate does not rest on what neither it nor anything that it rests on speaks of.
 """
 import dataclasses
 import functools
@@ -19,35 +19,48 @@ REEXPORT = re.compile(r"(pub(\([^)]*\))? )?(use|mod) ")
 COMMENT = re.compile(r"(?m)^\s*(//|--).*\n?")
 DECLARED = re.compile(r"(?:(?:abbrev|pub|record|data|infix[lr]?|\d+) )*([^\s:(]*)")
 FIELD = re.compile(r" +(?:pub )?(\w\S*) :")
+ITEMS = re.compile(r"\b([a-z]\w*(?:::\w+)+|[a-z]\w*::)(?:\{([^}]*)\})?")
 IMPORTED = re.compile(r"(Rattle(?:\.[\w']+)+)(?:\.\{([^}]*)\})?")
 
 
 class Names:
-    """What texts name: words, words behind a dot or a double colon, paths with what is imported from there, and words of files of definitions."""
+    """What texts name: words; in source files words behind a dot or a double colon, and crates with what is named of them; paths of
+    definitions with what is imported from there; and the words that what counts of a crate, or of a file of definitions, has itself."""
 
     def __init__(self):
-        self.words, self.members, self.paths, self.inside = set(), set(), set(), {}
+        self.words, self.members, self.items, self.paths, self.inside = set(), set(), set(), set(), {}
 
-    def add(self, text, path=""):
+    def add(self, text, is_source, homes=()):
         plain = COMMENT.sub("", text)
         found = set(re.findall(r"\w+", plain))
         self.words |= found
-        self.members |= set(re.findall(r"(?:\.|::)(\w+)", plain))
+        if is_source:
+            self.members |= set(re.findall(r"(?:\.|::)(\w+)", IMPORT.sub("", plain)))
+            for path, names in ITEMS.findall(plain):
+                crate, *rest = [it for it in path.split("::") if it]
+                self.items |= {(crate, it) for it in [*rest, *re.findall(r"\w+", names)]}
         for base, names in IMPORTED.findall(plain):
             self.paths |= {f"{base}.{it.strip()}" for it in names.split(",")} if names else {base}
-        if path:
-            self.inside.setdefault(path, set()).update(found)
+            self.items |= {(base.split(".")[1], it) for it in [*base.split(".")[2:], *re.findall(r"\w+", names)]}
+        for home in homes:
+            self.inside.setdefault(home, set()).update(found)
+
+    def has(self, crate, word):
+        return (crate, word) in self.items or word in self.inside.get(crate, ())
 
 
 @dataclasses.dataclass(frozen=True)
 class Promise:
-    """A part of what a crate promises. Of a source file: the words that all have to be named before it counts, and the name of a method;
-    of a file of definitions its path, and the words of which one has to be named, any where there is none."""
+    """A part of what a crate promises. Of a source file: the words that all have to be named before it counts, those of the crate's own as
+    its own, and the name of a method; of a file of definitions its path, and the words of which one has to be named, any where there is
+    none."""
 
+    crate: str
     words: frozenset
     text: str
     method: str = ""
     path: str = ""
+    foreign: frozenset = frozenset()
 
     @functools.cached_property
     def said(self):
@@ -56,7 +69,8 @@ class Promise:
 
     def counts(self, names):
         if not self.path:
-            return self.words <= names.words and (not self.method or self.method in names.members)
+            is_named = all(names.has(self.crate, it) for it in self.words) and self.crate in names.words
+            return is_named and self.foreign <= names.words and (not self.method or self.method in names.members)
         if not self.words:
             return any(it.startswith(self.path) for it in names.paths)
         is_whole = self.path in names.paths and not self.words.isdisjoint(names.words)
@@ -134,7 +148,8 @@ def parts_of(rows):
         return [(set(), "", rows)]
     top = next((at for at, row in enumerate(rows) if row.endswith("{")), 0) + 1
     if impl["trait"] or top == len(rows):
-        return [({impl["type"]}, "", rows)]
+        given = re.findall(r"[A-Z]\w+", (impl["trait"] or "").partition("<")[2])
+        return [({impl["type"], *given}, "", rows)]
     parts = []
     for member in in_groups(rows[top:-1], "    "):
         name = next((it for it in map(NAMED.match, (row.strip() for row in member)) if it), None)
@@ -144,25 +159,25 @@ def parts_of(rows):
 
 
 def as_laid_out(text):
-    """A text of a source file without what its layout makes of it."""
-    return re.sub(r" ,(?= [)}\]>])", "", " ".join(re.findall(r"\w+|[^\w\s]", text)))
+    """A text of a source file without its comments and what its layout makes of it, its imports in front, each once."""
+    plain = COMMENT.sub("", text)
+    imports = sorted({it[0].strip() for it in IMPORT.finditer(plain)})
+    rest = re.findall(r"\w+|[^\w\s]", IMPORT.sub("", plain))
+    return "\n".join([*imports, re.sub(r" ,(?= [)}\]>])", "", " ".join(rest))])
 
 
-def source_promises(name, text):
-    """The promises of a source file of a crate of this name, each with the imports that it names."""
+def source_parts(text):
+    """The parts of a source file, each with its words, the method that it is, and the text with the imports that it names."""
     groups = in_groups(promises(text).split("\n"), "")
     imports = "".join(f"{row}\n" for group in groups for row in group if IMPORT.match(f"{row}\n") and not row.startswith(("pub", " ")))
-    found = []
     for group in groups:
         if REEXPORT.match(group[0]) or group[0].startswith("ghost use ") or not any(group):
             continue
         for words, method, rows in parts_of(group):
-            whole = with_named_imports(imports + "\n".join(rows))
-            found.append(Promise(frozenset({name, *words}), whole, method))
-    return found
+            yield words, method, with_named_imports(imports + "\n".join(rows))
 
 
-def definitions(path, text):
+def definitions(crate, path, text):
     """The paragraphs of a file of definitions, each with the imports that it names."""
     rows = [row for row in text.split("\n") if not COMMENT.match(row)]
     imports = "".join(f"{row};\n" for row in rows if row.startswith("use "))
@@ -172,35 +187,36 @@ def definitions(path, text):
         declared = {it[1] for it in heads if it}
         words = frozenset(declared) if all(re.match(r"\w", it) for it in declared) else frozenset()
         if declared:
-            found.append(Promise(words, with_named_imports(imports + paragraph.strip("\n")), path=path))
+            found.append(Promise(crate, words, with_named_imports(imports + paragraph.strip("\n")), path=path))
     return found
 
 
 @functools.lru_cache(maxsize=None)
 def promises_of(name, folder):
     """All promises of a crate."""
-    found = []
-    for file in sorted(glob.glob(f"{folder}/src/**/*.rt", recursive=True)):
-        found += source_promises(name, read(file))
+    files = sorted(glob.glob(f"{folder}/src/**/*.rt", recursive=True))
+    parts = [it for file in files for it in source_parts(read(file))]
+    own = {it for words, method, text in parts if not method and "\nimpl" not in f"\n{text}" for it in words}
+    found = [Promise(name, frozenset(words & own), text, method, foreign=frozenset(words - own)) for words, method, text in parts]
     for file in sorted(glob.glob(f"{folder}/specs/**/*.antt", recursive=True)):
         path = os.path.relpath(file, f"{folder}/specs").removesuffix(".antt").replace("/", ".")
-        found += definitions(f"Rattle.{name}.specs.{path}", read(file))
+        found += definitions(name, f"Rattle.{name}.specs.{path}", read(file))
     return found
 
 
 def rested_on(own, below):
-    """What a crate with these texts rests on of the crates of these names and folders, in an order of its own."""
+    """What a crate with these texts of its files rests on of the crates of these names and folders, in an order of its own."""
     names, taken = Names(), []
-    for text in own:
-        names.add(text)
+    for file, text in own.items():
+        names.add(text, file.endswith((".rt", ".edit")))
     left = [it for name, folder in below for it in promises_of(name, folder)]
     while True:
         more, others = [], []
         for it in left:
             (more if it.counts(names) else others).append(it)
         if not more:
-            return sorted(f"{it.path} {' '.join(sorted(it.words))} {it.method}\n{it.said}\n" for it in taken)
+            return sorted(f"{it.path or it.crate} {' '.join(sorted(it.words | it.foreign))} {it.method}\n{it.said}\n" for it in taken)
         for it in more:
-            names.add(it.text, it.path)
+            names.add(it.text, not it.path, [it.path] if it.path else [it.crate])
         left = others
         taken += more
