@@ -85,7 +85,7 @@ impl<J: Drop, K: Default + Drop> Crew<J, K> {
 }
 
 /// How many others are asked to take part in a job: those at the first places.
-fn asked<T, K: Default + Drop, J: Job<T, K> + Drop>(crew: &Crew<J, K>, job: &J) -> usize {
+fn others_for<T, K: Default + Drop, J: Job<T, K> + Drop>(crew: &Crew<J, K>, job: &J) -> usize {
     let wanted = job.parts().saturating_sub(1);
     crew.others().min(wanted) as usize
 }
@@ -100,7 +100,7 @@ pub(crate) fn work_at<T, K: Default + Drop, J: Job<T, K> + Drop>(
 ) {
     let part = Part {
         number: (place as u64).saturating_add(1),
-        of: (asked(crew, job) as u64).saturating_add(1),
+        of: (others_for(crew, job) as u64).saturating_add(1),
     };
     job.work(part, tools, kept);
 }
@@ -161,7 +161,7 @@ fn lead<R: Wait, T, K: Default + Drop, J: Job<T, K> + Drop>(
     kept: &mut K,
     job: &J,
 ) {
-    let asked = asked(crew, job);
+    let asked = others_for(crew, job);
     let of = (asked as u64).saturating_add(1);
     job.work(Part { number: 0, of }, tools, kept);
     for place in 0..asked {
@@ -183,7 +183,7 @@ pub fn lend<R: Wait, T, K: Default + Drop, J: Job<T, K> + Drop>(
     ensures { result ≡ job }
 {
     let mut kept = crew.kept.lock(rt);
-    let asked = asked(crew, &job);
+    let asked = others_for(crew, &job);
     if asked == 0 {
         lead(rt, crew, tools, &mut kept, &job);
         return job;

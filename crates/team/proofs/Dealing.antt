@@ -43,6 +43,11 @@ past_end [] i e = omega arith
 past_end (x ∷ xs) zero e = absurd (cc e)
 past_end (x ∷ xs) (suc i) e = let r = past_end xs i e in omega arith
 
+-- where none stands first, there is none
+pub none_own : (xs : List ℕ) → slice_get xs 0 ≡ None → xs ≡ []
+none_own [] e = refl
+none_own (x ∷ xs) e = absurd (cc e)
+
 module _ (l : LoweredLoop) (registers : List ℕ) (ks : List Kept) (pass : Pass) (chunks : List Chunk) where
   -- one worker more
   pub dealt_more : (own : ℕ → List ℕ) (n m : ℕ) (was more after : Account) → m ≡ suc n → after ≡ both was more
