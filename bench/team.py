@@ -1,17 +1,19 @@
 #!/usr/bin/env python3
 """Times teams: parallel loops by `ompk run` with 1, 2 and 4 workers, beside the same loops by one thread and by `gcc -O2 -fopenmp`.
 
-    python3 bench/team.py [PROGRAM]     the program as it is proved here, or another one
+    python3 bench/team.py [PROGRAM [PART..]]     the program as it is proved here, or another one; all parts, or these: `whole`, `alone`, `ones`,
+                                                 `turns` and `waves`
 
 A line for each kernel: seconds from start to end (the median of five rounds, in each of which all programs run in turn), of its parallel
 loops by so many workers, of the same text without its directive lines, and of gcc with as many threads. Then a line for each with its loops
 alone, in milliseconds: the kernel's body many times and once, and the difference by how often more, so that starting and writing count for
 nothing (the median of three rounds). Then chunks of one iteration: nanoseconds for each, and bytes of memory for each beside the store, of a
 million chunks and of 2^24. Then a loop of 8 iterations inside 10,000 turns of a serial loop: microseconds a turn, also by more workers than
-there are processors. Every program has to print the same. The machine should be idle. The status is 1 where a target is missed. Of the loops
+there are processors. Then 100,000 waves of one, two and four iterations with a loop in each: microseconds that a wave takes beside its work,
+which is what one thread takes for the text without its directive lines. Every program has to print the same. The machine should be idle. The status is 1 where a target is missed. Of the loops
 alone: by one worker at most 1.5 times the time of the text without directive lines, of a scan 2.2 times; of a doacross nest of light iterations at
 most the time of gcc; on four processors at least 2.5 times the speed by 4 workers of a hash and a product, and a scan faster by 4 than by one. A chunk of one
-iteration below 500 ns, and at most 64 bytes for it beside the 16 of its write; and on four processors at most 3 us a turn by 4.
+iteration below 500 ns, and at most 64 bytes for it beside the 16 of its write; and on four processors at most 3 us a turn by 4, and 2 us a wave.
 """
 import os
 import pathlib
@@ -34,6 +36,9 @@ SLOWER = 1.5
 SCAN_SLOWER = 2.2
 ALONE_ROUNDS = 3
 TURN = 3
+WAVE = 2
+WAVES = 100000
+PARTS = ("whole", "alone", "ones", "turns", "waves")
 
 HASH = """uint64_t A[1000000];
 
@@ -200,6 +205,27 @@ void kernel(void)
 }
 """
 
+# waves of so many iterations, one for each row but the first
+IN_WAVES = """uint64_t A[ROWS][WIDTH];
+
+void kernel(void)
+{
+    #pragma omp parallel for ordered(2) schedule(static)
+    for (uint64_t i = 1; i < ROWS; i++) {
+        for (uint64_t j = 0; j < WIDTH; j++) {
+            #pragma omp ordered doacross(sink: i-1, j)
+            uint64_t x = A[i-1][j] + i;
+            for (uint64_t r = j; r < j + 2; r++) {
+                x ^= x << 13;
+                x ^= x >> 7;
+            }
+            A[i][j] = x;
+            #pragma omp ordered doacross(source:)
+        }
+    }
+}
+"""
+
 
 def reduced(operator, update):
     """A kernel that reduces 16 million elements by an operator."""
@@ -344,30 +370,58 @@ def chunks_of_one(runner, count):
     return missed
 
 
-def main(program):
+def turns_of_a_loop(runner):
+    """Times a short loop inside a serial one, by more and more workers; gives the target that it misses."""
+    missed = []
+    turns = runner.source("turns", TURNS)
+    once = runner.source("once", TURNS.replace("t < 10000", "t < 1"))
+    for workers in (*TEAMS, 16, 64):
+        took = statistics.median(runner.by_team(turns, workers)[0] - runner.by_team(once, workers)[0] for _round in range(ROUNDS))
+        each = took * 1e6 / 9999
+        print(f"8 iterations inside a turn, {workers} workers: {each:.1f} us a turn", flush=True)
+        if workers == 4 <= os.cpu_count() and each > TURN:
+            missed.append(f"a turn, 4 workers: {each:.1f} us")
+    return missed
+
+
+def small_waves(runner):
+    """Times waves of few iterations; gives the targets that they miss."""
+    missed = []
+    for width in (1, 2, 4):
+        text = IN_WAVES.replace("ROWS", str(WAVES + 1)).replace("WIDTH", str(width))
+        waves, serial = runner.source("waves", text), runner.source("waves_serial", re.sub(r" *#pragma.*\n", "", text))
+        for workers in TEAMS[1:]:
+            took = [runner.by_team(waves, workers)[0] - runner.by_team(serial, 1)[0] for _round in range(ROUNDS)]
+            each, least = statistics.median(took) * 1e6 / WAVES, min(took) * 1e6 / WAVES
+            print(f"waves of {width}, {workers} workers: {each:.2f} us each, {least:.2f} at best", flush=True)
+            if workers <= os.cpu_count() and each > WAVE:
+                missed.append(f"a wave of {width}, {workers} workers: {each:.2f} us")
+    return missed
+
+
+def main(program, parts):
     missed = []
     with tempfile.TemporaryDirectory() as name:
         runner = Runner(program, pathlib.Path(name))
         columns = "".join(f"{it:>11}" for it in [*(f"{w} workers" for w in TEAMS), "serial", *(f"gcc {w}" for w in TEAMS)])
-        print(f"{'seconds':10}{columns}")
-        for kernel, text in KERNELS.items():
-            found = medians(runner, kernel, text)
-            print(f"{kernel:10}" + "".join(f"{it:11.3f}" for it in found.values()), flush=True)
-        print(f"{'ms alone':10}{columns}")
-        for kernel, text in KERNELS.items():
-            found = alone(runner, kernel, text)
-            print(f"{kernel:10}" + "".join(f"{1e3 * it:11.1f}" for it in found.values()), flush=True)
-            missed += misses(kernel, text, found)
-        for count in (1000000, 1 << 24):
-            missed += chunks_of_one(runner, count)
-        turns = runner.source("turns", TURNS)
-        once = runner.source("once", TURNS.replace("t < 10000", "t < 1"))
-        for workers in (*TEAMS, 16, 64):
-            took = statistics.median(runner.by_team(turns, workers)[0] - runner.by_team(once, workers)[0] for _round in range(ROUNDS))
-            each = took * 1e6 / 9999
-            print(f"8 iterations inside a turn, {workers} workers: {each:.1f} us a turn", flush=True)
-            if workers == 4 <= os.cpu_count() and each > TURN:
-                missed.append(f"a turn, 4 workers: {each:.1f} us")
+        if "whole" in parts:
+            print(f"{'seconds':10}{columns}")
+            for kernel, text in KERNELS.items():
+                found = medians(runner, kernel, text)
+                print(f"{kernel:10}" + "".join(f"{it:11.3f}" for it in found.values()), flush=True)
+        if "alone" in parts:
+            print(f"{'ms alone':10}{columns}")
+            for kernel, text in KERNELS.items():
+                found = alone(runner, kernel, text)
+                print(f"{kernel:10}" + "".join(f"{1e3 * it:11.1f}" for it in found.values()), flush=True)
+                missed += misses(kernel, text, found)
+        if "ones" in parts:
+            for count in (1000000, 1 << 24):
+                missed += chunks_of_one(runner, count)
+        if "turns" in parts:
+            missed += turns_of_a_loop(runner)
+        if "waves" in parts:
+            missed += small_waves(runner)
     for it in missed:
         print(f"missed: {it}")
     return 1 if missed else 0
@@ -375,4 +429,7 @@ def main(program):
 
 if __name__ == "__main__":
     resource.setrlimit(resource.RLIMIT_CORE, (0, 0))
-    sys.exit(main(pathlib.Path(sys.argv[1]) if len(sys.argv) > 1 else PROGRAM))
+    words = sys.argv[2:] or PARTS
+    if not set(words) <= set(PARTS):
+        sys.exit(__doc__)
+    sys.exit(main(pathlib.Path(sys.argv[1]) if len(sys.argv) > 1 else PROGRAM, words))
