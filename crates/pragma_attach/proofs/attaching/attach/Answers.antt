@@ -40,7 +40,7 @@ returns-in-None-clause-clauses c =
 pub returns-in-Some-clause-err : goal.returns-in-Some-clause-err
 returns-in-Some-clause-err c =
     inr (
-      (c.in-Some.fault, c.refusal.ensures),
+      (c.in-Some.fault, c.from.ensures),
       not_right c.args.directives.now (kernel_of c.args.kernel.now) c.kernel_names-names.new.table c.in-Ok.ensures.ok (is_none c.placing_fault-placing.result) (is_none c.in_ok-naming.naming)
           (sym (ap is_none c.in-Some.is) ∙ c.first_fault-fault.ensures) c.placing_fault-placing.ensures c.in_ok-naming.ensures,
     )
