@@ -1,5 +1,6 @@
 use Rattle.std.specs.Prelude.{[], ◌∷◌, ◌++◌, codes}
-use Rattle.ompk_message.specs.Message.{head_text, start_parts, words_of, detail_parts}
+use Rattle.ktree.specs.Words.{words_of}
+use Rattle.ompk_message.specs.Message.{head_text, start_parts, detail_parts}
 use Rattle.ktree.specs.Numbers.{number_of}
 use Rattle.ktree.specs.Places.{place_of}
 use Rattle.ompk_message.proofs.Parts.{front_begun, rest_begun, both_put_ok}

@@ -1,5 +1,6 @@
 use Rattle.std.specs.Prelude.{[], ◌∷◌, ◌++◌, codes}
-use Rattle.ompk_message.specs.Message.{words_of, detail_parts}
+use Rattle.ktree.specs.Words.{words_of}
+use Rattle.ompk_message.specs.Message.{detail_parts}
 use Rattle.ompk_message.proofs.Parts.{front_begun, rest_begun, both_put_ok}
 use Rattle.ompk_message.proofs.telling.tell_words.Goals as goal
 
