@@ -68,9 +68,11 @@ fn is_idle(job: Job, workers: Workers, worker: u64, size: Option<u64>) -> bool
     requires worker { worker < workers }
     ensures { result ≡ true → own_numbers size (length job.entry.chunks.now) workers worker ≡ [] }
 {
-    static_init(job.pass.count(job.space), workers, worker, size)
-        .number(0)
-        .is_none()
+    let part = static_init(job.pass.count(job.space), workers, worker, size);
+    match part.number(0) {
+        None => true,
+        Some(_first) => false,
+    }
 }
 
 /// Runs a worker's own chunks, in their order, and enters them in a log: those of `static, k` for `Some(k)`, else those of plain `static`.
