@@ -243,9 +243,9 @@ def try_crate(rt, crate, files, was_proved):
         if not was_proved and not is_proved(rt, crate, edits, kept):
             shown, tried = [], [(it, *rt.must_fail(crate, it.file, JOBS)) for it in edits]
             checks += len(edits)
-    failed += [text for _, refused, text in tried if not refused]
-    for edit, refused, text in tried:
-        if refused and NAMES_ALONE in text:
+    failed += [text for _, status, text in tried if status not in (rt.REFUSED, rt.AT_LIMIT)]
+    for edit, status, text in tried:
+        if status == rt.REFUSED and NAMES_ALONE in text:
             print(f"edits of {crate.name}: {edit.name} is refused for a name alone, which says little of the contract", flush=True)
     return failed, len(shown), checks
 
