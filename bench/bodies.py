@@ -320,7 +320,219 @@ for t in range(ROUNDS):
         s = (s + A[i] * A[i]) & M
 """,
 )
-KERNELS = [MAP, product("ijk"), product("ikj"), XORSHIFT, COLLATZ, PREFIX, STENCIL, FNV, SQUARES]
+TRIAD = Kernel(
+    "triad", ["A", "B", "C"], 65536, 96, 32, (3, 1),
+    """uint64_t A[65536];
+uint64_t B[65536];
+uint64_t C[65536];
+void kernel(void)
+{
+    for (uint64_t i = 0; i < 65536; i++) { B[i] = i * 7 + 1; C[i] = i * 13 + 5; }
+    for (uint64_t t = 0; t < ROUNDS; t++) {
+        for (uint64_t i = 0; i < 65536; i++) { A[i] = B[i] + C[i] * (t + 3); }
+    }
+}
+""",
+    """local A, B, C = {}, {}, {}
+for i = 0, 65535 do A[i] = 0; B[i] = i * 7 + 1; C[i] = i * 13 + 5 end
+for t = 0, ROUNDS - 1 do
+    for i = 0, 65535 do A[i] = B[i] + C[i] * (t + 3) end
+end
+""",
+    """A = [0] * 65536
+B = [i * 7 + 1 for i in range(65536)]
+C = [i * 13 + 5 for i in range(65536)]
+for t in range(ROUNDS):
+    for i in range(65536):
+        A[i] = (B[i] + C[i] * (t + 3)) & M
+""",
+)
+QUOTIENT = Kernel(
+    "stencil / 5", ["A", "B"], 2 * 510 * 510, 12, 4, (2, 1),
+    """uint64_t A[512][512];
+uint64_t B[512][512];
+void kernel(void)
+{
+    for (uint64_t i = 0; i < 512; i++) {
+        for (uint64_t j = 0; j < 512; j++) { A[i][j] = i * 7000 + j * 91; }
+    }
+    for (uint64_t t = 0; t < ROUNDS; t++) {
+        for (uint64_t i = 1; i < 511; i++) {
+            for (uint64_t j = 1; j < 511; j++) { B[i][j] = (A[i][j] + A[i - 1][j] + A[i + 1][j] + A[i][j - 1] + A[i][j + 1]) / 5; }
+        }
+        for (uint64_t i = 1; i < 511; i++) {
+            for (uint64_t j = 1; j < 511; j++) { A[i][j] = (B[i][j] + B[i - 1][j] + B[i + 1][j] + B[i][j - 1] + B[i][j + 1]) / 5; }
+        }
+    }
+}
+""",
+    """local A, B = {}, {}
+for i = 0, 511 do A[i], B[i] = {}, {} for j = 0, 511 do A[i][j] = i * 7000 + j * 91; B[i][j] = 0 end end
+for t = 1, ROUNDS do
+    for i = 1, 510 do
+        for j = 1, 510 do B[i][j] = (A[i][j] + A[i - 1][j] + A[i + 1][j] + A[i][j - 1] + A[i][j + 1]) // 5 end
+    end
+    for i = 1, 510 do
+        for j = 1, 510 do A[i][j] = (B[i][j] + B[i - 1][j] + B[i + 1][j] + B[i][j - 1] + B[i][j + 1]) // 5 end
+    end
+end
+""",
+    """A = [[i * 7000 + j * 91 for j in range(512)] for i in range(512)]
+B = [[0] * 512 for _ in range(512)]
+for t in range(ROUNDS):
+    for i in range(1, 511):
+        for j in range(1, 511):
+            B[i][j] = (A[i][j] + A[i - 1][j] + A[i + 1][j] + A[i][j - 1] + A[i][j + 1]) // 5
+    for i in range(1, 511):
+        for j in range(1, 511):
+            A[i][j] = (B[i][j] + B[i - 1][j] + B[i + 1][j] + B[i][j - 1] + B[i][j + 1]) // 5
+""",
+)
+TRIANGLE = Kernel(
+    "triangle", ["A", "B", "C"], 255 * 256 * 257 // 6, 3, 1, (1, 0),
+    """uint64_t A[256][256];
+uint64_t B[256][256];
+uint64_t C[256][256];
+void kernel(void)
+{
+    for (uint64_t i = 0; i < 256; i++) {
+        for (uint64_t j = 0; j < 256; j++) { A[i][j] = i + j; B[i][j] = 3 * i + j; }
+    }
+    for (uint64_t t = 0; t < ROUNDS; t++) {
+        for (uint64_t i = 0; i < 256; i++) {
+            for (uint64_t j = 0; j < i; j++) {
+                uint64_t s = 0;
+                for (uint64_t k = j; k < i; k++) { s += A[i][k] * B[j][k]; }
+                C[i][j] = s;
+            }
+        }
+    }
+}
+""",
+    """local A, B, C = {}, {}, {}
+for i = 0, 255 do
+    A[i], B[i], C[i] = {}, {}, {}
+    for j = 0, 255 do A[i][j] = i + j; B[i][j] = 3 * i + j; C[i][j] = 0 end
+end
+for t = 1, ROUNDS do
+    for i = 0, 255 do
+        for j = 0, i - 1 do
+            local s = 0
+            for k = j, i - 1 do s = s + A[i][k] * B[j][k] end
+            C[i][j] = s
+        end
+    end
+end
+""",
+    """A = [[i + j for j in range(256)] for i in range(256)]
+B = [[3 * i + j for j in range(256)] for i in range(256)]
+C = [[0] * 256 for _ in range(256)]
+for t in range(ROUNDS):
+    for i in range(256):
+        for j in range(i):
+            s = 0
+            for k in range(j, i):
+                s += A[i][k] * B[j][k]
+            C[i][j] = s & M
+""",
+)
+FOLDS = Kernel(
+    "three folds", ["A", "s", "low", "high"], 3 * 65536, 48, 16, (3, 1),
+    """uint64_t A[65536];
+uint64_t s;
+uint64_t low;
+uint64_t high;
+void kernel(void)
+{
+    for (uint64_t i = 0; i < 65536; i++) { A[i] = (i * 6364136223846793005ull + 1442695040888963407ull) >> 1; A[i] ^= A[i] >> 31; }
+    low = A[0];
+    for (uint64_t t = 0; t < ROUNDS; t++) {
+        A[t] += s;
+        for (uint64_t i = 0; i < 65536; i++) {
+            s += A[i];
+            if (A[i] < low) low = A[i];
+            if (A[i] > high) high = A[i];
+        }
+    }
+}
+""",
+    """local A = {}
+for i = 0, 65535 do A[i] = (i * 6364136223846793005 + 1442695040888963407) >> 1; A[i] = A[i] ~ (A[i] >> 31) end
+local s, low, high = 0, A[0], 0
+local ult = math.ult
+for t = 0, ROUNDS - 1 do
+    A[t] = A[t] + s
+    for i = 0, 65535 do
+        local v = A[i]
+        s = s + v
+        if ult(v, low) then low = v end
+        if ult(high, v) then high = v end
+    end
+end
+""",
+    """A = [((i * 6364136223846793005 + 1442695040888963407) & M) >> 1 for i in range(65536)]
+A = [v ^ v >> 31 for v in A]
+s, low, high = 0, A[0], 0
+for t in range(ROUNDS):
+    A[t] = (A[t] + s) & M
+    for i in range(65536):
+        v = A[i]
+        s = (s + v) & M
+        if v < low:
+            low = v
+        if v > high:
+            high = v
+""",
+)
+DISTANCE = Kernel(
+    "distance", ["S", "T", "D"], 1000 * 1000, 6, 2, (1, 0),
+    """uint64_t S[1001];
+uint64_t T[1001];
+uint64_t D[1001][1001];
+void kernel(void)
+{
+    for (uint64_t i = 0; i < 1001; i++) { S[i] = i * 7 % 4; T[i] = i * 5 % 4; D[i][0] = i; D[0][i] = i; }
+    for (uint64_t t = 0; t < ROUNDS; t++) {
+        for (uint64_t i = 1; i < 1001; i++) {
+            for (uint64_t j = 1; j < 1001; j++) {
+                uint64_t best = D[i - 1][j - 1] + (S[i] != T[j] ? 1 : 0);
+                if (D[i - 1][j] + 1 < best) best = D[i - 1][j] + 1;
+                if (D[i][j - 1] + 1 < best) best = D[i][j - 1] + 1;
+                D[i][j] = best;
+            }
+        }
+    }
+}
+""",
+    """local S, T, D = {}, {}, {}
+for i = 0, 1000 do S[i] = i * 7 % 4; T[i] = i * 5 % 4; D[i] = {} for j = 0, 1000 do D[i][j] = 0 end end
+for i = 0, 1000 do D[i][0] = i; D[0][i] = i end
+for t = 1, ROUNDS do
+    for i = 1, 1000 do
+        for j = 1, 1000 do
+            local best = D[i - 1][j - 1] + (S[i] ~= T[j] and 1 or 0)
+            if D[i - 1][j] + 1 < best then best = D[i - 1][j] + 1 end
+            if D[i][j - 1] + 1 < best then best = D[i][j - 1] + 1 end
+            D[i][j] = best
+        end
+    end
+end
+""",
+    """S = [i * 7 % 4 for i in range(1001)]
+T = [i * 5 % 4 for i in range(1001)]
+D = [[0] * 1001 for _ in range(1001)]
+for i in range(1001):
+    D[i][0] = i
+    D[0][i] = i
+for t in range(ROUNDS):
+    for i in range(1, 1001):
+        for j in range(1, 1001):
+            D[i][j] = min(D[i - 1][j - 1] + (S[i] != T[j]), D[i - 1][j] + 1, D[i][j - 1] + 1)
+""",
+)
+KERNELS = [
+    MAP, TRIAD, product("ijk"), product("ikj"), XORSHIFT, COLLATZ, PREFIX, STENCIL, QUOTIENT, TRIANGLE, FNV, SQUARES, FOLDS, DISTANCE,
+]
 
 
 def timed(words):

@@ -3,8 +3,6 @@ pub mod Swap
 pub mod Order
 pub mod Turning
 pub mod Lanes
-pub mod Chains
-pub mod Last
-pub mod Waiting
+pub mod Folds
 pub mod Rows
 pub mod Laws

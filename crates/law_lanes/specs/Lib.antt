@@ -1,4 +1,4 @@
 pub mod Reading
 pub mod Lanes
-pub mod Chains
+pub mod Folds
 pub mod Rows

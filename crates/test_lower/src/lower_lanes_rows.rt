@@ -561,3 +561,73 @@ fn cells_of_other_places_run(rt: HostRuntime) {
     ];
     assert_eq!(rt; first_wrong(rt.alloc(), ROWS), 0);
 }
+
+/// Sums, products and the like in a local, of all lengths, over rows, steps and what the turn wrote before; several folds into scalars; folds that
+/// are none, since another instruction reads what they leave; and loops up to a number and with it.
+#[test]
+fn folds_run(rt: HostRuntime) {
+    const ROWS: &[(&str, u64)] = &[
+        (
+            "for (uint64_t t = 0; t < 40; t++) { uint64_t x = t; for (uint64_t i = t; i < 20 * t; i++) { x += A[i] * B[i + t]; } M[t][t] = x; }",
+            15467944492179265470,
+        ),
+        (
+            "for (uint64_t t = 0; t < 60; t++) { uint64_t x = t; uint64_t y = 1; uint64_t z = 5; for (uint64_t i = 0; i < 290 + t; i++) { x -= A[i]; } for (uint64_t i = t; i < 300; i++) { y *= A[i] | 1; } for (uint64_t i = 0; i < 9 * t; i++) { z ^= B[i] >> 1; } N[t][0] = x; N[t][1] = y; N[t][2] = z; }",
+            2065764249545343993,
+        ),
+        (
+            "uint64_t x = 0; uint64_t y = 18446744073709551615ull; for (uint64_t i = 3; i < 6000; i++) { x += A[3 * i]; } for (uint64_t i = 0; i < 777; i++) { y &= A[i] | B[i]; } s = x ^ y; for (uint64_t i = 0; i < 17; i++) { x |= B[i]; } B[5] = x;",
+            2581150790043750472,
+        ),
+        (
+            "uint64_t y = 3; uint64_t x = 1; for (uint64_t i = 0; i < 1000; i++) { x += y * i; } for (uint64_t i = 0; i < 1000; i++) { x ^= y << 5; y = y + 0; } for (uint64_t i = 0; i < 513; i += 2) { x += i; } s = x;",
+            16163195237331062981,
+        ),
+        (
+            "uint64_t x = 0; for (uint64_t i = 0; i < 19000; i++) { A[i] = B[i] * 2; x += A[i]; } for (uint64_t i = 0; i < 600; i++) { x += B[i]; M[1][1] = x; A[i] = x; } s = x;",
+            8635702110116114137,
+        ),
+        (
+            "for (uint64_t i = 0; i < 20000; i++) { s += A[i]; if (A[i] < M[0][0]) M[0][0] = A[i]; if (A[i] > N[3][4]) N[3][4] = A[i]; }",
+            9189539145742976373,
+        ),
+        (
+            "uint64_t x = 2; for (uint64_t i = 0; i < 300; i++) { x = x * 3; } for (uint64_t i = 0; i < 300; i++) { x = A[i] - x; } for (uint64_t i = 0; i < 300; i++) { x = x - (x ^ A[i]); } for (uint64_t i = 0; i < 300; i++) { x += x; } s = x;",
+            16163195237329498688,
+        ),
+        (
+            "for (uint64_t i = 0; i <= 19999; i++) { A[i] = A[i] * 5 + i; } for (uint64_t i = 20000; i <= 3; i++) { A[0] = 1; } for (uint64_t i = 7; i <= 7; i++) { B[i] += A[i]; } uint64_t x = 1; for (uint64_t i = 5; i <= 900; i += 3) { x += A[i] * B[i]; } s = x;",
+            14926460467254808150,
+        ),
+    ];
+    assert_eq!(rt; first_wrong(rt.alloc(), ROWS), 0);
+}
+
+/// Locals that take the less or the greater of themselves and of the cell of a turn before, with a number more or without, and are then saved and
+/// read; cells of the same turn and of later ones; and turns that read what later ones write.
+#[test]
+fn cells_are_handed_on_by_a_local(rt: HostRuntime) {
+    const ROWS: &[(&str, u64)] = &[
+        (
+            "for (uint64_t i = 1; i < 60; i++) { for (uint64_t j = 1; j < 70; j++) { uint64_t best = M[i - 1][j - 1] + (A[i] % 4 != B[j] % 4 ? 1 : 0); if (M[i - 1][j] + 1 < best) best = M[i - 1][j] + 1; if (M[i][j - 1] + 1 < best) best = M[i][j - 1] + 1; M[i][j] = best; } }",
+            3419308972537883022,
+        ),
+        (
+            "for (uint64_t i = 1; i < 60; i++) { for (uint64_t j = 1; j < 70; j++) { uint64_t best = N[i - 1][j - 1] + (A[i] % 4 == B[j] % 4 ? 1 : 0); if (N[i - 1][j] > best) best = N[i - 1][j]; if (N[i][j - 1] > best) best = N[i][j - 1]; N[i][j] = best; } }",
+            15686373867832442360,
+        ),
+        (
+            "uint64_t best = 0; for (uint64_t i = 1; i < 20000; i++) { best = B[i] % 1000; if (best >= 3 + A[i - 1]) { best = 3 + A[i - 1]; } A[i] = best; } s = best; for (uint64_t i = 2; i < 20000; i++) { best = A[i] ^ 85; if (B[i - 2] + 5 <= best) best = B[i - 2] + 5; B[i] = best; A[i] = best + 1; } M[2][3] = best;",
+            16202754349249093408,
+        ),
+        (
+            "for (uint64_t i = 1; i < 3000; i++) { uint64_t best = A[i] >> 9; if (A[i - 1] + 18446744073709551609ull > best) best = A[i - 1] + 18446744073709551609ull; A[i] = best; } for (uint64_t i = 0; i < 3000; i++) { uint64_t best = B[i] % 512; if (B[i + 1] + 2 < best) best = B[i + 1] + 2; B[i] = best; } for (uint64_t i = 0; i < 3000; i++) { uint64_t best = B[i] % 64; if (B[i] + 2 < best) best = B[i] + 2; B[i] = best; }",
+            6414756355009895720,
+        ),
+        (
+            "for (uint64_t i = 0; i < 19999; i++) { A[i] = A[i + 1] ^ B[i]; } for (uint64_t i = 0; i < 19000; i++) { B[i] = B[i + 300] + i; } for (uint64_t i = 40; i < 9000; i++) { B[i] = B[2 * i] + B[i - 40]; }",
+            15727836407511947446,
+        ),
+    ];
+    assert_eq!(rt; first_wrong(rt.alloc(), ROWS), 0);
+}
