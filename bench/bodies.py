@@ -436,6 +436,53 @@ for t in range(ROUNDS):
             C[i][j] = s & M
 """,
 )
+LOWER = Kernel(
+    "lower triangle", ["A", "C"], 256 * 257 * 258 // 6, 3, 1, (1, 0),
+    """enum { N = 256 };
+uint64_t A[N][N];
+uint64_t C[N][N];
+void kernel(void)
+{
+    for (uint64_t i = 0; i <= N - 1; i++) {
+        for (uint64_t j = 0; j <= N - 1; j++) { A[i][j] = 3 * i + j; }
+    }
+    for (uint64_t t = 0; t < ROUNDS; t++) {
+        for (uint64_t i = 0; i < N; i++) {
+            for (uint64_t j = 0; j <= i; j++) {
+                uint64_t s = 0;
+                for (uint64_t k = 0; k <= j; k++) { s += A[i][k] * A[j][k]; }
+                C[i][j] = s;
+            }
+        }
+    }
+}
+""",
+    """local A, C = {}, {}
+for i = 0, 255 do
+    A[i], C[i] = {}, {}
+    for j = 0, 255 do A[i][j] = 3 * i + j; C[i][j] = 0 end
+end
+for t = 1, ROUNDS do
+    for i = 0, 255 do
+        for j = 0, i do
+            local s = 0
+            for k = 0, j do s = s + A[i][k] * A[j][k] end
+            C[i][j] = s
+        end
+    end
+end
+""",
+    """A = [[3 * i + j for j in range(256)] for i in range(256)]
+C = [[0] * 256 for _ in range(256)]
+for t in range(ROUNDS):
+    for i in range(256):
+        for j in range(i + 1):
+            s = 0
+            for k in range(j + 1):
+                s += A[i][k] * A[j][k]
+            C[i][j] = s & M
+""",
+)
 FOLDS = Kernel(
     "three folds", ["A", "s", "low", "high"], 3 * 65536, 48, 16, (3, 1),
     """uint64_t A[65536];
@@ -531,7 +578,7 @@ for t in range(ROUNDS):
 """,
 )
 KERNELS = [
-    MAP, TRIAD, product("ijk"), product("ikj"), XORSHIFT, COLLATZ, PREFIX, STENCIL, QUOTIENT, TRIANGLE, FNV, SQUARES, FOLDS, DISTANCE,
+    MAP, TRIAD, product("ijk"), product("ikj"), XORSHIFT, COLLATZ, PREFIX, STENCIL, QUOTIENT, TRIANGLE, LOWER, FNV, SQUARES, FOLDS, DISTANCE,
 ]
 
 

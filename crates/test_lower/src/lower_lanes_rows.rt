@@ -631,3 +631,36 @@ fn cells_are_handed_on_by_a_local(rt: HostRuntime) {
     ];
     assert_eq!(rt; first_wrong(rt.alloc(), ROWS), 0);
 }
+
+/// Loops whose end is computed: from outer variables, constants and locals, below it and up to it, with the variable on either side; ends at the
+/// greatest number, and ends that a turn changes.
+#[test]
+fn ends_that_are_computed_run(rt: HostRuntime) {
+    const ROWS: &[(&str, u64)] = &[
+        (
+            "for (uint64_t i = 0; i < 60; i++) { for (uint64_t j = 0; j <= i; j++) { M[i][j] += N[i][j] * 3; } for (uint64_t j = i + 1; j < 70 - i / 2; j++) { N[i][j] ^= M[i][j]; } for (uint64_t j = 0; i + 2 > j; j++) { M[i][j] -= i; } for (uint64_t j = i / 2; i + 9 >= j; j += 2) { N[i][j] = N[i][j] / 3 + j; } }",
+            15685612209386078895,
+        ),
+        (
+            "for (uint64_t i = 0; i < 60; i++) { uint64_t x = 1; for (uint64_t k = 0; k <= 3 * i + 20; k++) { x += A[k] * B[k]; } M[i][0] = x; for (uint64_t k = i; k < 9000 - i * 20; k += 3) { s += A[k]; if (B[k] > M[0][1]) M[0][1] = B[k]; } N[i][1] = s; }",
+            8425466833572705660,
+        ),
+        (
+            "uint64_t n = 30; for (uint64_t i = 0; i < n * 2; i++) { n = n + (i < 10 ? 1 : 0); A[i] = n; } for (uint64_t i = 0; i <= n; i++) { B[i] = i; n = n - 1; } s = 40; for (uint64_t i = 0; i < s + 1; i++) { A[i] += i; if (i < 20) s = s + 2; } for (uint64_t i = 0; i < i / 2 + 20; i++) { B[i] = i + 5; }",
+            5841026640998605189,
+        ),
+        (
+            "for (uint64_t t = 0; t < 60; t++) { uint64_t h = 7; for (uint64_t k = t; k < t + 50; k++) { h = (h ^ A[k]) * 31; } M[t][3] = h; for (uint64_t k = 0; k <= t * 2; k++) { h = h * 5 + B[k]; N[t][4] = h; } for (uint64_t k = 0; k < t + 1; k++) { if (A[k] % 3 == 0) { B[k] = h; A[k] = A[k] + 1; } } }",
+            18081680458702539925,
+        ),
+        (
+            "uint64_t m = 18446744073709551615ull; for (uint64_t i = m - 40; i <= m - 1; i++) { B[i - (m - 40)] = i; } for (uint64_t i = m - 20; i < m - 0; i++) { A[i - (m - 20)] ^= i; } for (uint64_t i = 5; i <= m + 4; i++) { s += 1000; } for (uint64_t i = 0; i < m + 1; i++) { s += 9; } for (uint64_t i = 4; i <= m + 5; i++) { s += 100; }",
+            677655163681422646,
+        ),
+        (
+            "for (uint64_t i = 1; i < 60 - 1; i++) { for (uint64_t j = 1; j < 70 - 1; j++) { N[i][j] = (M[i][j] + M[i - 1][j] + M[i + 1][j] + M[i][j - 1] + M[i][j + 1]) / 5; } } for (uint64_t i = 0; i < 2000 - 1; i++) { i = i + A[i] % 2; B[i] = 7; } for (uint64_t i = 0; i < 18446744073709551615ull - 18446744073709551315ull; i++) { A[i] += B[i]; }",
+            4674745385985168080,
+        ),
+    ];
+    assert_eq!(rt; first_wrong(rt.alloc(), ROWS), 0);
+}
