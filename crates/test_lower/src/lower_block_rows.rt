@@ -241,7 +241,8 @@ fn first_branching(alloc: Global, rows: &[(&str, u64)]) -> u64 {
     0
 }
 
-/// Branches that set one local or save one cell, and nothing else, are none as instructions.
+/// Branches that set one local or save one cell, and nothing else, are none as instructions; nor are those of a few statements where there is no loop, or
+/// one that may be run in lanes.
 #[test]
 fn branches_are_left(rt: HostRuntime) {
     const ROWS: &[(&str, u64)] = &[
@@ -259,10 +260,22 @@ fn branches_are_left(rt: HostRuntime) {
             "for (uint64_t i = 0; i < 8; i++) { if (A[i] > 3) { if (x > 1) B[1][2] = i; } else { if (x < 1) { B[1][2] = A[i]; } } }",
             0,
         ),
-        ("if (x > 3) { A[1] = x; } else { A[2] = x; }", 1),
+        ("if (x > 3) { A[1] = x; } else { A[2] = x; }", 0),
         ("if (x > 3) { A[A[1]] = x; }", 1),
-        ("if (x > 3) { s = x; x = 1; }", 1),
-        ("if (x > 3) { s = x; } else { x = s; }", 1),
+        ("if (x > 3) { s = x; x = 1; }", 0),
+        ("if (x > 3) { s = x; } else { x = s; }", 0),
+        (
+            "for (uint64_t i = 0; i < 8; i++) { if (A[i] > x) { A[i] = x; B[1][i] = 3; } else if (i > 4) { B[0][i] = A[i]; A[i] = s; } }",
+            0,
+        ),
+        (
+            "for (uint64_t i = 0; i < 8; i++) { if (A[i] > x) { x = A[i]; s = i; } }",
+            1,
+        ),
+        (
+            "if (x > 3) { A[1] = x * 3 + s; A[2] = A[1] * x - s * 7; A[3] = A[2] * A[1] - x * 5; A[4] = (A[3] ^ x) * (A[2] ^ s); A[5] = (A[4] + x) * (A[3] - s) + A[2] * 3; A[6] = A[5] * A[4] - A[3] * A[2] + A[1] * x; }",
+            1,
+        ),
         ("if (x > 3) { if (s > 1) { A[1] = x; } printf(\"a\"); }", 1),
     ];
     assert_eq!(rt; first_branching(rt.alloc(), ROWS), 0);

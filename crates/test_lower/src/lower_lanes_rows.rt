@@ -664,3 +664,40 @@ fn ends_that_are_computed_run(rt: HostRuntime) {
     ];
     assert_eq!(rt; first_wrong(rt.alloc(), ROWS), 0);
 }
+
+/// Branches of several statements, one in another, in loops that may run in lanes and in others: arms that change what the test reads, sums in scalars
+/// and in locals where a test holds, swaps, places that are no forms, and more statements than are done without a branch.
+#[test]
+fn branches_of_several_statements_run(rt: HostRuntime) {
+    const ROWS: &[(&str, u64)] = &[
+        (
+            "for (uint64_t i = 0; i < 20000; i++) { if (A[i] % 3 == 1) { B[i] = A[i] + i; A[i] = 7; } else { A[i] = A[i] / 2; M[1][1] = i; } } for (uint64_t i = 0; i < 20000; i++) { if (A[i] > B[i]) { uint64_t t = A[i]; A[i] = B[i]; B[i] = t; } }",
+            12571926148747914306,
+        ),
+        (
+            "for (uint64_t i = 0; i < 20000; i++) { if (A[i] % 4 < 2) { if (B[i] % 8 > 3) { A[i] = i; } else { A[i] = B[i]; B[i] = 3; } } else if (A[i] % 4 == 2) { B[i] = B[i] * 5; A[i] = A[i] + B[i]; } else { A[i] = A[i] ^ 21; } }",
+            12763842090625550760,
+        ),
+        (
+            "uint64_t n = 5; uint64_t m = 1; for (uint64_t i = 0; i < 20000; i++) { if (A[i] % 5 < 2) s += A[i]; } for (uint64_t i = 0; i < 300; i++) { if (B[i] > A[i]) s = s - i * 3; if (A[i] % 7 != 0) n += 1; } for (uint64_t i = 0; i < 5000; i++) { if (A[i] / 3 % 2 == 1) { m = m - B[i]; } } N[1][2] = n; N[1][3] = m;",
+            13365076725964718088,
+        ),
+        (
+            "for (uint64_t i = 0; i < 20000; i++) { if (A[i] % 2 == 0) { A[i] = A[i] + 1; B[i] = A[i]; } else { A[i] = 0; if (B[i] > 99) { B[i] = A[i]; A[i] = 4; } } } for (uint64_t i = 0; i < 9999; i++) { if (A[i] > A[i + 1]) { uint64_t t = A[i]; A[i] = A[i + 1]; A[i + 1] = t; } }",
+            978906872375847382,
+        ),
+        (
+            "for (uint64_t i = 0; i < 60; i++) { for (uint64_t j = 0; j <= i + 9; j++) { if (M[i][j] % 3 != N[i][j] % 3) { M[i][j] = N[i][j] * 2; N[i][j] = j; s += 1; } else { M[i][j] += 1; s += 1000; } } for (uint64_t j = i; j < 69 - 1; j++) { uint64_t x = M[i][j]; uint64_t y = 0; if (x % 2 == 1) { y = x * 3; x = x + y; } N[i][j] = x - y; } }",
+            2315103047850752283,
+        ),
+        (
+            "uint64_t x = 1; for (uint64_t i = 0; i < 20000; i++) { if (A[i] % 16 == 3) { x = x * 5 + A[i]; B[i] = x; } } s = x; for (uint64_t i = 0; i < 20000; i++) { if (B[i] % 3 == 0 && A[i] % 3 == 0) { A[i] = 1; B[i] = 2; } if (B[i] % 3 == 1 || A[i] % 3 == 1) { A[i] += B[i]; B[i] -= i; } }",
+            6083034920694045680,
+        ),
+        (
+            "for (uint64_t i = 0; i < 3000; i++) { if (A[i] % 2 == 1) { A[2 * i] = 3; B[19999 - i] = A[i]; } if (A[i] > 4) { A[A[i] % 20000] = i; B[i] = 8; } } for (uint64_t i = 0; i < 20000; i++) { if (A[i] % 3 == 2) { A[i] = A[i] + 1; B[i] = A[i] * A[i] + B[i] / 3 - i; A[i] = B[i] ^ A[i] << 2; B[i] = A[i] + B[i] % 5; A[i] = A[i] - 7 * B[i]; } else { A[i] = 2 * A[i] + 1; B[i] = B[i] ^ A[i] + i * 3; A[i] = B[i] * B[i] - A[i] % 9; B[i] = A[i] % 11 + B[i]; } }",
+            13077199303135136203,
+        ),
+    ];
+    assert_eq!(rt; first_wrong(rt.alloc(), ROWS), 0);
+}
