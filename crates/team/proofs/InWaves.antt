@@ -1,5 +1,5 @@
 -- What a team leaves of a doacross nest, wave by wave.
-use Rattle.std.specs.Prelude.{ℕ, suc, Bool, false, ◌≡◌, ◌+◌, ◌<◌, ◌≤◌, ◌^◌, ◌==◌, List, [], ◌∷◌, ◌++◌, length, map, drop, slice_get, Option, Some, None, All, option_map}
+use Rattle.std.specs.Prelude.{ℕ, suc, Bool, false, ◌≡◌, ◌+◌, ◌<◌, ◌==◌, List, [], ◌∷◌, ◌++◌, length, map, drop, slice_get, Option, Some, None, All, option_map}
 use Rattle.std.proofs.Common.{Vec, Global, refl, sym, ap, ◌∙◌, subst, arith}
 use Rattle.std.proofs.Math.Seq.{drop-cons}
 use Rattle.std.proofs.lemmas.List.{length-map}
@@ -83,14 +83,6 @@ wave_split l r numbers kind workers grounds by within of =
       few = omega arith;
       cut = subst (λ n. IsCut n grounds.chunks) (sym long) of.cut_is;
     }
-
--- the same registers and the same space
-pub reached_same : (l : LoweredLoop) (r r' : Reached) → r'.registers ≡ r.registers → r'.space ≡ r.space → IsReachedBy l r → IsReachedBy l r'
-reached_same l r r' registers_are space_is by = record {
-  loops = ap (λ (ts : List Turns). length ts) space_is ∙ by.loops;
-  of = subst (λ (rs : Vec ℕ Global). IsSpaceOf l rs.items r'.space) (sym registers_are) (subst (λ (ts : List Turns). IsSpaceOf l r.registers.items ts) (sym space_is) by.of);
-  few = subst (λ (ts : List Turns). length (vectors ts) ≤ 2 ^ 24) (sym space_is) by.few;
-}
 
 pub wave_chunks : (r : Reached) (numbers : List ℕ) (kind : Kind) (workers : ℕ) (grounds : Grounds) → AreOfWave r numbers kind workers grounds → grounds.chunks ≡ cut kind (count_taken grounds) workers
 wave_chunks r numbers kind workers grounds of = of.chunks ∙ ap (λ n. cut kind n workers) (sym (wave_long numbers grounds.pass (vectors grounds.space) of.pass))

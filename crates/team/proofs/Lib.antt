@@ -6,6 +6,7 @@ pub mod InWaves
 pub mod Dealing
 pub mod Applying
 pub mod Merging
+pub mod Overwriting
 pub mod Logging
 pub mod Accounts
 pub mod Effects

@@ -9,5 +9,6 @@ pub mod Ends
 pub mod Dealt
 pub mod Places
 pub mod Logged
+pub mod Overwritten
 pub mod Spots
 pub mod Tasks

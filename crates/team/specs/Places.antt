@@ -1,5 +1,6 @@
 -- Places for what the workers of a loop leave.
 use Rattle.std.specs.Prelude.{ℕ, ◌≡◌, ◌≤◌, ◌^◌, List, length, slice_get, All, Option, Some}
+use Rattle.std.specs.Global.{Box}
 use Rattle.semantics.specs.Loops.Chunk.{Chunk, cut}
 use Rattle.draw.specs.Tickets.{fresh}
 use Rattle.nest_space.specs.Space.{vectors}
@@ -31,7 +32,7 @@ pub record Aim : Type 0 where
 -- what this worker leaves, by the way that chunks come to it
 abbrev pub IsEndBy : Aim → Way → End → Type 0
 IsEndBy a (Dealt size) (Share account) = IsAccount a.lowered a.registers a.store a.pass a.chunks (own_numbers size (length a.chunks) a.workers a.number) account
-IsEndBy a (Drawn draws) (Draws f) = IsFinished a.lowered a.registers a.store a.pass a.chunks draws.drawing f
+IsEndBy a (Drawn draws) (Draws f) = IsFinished a.lowered a.registers a.store a.pass a.chunks draws.value.drawing f
 IsEndBy a _ _ = ⊥
 
 abbrev pub IsEnd : Aim → End → Type 0
@@ -67,8 +68,8 @@ AreSplit l grounds = IsSplit l grounds.registers.items grounds.pass grounds.spac
 pub record IsWay (way : Way) (count : ℕ) (chunks : List Chunk) (workers : ℕ) : Type 0 where
   pub cut : (size : Option ℕ) → way ≡ Dealt size → chunks ≡ cut (static_kind size) count workers
   pub some : (k : ℕ) → way ≡ Dealt (Some k) → (1 ≤ k) × (k ≤ 2 ^ 24)
-  pub drawn : (draw : Draw) → way ≡ Drawn draw → draw.drawing.count ≡ length chunks
-  pub seats : (draw : Draw) → way ≡ Drawn draw → (draw.drawing.seats ≡ workers) × All (λ s. s ≡ fresh draw.drawing) draw.seats.items
+  pub drawn : (draw : Box Draw) → way ≡ Drawn draw → draw.value.drawing.count ≡ length chunks
+  pub seats : (draw : Box Draw) → way ≡ Drawn draw → (draw.value.drawing.seats ≡ workers) × All (λ s. s ≡ fresh draw.value.drawing) draw.value.seats.items
 
 -- the places of a loop's workers, of whom there are some, and how chunks came to them
 pub record AreLeft (a : Aim) (count : ℕ) (way : Way) (places : List Aim) : Type 0 where

@@ -74,6 +74,10 @@ IsWaveOf numbers Plain = ⊥
 IsWaveOf numbers (Second starts) = ⊥
 IsWaveOf numbers (Wave listed) = listed.items ≡ numbers
 
+-- where a nest is reached, of what a wave of it is run from
+abbrev pub standing : Grounds → Reached
+standing grounds = record { registers = grounds.registers; space = grounds.space }
+
 -- what a wave is run from, cut so for so many workers
 pub record AreOfWave (r : Reached) (numbers : List ℕ) (kind : Kind) (workers : ℕ) (grounds : Grounds) : Type 0 where
   pub registers : grounds.registers ≡ r.registers

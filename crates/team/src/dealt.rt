@@ -1,14 +1,16 @@
 //! Chunks that are dealt to workers, of the schedules that fix the worker of each (OpenMP 5.2, 11.5.3).
 
-ghost use Rattle.std.specs.Prelude.{◌≡◌, true, ℕ, ◌<◌, ◌≤◌, ◌^◌, [], length, vec_len, flat_map, Option, IfOk, IfErr, IfSome, OnOk};
+ghost use Rattle.std.specs.Prelude.{◌≡◌, true, ℕ, ◌<◌, ◌≤◌, ◌^◌, [], length, map, vec_len, flat_map, Option, IfOk, IfErr, IfSome, OnOk};
 ghost use Rattle.semantics.specs.Loops.Chunk.{cut};
 ghost use Rattle.semantics.specs.Meaning.Places.{below};
 ghost use Rattle.nest_space.specs.Space.{vectors};
 ghost use Rattle.schedule.specs.Part.{static_kind};
+ghost use Rattle.store.specs.Flat.{values_of};
 ghost use Rattle.team.specs.declared.way.Way.TheVariants.{Dealt};
 ghost use Rattle.team.specs.Ends.{IsReady, IsAccount, IsAccountOf};
 ghost use Rattle.team.specs.Dealt.{own_numbers};
 ghost use Rattle.team.specs.Logged.{joined, no_account};
+ghost use Rattle.team.specs.Overwritten.{AreOverwrittenBy};
 ghost use Rattle.team.specs.Places.{Aim, AreFor};
 ghost use Rattle.team.specs.Starts.{taken_in};
 
@@ -20,7 +22,8 @@ use crate::worker::run_logged;
 use ktree::{Refusal, Workers};
 use overlay::{Tools, Worker};
 use schedule::static_init;
-use std::alloc::Global;
+use std::alloc::{AllocError, Global};
+use store::Store;
 
 // Runs a worker's own chunks, in their order, and enters them in its log.
 fn run_dealt<G: Gate>(
@@ -122,4 +125,25 @@ pub(crate) fn gather(alloc: Global, places: Vec<Place>) -> Result<Vec<ChunkLog>,
         logs.push(log)?;
     }
     Ok(logs)
+}
+
+/// Overwrites a store by the changes of all chunks of these workers, one worker's after another's, and takes their places away. No list of
+/// their logs is made. Where a worker has left no log, the store is as before.
+pub(crate) fn apply_dealt(places: &mut Vec<Place>, store: &mut Store) -> Result<(), AllocError>
+    ensures dealt { OnOk result ((aim : Aim) (size : Option ℕ) → aim.way ≡ Dealt size
+        → AreFor aim places.old.items → AreOverwrittenBy aim
+        (flat_map (own_numbers size (length aim.chunks) aim.workers)
+        (below (length places.old.items))) (values_of store.old) (values_of store.new)) }
+    ensures shape { map (λ k. k.lengths) store.new ≡ map (λ k. k.lengths) store.old }
+    ensures kept { IfErr result (λ _. store.new ≡ store.old) }
+{
+    let Some(place) = places.pop() else {
+        return Ok(());
+    };
+    let Some(log) = place.share() else {
+        return Err(AllocError);
+    };
+    apply_dealt(places, store)?;
+    log.apply(store);
+    Ok(())
 }

@@ -1,6 +1,7 @@
 //! Chunks that workers draw, of the schedules that fix no worker for a chunk (OpenMP 5.2, 11.5.3).
 
 ghost use Rattle.std.specs.Prelude.{◌≡◌, ◌++◌, ◌∷◌, [], ℕ, List, length, vec_len, IfOk, IfErr, OnOk};
+ghost use Rattle.std.specs.Global.{Box};
 ghost use Rattle.semantics.specs.Loops.Chunk.{Chunk};
 ghost use Rattle.store.specs.Kept.{Kept};
 ghost use Rattle.lower.specs.declared.lowered.LoweredLoop.{LoweredLoop};
@@ -35,9 +36,9 @@ pub(crate) fn collect(
     alloc: Global,
     places: Vec<Place>,
 ) -> Result<(Vec<DrawSeat>, Vec<ChunkLog>), Refusal>
-    ensures taken { (aim : Aim) (draw : Draw) → aim.way ≡ Drawn draw → AreFor aim places.items
+    ensures taken { (aim : Aim) (draw : Box Draw) → aim.way ≡ Drawn draw → AreFor aim places.items
         → IfOk result (λ r. AreTaken aim.lowered aim.registers aim.store aim.pass aim.chunks
-        draw.drawing
+        draw.value.drawing
         r.0.items (joined r.1.items)) }
     ensures len { IfOk result (λ r. length r.0.items ≡ vec_len places) }
     ensures refusal { IfErr result (λ refusal. refusal ≡ Refusal.OutOfMemory) }

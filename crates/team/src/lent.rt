@@ -1,19 +1,22 @@
 //! A loop that is lent to a crew.
 
-ghost use Rattle.std.specs.Prelude.{◌≡◌, ◌<◌, ◌≤◌, ◌^◌, ℕ, length, vec_len, All, IfOk, IfErr, IfSome};
+ghost use Rattle.std.specs.Prelude.{◌≡◌, ◌<◌, ◌≤◌, ◌^◌, ℕ, length, map, vec_len, All, IfOk, IfErr, IfSome, OnOk};
 ghost use Rattle.semantics.specs.Loops.Chunk.{cut};
 ghost use Rattle.draw.specs.Tickets.{fresh};
 ghost use Rattle.nest_space.specs.Space.{vectors};
 ghost use Rattle.schedule.specs.Part.{static_kind};
 ghost use Rattle.schedule.specs.Sched.{kind_of};
+ghost use Rattle.store.specs.Flat.{values_of};
 ghost use Rattle.team.specs.declared.place.End.TheVariants.{Share, Draws};
 ghost use Rattle.team.specs.Dealt.{own_numbers};
 ghost use Rattle.team.specs.Ends.{IsReady, IsAccountOf, IsFinished, AreAll};
 ghost use Rattle.team.specs.Logged.{Account, joined};
+ghost use Rattle.team.specs.Overwritten.{AreOverwrittenByAll};
 ghost use Rattle.team.specs.Starts.{taken_in};
 ghost use Rattle.team.specs.Places.{Aim, IsEnd, AreFor, AreLeft, AreSplit, IsWay, aim_of, count_taken};
 
-use crate::dealt::{gather, run_own};
+use crate::applied::apply_all;
+use crate::dealt::{apply_dealt, gather, run_own};
 use crate::drawn::{TeamEnd, all_logs, collect};
 use crate::gate::Gate;
 use crate::grounds::Grounds;
@@ -27,45 +30,48 @@ use ktree::{Refusal, Workers};
 use lower::LoweredLoop;
 use overlay::Tools;
 use schedule::Sched;
-use std::alloc::Global;
+use std::alloc::{AllocError, Global};
 use std::mem;
 use std::sync::Wait;
 use store::Store;
 
-/// A loop where it is reached, with all that its workers need, and a place for what each of them leaves. Threads share it.
+/// A loop where it is reached, with all that its workers need, and a place for what each of them leaves. Threads share it. It is moved
+/// from hand to hand when it is lent, so that what is large stands in a box.
 #[derive(Drop)]
 pub struct LentLoop<'l> {
     alloc: Global,
     lowered: &'l LoweredLoop,
-    grounds: Grounds,
+    grounds: Box<Grounds>,
     store: Store,
     workers: Workers,
     way: Way,
     places: Vec<Place>,
-    pub ghost ready: { AreSplit lowered.now grounds },
-    pub ghost comes: { IsWay way (count_taken grounds) grounds.chunks workers },
+    pub ghost ready: { AreSplit lowered.now grounds.value },
+    pub ghost comes: { IsWay way (count_taken grounds.value) grounds.value.chunks workers },
     pub ghost all: { vec_len places ≡ workers },
-    pub ghost made: { AreFor (aim_of lowered.now grounds store way workers) places.items },
+    pub ghost made: { AreFor (aim_of lowered.now grounds.value store way workers) places.items },
 }
 
 /// A crew to which loops are lent. Each thread keeps its tools from loop to loop.
 pub type LoopCrew<'l> = Crew<LentLoop<'l>, Option<Tools>>;
 
-/// A place for each of so many workers.
+/// A place for each of so many workers, in the memory of other places.
 fn places_for(
-    alloc: Global,
     lowered: &LoweredLoop,
     grounds: &Grounds,
     store: &Store,
     way: &Way,
     workers: Workers,
+    memory: Vec<Place>,
 ) -> Result<Vec<Place>, Refusal>
     ensures all { IfOk result (λ places. vec_len places ≡ workers) }
     ensures made { IfOk result (λ places. AreFor
         (aim_of lowered.now grounds.now store.now way.now workers) places.items) }
     ensures refusal { IfErr result (λ refusal. refusal ≡ Refusal.OutOfMemory) }
 {
-    let mut places = Vec::with_capacity(alloc, workers.get() as usize)?;
+    let mut places = memory;
+    places.clear();
+    places.reserve(workers.get() as usize)?;
     for number in 0..workers.get() {
         let plan = Plan::new(
             lowered,
@@ -77,12 +83,12 @@ fn places_for(
             workers,
             number,
         );
-        places.push(Place::new(&plan))?;
+        places.push_reserved(Place::new(&plan));
     }
     Ok(places)
 }
 
-/// The way that chunks come to so many workers of a loop, and a place for each.
+/// The way that chunks come to so many workers of a loop, and a place for each, in the memory of other places.
 fn equipped(
     alloc: Global,
     lowered: &LoweredLoop,
@@ -90,6 +96,7 @@ fn equipped(
     store: &Store,
     workers: Workers,
     sched: &Sched,
+    memory: Vec<Place>,
 ) -> Result<(Way, Vec<Place>), Refusal>
     requires split { AreSplit lowered.now grounds.now }
     requires chunks { grounds.now.chunks
@@ -102,7 +109,7 @@ fn equipped(
     ensures refusal { IfErr result (λ refusal. refusal ≡ Refusal.OutOfMemory) }
 {
     let way = way_of(alloc, sched, grounds.count(), &grounds.chunks, workers)?;
-    let places = places_for(alloc, lowered, grounds, store, &way, workers)?;
+    let places = places_for(lowered, grounds, store, &way, workers, memory)?;
     Ok((way, places))
 }
 
@@ -216,7 +223,7 @@ fn logs_left(alloc: Global, way: Way, places: Vec<Place>) -> Result<Vec<ChunkLog
     match way {
         Way::Dealt(_) => gather(alloc, places),
         Way::Drawn(draw) => {
-            let Draw { drawing, seats: _ } = draw;
+            let Draw { drawing, seats: _ } = Box::into_inner(draw);
             let (seats, logs) = collect(alloc, places)?;
             Ok(all_logs(TeamEnd {
                 drawing,
@@ -227,26 +234,51 @@ fn logs_left(alloc: Global, way: Way, places: Vec<Place>) -> Result<Vec<ChunkLog
     }
 }
 
-/// What comes back of a loop that was lent: what it was run from, and the logs of all its chunks.
-#[derive(Drop)]
-pub(crate) struct Returned {
-    pub(crate) grounds: Grounds,
-    pub(crate) logs: Vec<ChunkLog>,
+/// Overwrites a store by the changes of all chunks of a loop, where all of its workers have left theirs, and takes their places away.
+/// Else the store is as before.
+pub(crate) fn apply_left(
+    alloc: Global,
+    way: Way,
+    places: &mut Vec<Place>,
+    store: &mut Store,
+) -> Result<(), AllocError>
+    requires { (aim : Aim) × (count : ℕ) × AreLeft aim count way places.old.items }
+    ensures applied { OnOk result ((aim : Aim) (count : ℕ)
+        → AreLeft aim count way places.old.items
+        → AreOverwrittenByAll aim (values_of store.old) (values_of store.new)) }
+    ensures shape { map (λ k. k.lengths) store.new ≡ map (λ k. k.lengths) store.old }
+    ensures kept { IfErr result (λ _. store.new ≡ store.old) }
+{
+    if let Way::Dealt(_) = &way {
+        return apply_dealt(places, store);
+    }
+    let Ok(logs) = logs_left(alloc, way, mem::replace(places, Vec::new(alloc))) else {
+        return Err(AllocError);
+    };
+    apply_all(store, logs.as_slice());
+    Ok(())
 }
 
-/// Takes a loop back from its workers: its store, and beside what it was run from the logs of all chunks.
-fn taken_back(lent: LentLoop<'_>, store: &mut Store) -> Result<Returned, Refusal>
+/// What comes back of a loop that was lent: what it was run from, how its chunks came to workers, and the places of these.
+#[derive(Drop)]
+pub(crate) struct Returned {
+    pub(crate) grounds: Box<Grounds>,
+    pub(crate) way: Way,
+    pub(crate) places: Vec<Place>,
+}
+
+/// Takes a loop back from its workers: its store, and beside what it was run from what these have left.
+fn taken_back(lent: LentLoop<'_>, store: &mut Store) -> Returned
     ensures store { store.new ≡ lent.entry.store }
-    ensures grounds { IfOk result (λ r. r.grounds ≡ lent.entry.grounds) }
-    ensures all { IfOk result (λ r. AreAll lent.entry.lowered.now
-        lent.entry.grounds.registers.items lent.entry.store lent.entry.grounds.pass
-        lent.entry.grounds.chunks
-        (joined r.logs.items)) }
-    ensures refusal { IfErr result (λ refusal. refusal ≡ Refusal.OutOfMemory) }
+    ensures grounds { result.grounds ≡ lent.entry.grounds }
+    ensures left { AreLeft
+        (aim_of lent.entry.lowered.now lent.entry.grounds.value lent.entry.store result.way
+        lent.entry.workers)
+        (count_taken lent.entry.grounds.value) result.way result.places.items }
 {
     let _count = lent.workers.get();
     let LentLoop {
-        alloc,
+        alloc: _,
         lowered: _,
         grounds,
         store: whole,
@@ -255,31 +287,38 @@ fn taken_back(lent: LentLoop<'_>, store: &mut Store) -> Result<Returned, Refusal
         places,
     } = lent;
     *store = whole;
-    let logs = logs_left(alloc, way, places)?;
-    Ok(Returned { grounds, logs })
+    Returned {
+        grounds,
+        way,
+        places,
+    }
 }
 
-/// Lends a loop to a crew until all of its chunks have been run; what it was run from comes back beside their logs.
+/// Lends a loop to a crew until all of its chunks have been run, with places in the memory of others; what it was run from comes back
+/// beside what its workers have left.
 pub(crate) fn lent_whole<'l, R: Wait, G: Gate>(
     rt: &R,
     alloc: Global,
     crew: &LoopCrew<'l>,
     lowered: &'l LoweredLoop,
-    grounds: Grounds,
+    grounds: Box<Grounds>,
+    memory: Vec<Place>,
     store: &mut Store,
     workers: Workers,
     sched: &Sched,
     gate: &G,
 ) -> Result<Returned, Refusal>
-    requires split { AreSplit lowered.now grounds }
-    requires chunks { grounds.chunks ≡ cut (kind_of sched.now) (count_taken grounds) workers }
-    ensures all { IfOk result (λ r. AreAll lowered.now grounds.registers.items store.old
-        grounds.pass grounds.chunks (joined r.logs.items)) }
+    requires split { AreSplit lowered.now grounds.value }
+    requires chunks { grounds.value.chunks
+        ≡ cut (kind_of sched.now) (count_taken grounds.value) workers }
+    ensures left { IfOk result (λ r. AreLeft
+        (aim_of lowered.now grounds.value store.old r.way workers) (count_taken grounds.value)
+        r.way r.places.items) }
     ensures grounds { IfOk result (λ r. r.grounds ≡ grounds) }
     ensures store { store.new ≡ store.old }
     ensures refusal { IfErr result (λ refusal. refusal ≡ Refusal.OutOfMemory) }
 {
-    let (way, places) = equipped(alloc, lowered, &grounds, store, workers, sched)?;
+    let (way, places) = equipped(alloc, lowered, &grounds, store, workers, sched, memory)?;
     let nothing = Store::zeros(alloc, Vec::new(alloc))?;
     let lent = LentLoop {
         alloc,
@@ -290,7 +329,7 @@ pub(crate) fn lent_whole<'l, R: Wait, G: Gate>(
         way,
         places,
     };
-    taken_back(lend(rt, alloc, crew, gate, lent), store)
+    Ok(taken_back(lend(rt, alloc, crew, gate, lent), store))
 }
 
 /// The logs of all chunks of a loop that is lent to a crew.
@@ -312,10 +351,18 @@ pub(crate) fn lent_logs<'l, R: Wait, G: Gate>(
     ensures store { store.new ≡ store.old }
     ensures refusal { IfErr result (λ refusal. refusal ≡ Refusal.OutOfMemory) }
 {
+    let grounds = Box::new(alloc, grounds)?;
+    let memory = Vec::new(alloc);
     match lent_whole(
-        rt, alloc, crew, lowered, grounds, store, workers, sched, gate,
+        rt, alloc, crew, lowered, grounds, memory, store, workers, sched, gate,
     ) {
-        Ok(Returned { logs, grounds: _ }) => Ok(logs),
+        Ok(
+            Returned {
+                way,
+                places,
+                grounds: _,
+            },
+        ) => logs_left(alloc, way, places),
         Err(refusal) => Err(refusal),
     }
 }

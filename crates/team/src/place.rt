@@ -1,6 +1,7 @@
 //! A place for what a worker leaves.
 
 ghost use Rattle.std.specs.Prelude.{◌≡◌, ℕ, Option, IfSome};
+ghost use Rattle.std.specs.Global.{Box};
 ghost use Rattle.team.specs.declared.way.Draw.{Draw};
 ghost use Rattle.team.specs.declared.way.Way.TheVariants.{Dealt, Drawn};
 ghost use Rattle.team.specs.Places.{IsEnd, IsEndBy};
@@ -132,6 +133,7 @@ impl Place {
     }
 
     /// Puts an end here, if nobody has done so.
+    #[inline(always)]
     pub(crate) fn hand_in(&self, end: End)
         requires { IsEnd self.now end }
     {
@@ -152,6 +154,7 @@ impl Place {
     }
 
     /// The log of a worker's own chunks, if that is here.
+    #[inline(always)]
     pub(crate) fn share(self) -> Option<ChunkLog>
         ensures { IfSome result (λ log. (size : Option ℕ) → self.way ≡ Dealt size
             → IsEndBy self (Dealt size) (End.Share log)) }
@@ -164,7 +167,7 @@ impl Place {
 
     /// What a worker drew, if that is here.
     pub(crate) fn draws(self) -> Option<Finished>
-        ensures { IfSome result (λ f. (draw : Draw) → self.way ≡ Drawn draw
+        ensures { IfSome result (λ f. (draw : Box Draw) → self.way ≡ Drawn draw
             → IsEndBy self (Drawn draw) (End.Draws f)) }
     {
         match self.close() {

@@ -1,26 +1,27 @@
 //! Doacross nests, which a team runs wave by wave (OpenMP 5.2, 15.9.6 and 15.10.1).
 
-ghost use Rattle.std.specs.Prelude.{◌≡◌, ◌≤◌, ◌^◌, length, map, IfOk, IfErr, OnOk};
+ghost use Rattle.std.specs.Prelude.{◌≡◌, ◌≤◌, ◌^◌, ℕ, length, map, IfOk, IfErr, OnOk};
 ghost use Rattle.nest_space.specs.Rises.{EachRises};
 ghost use Rattle.nest_space.specs.Space.{vectors};
 ghost use Rattle.schedule.specs.Sched.{kind_of, kind_said};
 ghost use Rattle.store.specs.Flat.{AreFilled, values_of};
-ghost use Rattle.team.specs.Applied.{AreApplied};
-ghost use Rattle.team.specs.Logged.{joined};
-ghost use Rattle.team.specs.Waved.{WaveTogether, AreWaved, LeavesInWaves, IsReachedBy, IsWaveIn, AreWavesIn, AreOfWave};
+ghost use Rattle.team.specs.Overwritten.{AreOverwrittenByAll};
+ghost use Rattle.team.specs.Places.{Aim, AreLeft};
+ghost use Rattle.team.specs.Waved.{WaveTogether, AreWaved, LeavesInWaves, IsReachedBy, IsWaveIn, AreWavesIn, AreOfWave, standing};
 
-use crate::applied::apply_all;
 use crate::gate::Gate;
 use crate::grounds::Grounds;
-use crate::lent::{LoopCrew, Returned, lent_whole};
+use crate::lent::{LoopCrew, Returned, apply_left, lent_whole};
 use crate::pass::Pass;
+use crate::place::Place;
 use crate::teamwork::confirm_filled;
 use ktree::{Refusal, Workers};
 use lower::LoweredLoop;
 use lower_run::confirm_words;
 use nest_space::Space;
 use schedule::{Sched, chunk_list, sched_of};
-use std::alloc::Global;
+use std::alloc::{AllocError, Global};
+use std::mem;
 use std::sync::Wait;
 use store::Store;
 use waves::{Sinks, Waves, levels};
@@ -57,48 +58,92 @@ fn reach_nest(
     Ok(Reached { registers, space })
 }
 
-// What a wave is run from: the iterations of these numbers, cut by this schedule for so many workers.
-fn wave_grounds(
+// These numbers, in the memory of others.
+fn listed(numbers: &[u64], memory: Vec<u64>) -> Result<Vec<u64>, AllocError>
+    ensures { IfOk result (λ listed. listed.items ≡ numbers.now) }
+{
+    let mut listed = memory;
+    listed.clear();
+    listed.extend_from_slice(numbers)?;
+    Ok(listed)
+}
+
+// The memory of the numbers of a wave.
+fn memory_of(alloc: Global, pass: Pass) -> Vec<u64> {
+    match pass {
+        Pass::Wave(numbers) => numbers,
+        _ => Vec::new(alloc),
+    }
+}
+
+// What a nest is run from where it is reached, before its first wave.
+fn first_grounds(
     alloc: Global,
     reached: Reached,
-    numbers: &[u64],
     sched: &Sched,
     workers: Workers,
-) -> Result<Grounds, Refusal>
-    requires { length numbers.now ≤ 2 ^ 24 }
-    ensures wave { IfOk result (AreOfWave reached numbers.now (kind_of sched.now) workers) }
+) -> Result<Box<Grounds>, Refusal>
+    ensures stands { IfOk result (λ g. standing g.value ≡ reached) }
     ensures refusal { IfErr result (λ refusal. refusal ≡ Refusal.OutOfMemory) }
 {
-    let chunks = chunk_list(alloc, *sched, numbers.len() as u64, workers)?;
-    let numbers = Vec::from_slice(alloc, numbers)?;
+    let chunks = chunk_list(alloc, *sched, 0, workers)?;
     let Reached { registers, space } = reached;
-    Ok(Grounds {
+    let grounds = Grounds {
         registers,
         space,
         chunks,
-        pass: Pass::Wave(numbers),
-    })
+        pass: Pass::Plain,
+    };
+    Ok(Box::new(alloc, grounds)?)
 }
 
-// Puts what all chunks of a wave changed into the store, and tells what the next wave is run from.
-fn put_wave(returned: Returned, store: &mut Store) -> Reached
-    ensures registers { result.registers ≡ returned.grounds.registers }
-    ensures space { result.space ≡ returned.grounds.space }
-    ensures filled { AreFilled store.old }
-    ensures applied { AreApplied (values_of store.old) (values_of store.new)
-        (joined returned.logs.items).chunks }
-    ensures shape { map (λ k. k.lengths) store.new ≡ map (λ k. k.lengths) store.old }
+// Makes it what a wave is run from: the iterations of these numbers, cut by this schedule for so many workers. The numbers stand in the memory
+// of those of the wave before.
+fn set_wave(
+    alloc: Global,
+    grounds: &mut Grounds,
+    numbers: &[u64],
+    sched: &Sched,
+    workers: Workers,
+) -> Result<(), Refusal>
+    requires { length numbers.now ≤ 2 ^ 24 }
+    ensures wave { OnOk result
+        (AreOfWave (standing grounds.old) numbers.now (kind_of sched.now) workers grounds.new) }
+    ensures refusal { IfErr result (λ refusal. refusal ≡ Refusal.OutOfMemory) }
 {
-    let Returned { grounds, logs } = returned;
+    let chunks = chunk_list(alloc, *sched, numbers.len() as u64, workers)?;
+    grounds.chunks = chunks;
+    let before = mem::replace(&mut grounds.pass, Pass::Plain);
+    let numbers = listed(numbers, memory_of(alloc, before))?;
+    grounds.pass = Pass::Wave(numbers);
+    Ok(())
+}
+
+// Puts what all chunks of a wave changed into the store, and gives back what it was run from. The memory of its workers' places is kept.
+fn put_wave(
+    alloc: Global,
+    returned: Returned,
+    store: &mut Store,
+    spare: &mut Vec<Place>,
+) -> Result<Box<Grounds>, Refusal>
+    requires { (aim : Aim) × (count : ℕ) × AreLeft aim count returned.way returned.places.items }
+    ensures grounds { IfOk result (λ grounds. grounds ≡ returned.grounds) }
+    ensures filled { AreFilled store.old }
+    ensures applied { OnOk result ((aim : Aim) (count : ℕ)
+        → AreLeft aim count returned.way returned.places.items
+        → AreOverwrittenByAll aim (values_of store.old) (values_of store.new)) }
+    ensures shape { map (λ k. k.lengths) store.new ≡ map (λ k. k.lengths) store.old }
+    ensures refusal { IfErr result (λ refusal. refusal ≡ Refusal.OutOfMemory) }
+{
+    let Returned {
+        grounds,
+        way,
+        places,
+    } = returned;
+    *spare = places;
     confirm_filled(store);
-    apply_all(store, logs.as_slice());
-    let Grounds {
-        registers,
-        space,
-        chunks: _,
-        pass: _,
-    } = grounds;
-    Reached { registers, space }
+    apply_left(alloc, way, spare, store)?;
+    Ok(grounds)
 }
 
 // Runs the iterations of these numbers, from the store as it is.
@@ -107,27 +152,29 @@ fn run_wave<'l, R: Wait, G: Gate>(
     alloc: Global,
     crew: &LoopCrew<'l>,
     lowered: &'l LoweredLoop,
-    reached: Reached,
+    here: Box<Grounds>,
     numbers: &[u64],
     store: &mut Store,
     workers: Workers,
     sched: &Sched,
     gate: &G,
-) -> Result<Reached, Refusal>
-    requires by { IsReachedBy lowered.now reached }
-    requires numbers { IsWaveIn (vectors reached.space) numbers.now }
-    ensures waved { OnOk result (WaveTogether lowered.now numbers.now reached.registers.items
+    spare: &mut Vec<Place>,
+) -> Result<Box<Grounds>, Refusal>
+    requires by { IsReachedBy lowered.now (standing here.value) }
+    requires numbers { IsWaveIn (vectors here.value.space) numbers.now }
+    ensures waved { OnOk result (WaveTogether lowered.now numbers.now here.value.registers.items
         store.old store.new (kind_of sched.now) workers) }
-    ensures registers { IfOk result (λ r. r.registers ≡ reached.registers) }
-    ensures space { IfOk result (λ r. r.space ≡ reached.space) }
+    ensures stands { IfOk result (λ g. standing g.value ≡ standing here.value) }
     ensures shape { map (λ k. k.lengths) store.new ≡ map (λ k. k.lengths) store.old }
     ensures refusal { IfErr result (λ refusal. refusal ≡ Refusal.OutOfMemory) }
 {
-    let grounds = wave_grounds(alloc, reached, numbers, sched, workers)?;
+    let mut grounds = here;
+    set_wave(alloc, &mut grounds, numbers, sched, workers)?;
+    let memory = mem::replace(spare, Vec::new(alloc));
     let returned = lent_whole(
-        rt, alloc, crew, lowered, grounds, store, workers, sched, gate,
+        rt, alloc, crew, lowered, grounds, memory, store, workers, sched, gate,
     )?;
-    Ok(put_wave(returned, store))
+    put_wave(alloc, returned, store, spare)
 }
 
 // Runs these waves, each from the store behind the one before.
@@ -150,7 +197,8 @@ fn run_waves<'l, R: Wait, G: Gate>(
     ensures shape { map (λ k. k.lengths) store.new ≡ map (λ k. k.lengths) store.old }
     ensures refusal { IfErr result (λ refusal. refusal ≡ Refusal.OutOfMemory) }
 {
-    let mut here = reached;
+    let mut here = first_grounds(alloc, reached, sched, workers)?;
+    let mut spare = Vec::new(alloc);
     for level in 0..waves.len() {
         here = run_wave(
             rt,
@@ -163,6 +211,7 @@ fn run_waves<'l, R: Wait, G: Gate>(
             workers,
             sched,
             gate,
+            &mut spare,
         )?;
         confirm_words(here.registers.as_slice(), store);
     }

@@ -18,11 +18,12 @@ pub struct Draw {
     pub seats: Vec<RestingSeat>,
 }
 
-/// Dealt to them by `static, k` for `Some(k)`, else by plain `static`; or drawn by them (OpenMP 5.2, 11.5.3).
+/// Dealt to them by `static, k` for `Some(k)`, else by plain `static`; or drawn by them (OpenMP 5.2, 11.5.3). A drawing is boxed, so that
+/// the way of a loop with none is moved cheaply.
 #[derive(Drop)]
 pub enum Way {
     Dealt(Option<u64>),
-    Drawn(Draw),
+    Drawn(Box<Draw>),
 }
 
 /// Seats that wait for who takes them.
@@ -39,15 +40,17 @@ fn free(alloc: Global, drawing: &Drawing, seats: Vec<DrawSeat>) -> Result<Vec<Re
 }
 
 /// A drawing of so many chunks by so many workers.
-fn start_draw(alloc: Global, count: u64, workers: Workers) -> Result<Draw, Refusal>
+fn start_draw(alloc: Global, count: u64, workers: Workers) -> Result<Box<Draw>, Refusal>
     requires { count ≤ 2 ^ 24 }
-    ensures drawing { IfOk result (λ d. (d.drawing.count ≡ count) × (d.drawing.seats ≡ workers)) }
-    ensures seats { IfOk result (λ d. All (λ seat. seat ≡ fresh d.drawing) d.seats.items) }
+    ensures drawing { IfOk result (λ d. (d.value.drawing.count ≡ count)
+        × (d.value.drawing.seats ≡ workers)) }
+    ensures seats { IfOk result (λ d. All (λ seat. seat ≡ fresh d.value.drawing)
+        d.value.seats.items) }
     ensures refusal { IfErr result (λ refusal. refusal ≡ Refusal.OutOfMemory) }
 {
     let (drawing, seats) = Drawing::new(alloc, count, workers.get())?;
     let seats = free(alloc, &drawing, seats)?;
-    Ok(Draw { drawing, seats })
+    Ok(Box::new(alloc, Draw { drawing, seats })?)
 }
 
 /// How the chunks of so many iterations come to so many workers under their schedule.

@@ -20,9 +20,9 @@ loop-place-preserved c =
       whole = append_assoc ys (place ∷ []) _ ∙ whole;
       taken = λ aim draw way are.
           let here = place_of aim ys _ c.args.places.items place whole are in
-          let one : IsFinished aim.lowered aim.registers aim.store aim.pass aim.chunks draw.drawing finished
+          let one : IsFinished aim.lowered aim.registers aim.store aim.pass aim.chunks draw.value.drawing finished
           = subst (λ (a : Aim). IsEndBy a (Drawn draw) (Draws finished)) here (c.in-Some-draws.ensures draw (ap (λ (a : Aim). a.way) here ∙ way)) in
-          taken_more aim.lowered aim.registers aim.store aim.pass aim.chunks draw.drawing c.loop-place.seats.items c.seat_back.new.seats.items (joined c.loop-place.logs.items) _ finished c.in_ok-seat_back.ensures.back (joined_more c.loop-place.logs.items _ finished.log c.in_ok-push.ensures.items) (was.taken aim draw way are) one;
+          taken_more aim.lowered aim.registers aim.store aim.pass aim.chunks draw.value.drawing c.loop-place.seats.items c.seat_back.new.seats.items (joined c.loop-place.logs.items) _ finished c.in_ok-seat_back.ensures.back (joined_more c.loop-place.logs.items _ finished.log c.in_ok-push.ensures.items) (was.taken aim draw way are) one;
       len =
           ap (λ (k : List SeatState). length k) c.in_ok-seat_back.ensures.back
           ∙ (length-append c.loop-place.seats.items (finished.seat ∷ []) ∙ (ap (λ (n : ℕ). n + 1) was.len ∙ sym (length-append ys (place ∷ []))));

@@ -1,4 +1,5 @@
 use Rattle.std.proofs.Common.{◌≡◌, ◌++◌, length}
+use Rattle.std.specs.Global.{Box}
 use Rattle.team.specs.declared.way.Draw.{Draw}
 use Rattle.team.specs.declared.way.Way.TheVariants.{Drawn}
 use Rattle.team.specs.Ends.{AreTaken}
@@ -10,7 +11,7 @@ abbrev pub invariant-loop-place : goal.invariant-loop-place
 invariant-loop-place l =
     record {
       whole : l.yielded ++ l.place-iterator.rest.items ≡ l.fn.places.items;
-      taken : (aim : Aim) (draw : Draw) → aim.way ≡ Drawn draw → AreFor aim l.fn.places.items
-          → AreTaken aim.lowered aim.registers aim.store aim.pass aim.chunks draw.drawing l.seats.items (joined l.logs.items);
+      taken : (aim : Aim) (draw : Box Draw) → aim.way ≡ Drawn draw → AreFor aim l.fn.places.items
+          → AreTaken aim.lowered aim.registers aim.store aim.pass aim.chunks draw.value.drawing l.seats.items (joined l.logs.items);
       len : length l.seats.items ≡ length l.yielded;
     }

@@ -1,7 +1,8 @@
-use Rattle.std.proofs.Common.{length, flat_map, vec_len, ◌∙◌, arith}
+use Rattle.std.proofs.Common.{length, flat_map, vec_len, sym, subst, ◌∙◌, arith}
 use Rattle.std.proofs.lemmas.Result.{IfOk-weaker}
 use Rattle.semantics.specs.Meaning.Places.{below}
-use Rattle.team.specs.Ends.{IsAccount, AreAll}
+use Rattle.team.specs.declared.way.Draw.{Draw}
+use Rattle.team.specs.Ends.{IsAccount, AreBack, AreDrawn, AreAll}
 use Rattle.team.specs.Dealt.{own_numbers}
 use Rattle.team.specs.Logged.{joined}
 use Rattle.team.proofs.Dealing.{dealt_all}
@@ -13,18 +14,20 @@ all_logs-requires c =
     let left = c.requires.2 in
     let draw = c.in-Drawn.draw in
     let is = c.in-Drawn.is in
+    let back = c.in_ok-seats-in-Drawn.seats.items in
     let taken = c.in_ok-seats-in-Drawn.ensures.taken aim draw (left.way_is ∙ is) left.made in
     let len = c.in_ok-seats-in-Drawn.ensures.len in
     let seats = (left.comes.seats draw is).0 in
     let places = c.args.places.ok.0 in
     let all = left.all in
     let least = left.some in
-    record {
+    let are : AreBack draw.value.drawing back = record {
       some = omega arith;
       all = omega arith;
       named = taken.named;
       ended = taken.ended;
-    }
+    } in
+    subst (λ (d : Draw). AreBack d.drawing back) (sym c.into_inner-drawing.ensures) are
 
 pub returns-in-Dealt-clause-all : goal.returns-in-Dealt-clause-all
 returns-in-Dealt-clause-all c = λ aim n left.
@@ -43,5 +46,8 @@ pub returns-in_ok-seats-in-Drawn-clause-all : goal.returns-in_ok-seats-in-Drawn-
 returns-in_ok-seats-in-Drawn-clause-all c = λ aim n left.
     let draw = c.in-Drawn.draw in
     let is = c.in-Drawn.is in
+    let back = c.in_ok-seats-in-Drawn.seats.items in
+    let account = joined c.in_ok-seats-in-Drawn.logs.items in
     let taken = c.in_ok-seats-in-Drawn.ensures.taken aim draw (left.way_is ∙ is) left.made in
-    c.all_logs.ensures aim.lowered aim.registers aim.store aim.pass aim.chunks (record { count = left.comes.drawn draw is; account = taken.account })
+    let drawn : AreDrawn aim.lowered aim.registers aim.store aim.pass aim.chunks draw.value.drawing back account = record { count = left.comes.drawn draw is; account = taken.account } in
+    c.all_logs.ensures aim.lowered aim.registers aim.store aim.pass aim.chunks (subst (λ (d : Draw). AreDrawn aim.lowered aim.registers aim.store aim.pass aim.chunks d.drawing back account) (sym c.into_inner-drawing.ensures) drawn)

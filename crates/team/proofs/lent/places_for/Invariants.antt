@@ -1,4 +1,4 @@
-use Rattle.std.proofs.Common.{◌≡◌, vec_len}
+use Rattle.std.proofs.Common.{◌≡◌, ◌≤◌, vec_len, vec_capacity}
 use Rattle.team.specs.Places.{AreFor, aim_of}
 use Rattle.team.proofs.lent.places_for.Given as goal
 
@@ -7,5 +7,6 @@ invariant-loop-number l =
     record {
       end : l.number-end ≡ l.workers;
       len : vec_len l.places ≡ l.number;
+      room : l.workers ≤ vec_capacity l.places;
       made : AreFor (aim_of l.lowered l.grounds l.store l.way l.workers) l.places.items;
     }

@@ -1,7 +1,7 @@
 use Rattle.std.proofs.Common.{length, refl}
 use Rattle.schedule.specs.Sched.{kind_of}
 use Rattle.team.proofs.Cutting.{is_cut}
-use Rattle.team.proofs.waving.wave_grounds.Goals as goal
+use Rattle.team.proofs.waving.set_wave.Goals as goal
 
 pub returns-clause-wave : goal.returns-clause-wave
 returns-clause-wave c =
@@ -9,7 +9,7 @@ returns-clause-wave c =
     record {
       registers = refl;
       space = refl;
-      pass = c.in_ok-numbers.ensures.items;
+      pass = c.in_ok-numbers.ensures;
       chunks = c.in_ok-chunks.ensures.chunks;
       cut_is = is_cut (kind_of c.args.sched.now) count c.args.workers c.in_ok-chunks.chunks c.in_ok-chunks.ensures.chunks c.in_ok-chunks.ensures.joined;
     }
