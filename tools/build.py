@@ -40,9 +40,10 @@ def build(crate, flags):
     if not crate.is_program:
         return crate.build_rlib(flags, anew=False) == 0
     os.makedirs(f"{crate.folder}/out", exist_ok=True)
+    sources = crate.stamp()
     if crate.run([*flags, *processor()], ["--help"]):
         return False
-    if os.path.isfile(f"{crate.folder}/out/{crate.name}.stamp"):
+    if crate.stamp() == sources and all(it.is_built() for it in crate.below()):
         return True
     print("build: a source has changed meanwhile; run it again", file=crate.out)
     return False
