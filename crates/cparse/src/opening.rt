@@ -6,9 +6,10 @@ ghost use Rattle.cparse_cursor.specs.Lexemes.{tokens_of};
 ghost use Rattle.cparse_cursor.specs.Outcome.{Gives};
 
 use cparse_cursor::lexeme::{Kind, Lexeme};
-use cparse_cursor::punctuation::{close_paren, first_place, open_brace, open_paren};
+use cparse_cursor::punctuation::{first_place, punctuator};
 use cparse_cursor::stop::Stop;
 use cparse_cursor::words::word;
+use ctoken::Symbol;
 use ktree::Place;
 
 /// The tokens behind the include lines (C11 6.10.2).
@@ -32,10 +33,10 @@ pub fn opening<'s, 't>(tokens: &'s [Lexeme<'t>], end: Place) -> Result<&'s [Lexe
 {
     let named = word("void", tokens, end)?;
     let opened = word("kernel", named, end)?;
-    let inner = open_paren(opened, end)?;
+    let inner = punctuator(Symbol::OpenParen, opened, end)?;
     let behind = word("void", inner, end)?;
-    let closed = close_paren(behind, end)?;
-    open_brace(closed, end)
+    let closed = punctuator(Symbol::CloseParen, behind, end)?;
+    punctuator(Symbol::OpenBrace, closed, end)
 }
 
 /// The end, which has to be here.

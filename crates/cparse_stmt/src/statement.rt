@@ -16,7 +16,7 @@ use crate::simple::simple;
 use cparse_cursor::context::{Context, Setting, enter_level};
 use cparse_cursor::lexeme::{Kind, Lexeme};
 use cparse_cursor::parsed::Parsed;
-use cparse_cursor::punctuation::close_brace;
+use cparse_cursor::punctuation::punctuator;
 use cparse_cursor::scope::{Scope, close, count};
 use cparse_cursor::stop::Stop;
 use cparse_cursor::words::if_word;
@@ -120,7 +120,7 @@ fn block<'s, 't>(
     let room = enter_level(room, place)?;
     let names = count(scope);
     let row = items(setting, scope, room, tally, tokens)?;
-    let rest = close_brace(row.rest, setting.end)?;
+    let rest = punctuator(Symbol::CloseBrace, row.rest, setting.end)?;
     close(scope, names);
     Ok(Told {
         tree: Stmt::Block(row.tree),
