@@ -9,7 +9,7 @@ ghost use Rattle.cparse_cursor.specs.Outcome.{Gives};
 
 use crate::declarations::{FileScope, declarations};
 use crate::extent::too_many;
-use crate::opening::{at_end, behind_headers, opening};
+use crate::opening::{at_end, behind_headers, kernel_opening};
 use cparse_cursor::context::Setting;
 use cparse_cursor::lexeme::Lexeme;
 use cparse_cursor::punctuation::punctuator;
@@ -51,7 +51,7 @@ pub fn kernel<'s, 't>(setting: Setting, tokens: &'s [Lexeme<'t>]) -> Result<Whol
         fault: declared_fault,
         rest,
     } = declared;
-    let inner = opening(rest, end)?;
+    let inner = kernel_opening(rest, end)?;
     let next = next_number(&variables)?;
     let tally = Tally {
         next,

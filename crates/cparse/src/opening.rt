@@ -28,7 +28,10 @@ pub fn behind_headers<'s, 't>(tokens: &'s [Lexeme<'t>]) -> &'s [Lexeme<'t>]
 
 /// The tokens behind `void kernel(void) {`.
 #[tactic(auto, unfolding(cparse_grammar::specs::TextReader::opening))]
-pub fn opening<'s, 't>(tokens: &'s [Lexeme<'t>], end: Place) -> Result<&'s [Lexeme<'t>], Stop>
+pub fn kernel_opening<'s, 't>(
+    tokens: &'s [Lexeme<'t>],
+    end: Place,
+) -> Result<&'s [Lexeme<'t>], Stop>
     ensures { Gives (λ rest. tokens_of rest.now) result (opening (tokens_of tokens.now)) }
 {
     let named = word("void", tokens, end)?;

@@ -193,7 +193,7 @@ fn binary<'s, 't>(
         (inside room (names_of context.entry.scope.now)) (tokens_of tokens.now)) }
 {
     let left = unary(context, room, tokens)?;
-    rising(context, room, 0, precedence, left)
+    operators_up_to(context, room, 0, precedence, left)
 }
 
 /// The next tighter precedence than that of the operator that comes first, if it is one behind this one, up to a limit.
@@ -213,7 +213,7 @@ fn next_tighter(reached: u32, limit: u32, tokens: &[Lexeme<'_>]) -> Option<u32>
 /// Operators up to a precedence behind a left operand that was read up to a tighter one. The operator that comes first tells which
 /// precedences have none, so that they are passed over.
 #[cycle(expression)]
-fn rising<'s, 't>(
+fn operators_up_to<'s, 't>(
     context: Context<'_, 't>,
     room: u32,
     reached: u32,
@@ -230,7 +230,7 @@ fn rising<'s, 't>(
         None => Ok(left),
         Some(tighter) => {
             let left = further(context, room, tighter, left)?;
-            rising(context, room, tighter + 1, precedence, left)
+            operators_up_to(context, room, tighter + 1, precedence, left)
         }
     }
 }

@@ -73,7 +73,7 @@ fn closed_step<'s, 't>(
 
 /// What stands behind the word `for`, up to the parenthesis that closes; the loop's variable is visible behind it.
 #[tactic(auto, using(cparse_grammar::proofs::HeadingLemmas::heading_by_parts))]
-pub fn heading<'s, 't>(
+pub fn loop_head<'s, 't>(
     setting: Setting,
     scope: &mut Scope<'t>,
     room: u32,

@@ -21,7 +21,7 @@ use cparse_cursor::scope::{Scope, close, count};
 use cparse_cursor::stop::Stop;
 use cparse_cursor::words::if_word;
 use cparse_phrase::delimited::in_parens;
-use cparse_phrase::loop_head::heading;
+use cparse_phrase::loop_head::loop_head;
 use cparse_phrase::tally::{Tally, declare, spend};
 use cparse_phrase::told::Told;
 use ctoken::Symbol;
@@ -311,7 +311,7 @@ fn iteration<'s, 't>(
     let room = enter_level(outer, place)?;
     let names = count(scope);
     let behind = declare(tally)?;
-    let head = heading(setting, scope, room, tally, tokens)?;
+    let head = loop_head(setting, scope, room, tally, tokens)?;
     let body = inner(setting, scope, outer, behind, head.rest);
     let (head, body) = both(head, body)?;
     close(scope, names);

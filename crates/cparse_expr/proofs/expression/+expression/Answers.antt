@@ -80,19 +80,19 @@ binary-returns-in_err-left t c =
 pub binary-returns : goal.binary-returns
 binary-returns t c =
     let e = binary_goes (names_of c.args.context.scope.now) (inside c.args.room (names_of c.args.context.scope.now)) c.args.precedence (tokens_of c.args.tokens.now) (got_of operand_of c.in_ok-left.left) c.in_ok-left.ensures in
-    subst (Gives (got_of operand_of) c.rising.result) (sym e) c.rising.ensures
+    subst (Gives (got_of operand_of) c.operators_up_to.result) (sym e) c.operators_up_to.ensures
 
-pub rising-returns-in_err-left-in-Some : goal.rising-returns-in_err-left-in-Some
-rising-returns-in_err-left-in-Some t c =
+pub operators_up_to-returns-in_err-left-in-Some : goal.operators_up_to-returns-in_err-left-in-Some
+operators_up_to-returns-in_err-left-in-Some t c =
     let p = err_from_is_err_and c.from_residual.result c.from_residual.ensures.1 in
     let here = c.in-Some.ensures in
     rw (p.1, p.2) (rise_fails (names_of c.args.context.scope.now) (inside c.args.room (names_of c.args.context.scope.now)) c.args.reached c.args.precedence c.in-Some.tighter (got_of operand_of c.args.left) here.0 here.1 here.2 _ c.in_err-left-in-Some.ensures)
 
-pub rising-returns-in-None : goal.rising-returns-in-None
-rising-returns-in-None t c = rise_ends (names_of c.args.context.scope.now) (inside c.args.room (names_of c.args.context.scope.now)) c.args.reached c.args.precedence (got_of operand_of c.args.left) c.requires.reached c.in-None.ensures
+pub operators_up_to-returns-in-None : goal.operators_up_to-returns-in-None
+operators_up_to-returns-in-None t c = rise_ends (names_of c.args.context.scope.now) (inside c.args.room (names_of c.args.context.scope.now)) c.args.reached c.args.precedence (got_of operand_of c.args.left) c.requires.reached c.in-None.ensures
 
-pub rising-returns-in_ok-left-in-Some : goal.rising-returns-in_ok-left-in-Some
-rising-returns-in_ok-left-in-Some t c =
+pub operators_up_to-returns-in_ok-left-in-Some : goal.operators_up_to-returns-in_ok-left-in-Some
+operators_up_to-returns-in_ok-left-in-Some t c =
     let here = c.in-Some.ensures in
     let e = rise_goes (names_of c.args.context.scope.now) (inside c.args.room (names_of c.args.context.scope.now)) c.args.reached c.args.precedence c.in-Some.tighter (got_of operand_of c.args.left) here.0 here.1 here.2 (got_of operand_of c.in_ok-left-in-Some.left) c.in_ok-left-in-Some.ensures in
-    subst (Gives (got_of operand_of) c.rising.result) (sym e) c.rising.ensures
+    subst (Gives (got_of operand_of) c.operators_up_to.result) (sym e) c.operators_up_to.ensures
