@@ -12,13 +12,14 @@ ghost use Rattle.cparse_cursor.specs.Outcome.{Gives, got_of};
 use cparse_cursor::context::{Context, Outcome, Setting};
 use cparse_cursor::lexeme::Lexeme;
 use cparse_cursor::parsed::{Parsed, and_then};
-use cparse_cursor::punctuation::{comma, equal_sign, first_place};
+use cparse_cursor::punctuation::{first_place, if_punctuator, punctuator};
 use cparse_cursor::scope::{Entity, Scope, add, find};
 use cparse_cursor::stop::{Fault, Flaw, Stop, earlier, operand_fault, unless};
 use cparse_cursor::words::new_name;
 use cparse_cursor::written::{Sort, Written};
 use cparse_expr::expression::whole;
 use cparse_operand::wanted::number_in;
+use ctoken::Symbol;
 use ktree::Enumerator;
 use ktree::limits::OPEN_AT_ONCE;
 use std::alloc::Global;
@@ -88,7 +89,7 @@ fn enumerator<'s, 't>(
         (one_constant (names_of context.entry.scope.now) (tokens_of tokens.now)) }
 {
     let name = new_name(tokens, context.end)?;
-    let behind = equal_sign(name.rest, context.end)?;
+    let behind = punctuator(Symbol::EqualSign, name.rest, context.end)?;
     let twice = unless(
         find(context.scope, name.name).is_none(),
         Flaw::NameTwice,
@@ -152,9 +153,9 @@ pub fn constants<'s, 't>(
     for _turn in 0..tokens.len() {
         let one = enumerator(Context { alloc, scope, end }, row.rest)?;
         row = with_constant(alloc, scope, row, one)?;
-        match comma(row.rest) {
+        match if_punctuator(Symbol::Comma, row.rest) {
             None => return Ok(row),
-            Some(rest) => row.rest = rest,
+            Some((_place, rest)) => row.rest = rest,
         }
     }
     Err(Stop::Syntax(first_place(row.rest, end)))

@@ -15,10 +15,11 @@ use crate::lengths::lengths;
 use cparse_cursor::context::{Context, Outcome, Setting};
 use cparse_cursor::lexeme::Lexeme;
 use cparse_cursor::parsed::Parsed;
-use cparse_cursor::punctuation::{close_brace, open_brace, semicolon};
+use cparse_cursor::punctuation::punctuator;
 use cparse_cursor::scope::{Entity, Scope, add, find};
 use cparse_cursor::stop::{Fault, Flaw, Stop, earlier, unless};
 use cparse_cursor::words::{if_word, new_name};
+use ctoken::Symbol;
 use ktree::limits::DIMENSIONS;
 use ktree::{Declaration, Enumerator, Place, VarId};
 
@@ -51,10 +52,10 @@ fn enumeration<'s, 't>(
     ensures visible { IfOk result (λ cs. names_of scope.new
         ≡ with_constants (enumerators_of cs.tree) (names_of scope.old)) }
 {
-    let inner = open_brace(tokens, setting.end)?;
+    let inner = punctuator(Symbol::OpenBrace, tokens, setting.end)?;
     let Parsed { tree, fault, rest } = constants(setting, scope, inner)?;
-    let behind = close_brace(rest, setting.end)?;
-    let rest = semicolon(behind, setting.end)?;
+    let behind = punctuator(Symbol::CloseBrace, rest, setting.end)?;
+    let rest = punctuator(Symbol::Semicolon, behind, setting.end)?;
     Ok(Parsed { tree, fault, rest })
 }
 
@@ -78,7 +79,7 @@ fn variable<'s, 't>(
         fault,
         rest,
     } = lengths(context, name.rest)?;
-    let rest = semicolon(rest, context.end)?;
+    let rest = punctuator(Symbol::Semicolon, rest, context.end)?;
     let many = unless(lengths.len() <= DIMENSIONS, Flaw::Limit, name.place);
     let tree = Named {
         name: name.name,

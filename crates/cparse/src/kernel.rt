@@ -9,15 +9,16 @@ ghost use Rattle.cparse_cursor.specs.Outcome.{Gives};
 
 use crate::declarations::{FileScope, declarations};
 use crate::extent::too_many;
-use crate::opening::{at_end, behind_headers, opening};
+use crate::opening::{at_end, behind_headers, kernel_opening};
 use cparse_cursor::context::Setting;
 use cparse_cursor::lexeme::Lexeme;
-use cparse_cursor::punctuation::close_brace;
+use cparse_cursor::punctuation::punctuator;
 use cparse_cursor::scope::empty;
 use cparse_cursor::stop::{Fault, Stop, earlier};
 use cparse_phrase::tally::Tally;
 use cparse_phrase::told::Told;
 use cparse_stmt::statement::items;
+use ctoken::Symbol;
 use ktree::limits::{OPEN_AT_ONCE, STATEMENTS};
 use ktree::{Declaration, Kernel};
 
@@ -50,7 +51,7 @@ pub fn kernel<'s, 't>(setting: Setting, tokens: &'s [Lexeme<'t>]) -> Result<Whol
         fault: declared_fault,
         rest,
     } = declared;
-    let inner = opening(rest, end)?;
+    let inner = kernel_opening(rest, end)?;
     let next = next_number(&variables)?;
     let tally = Tally {
         next,
@@ -62,7 +63,7 @@ pub fn kernel<'s, 't>(setting: Setting, tokens: &'s [Lexeme<'t>]) -> Result<Whol
         tally: _,
         rest,
     } = items(setting, &mut scope, OPEN_AT_ONCE - 1, tally, inner)?;
-    let behind = close_brace(rest, end)?;
+    let behind = punctuator(Symbol::CloseBrace, rest, end)?;
     at_end(behind, end)?;
     let fault = earlier(declared_fault, earlier(body_fault, too_many(&variables)));
     Ok(Whole {

@@ -11,7 +11,8 @@ use crate::constants::constant_expression;
 use cparse_cursor::context::{Context, Outcome};
 use cparse_cursor::lexeme::Lexeme;
 use cparse_cursor::parsed::{Parsed, and_then};
-use cparse_cursor::punctuation::{close_bracket, open_bracket};
+use cparse_cursor::punctuation::{if_punctuator, punctuator};
+use ctoken::Symbol;
 
 /// A length, 1 where there is none.
 #[tactic(auto, using(crate::proofs::DeclarationLemmas::length_some))]
@@ -41,7 +42,7 @@ fn dimension<'s, 't>(context: Context<'_, 't>, tokens: &'s [Lexeme<'t>]) -> Outc
         (dimension (names_of context.entry.scope.now) (tokens_of tokens.now)) }
 {
     let Parsed { tree, fault, rest } = constant_expression(context, tokens)?;
-    let rest = close_bracket(rest, context.end)?;
+    let rest = punctuator(Symbol::CloseBracket, rest, context.end)?;
     Ok(Parsed {
         tree: length_of(tree.value),
         fault: tree.fault_for(fault, is_length(tree.value), 1),
@@ -64,7 +65,7 @@ pub fn lengths<'s, 't>(
         rest: tokens,
     };
     for _turn in 0..tokens.len() {
-        let Some((_place, inner)) = open_bracket(row.rest) else {
+        let Some((_place, inner)) = if_punctuator(Symbol::OpenBracket, row.rest) else {
             return Ok(row);
         };
         let one = dimension(context, inner)?;

@@ -6,9 +6,10 @@ ghost use Rattle.cparse_cursor.specs.Lexemes.{tokens_of};
 ghost use Rattle.cparse_cursor.specs.Outcome.{Gives};
 
 use cparse_cursor::lexeme::{Kind, Lexeme};
-use cparse_cursor::punctuation::{close_paren, first_place, open_brace, open_paren};
+use cparse_cursor::punctuation::{first_place, punctuator};
 use cparse_cursor::stop::Stop;
 use cparse_cursor::words::word;
+use ctoken::Symbol;
 use ktree::Place;
 
 /// The tokens behind the include lines (C11 6.10.2).
@@ -27,15 +28,18 @@ pub fn behind_headers<'s, 't>(tokens: &'s [Lexeme<'t>]) -> &'s [Lexeme<'t>]
 
 /// The tokens behind `void kernel(void) {`.
 #[tactic(auto, unfolding(cparse_grammar::specs::TextReader::opening))]
-pub fn opening<'s, 't>(tokens: &'s [Lexeme<'t>], end: Place) -> Result<&'s [Lexeme<'t>], Stop>
+pub fn kernel_opening<'s, 't>(
+    tokens: &'s [Lexeme<'t>],
+    end: Place,
+) -> Result<&'s [Lexeme<'t>], Stop>
     ensures { Gives (λ rest. tokens_of rest.now) result (opening (tokens_of tokens.now)) }
 {
     let named = word("void", tokens, end)?;
     let opened = word("kernel", named, end)?;
-    let inner = open_paren(opened, end)?;
+    let inner = punctuator(Symbol::OpenParen, opened, end)?;
     let behind = word("void", inner, end)?;
-    let closed = close_paren(behind, end)?;
-    open_brace(closed, end)
+    let closed = punctuator(Symbol::CloseParen, behind, end)?;
+    punctuator(Symbol::OpenBrace, closed, end)
 }
 
 /// The end, which has to be here.

@@ -1,2 +1,3 @@
 pub mod NameLemmas
+mod SymbolLemmas
 pub mod Turns

@@ -12,9 +12,7 @@ ghost use Rattle.cparse_expr.specs.Rising.{rise, NoneWithin};
 use cparse_cursor::context::{Context, Outcome, enter_level, tighter};
 use cparse_cursor::lexeme::{Kind, Lexeme};
 use cparse_cursor::parsed::{Parsed, Subscripts};
-use cparse_cursor::punctuation::{
-    close_bracket, close_paren, colon, first_place, open_bracket, question_mark,
-};
+use cparse_cursor::punctuation::{first_place, if_punctuator, punctuator};
 use cparse_cursor::scope::{find, is_reserved};
 use cparse_cursor::stop::Stop;
 use cparse_operand::combining::{
@@ -70,12 +68,12 @@ pub fn subscripts<'s, 't>(
 {
     let mut row = no_subscripts(context.alloc, tokens);
     for _turn in 0..tokens.len() {
-        let Some((bracket, inner)) = open_bracket(row.rest) else {
+        let Some((bracket, inner)) = if_punctuator(Symbol::OpenBracket, row.rest) else {
             return Ok(row);
         };
         let begin = first_place(inner, context.end);
         let subscript = whole_inside(context, room, bracket, inner)?;
-        let behind = close_bracket(subscript.rest, context.end)?;
+        let behind = punctuator(Symbol::CloseBracket, subscript.rest, context.end)?;
         row = with_subscript(row, subscript, place, begin, behind)?;
     }
     Ok(row)
@@ -122,7 +120,7 @@ fn primary<'s, 't>(
         Kind::Word(word) => name(context, room, word, first.place, rest),
         Kind::Punctuator(Symbol::OpenParen) => {
             let inner = whole_inside(context, room, first.place, rest)?;
-            let rest = close_paren(inner.rest, context.end)?;
+            let rest = punctuator(Symbol::CloseParen, inner.rest, context.end)?;
             Ok(Parsed {
                 tree: inner.tree,
                 fault: inner.fault,
@@ -195,7 +193,7 @@ fn binary<'s, 't>(
         (inside room (names_of context.entry.scope.now)) (tokens_of tokens.now)) }
 {
     let left = unary(context, room, tokens)?;
-    rising(context, room, 0, precedence, left)
+    operators_up_to(context, room, 0, precedence, left)
 }
 
 /// The next tighter precedence than that of the operator that comes first, if it is one behind this one, up to a limit.
@@ -215,7 +213,7 @@ fn next_tighter(reached: u32, limit: u32, tokens: &[Lexeme<'_>]) -> Option<u32>
 /// Operators up to a precedence behind a left operand that was read up to a tighter one. The operator that comes first tells which
 /// precedences have none, so that they are passed over.
 #[cycle(expression)]
-fn rising<'s, 't>(
+fn operators_up_to<'s, 't>(
     context: Context<'_, 't>,
     room: u32,
     reached: u32,
@@ -232,7 +230,7 @@ fn rising<'s, 't>(
         None => Ok(left),
         Some(tighter) => {
             let left = further(context, room, tighter, left)?;
-            rising(context, room, tighter + 1, precedence, left)
+            operators_up_to(context, room, tighter + 1, precedence, left)
         }
     }
 }
@@ -281,7 +279,7 @@ fn second_arm<'s, 't>(
     ensures { Gives (got_of operand_of) result
         (second_arm (inside room (names_of context.entry.scope.now)) (tokens_of tokens.now)) }
 {
-    let behind = colon(tokens, context.end)?;
+    let behind = punctuator(Symbol::Colon, tokens, context.end)?;
     whole_inside(context, room, place, behind)
 }
 
@@ -316,7 +314,7 @@ pub fn whole<'s, 't>(
         (tokens_of tokens.now)) }
 {
     let condition = binary(context, room, 10, tokens)?;
-    match question_mark(condition.rest) {
+    match if_punctuator(Symbol::Question, condition.rest) {
         None => Ok(condition),
         Some((place, behind)) => arms(context, room, place, condition, behind),
     }

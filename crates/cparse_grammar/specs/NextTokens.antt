@@ -3,54 +3,45 @@ use Rattle.std.specs.Prelude.{Bool, true, not, if◌then◌else◌, List, ◌∷
 use Rattle.semantics.specs.Tree.{Name}
 use Rattle.semantics.specs.Source.Token.{Token, Word, Punctuator, Symbol, Semicolon, Comma, OpenParen, CloseParen, OpenBracket, CloseBracket, OpenBrace, CloseBrace, Question, Colon, EqualSign}
 use Rattle.semantics.specs.Source.Scope.{Entity, is_reserved, same_name}
+use Rattle.semantics.specs.Source.Cuts.{symbol_text}
 
--- the symbols that end what they enclose
+-- this punctuator comes next
+abbrev pub punctuator : Symbol → List Token → Option (List Token)
+punctuator s (Punctuator t ∷ ts) = if same_name (symbol_text t) (symbol_text s) then Some ts else None
+punctuator s _ = None
+
 abbrev pub close_paren : List Token → Option (List Token)
-close_paren (Punctuator CloseParen ∷ ts) = Some ts
-close_paren _ = None
+close_paren = punctuator CloseParen
 
 abbrev pub close_bracket : List Token → Option (List Token)
-close_bracket (Punctuator CloseBracket ∷ ts) = Some ts
-close_bracket _ = None
+close_bracket = punctuator CloseBracket
 
--- those of `?:`
 abbrev pub question_mark : List Token → Option (List Token)
-question_mark (Punctuator Question ∷ ts) = Some ts
-question_mark _ = None
+question_mark = punctuator Question
 
 abbrev pub colon : List Token → Option (List Token)
-colon (Punctuator Colon ∷ ts) = Some ts
-colon _ = None
+colon = punctuator Colon
 
--- the tokens behind `[`
 abbrev pub open_bracket : List Token → Option (List Token)
-open_bracket (Punctuator OpenBracket ∷ ts) = Some ts
-open_bracket _ = None
+open_bracket = punctuator OpenBracket
 
--- symbols that come next
 abbrev pub semicolon : List Token → Option (List Token)
-semicolon (Punctuator Semicolon ∷ ts) = Some ts
-semicolon _ = None
+semicolon = punctuator Semicolon
 
 abbrev pub open_paren : List Token → Option (List Token)
-open_paren (Punctuator OpenParen ∷ ts) = Some ts
-open_paren _ = None
+open_paren = punctuator OpenParen
 
 abbrev pub equal_sign : List Token → Option (List Token)
-equal_sign (Punctuator EqualSign ∷ ts) = Some ts
-equal_sign _ = None
+equal_sign = punctuator EqualSign
 
 abbrev pub close_brace : List Token → Option (List Token)
-close_brace (Punctuator CloseBrace ∷ ts) = Some ts
-close_brace _ = None
+close_brace = punctuator CloseBrace
 
 abbrev pub open_brace : List Token → Option (List Token)
-open_brace (Punctuator OpenBrace ∷ ts) = Some ts
-open_brace _ = None
+open_brace = punctuator OpenBrace
 
 abbrev pub comma : List Token → Option (List Token)
-comma (Punctuator Comma ∷ ts) = Some ts
-comma _ = None
+comma = punctuator Comma
 
 -- a symbol comes next
 abbrev pub sign : List Token → Option (Symbol × List Token)

@@ -11,8 +11,9 @@ use crate::held::both;
 use cparse_cursor::context::{Context, Outcome};
 use cparse_cursor::lexeme::Lexeme;
 use cparse_cursor::parsed::Parsed;
-use cparse_cursor::punctuation::{close_paren, open_paren, semicolon};
+use cparse_cursor::punctuation::punctuator;
 use cparse_expr::expression::whole;
+use ctoken::Symbol;
 use ktree::Source;
 
 /// An expression in parentheses.
@@ -24,9 +25,9 @@ pub fn in_parens<'s, 't>(
     ensures { Gives (got_of source_of) result
         (in_parens (expression room (names_of context.entry.scope.now)) (tokens_of tokens.now)) }
 {
-    let inner = open_paren(tokens, context.end)?;
+    let inner = punctuator(Symbol::OpenParen, tokens, context.end)?;
     let Parsed { tree, fault, rest } = whole(context, room, inner)?;
-    let (tree, rest) = both(tree, close_paren(rest, context.end))?;
+    let (tree, rest) = both(tree, punctuator(Symbol::CloseParen, rest, context.end))?;
     Ok(Parsed {
         tree: tree.source,
         fault,
@@ -44,7 +45,7 @@ pub fn ended_source<'s, 't>(
         (ended_source (expression room (names_of context.entry.scope.now)) (tokens_of tokens.now)) }
 {
     let Parsed { tree, fault, rest } = whole(context, room, tokens)?;
-    let (tree, rest) = both(tree, semicolon(rest, context.end))?;
+    let (tree, rest) = both(tree, punctuator(Symbol::Semicolon, rest, context.end))?;
     Ok(Parsed {
         tree: tree.source,
         fault,

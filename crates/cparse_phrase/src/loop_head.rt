@@ -18,10 +18,11 @@ use crate::tally::Tally;
 use cparse_cursor::context::{Context, Outcome, Setting};
 use cparse_cursor::lexeme::Lexeme;
 use cparse_cursor::parsed::Parsed;
-use cparse_cursor::punctuation::{close_paren, equal_sign, first_place, open_paren};
+use cparse_cursor::punctuation::{first_place, punctuator};
 use cparse_cursor::scope::{Entity, Scope, add, find};
 use cparse_cursor::stop::{Fault, Flaw, Stop, earlier, unless};
 use cparse_cursor::words::{NextWord, new_name, word};
+use ctoken::Symbol;
 use ktree::{Increment, Place, Source, VarId};
 
 /// A loop's variable, start, test and step, and the tokens behind them.
@@ -48,10 +49,10 @@ fn counter<'s, 't>(tokens: &'s [Lexeme<'t>], end: Place) -> Result<LoopName<'s, 
     ensures { Gives (λ c. (c.name.name.now, tokens_of c.behind.now)) result
         (counter (tokens_of tokens.now)) }
 {
-    let inner = open_paren(tokens, end)?;
+    let inner = punctuator(Symbol::OpenParen, tokens, end)?;
     let typed = word("uint64_t", inner, end)?;
     let name = new_name(typed, end)?;
-    let behind = equal_sign(name.rest, end)?;
+    let behind = punctuator(Symbol::EqualSign, name.rest, end)?;
     Ok(LoopName { name, behind })
 }
 
@@ -66,13 +67,13 @@ fn closed_step<'s, 't>(
         (names_of context.entry.scope.now) (tokens_of tokens.now)) }
 {
     let Parsed { tree, fault, rest } = step(context, room, tokens)?;
-    let (tree, rest) = both(tree, close_paren(rest, context.end))?;
+    let (tree, rest) = both(tree, punctuator(Symbol::CloseParen, rest, context.end))?;
     Ok(Parsed { tree, fault, rest })
 }
 
 /// What stands behind the word `for`, up to the parenthesis that closes; the loop's variable is visible behind it.
 #[tactic(auto, using(cparse_grammar::proofs::HeadingLemmas::heading_by_parts))]
-pub fn heading<'s, 't>(
+pub fn loop_head<'s, 't>(
     setting: Setting,
     scope: &mut Scope<'t>,
     room: u32,

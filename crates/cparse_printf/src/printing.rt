@@ -15,11 +15,12 @@ use crate::format::{Spot, format};
 use cparse_cursor::context::{Context, Outcome, enter_level};
 use cparse_cursor::lexeme::Lexeme;
 use cparse_cursor::parsed::Parsed;
-use cparse_cursor::punctuation::{close_paren, comma, open_paren};
+use cparse_cursor::punctuation::{if_punctuator, punctuator};
 use cparse_cursor::stop::{Flaw, Stop, earlier, told_sort, unless};
 use cparse_expr::expression::whole;
 use cparse_operand::operand::Operand;
 use cparse_operand::wanted::number_in;
+use ctoken::Symbol;
 use ktree::{Expr, Place, PrintPart, Stmt, Suffix};
 use std::alloc::Global;
 
@@ -71,7 +72,7 @@ fn arguments<'s, 't>(
         rest: tokens,
     };
     for _turn in 0..tokens.len() {
-        let Some(inner) = comma(row.rest) else {
+        let Some((_place, inner)) = if_punctuator(Symbol::Comma, row.rest) else {
             return Ok(row);
         };
         let argument = whole(context, room, inner)?;
@@ -142,7 +143,7 @@ fn closed_arguments<'s, 't>(
         (tokens_of tokens.now)) }
 {
     let Parsed { tree, fault, rest } = arguments(context, room, place, tokens)?;
-    let rest = close_paren(rest, context.end)?;
+    let rest = punctuator(Symbol::CloseParen, rest, context.end)?;
     Ok(Parsed { tree, fault, rest })
 }
 
@@ -178,7 +179,7 @@ pub fn print_behind<'s, 't>(
         (printed room (names_of context.entry.scope.now) (tokens_of tokens.now)) }
 {
     let room = enter_level(room, place)?;
-    let inner = open_paren(tokens, context.end)?;
+    let inner = punctuator(Symbol::OpenParen, tokens, context.end)?;
     let spots = format(context.alloc, inner, context.end)?;
     let arguments = closed_arguments(context, room, place, spots.rest)?;
     print_of(context.alloc, place, spots.tree, arguments)

@@ -13,12 +13,13 @@ ghost use Rattle.cparse_cursor.specs.Outcome.{Gives, got_of};
 use cparse_cursor::context::Context;
 use cparse_cursor::lexeme::Lexeme;
 use cparse_cursor::parsed::Parsed;
-use cparse_cursor::punctuation::semicolon;
+use cparse_cursor::punctuation::punctuator;
 use cparse_cursor::stop::Stop;
 use cparse_phrase::assignment::assignment;
 use cparse_phrase::tally::Tally;
 use cparse_phrase::told::Told;
 use cparse_printf::printing::print_behind;
+use ctoken::Symbol;
 use ktree::{Place, Stmt};
 
 /// A statement that ends in a semicolon, by a tree of any type: of one that is not known letting go is a call, and is not written
@@ -31,7 +32,7 @@ fn end_statement<'s, 't, T: Drop>(
     ensures { (view : T → Statement) → Gives (told_of view) result
         (ended (tally_of tally) (got_of view statement.entry)) }
 {
-    let rest = semicolon(statement.rest, end)?;
+    let rest = punctuator(Symbol::Semicolon, statement.rest, end)?;
     Ok(Told {
         tree: statement.tree,
         fault: statement.fault,

@@ -16,12 +16,12 @@ use crate::simple::simple;
 use cparse_cursor::context::{Context, Setting, enter_level};
 use cparse_cursor::lexeme::{Kind, Lexeme};
 use cparse_cursor::parsed::Parsed;
-use cparse_cursor::punctuation::close_brace;
+use cparse_cursor::punctuation::punctuator;
 use cparse_cursor::scope::{Scope, close, count};
 use cparse_cursor::stop::Stop;
 use cparse_cursor::words::if_word;
 use cparse_phrase::delimited::in_parens;
-use cparse_phrase::loop_head::heading;
+use cparse_phrase::loop_head::loop_head;
 use cparse_phrase::tally::{Tally, declare, spend};
 use cparse_phrase::told::Told;
 use ctoken::Symbol;
@@ -120,7 +120,7 @@ fn block<'s, 't>(
     let room = enter_level(room, place)?;
     let names = count(scope);
     let row = items(setting, scope, room, tally, tokens)?;
-    let rest = close_brace(row.rest, setting.end)?;
+    let rest = punctuator(Symbol::CloseBrace, row.rest, setting.end)?;
     close(scope, names);
     Ok(Told {
         tree: Stmt::Block(row.tree),
@@ -311,7 +311,7 @@ fn iteration<'s, 't>(
     let room = enter_level(outer, place)?;
     let names = count(scope);
     let behind = declare(tally)?;
-    let head = heading(setting, scope, room, tally, tokens)?;
+    let head = loop_head(setting, scope, room, tally, tokens)?;
     let body = inner(setting, scope, outer, behind, head.rest);
     let (head, body) = both(head, body)?;
     close(scope, names);

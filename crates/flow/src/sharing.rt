@@ -62,7 +62,7 @@ fn item_declares(item: &Item, variable: VarId) -> bool
 }
 
 /// Tells of a scalar that is written: one that stands in a `firstprivate` list of the line is its copy (OpenMP 5.2, 5.4.4).
-fn written(target: &Target, line: u32, lines: &LineClauses) -> DataFault
+fn write_fault(target: &Target, line: u32, lines: &LineClauses) -> DataFault
     ensures { (own : Variable → Bool) (is : Exprs) → is_own own target.now.variable.0 is ≡ false
         → TellsOfWrite result own target.now.variable.0 is }
 {
@@ -102,7 +102,7 @@ fn target_fault(
     if has_role(target.variable, line, lines, files) {
         return None;
     }
-    Some(written(target, line, lines))
+    Some(write_fault(target, line, lines))
 }
 
 /// The first fault of a statement in a body.

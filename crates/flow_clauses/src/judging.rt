@@ -121,7 +121,7 @@ fn scan_fault(files: &[Declaration], loops: &HashSet<u32>, named: &Named) -> Opt
 }
 
 /// A place in a list of private variables.
-fn privatised(place: Option<Place>) -> Option<Misuse>
+fn private_misuse(place: Option<Place>) -> Option<Misuse>
     ensures { is_none result ≡ is_none place }
 {
     match place {
@@ -131,7 +131,7 @@ fn privatised(place: Option<Place>) -> Option<Misuse>
 }
 
 /// A place in a list of reduction variables.
-fn reduced(place: Option<Place>) -> Option<Misuse>
+fn reduction_misuse(place: Option<Place>) -> Option<Misuse>
     ensures { is_none result ≡ is_none place }
 {
     match place {
@@ -150,11 +150,11 @@ fn clause_fault(
         ≡ fits (map declaration_of files.now) (holds loops.now) (resolved_clause clause.now) }
 {
     match clause {
-        Clause::Private(names) => privatised(private_fault(files, loops, names)),
-        Clause::Firstprivate(names) => privatised(copied_fault(files, names)),
-        Clause::Lastprivate(names) => privatised(result_fault(files, loops, names)),
-        Clause::Reduction(_, names) => reduced(result_fault(files, loops, names)),
-        Clause::Inscan(_, named) => reduced(scan_fault(files, loops, named)),
+        Clause::Private(names) => private_misuse(private_fault(files, loops, names)),
+        Clause::Firstprivate(names) => private_misuse(copied_fault(files, names)),
+        Clause::Lastprivate(names) => private_misuse(result_fault(files, loops, names)),
+        Clause::Reduction(_, names) => reduction_misuse(result_fault(files, loops, names)),
+        Clause::Inscan(_, named) => reduction_misuse(scan_fault(files, loops, named)),
         _ => None,
     }
 }

@@ -125,7 +125,7 @@ fn scalar_assigned(target: &Target, value: &Source, reductions: &[Reduction]) ->
 }
 
 /// The misuse in an assignment.
-fn assigned(target: &Target, value: &Source, reductions: &[Reduction]) -> Option<Place>
+fn assignment_misuse(target: &Target, value: &Source, reductions: &[Reduction]) -> Option<Place>
     ensures { is_none result ≡ reduces (reduced reductions.now)
         (meant.Assign target.now.variable.0 (exprs_of target.now.subscripts.items)
         (source_of value.now)) }
@@ -158,7 +158,12 @@ fn scalar_updated(
 }
 
 /// The misuse in `op=`.
-fn updated(target: &Target, by: BinaryOp, value: &Expr, reductions: &[Reduction]) -> Option<Place>
+fn update_misuse(
+    target: &Target,
+    by: BinaryOp,
+    value: &Expr,
+    reductions: &[Reduction],
+) -> Option<Place>
     ensures { is_none result ≡ reduces (reduced reductions.now)
         (meant.Update target.now.variable.0 (exprs_of target.now.subscripts.items)
         (binary_of by) (expr_of value.now)) }
@@ -192,8 +197,8 @@ pub fn first_misuse(statement: &Stmt, reductions: &[Reduction]) -> Option<Place>
     ensures { is_none result ≡ reduces (reduced reductions.now) (stmt_of statement.now) }
 {
     match statement {
-        Stmt::Assign(target, value) => assigned(target, value, reductions),
-        Stmt::Update(target, by, value) => updated(target, *by, value, reductions),
+        Stmt::Assign(target, value) => assignment_misuse(target, value, reductions),
+        Stmt::Update(target, by, value) => update_misuse(target, *by, value, reductions),
         Stmt::If(test, then, None) => {
             if is_choice(test, then, reductions) {
                 return None;

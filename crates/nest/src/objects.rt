@@ -34,7 +34,7 @@ fn are_indexes(range: Option<(i128, i128)>, length: u64) -> bool
 }
 
 /// The place of a subscript, where it leaves its dimension somewhere in the box.
-fn leaving(
+fn place_outside(
     alloc: Global,
     length: u64,
     subscript: &Expr,
@@ -78,7 +78,7 @@ fn first_leaving(
         return Ok(None);
     };
     let place = subscript_place(mention, at);
-    let first = leaving(alloc, *length, subscript, bounds, place)?;
+    let first = place_outside(alloc, *length, subscript, bounds, place)?;
     let next = at.saturating_add(1);
     let others = first_leaving(alloc, lengths, subscripts, mention, next, bounds)?;
     Ok(first.or(others))

@@ -118,7 +118,7 @@ impl<'t> Directives<'t> {
     }
 
     /// What the line of a number is read as, from 1, where it is well formed.
-    fn reading(&self, number: u32) -> Option<&Reading>
+    fn reading_of_line(&self, number: u32) -> Option<&Reading>
         ensures { MatchOption result (IsReading (line_at self.now number) malformed)
             (λ reading. IsReading (line_at self.now number) reading.now) }
     {
@@ -140,7 +140,7 @@ impl<'t> Directives<'t> {
         ensures err { IfErr result (λ r. IsFault place (HasForm (line_at self.now place.line)) r
             × ReadsNone (line_at self.now place.line)) }
     {
-        let Some(reading) = self.reading(place.line) else {
+        let Some(reading) = self.reading_of_line(place.line) else {
             return Err(Refusal::Directive(place));
         };
         reading.at(place)

@@ -104,7 +104,7 @@ fn last<'l>(setting: Setting, text: &'l [u8]) -> Result<(Clause<Written>, &'l [u
 }
 
 /// The clause of a word in whose parentheses names alone stand.
-fn naming(word: &[u8], names: Vec<Written>) -> Option<Clause<Written>>
+fn clause_of_names(word: &[u8], names: Vec<Written>) -> Option<Clause<Written>>
     ensures { option_map written_clause result ≡ naming word.now (names_of names) }
 {
     if is_word(word, b"shared") {
@@ -129,7 +129,7 @@ fn names_clause<'l>(
         (named setting.length word.now (words text.now)) }
 {
     let (names, rest) = names(setting, text)?;
-    match naming(word, names) {
+    match clause_of_names(word, names) {
         Some(clause) => Ok((clause, rest)),
         None => Err(Unread::Malformed),
     }

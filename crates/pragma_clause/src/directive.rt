@@ -118,7 +118,7 @@ fn doacross(setting: Setting, text: &[u8]) -> Result<Directive<Written>, Unread>
 }
 
 /// The directive of what stands behind `ordered`.
-fn ordered(setting: Setting, text: &[u8]) -> Result<Directive<Written>, Unread>
+fn ordered_directive(setting: Setting, text: &[u8]) -> Result<Directive<Written>, Unread>
     ensures { Gives written_directive result (ordered setting.length (words text.now)) }
 {
     if is_end(text) {
@@ -131,7 +131,7 @@ fn ordered(setting: Setting, text: &[u8]) -> Result<Directive<Written>, Unread>
 }
 
 /// The directive of what stands behind `for`.
-fn worksharing(setting: Setting, text: &[u8]) -> Result<Directive<Written>, Unread>
+fn worksharing_directive(setting: Setting, text: &[u8]) -> Result<Directive<Written>, Unread>
     ensures { Gives written_directive result
         (worksharing setting.exact setting.length (words text.now)) }
 {
@@ -169,13 +169,13 @@ fn behind_first(setting: Setting, word: &[u8], text: &[u8]) -> Result<Directive<
         return parallel(setting, text);
     }
     if is_word(word, b"for") {
-        return worksharing(setting, text);
+        return worksharing_directive(setting, text);
     }
     if is_word(word, b"scan") {
         return scan(setting, text);
     }
     if is_word(word, b"ordered") {
-        return ordered(setting, text);
+        return ordered_directive(setting, text);
     }
     Err(Unread::Malformed)
 }

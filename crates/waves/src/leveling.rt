@@ -11,13 +11,13 @@ ghost use Rattle.waves.specs.Wanted.{AreWaves};
 ghost use Rattle.waves.specs.Table.{AreLevels};
 
 use crate::sinks::Sinks;
-use crate::sorting::{Waves, at, sorted};
+use crate::sorting::{Waves, at, numbers_by_level};
 use ktree::Refusal;
 use nest_space::Space;
 use std::alloc::{AllocError, Global};
 
 /// One more than the level of the iteration that lies so far before, if it is one and this is above what there is.
-fn raised(space: &Space, distance: &[i64], values: &[u64], levels: &[u32], above: u32) -> u32
+fn raised_level(space: &Space, distance: &[i64], values: &[u64], levels: &[u32], above: u32) -> u32
     requires few { length levels.now < 2 ^ 32 }
     requires rise { EachRises space.now }
     requires ahead { is_ahead distance.now ≡ true }
@@ -53,7 +53,7 @@ fn level_above(space: &Space, distances: &[Vec<i64>], values: &[u64], levels: &[
 {
     let mut above = 0;
     for distance in distances {
-        above = raised(space, distance, values, levels, above);
+        above = raised_level(space, distance, values, levels, above);
     }
     above
 }
@@ -121,6 +121,6 @@ pub fn levels(alloc: Global, space: &Space, sinks: &Sinks) -> Result<Waves, Refu
 {
     let mut values = Vec::from_elem(alloc, 0u64, sinks.loops)?;
     let levels = levels_by(alloc, space, &sinks.distances, &mut values)?;
-    let waves = sorted(alloc, &levels)?;
+    let waves = numbers_by_level(alloc, &levels)?;
     Ok(waves)
 }

@@ -32,7 +32,7 @@ returns-in-None-clause-constants c =
     let row = got_of enumerators_of c.loop-turn.row in
     let one = got_of valued_of c.in_ok-one.one in
     let is : and_then row one ≡ got_of enumerators_of c.in_ok-row.row = same_some _ _ c.in_ok-row.ensures.row in
-    let h = ap (λ g. comma g.rest) is ∙ sym c.comma.ensures ∙ ap (option_map (λ rest. tokens_of rest.now)) c.in-None.is in
+    let h = ap (λ g. comma g.rest) is ∙ sym c.if_punctuator.ensures ∙ ap (option_map (λ found. tokens_of found.1.now)) c.in-None.is in
     let lt : c.loop-turn._turn < length (tokens_of c.args.tokens.now) = omega (arith, length-map c.args.tokens.now token_of) in
     closes constants_run (length (tokens_of c.args.tokens.now)) c.loop-turn._turn (row, names_of c.loop-turn.scope) _ c.loop-turn.invariant.turns (Some (got_of enumerators_of c.in_ok-row.row)) lt
     (λ n. constants_last row (names_of c.loop-turn.scope) one c.in_ok-one.ensures h n ∙ c.in_ok-row.ensures.row)
@@ -49,7 +49,7 @@ loop-turn-preserved c =
     let row = got_of enumerators_of c.loop-turn.row in
     let one = got_of valued_of c.in_ok-one.one in
     let is : and_then row one ≡ got_of enumerators_of c.in_ok-row.row = same_some _ _ c.in_ok-row.ensures.row in
-    let h = ap (λ g. comma g.rest) is ∙ sym c.comma.ensures ∙ ap (option_map (λ rest. tokens_of rest.now)) c.in-Some.is in
+    let h = ap (λ g. comma g.rest) is ∙ sym c.if_punctuator.ensures ∙ ap (option_map (λ found. tokens_of found.1.now)) c.in-Some.is in
     let lt : c.loop-turn._turn < length (tokens_of c.args.tokens.now) = omega (arith, length-map c.args.tokens.now token_of) in
     let left : ℕ = length (tokens_of c.args.tokens.now) - (c.loop-turn._turn + 1) in
     record {

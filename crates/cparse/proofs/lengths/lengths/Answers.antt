@@ -14,13 +14,13 @@ loop-turn-init c = lengths_begin _ _ _ _ c.new.ensures.items
 
 pub returns-in_default : goal.returns-in_default
 returns-in_default c =
-    let h = sym c.open_bracket.ensures ∙ ap (option_map (λ found. tokens_of found.1.now)) c.in_default.is in
+    let h = sym c.if_punctuator.ensures ∙ ap (option_map (λ found. tokens_of found.1.now)) c.in_default.is in
     let scope = names_of c.args.context.scope.now in
     ends (lengths_run scope) (length (tokens_of c.args.tokens.now)) c.loop-turn._turn (got_of (λ v. v.items) c.loop-turn.row) _ c.loop-turn.invariant _ (lengths_end scope (got_of (λ v. v.items) c.loop-turn.row) h)
 
 pub returns-in_err-one : goal.returns-in_err-one
 returns-in_err-one c =
-    let h = sym c.open_bracket.ensures ∙ ap (option_map (λ found. tokens_of found.1.now)) c.in-Some.is in
+    let h = sym c.if_punctuator.ensures ∙ ap (option_map (λ found. tokens_of found.1.now)) c.in-Some.is in
     let scope = names_of c.args.context.scope.now in
     let lt : c.loop-turn._turn < length (tokens_of c.args.tokens.now) = omega (arith, length-map c.args.tokens.now token_of) in
     let p = err_from_is_err_and c.from_residual.result c.from_residual.ensures.1 in
@@ -29,7 +29,7 @@ returns-in_err-one c =
 
 pub loop-turn-preserved : goal.loop-turn-preserved
 loop-turn-preserved c =
-    let h = sym c.open_bracket.ensures ∙ ap (option_map (λ found. tokens_of found.1.now)) c.in-Some.is in
+    let h = sym c.if_punctuator.ensures ∙ ap (option_map (λ found. tokens_of found.1.now)) c.in-Some.is in
     let scope = names_of c.args.context.scope.now in
     let lt : c.loop-turn._turn < length (tokens_of c.args.tokens.now) = omega (arith, length-map c.args.tokens.now token_of) in
     ap (lengths_run scope _) (same_got (got_of (λ v. v.items) c.in_ok-row.row) _ _ _ c.in_ok-row.ensures.tree c.in_ok-row.ensures.fault (ap (λ r. tokens_of r.now) c.in_ok-row.ensures.rest))

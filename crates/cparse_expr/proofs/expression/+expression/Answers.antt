@@ -33,26 +33,26 @@ further-loop-turn-preserved t c =
 
 pub subscripts-returns-in_default : goal.subscripts-returns-in_default
 subscripts-returns-in_default t c =
-    let h = sym c.open_bracket.ensures ∙ ap (option_map (λ found. tokens_of found.1.now)) c.in_default.is in
+    let h = sym c.if_punctuator.ensures ∙ ap (option_map (λ found. tokens_of found.1.now)) c.in_default.is in
     sym c.loop-turn.invariant ∙ row_ends _ _ (got_of subscripts_of c.loop-turn.row) h
 
 pub subscripts-returns-in_err-subscript : goal.subscripts-returns-in_err-subscript
 subscripts-returns-in_err-subscript t c =
-    let h = sym c.open_bracket.ensures ∙ ap (option_map (λ found. tokens_of found.1.now)) c.in-Some.is in
+    let h = sym c.if_punctuator.ensures ∙ ap (option_map (λ found. tokens_of found.1.now)) c.in-Some.is in
     let lt : c.loop-turn._turn < length (tokens_of c.args.tokens.now) = omega (arith, length-map c.args.tokens.now token_of) in
     let p = err_from_is_err_and c.from_residual.result c.from_residual.ensures.1 in
     rw (p.1, p.2) (row_fails _ _ _ (got_of subscripts_of c.loop-turn.row) _ _ lt h c.loop-turn.invariant _ c.in_err-subscript.ensures)
 
 pub subscripts-returns-in_err-behind : goal.subscripts-returns-in_err-behind
 subscripts-returns-in_err-behind t c =
-    let h = sym c.open_bracket.ensures ∙ ap (option_map (λ found. tokens_of found.1.now)) c.in-Some.is in
+    let h = sym c.if_punctuator.ensures ∙ ap (option_map (λ found. tokens_of found.1.now)) c.in-Some.is in
     let lt : c.loop-turn._turn < length (tokens_of c.args.tokens.now) = omega (arith, length-map c.args.tokens.now token_of) in
     let p = err_from_is_err_and c.from_residual-in_err-behind.result c.from_residual-in_err-behind.ensures.1 in
     rw (p.1, p.2) (row_stays_open _ _ _ (got_of subscripts_of c.loop-turn.row) _ _ lt h c.loop-turn.invariant _ (got_of operand_of c.in_ok-subscript.subscript) c.in_ok-subscript.ensures c.in_err-behind.ensures)
 
 pub subscripts-loop-turn-preserved : goal.subscripts-loop-turn-preserved
 subscripts-loop-turn-preserved t c =
-    let h = sym c.open_bracket.ensures ∙ ap (option_map (λ found. tokens_of found.1.now)) c.in-Some.is in
+    let h = sym c.if_punctuator.ensures ∙ ap (option_map (λ found. tokens_of found.1.now)) c.in-Some.is in
     let lt : c.loop-turn._turn < length (tokens_of c.args.tokens.now) = omega (arith, length-map c.args.tokens.now token_of) in
     ap (λ (r : Got Exprs). in_front r (subscripts (length (tokens_of c.args.tokens.now) - (c.loop-turn._turn + 1)) (inside c.args.room (names_of c.args.context.scope.now)) r.rest)) (same_some _ _ (sym c.in_ok-row.ensures))
     ∙ row_goes _ _ _ (got_of subscripts_of c.loop-turn.row) _ _ lt h c.loop-turn.invariant (got_of operand_of c.in_ok-subscript.subscript) _ c.in_ok-subscript.ensures c.in_ok-behind.ensures
@@ -80,19 +80,19 @@ binary-returns-in_err-left t c =
 pub binary-returns : goal.binary-returns
 binary-returns t c =
     let e = binary_goes (names_of c.args.context.scope.now) (inside c.args.room (names_of c.args.context.scope.now)) c.args.precedence (tokens_of c.args.tokens.now) (got_of operand_of c.in_ok-left.left) c.in_ok-left.ensures in
-    subst (Gives (got_of operand_of) c.rising.result) (sym e) c.rising.ensures
+    subst (Gives (got_of operand_of) c.operators_up_to.result) (sym e) c.operators_up_to.ensures
 
-pub rising-returns-in_err-left-in-Some : goal.rising-returns-in_err-left-in-Some
-rising-returns-in_err-left-in-Some t c =
+pub operators_up_to-returns-in_err-left-in-Some : goal.operators_up_to-returns-in_err-left-in-Some
+operators_up_to-returns-in_err-left-in-Some t c =
     let p = err_from_is_err_and c.from_residual.result c.from_residual.ensures.1 in
     let here = c.in-Some.ensures in
     rw (p.1, p.2) (rise_fails (names_of c.args.context.scope.now) (inside c.args.room (names_of c.args.context.scope.now)) c.args.reached c.args.precedence c.in-Some.tighter (got_of operand_of c.args.left) here.0 here.1 here.2 _ c.in_err-left-in-Some.ensures)
 
-pub rising-returns-in-None : goal.rising-returns-in-None
-rising-returns-in-None t c = rise_ends (names_of c.args.context.scope.now) (inside c.args.room (names_of c.args.context.scope.now)) c.args.reached c.args.precedence (got_of operand_of c.args.left) c.requires.reached c.in-None.ensures
+pub operators_up_to-returns-in-None : goal.operators_up_to-returns-in-None
+operators_up_to-returns-in-None t c = rise_ends (names_of c.args.context.scope.now) (inside c.args.room (names_of c.args.context.scope.now)) c.args.reached c.args.precedence (got_of operand_of c.args.left) c.requires.reached c.in-None.ensures
 
-pub rising-returns-in_ok-left-in-Some : goal.rising-returns-in_ok-left-in-Some
-rising-returns-in_ok-left-in-Some t c =
+pub operators_up_to-returns-in_ok-left-in-Some : goal.operators_up_to-returns-in_ok-left-in-Some
+operators_up_to-returns-in_ok-left-in-Some t c =
     let here = c.in-Some.ensures in
     let e = rise_goes (names_of c.args.context.scope.now) (inside c.args.room (names_of c.args.context.scope.now)) c.args.reached c.args.precedence c.in-Some.tighter (got_of operand_of c.args.left) here.0 here.1 here.2 (got_of operand_of c.in_ok-left-in-Some.left) c.in_ok-left-in-Some.ensures in
-    subst (Gives (got_of operand_of) c.rising.result) (sym e) c.rising.ensures
+    subst (Gives (got_of operand_of) c.operators_up_to.result) (sym e) c.operators_up_to.ensures

@@ -27,8 +27,8 @@ decreases-operand_inside l = 160 * l.room
 abbrev pub decreases-primary : goal.decreases-primary
 decreases-primary l = 160 * l.room + 4
 
-abbrev pub decreases-rising : goal.decreases-rising
-decreases-rising l = 160 * l.room + (13 * l.precedence + (l.precedence - l.reached))
+abbrev pub decreases-operators_up_to : goal.decreases-operators_up_to
+decreases-operators_up_to l = 160 * l.room + (13 * l.precedence + (l.precedence - l.reached))
 
 abbrev pub decreases-second_arm : goal.decreases-second_arm
 decreases-second_arm l = 160 * l.room + 1

@@ -14,13 +14,13 @@ use Rattle.cparse_printf.proofs.printing.arguments.Goals as goal
 pub returns-in_default : goal.returns-in_default
 returns-in_default c =
     let whole = expression c.args.room (names_of c.args.context.scope.now) in
-    let h = sym c.comma.ensures ∙ ap (option_map (λ rest. tokens_of rest.now)) c.in_default.is in
+    let h = sym c.if_punctuator.ensures ∙ ap (option_map (λ found. tokens_of found.1.now)) c.in_default.is in
     ends (arguments_run whole) _ _ (got_of arguments_of c.loop-turn.row) _ c.loop-turn.invariant _ (λ n. arguments_over whole n (got_of arguments_of c.loop-turn.row) h)
 
 pub loop-turn-preserved : goal.loop-turn-preserved
 loop-turn-preserved c =
     let whole = expression c.args.room (names_of c.args.context.scope.now) in
     let lt : c.loop-turn._turn < length (tokens_of c.args.tokens.now) = omega (arith, length-map c.args.tokens.now token_of) in
-    let h = sym c.comma.ensures ∙ ap (option_map (λ rest. tokens_of rest.now)) c.in-Some.is in
+    let h = sym c.if_punctuator.ensures ∙ ap (option_map (λ found. tokens_of found.1.now)) c.in-Some.is in
     ap (arguments_run whole _) (same_some _ _ (sym c.in_ok-row.ensures))
     ∙ goes (arguments_run whole) _ _ (got_of arguments_of c.loop-turn.row) _ c.loop-turn.invariant _ lt (λ n. arguments_go whole n (got_of arguments_of c.loop-turn.row) _ (got_of operand_of c.in_ok-argument.argument) h c.in_ok-argument.ensures)

@@ -8,7 +8,7 @@ use Rattle.pragma.specs.declared.lines.LineReading.{LineReading}
 use Rattle.pragma.specs.declared.reading.Reading.TheVariants.{Malformed}
 use Rattle.pragma.specs.Reading.{IsReading}
 use Rattle.pragma.proofs.ReadingLaw.{found_reading, none_found}
-use Rattle.pragma.proofs.lines.Directives.reading.Goals as goal
+use Rattle.pragma.proofs.lines.Directives.reading_of_line.Goals as goal
 
 pub returns-in-Ok : goal.returns-in-Ok
 returns-in-Ok c =

@@ -6,7 +6,7 @@ use Rattle.law_roles.specs.Updates.{is_plain}
 use Rattle.ktree.specs.View.{binary_of, expr_of, exprs_of}
 use Rattle.flow_reduction.specs.Reduced.{reduced}
 use Rattle.flow_reduction.proofs.UpdateLemmas.{element_changed}
-use Rattle.flow_reduction.proofs.misuse.updated.Goals as goal
+use Rattle.flow_reduction.proofs.misuse.update_misuse.Goals as goal
 
 pub returns : goal.returns
 returns c =

@@ -6,7 +6,7 @@ use Rattle.law_roles.specs.Updates.{is_plain}
 use Rattle.ktree.specs.View.{exprs_of, source_of}
 use Rattle.flow_reduction.specs.Reduced.{reduced}
 use Rattle.flow_reduction.proofs.UpdateLemmas.{element_plain}
-use Rattle.flow_reduction.proofs.misuse.assigned.Goals as goal
+use Rattle.flow_reduction.proofs.misuse.assignment_misuse.Goals as goal
 
 pub returns : goal.returns
 returns c =

@@ -2,7 +2,7 @@ use Rattle.std.proofs.Common.{arith, ap, ◌∙◌, ◌+◌, ◌≡◌, ◌<◌,
 use Rattle.nest_space.specs.Space.{vectors}
 use Rattle.waves.proofs.Sorted.{sorted_vectors, sunk_at}
 use Rattle.waves.proofs.Known.{none_inside, not_raised, raised_by, max_most}
-use Rattle.waves.proofs.leveling.raised.Goals as goal
+use Rattle.waves.proofs.leveling.raised_level.Goals as goal
 
 pub at-requires : goal.at-requires
 at-requires c =

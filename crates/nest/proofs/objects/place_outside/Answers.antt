@@ -1,7 +1,7 @@
 use Rattle.ktree.specs.View.{expr_of}
 use Rattle.affine_expr.specs.Forms.{form_of}
 use Rattle.nest.proofs.Stays.{decided, refused}
-use Rattle.nest.proofs.objects.leaving.Goals as goal
+use Rattle.nest.proofs.objects.place_outside.Goals as goal
 
 pub returns-then-are_indexes-clause-leaves : goal.returns-then-are_indexes-clause-leaves
 returns-then-are_indexes-clause-leaves c =
