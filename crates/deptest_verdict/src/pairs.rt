@@ -9,7 +9,7 @@ ghost use Rattle.deptest_verdict.specs.Refused.{IsTooLarge};
 
 use ktree::{Place, VarId};
 use pairtest::{Access, Mode, Nest, PastLimit};
-use pairtest_cover::ordered;
+use pairtest_cover::are_ordered;
 use std::alloc::{AllocError, Global};
 
 /// The accesses of a body in the order of the text, and the numbers of those that write.
@@ -79,7 +79,7 @@ fn is_shown(x: &Access, y: &Access, nest: &Nest, sinks: &[Vec<i64>]) -> Result<b
     ensures large { IfErr result (λ _. AllWithin nest.now x.now y.now → ⊥) }
 {
     if is_pair(x, y) {
-        ordered(x, y, nest, sinks)
+        are_ordered(x, y, nest, sinks)
     } else {
         Ok(true)
     }

@@ -45,7 +45,7 @@ fn names_loop(element: &SinkElement<Written>, head: &Head) -> bool
 }
 
 /// The first of some elements for which there is no loop.
-fn unnamed(elements: &[SinkElement<Written>]) -> Option<Place>
+fn first_unnamed(elements: &[SinkElement<Written>]) -> Option<Place>
     ensures { is_none result ≡ in_order [] (elements_of elements.now) }
 {
     match elements {
@@ -57,27 +57,27 @@ fn unnamed(elements: &[SinkElement<Written>]) -> Option<Place>
 /// The first element that does not name the variable of its loop, where the loops stand one directly in the other.
 #[cycle(naming)]
 #[tactic(auto, using(ktree::proofs::Trees::block_items))]
-fn misnamed(elements: &[SinkElement<Written>], statement: &Stmt) -> Option<Place>
+fn first_misnamed(elements: &[SinkElement<Written>], statement: &Stmt) -> Option<Place>
     ensures { is_none result
         ≡ in_order (loop_names (stmt_of statement.now)) (elements_of elements.now) }
 {
     match statement {
-        Stmt::Assign(_, _) => unnamed(elements),
-        Stmt::Update(_, _, _) => unnamed(elements),
-        Stmt::If(_, _, None) => unnamed(elements),
-        Stmt::If(_, _, Some(_)) => unnamed(elements),
+        Stmt::Assign(_, _) => first_unnamed(elements),
+        Stmt::Update(_, _, _) => first_unnamed(elements),
+        Stmt::If(_, _, None) => first_unnamed(elements),
+        Stmt::If(_, _, Some(_)) => first_unnamed(elements),
         Stmt::For(head, body) => match elements {
             [] => None,
             [first, others @ ..] => {
                 if names_loop(first, head) {
-                    misnamed(others, body)
+                    first_misnamed(others, body)
                 } else {
                     Some(first.variable.place)
                 }
             }
         },
         Stmt::Block(items) => misnamed_among(elements, items),
-        Stmt::Print(_, _) => unnamed(elements),
+        Stmt::Print(_, _) => first_unnamed(elements),
     }
 }
 
@@ -88,9 +88,9 @@ fn misnamed_among(elements: &[SinkElement<Written>], items: &[Item]) -> Option<P
         (elements_of elements.now) }
 {
     match items {
-        [] => unnamed(elements),
+        [] => first_unnamed(elements),
         [item] => misnamed_item(elements, item),
-        [_, _, ..] => unnamed(elements),
+        [_, _, ..] => first_unnamed(elements),
     }
 }
 
@@ -101,9 +101,9 @@ fn misnamed_item(elements: &[SinkElement<Written>], item: &Item) -> Option<Place
         ≡ in_order (only_names (with_item item.now no_items)) (elements_of elements.now) }
 {
     match item {
-        Item::Directive(_) => unnamed(elements),
-        Item::Local(_) => unnamed(elements),
-        Item::Statement(statement) => misnamed(elements, statement),
+        Item::Directive(_) => first_unnamed(elements),
+        Item::Local(_) => first_unnamed(elements),
+        Item::Statement(statement) => first_misnamed(elements, statement),
     }
 }
 
@@ -120,7 +120,7 @@ pub(crate) fn sink_fault(
     if elements.len() as u64 != depth || !is_ahead(elements) {
         return Some(DoacrossFault::Sink(place));
     }
-    match misnamed(elements, nest) {
+    match first_misnamed(elements, nest) {
         None => None,
         Some(name) => Some(DoacrossFault::Name(name)),
     }

@@ -37,7 +37,12 @@ fn is_covered(x: &Access, y: &Access, nest: &Nest, sinks: &[Vec<i64>]) -> bool
 /// # Errors
 ///
 /// Fails exactly where `independent` does: where a coefficient or the constant of an equation passes 2^62 in absolute value.
-pub fn ordered(x: &Access, y: &Access, nest: &Nest, sinks: &[Vec<i64>]) -> Result<bool, PastLimit>
+pub fn are_ordered(
+    x: &Access,
+    y: &Access,
+    nest: &Nest,
+    sinks: &[Vec<i64>],
+) -> Result<bool, PastLimit>
     ensures ok { IfOk result (λ answer. IsTrue answer
         ↔ IsOrdered nest.now (map (λ d. d.items) sinks.now) x.now y.now) }
     ensures within { IfOk result (λ _. AllWithin nest.now x.now y.now) }

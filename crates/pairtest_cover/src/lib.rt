@@ -6,5 +6,5 @@ mod distance;
 mod laws;
 mod uniform;
 
-pub use cover::ordered;
+pub use cover::are_ordered;
 pub use laws::{counters_are_ordered, covered_pairs_lie_apart, sinks_lead_there};

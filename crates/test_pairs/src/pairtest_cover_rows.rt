@@ -1,6 +1,8 @@
 use ktree::{Place, VarId};
 use pairtest::{Access, Mode, Nest, Subscript};
-use pairtest_cover::{counters_are_ordered, covered_pairs_lie_apart, ordered, sinks_lead_there};
+use pairtest_cover::{
+    are_ordered, counters_are_ordered, covered_pairs_lie_apart, sinks_lead_there,
+};
 use std::alloc::{AllocError, Global};
 use std::process::Abort;
 
@@ -63,7 +65,7 @@ fn sinks_of(alloc: Global, distances: &[&[i64]]) -> Result<Vec<Vec<i64>>, AllocE
 fn said_of(alloc: Global, x: &Access, y: &Access, pair: Pair) -> Result<Option<bool>, AllocError> {
     let nest = nest_of(alloc, pair.loops)?;
     let sinks = sinks_of(alloc, pair.sinks)?;
-    Ok(ordered(x, y, &nest, &sinks).ok())
+    Ok(are_ordered(x, y, &nest, &sinks).ok())
 }
 
 /// What is said of a pair.
