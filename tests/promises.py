@@ -183,7 +183,10 @@ def definitions(crate, path, text):
     imports = "".join(f"{row};\n" for row in rows if row.startswith("use "))
     found = []
     for paragraph in "\n".join(row for row in rows if not row.startswith("use ")).split("\n\n"):
-        heads = [(FIELD if row[0] == " " else DECLARED).match(row) for row in paragraph.split("\n") if row]
+        # (who uses a record's field has a value of it from where the record is named)
+        is_record = re.match(r"(pub )?record ", paragraph.lstrip("\n"))
+        rows_in = [row for row in paragraph.split("\n") if row and not (is_record and row[0] == " ")]
+        heads = [(FIELD if row[0] == " " else DECLARED).match(row) for row in rows_in]
         declared = {it[1] for it in heads if it}
         words = frozenset(declared) if all(re.match(r"\w", it) for it in declared) else frozenset()
         if declared:
