@@ -121,7 +121,9 @@ def with_named_imports(text):
         if not brace:
             path, names = re.fullmatch(r"(.*(?:::|\.))?(.*)", path).groups("")
         each = (it.strip() for it in names.rstrip("}").split(","))
-        return "".join(f"{found['head']}{path}{it};\n" for it in each if it and is_named(it))
+        # (no contract names a function that its source file imports)
+        is_ghost = "ghost" in found["head"] or path.startswith("Rattle.")
+        return "".join(f"{found['head']}{path}{it};\n" for it in each if it and is_named(it) and (is_ghost or not it[0].islower()))
 
     return IMPORT.sub(named, text)
 
@@ -177,6 +179,16 @@ def source_parts(text):
             yield words, method, with_named_imports(imports + "\n".join(rows))
 
 
+def in_order(text):
+    """A text with its imports in an order of their own, in front."""
+    return "\n".join([*sorted({it[0].strip() for it in IMPORT.finditer(text)}), IMPORT.sub("", text)])
+
+
+def without_hidden(text):
+    """The text of a struct of which contracts see a value of another type (`Model`), without the fields that only its file names."""
+    return re.sub(r"(?m)^    (?!pub |ghost )\w+: .*,\n", "", text)
+
+
 def definitions(crate, path, text):
     """The paragraphs of a file of definitions, each with the imports that it names."""
     rows = [row for row in text.split("\n") if not COMMENT.match(row)]
@@ -190,7 +202,7 @@ def definitions(crate, path, text):
         declared = {it[1] for it in heads if it}
         words = frozenset(declared) if all(re.match(r"\w", it) for it in declared) else frozenset()
         if declared:
-            found.append(Promise(crate, words, with_named_imports(imports + paragraph.strip("\n")), path=path))
+            found.append(Promise(crate, words, in_order(with_named_imports(imports + paragraph.strip("\n"))), path=path))
     return found
 
 
@@ -200,6 +212,8 @@ def promises_of(name, folder):
     files = sorted(glob.glob(f"{folder}/src/**/*.rt", recursive=True))
     parts = [it for file in files for it in source_parts(read(file))]
     own = {it for words, method, text in parts if not method and "\nimpl" not in f"\n{text}" for it in words}
+    modelled = {it[1] for _, _, text in parts for it in re.finditer(r"(?m)^impl(?:<.*?>)? Model for (\w+)", text)}
+    parts = [(words, method, without_hidden(text) if words <= modelled and " struct " in text else text) for words, method, text in parts]
     found = [Promise(name, frozenset(words & own), text, method, foreign=frozenset(words - own)) for words, method, text in parts]
     for file in sorted(glob.glob(f"{folder}/specs/**/*.antt", recursive=True)):
         path = os.path.relpath(file, f"{folder}/specs").removesuffix(".antt").replace("/", ".")
