@@ -701,3 +701,67 @@ fn branches_of_several_statements_run(rt: HostRuntime) {
     ];
     assert_eq!(rt; first_wrong(rt.alloc(), ROWS), 0);
 }
+
+/// The least and the greatest number in a local, of elements and of what is made of them, in short loops and up to computed ends, and two of them in one body.
+#[test]
+fn least_and_greatest_numbers_run(rt: HostRuntime) {
+    const ROWS: &[(&str, u64)] = &[
+        (
+            "uint64_t t = 1 << 30; uint64_t u = 0; for (uint64_t i = 0; i < 20000; i++) { if (A[i] < t) { t = A[i]; } } for (uint64_t i = 0; i < 20000; i++) { if (B[i] % 1000 > u) { u = B[i] % 1000; } } A[7] = t; B[7] = u;",
+            7646298872132078167,
+        ),
+        (
+            "for (uint64_t i = 0; i < 60; i++) { uint64_t t = 0; for (uint64_t j = 0; j < 70; j++) { uint64_t d = M[i][j] % 97 * N[i][69 - j]; if (d >= t) t = d; } uint64_t u = M[i][3]; for (uint64_t j = i; j < 69; j++) { if (u > N[i][j] % 89) u = N[i][j] % 89; } M[i][5] = t; N[i][6] = u; }",
+            3420493675120026293,
+        ),
+        (
+            "uint64_t t = 5; for (uint64_t i = 0; i < 300; i++) { if (A[i] <= t) { t = A[i]; } } s = t; for (uint64_t i = 0; i < 15; i++) { if (B[i] < t) { t = B[i]; } } A[0] = t;",
+            16163195237329498688,
+        ),
+        (
+            "uint64_t t = 9; for (uint64_t i = 0; i < 400; i++) { uint64_t d = B[i] ^ A[i]; if (d < t) { t = d; } if (d > t) { t = d; } } s = t;",
+            16163195677632239624,
+        ),
+    ];
+    assert_eq!(rt; first_wrong(rt.alloc(), ROWS), 0);
+}
+
+/// Sums in a local of products of two elements, of rows and of columns, short ones, and of an element that no turn changes.
+#[test]
+fn sums_of_products_run(rt: HostRuntime) {
+    const ROWS: &[(&str, u64)] = &[
+        (
+            "for (uint64_t i = 0; i < 60; i++) { for (uint64_t j = 0; j < 60; j++) { uint64_t t = 3; for (uint64_t k = 0; k < 60; k++) { t += N[i][k] * M[k][j]; } M[i][69 - j % 10] ^= t; } }",
+            10360033329784092912,
+        ),
+        (
+            "for (uint64_t i = 0; i < 60; i++) { uint64_t t = 0; for (uint64_t k = i; k < 70; k++) { t += M[i][k] * N[i][69 - k]; } uint64_t u = 1; for (uint64_t k = 0; k <= i; k++) { u += M[i][k] * M[k][k]; } N[i][i] = t ^ u; }",
+            11402134708804242787,
+        ),
+        (
+            "uint64_t t = 0; for (uint64_t i = 0; i < 20000; i++) { t += A[i] * A[7]; } s = t; for (uint64_t i = 0; i < 10000; i++) { t += A[2 * i] * B[i]; } A[1] = t;",
+            10054347520307449637,
+        ),
+    ];
+    assert_eq!(rt; first_wrong(rt.alloc(), ROWS), 0);
+}
+
+/// Turns that all read one element which one of them writes: shortest paths, and elements in the middle and at both ends.
+#[test]
+fn turns_that_read_what_one_of_them_writes_run(rt: HostRuntime) {
+    const ROWS: &[(&str, u64)] = &[
+        (
+            "for (uint64_t k = 0; k < 60; k++) { for (uint64_t i = 0; i < 60; i++) { for (uint64_t j = 0; j < 60; j++) { if (M[i][k] + M[k][j] < M[i][j]) { M[i][j] = M[i][k] + M[k][j]; } } } }",
+            16163195237329498688,
+        ),
+        (
+            "for (uint64_t i = 0; i < 20000; i++) { A[i] = A[i] + A[9000]; } for (uint64_t i = 0; i < 20000; i++) { B[i] = B[i] * 3 ^ B[300]; }",
+            16947512176912824632,
+        ),
+        (
+            "for (uint64_t i = 0; i < 20000; i++) { A[i] = A[i] * A[5] + A[19999]; } for (uint64_t i = 0; i < 20000; i += 2) { B[i] = B[i] + B[7] + B[4000]; }",
+            17634958214004173245,
+        ),
+    ];
+    assert_eq!(rt; first_wrong(rt.alloc(), ROWS), 0);
+}
