@@ -707,7 +707,7 @@ fn branches_of_several_statements_run(rt: HostRuntime) {
 fn least_and_greatest_numbers_run(rt: HostRuntime) {
     const ROWS: &[(&str, u64)] = &[
         (
-            "uint64_t t = 1 << 30; uint64_t u = 0; for (uint64_t i = 0; i < 20000; i++) { if (A[i] < t) { t = A[i]; } } for (uint64_t i = 0; i < 20000; i++) { if (B[i] % 1000 > u) { u = B[i] % 1000; } } A[7] = t; B[7] = u;",
+            "uint64_t t = 1073741824; uint64_t u = 0; for (uint64_t i = 0; i < 20000; i++) { if (A[i] < t) { t = A[i]; } } for (uint64_t i = 0; i < 20000; i++) { if (B[i] % 1000 > u) { u = B[i] % 1000; } } A[7] = t; B[7] = u;",
             7646298872132078167,
         ),
         (
