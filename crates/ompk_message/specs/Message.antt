@@ -14,6 +14,10 @@ use Rattle.ktree.specs.declared.refusal.Refusal.TheVariants.{Conflict, NotShown,
 abbrev pub joined : List (List ℕ) → List ℕ
 joined parts = flat_map (λ part. part) parts
 
+-- words one behind another, and the end of the line
+abbrev pub line_text : List (List ℕ) → List ℕ
+line_text parts = joined (parts ++ codes "\n" ∷ [])
+
 -- `K`, two digits and a space
 abbrev pub head_text : ℕ → List ℕ
 head_text number = 75 ∷ (48 + number / 10) ∷ (48 + number % 10) ∷ 32 ∷ []
@@ -40,9 +44,13 @@ iteration_parts c =
 abbrev pub index_text : ℕ → List ℕ
 index_text index = codes "[" ++ decimal index ++ codes "]"
 
+-- two accesses, and the iterations and the element at which they conflict
+abbrev pub conflict_parts : conflict.Conflict → List (List ℕ)
+conflict_parts c = access_parts c.accesses ++ (iteration_parts c ++ map index_text c.indexes.items)
+
 -- what is said further, of accesses and of an input's line
 abbrev pub detail_parts : Refusal → List (List ℕ)
-detail_parts (Conflict c) = access_parts c.accesses ++ (iteration_parts c ++ map index_text c.indexes.items)
+detail_parts (Conflict c) = conflict_parts c
 detail_parts (NotShown a) = access_parts a
 detail_parts (Input f) = decimal f.line ∷ codes ": " ∷ cause_words f.cause ∷ []
 detail_parts _ = []

@@ -1,11 +1,11 @@
 //! What is said of a refusal.
 
-ghost use Rattle.std.specs.Prelude.{◌≡◌, ◌+◌, ◌<◌, ◌^◌, ◌++◌, ◌∷◌, [], map, codes, decimal, IfErr, OnErr, OnOk};
+ghost use Rattle.std.specs.Prelude.{◌≡◌, ◌+◌, ◌<◌, ◌^◌, ◌++◌, ◌∷◌, [], map, codes, decimal};
 ghost use Rattle.ktree.specs.Numbers.{number_of};
 ghost use Rattle.ktree.specs.Places.{place_of};
 ghost use Rattle.ktree.specs.Words.{words_of};
-ghost use Rattle.seqrun_io.specs.Told.{AddsBeginning};
-ghost use Rattle.ompk_message.specs.Message.{joined, head_text, start_parts, access_parts, iteration_parts, index_text, detail_parts, message_of, status_of};
+ghost use Rattle.ompk_message.specs.Outcome.{PutsOrFails};
+ghost use Rattle.ompk_message.specs.Message.{joined, line_text, head_text, start_parts, access_parts, iteration_parts, index_text, conflict_parts, detail_parts, message_of, status_of};
 
 use itoa::Buffer;
 use ktree::{Conflict, NotShown, Place, Refusal};
@@ -19,34 +19,32 @@ fn head_of(number: u8) -> [u8; 4]
     [b'K', b'0' + number / 10, b'0' + number % 10, b' ']
 }
 
-// Puts these one behind another.
+// Puts a text.
+fn put_text<S: Sink>(sink: &mut S, text: &[u8]) -> Result<(), Refusal>
+    requires { S.failed sink.old + 1 < 2 ^ 64 }
+    ensures { PutsOrFails S.told S.failed sink.old sink.new text.now result }
+{
+    put_all(sink, text)
+}
+
+// Puts texts one behind another.
 fn put_parts<S: Sink>(sink: &mut S, parts: &[&[u8]]) -> Result<(), Refusal>
     requires { S.failed sink.old + 1 < 2 ^ 64 }
-    ensures all { OnOk result (S.told sink.new
-        ≡ S.told sink.old ++ joined (map (λ part. part.now) parts.now)) }
-    ensures beginning { AddsBeginning (S.told sink.old) (S.told sink.new)
-        (joined (map (λ part. part.now) parts.now)) }
-    ensures sound { OnOk result (S.failed sink.new ≡ S.failed sink.old) }
-    ensures counted { OnErr result (S.failed sink.new ≡ S.failed sink.old + 1) }
-    ensures refusal { IfErr result (λ refusal. refusal ≡ Refusal.OutputFailed) }
+    ensures { PutsOrFails S.told S.failed sink.old sink.new
+        (joined (map (λ part. part.now) parts.now)) result }
 {
     for part in parts {
-        put_all(sink, part)?;
+        put_text(sink, part)?;
     }
     Ok(())
 }
 
-// A number, and a place if there is one.
+// Puts a number, and a place where there is one.
 fn put_start_at<S: Sink>(sink: &mut S, number: u8, place: Option<Place>) -> Result<(), Refusal>
     requires number { number < 100 }
     requires room { S.failed sink.old + 1 < 2 ^ 64 }
-    ensures all { OnOk result (S.told sink.new
-        ≡ S.told sink.old ++ joined (head_text number ∷ start_parts place)) }
-    ensures beginning { AddsBeginning (S.told sink.old) (S.told sink.new)
-        (joined (head_text number ∷ start_parts place)) }
-    ensures sound { OnOk result (S.failed sink.new ≡ S.failed sink.old) }
-    ensures counted { OnErr result (S.failed sink.new ≡ S.failed sink.old + 1) }
-    ensures refusal { IfErr result (λ refusal. refusal ≡ Refusal.OutputFailed) }
+    ensures { PutsOrFails S.told S.failed sink.old sink.new
+        (joined (head_text number ∷ start_parts place)) result }
 {
     let head = head_of(number);
     let Some(place) = place else {
@@ -65,31 +63,20 @@ fn put_start_at<S: Sink>(sink: &mut S, number: u8, place: Option<Place>) -> Resu
     )
 }
 
-// Those of a refusal.
+// Puts a refusal's number, and its place where there is one.
 fn put_start<S: Sink>(sink: &mut S, refusal: &Refusal) -> Result<(), Refusal>
     requires { S.failed sink.old + 1 < 2 ^ 64 }
-    ensures all { OnOk result (S.told sink.new
-        ≡ S.told sink.old ++ joined (head_text (number_of refusal.now)
-        ∷ start_parts (place_of refusal.now))) }
-    ensures beginning { AddsBeginning (S.told sink.old) (S.told sink.new)
-        (joined (head_text (number_of refusal.now) ∷ start_parts (place_of refusal.now))) }
-    ensures sound { OnOk result (S.failed sink.new ≡ S.failed sink.old) }
-    ensures counted { OnErr result (S.failed sink.new ≡ S.failed sink.old + 1) }
-    ensures refusal { IfErr result (λ refusal. refusal ≡ Refusal.OutputFailed) }
+    ensures { PutsOrFails S.told S.failed sink.old sink.new
+        (joined (head_text (number_of refusal.now) ∷ start_parts (place_of refusal.now))) result }
 {
     put_start_at(sink, refusal.number(), refusal.place())
 }
 
-// An array, and where its two accesses stand.
+// Puts the name of an array, and where two accesses to it stand.
 fn put_accesses<S: Sink>(sink: &mut S, accesses: &NotShown) -> Result<(), Refusal>
     requires { S.failed sink.old + 1 < 2 ^ 64 }
-    ensures all { OnOk result (S.told sink.new
-        ≡ S.told sink.old ++ joined (access_parts accesses.now)) }
-    ensures beginning { AddsBeginning (S.told sink.old) (S.told sink.new)
-        (joined (access_parts accesses.now)) }
-    ensures sound { OnOk result (S.failed sink.new ≡ S.failed sink.old) }
-    ensures counted { OnErr result (S.failed sink.new ≡ S.failed sink.old + 1) }
-    ensures refusal { IfErr result (λ refusal. refusal ≡ Refusal.OutputFailed) }
+    ensures { PutsOrFails S.told S.failed sink.old sink.new
+        (joined (access_parts accesses.now)) result }
 {
     let (first, second) = (accesses.first, accesses.second);
     let (mut line, mut column) = (Buffer::new(), Buffer::new());
@@ -111,44 +98,30 @@ fn put_accesses<S: Sink>(sink: &mut S, accesses: &NotShown) -> Result<(), Refusa
     )
 }
 
-// Those, and the end of the line.
+// Puts an array and where two accesses to it stand, and the end of the line.
 fn tell_accesses<S: Sink>(sink: &mut S, accesses: &NotShown) -> Result<(), Refusal>
     requires { S.failed sink.old + 1 < 2 ^ 64 }
-    ensures all { OnOk result (S.told sink.new
-        ≡ S.told sink.old ++ joined (access_parts accesses.now ++ codes "\n" ∷ [])) }
-    ensures beginning { AddsBeginning (S.told sink.old) (S.told sink.new)
-        (joined (access_parts accesses.now ++ codes "\n" ∷ [])) }
-    ensures sound { OnOk result (S.failed sink.new ≡ S.failed sink.old) }
-    ensures counted { OnErr result (S.failed sink.new ≡ S.failed sink.old + 1) }
-    ensures refusal { IfErr result (λ refusal. refusal ≡ Refusal.OutputFailed) }
+    ensures { PutsOrFails S.told S.failed sink.old sink.new
+        (line_text (access_parts accesses.now)) result }
 {
     put_accesses(sink, accesses)?;
-    put_all(sink, b"\n")
+    put_text(sink, b"\n")
 }
 
-// An element's index, in brackets.
+// Puts an element's index, in brackets.
 fn put_index<S: Sink>(sink: &mut S, index: u64) -> Result<(), Refusal>
     requires { S.failed sink.old + 1 < 2 ^ 64 }
-    ensures all { OnOk result (S.told sink.new ≡ S.told sink.old ++ index_text index) }
-    ensures beginning { AddsBeginning (S.told sink.old) (S.told sink.new) (index_text index) }
-    ensures sound { OnOk result (S.failed sink.new ≡ S.failed sink.old) }
-    ensures counted { OnErr result (S.failed sink.new ≡ S.failed sink.old + 1) }
-    ensures refusal { IfErr result (λ refusal. refusal ≡ Refusal.OutputFailed) }
+    ensures { PutsOrFails S.told S.failed sink.old sink.new (index_text index) result }
 {
     let mut buffer = Buffer::new();
     put_parts(sink, &[b"[", buffer.format(index).as_bytes(), b"]"])
 }
 
-// All its indexes.
+// Puts all indexes of an element.
 fn put_indexes<S: Sink>(sink: &mut S, indexes: &[u64]) -> Result<(), Refusal>
     requires { S.failed sink.old + 1 < 2 ^ 64 }
-    ensures all { OnOk result (S.told sink.new
-        ≡ S.told sink.old ++ joined (map index_text indexes.now)) }
-    ensures beginning { AddsBeginning (S.told sink.old) (S.told sink.new)
-        (joined (map index_text indexes.now)) }
-    ensures sound { OnOk result (S.failed sink.new ≡ S.failed sink.old) }
-    ensures counted { OnErr result (S.failed sink.new ≡ S.failed sink.old + 1) }
-    ensures refusal { IfErr result (λ refusal. refusal ≡ Refusal.OutputFailed) }
+    ensures { PutsOrFails S.told S.failed sink.old sink.new
+        (joined (map index_text indexes.now)) result }
 {
     for index in indexes {
         put_index(sink, *index)?;
@@ -156,31 +129,21 @@ fn put_indexes<S: Sink>(sink: &mut S, indexes: &[u64]) -> Result<(), Refusal>
     Ok(())
 }
 
-// Those, and the end of the line.
+// Puts all indexes of an element, and the end of the line.
 fn tell_indexes<S: Sink>(sink: &mut S, indexes: &[u64]) -> Result<(), Refusal>
     requires { S.failed sink.old + 1 < 2 ^ 64 }
-    ensures all { OnOk result (S.told sink.new
-        ≡ S.told sink.old ++ joined (map index_text indexes.now ++ codes "\n" ∷ [])) }
-    ensures beginning { AddsBeginning (S.told sink.old) (S.told sink.new)
-        (joined (map index_text indexes.now ++ codes "\n" ∷ [])) }
-    ensures sound { OnOk result (S.failed sink.new ≡ S.failed sink.old) }
-    ensures counted { OnErr result (S.failed sink.new ≡ S.failed sink.old + 1) }
-    ensures refusal { IfErr result (λ refusal. refusal ≡ Refusal.OutputFailed) }
+    ensures { PutsOrFails S.told S.failed sink.old sink.new
+        (line_text (map index_text indexes.now)) result }
 {
     put_indexes(sink, indexes)?;
-    put_all(sink, b"\n")
+    put_text(sink, b"\n")
 }
 
-// Two iterations, and the array of an element that both touch.
+// Puts two iterations, and the array of an element that both touch.
 fn put_iterations<S: Sink>(sink: &mut S, conflict: &Conflict) -> Result<(), Refusal>
     requires { S.failed sink.old + 1 < 2 ^ 64 }
-    ensures all { OnOk result (S.told sink.new
-        ≡ S.told sink.old ++ joined (iteration_parts conflict.now)) }
-    ensures beginning { AddsBeginning (S.told sink.old) (S.told sink.new)
-        (joined (iteration_parts conflict.now)) }
-    ensures sound { OnOk result (S.failed sink.new ≡ S.failed sink.old) }
-    ensures counted { OnErr result (S.failed sink.new ≡ S.failed sink.old + 1) }
-    ensures refusal { IfErr result (λ refusal. refusal ≡ Refusal.OutputFailed) }
+    ensures { PutsOrFails S.told S.failed sink.old sink.new
+        (joined (iteration_parts conflict.now)) result }
 {
     let (mut earlier, mut later) = (Buffer::new(), Buffer::new());
     put_parts(
@@ -196,102 +159,65 @@ fn put_iterations<S: Sink>(sink: &mut S, conflict: &Conflict) -> Result<(), Refu
     )
 }
 
-// Those, and the element's indexes.
+// Puts two iterations and the element that both touch, and the end of the line.
 fn tell_iterations<S: Sink>(sink: &mut S, conflict: &Conflict) -> Result<(), Refusal>
     requires { S.failed sink.old + 1 < 2 ^ 64 }
-    ensures all { OnOk result (S.told sink.new
-        ≡ S.told sink.old ++ joined (iteration_parts conflict.now
-        ++ (map index_text conflict.now.indexes.items ++ codes "\n" ∷ []))) }
-    ensures beginning { AddsBeginning (S.told sink.old) (S.told sink.new)
-        (joined (iteration_parts conflict.now
-        ++ (map index_text conflict.now.indexes.items ++ codes "\n" ∷ []))) }
-    ensures sound { OnOk result (S.failed sink.new ≡ S.failed sink.old) }
-    ensures counted { OnErr result (S.failed sink.new ≡ S.failed sink.old + 1) }
-    ensures refusal { IfErr result (λ refusal. refusal ≡ Refusal.OutputFailed) }
+    ensures { PutsOrFails S.told S.failed sink.old sink.new
+        (line_text (iteration_parts conflict.now ++ map index_text conflict.now.indexes.items))
+        result }
 {
     put_iterations(sink, conflict)?;
     tell_indexes(sink, conflict.indexes.as_slice())
 }
 
-// Two accesses that conflict.
+// Puts two accesses that conflict, with the iterations and the element, and the end of the line.
 fn tell_conflict<S: Sink>(sink: &mut S, conflict: &Conflict) -> Result<(), Refusal>
     requires { S.failed sink.old + 1 < 2 ^ 64 }
-    ensures all { OnOk result (S.told sink.new
-        ≡ S.told sink.old ++ joined (access_parts conflict.now.accesses
-        ++ (iteration_parts conflict.now
-        ++ (map index_text conflict.now.indexes.items ++ codes "\n" ∷ [])))) }
-    ensures beginning { AddsBeginning (S.told sink.old) (S.told sink.new)
-        (joined (access_parts conflict.now.accesses
-        ++ (iteration_parts conflict.now
-        ++ (map index_text conflict.now.indexes.items ++ codes "\n" ∷ [])))) }
-    ensures sound { OnOk result (S.failed sink.new ≡ S.failed sink.old) }
-    ensures counted { OnErr result (S.failed sink.new ≡ S.failed sink.old + 1) }
-    ensures refusal { IfErr result (λ refusal. refusal ≡ Refusal.OutputFailed) }
+    ensures { PutsOrFails S.told S.failed sink.old sink.new
+        (line_text (conflict_parts conflict.now)) result }
 {
     put_accesses(sink, &conflict.accesses)?;
     tell_iterations(sink, conflict)
 }
 
-// A faulty line of an input.
+// Puts the number of a faulty line of an input and its cause, and the end of the line.
 fn tell_line<S: Sink>(sink: &mut S, line: u64, cause: &[u8]) -> Result<(), Refusal>
     requires { S.failed sink.old + 1 < 2 ^ 64 }
-    ensures all { OnOk result (S.told sink.new
-        ≡ S.told sink.old ++ joined ((decimal line ∷ codes ": " ∷ cause.now ∷ []) ++ codes "\n"
-        ∷ [])) }
-    ensures beginning { AddsBeginning (S.told sink.old) (S.told sink.new)
-        (joined ((decimal line ∷ codes ": " ∷ cause.now ∷ []) ++ codes "\n" ∷ [])) }
-    ensures sound { OnOk result (S.failed sink.new ≡ S.failed sink.old) }
-    ensures counted { OnErr result (S.failed sink.new ≡ S.failed sink.old + 1) }
-    ensures refusal { IfErr result (λ refusal. refusal ≡ Refusal.OutputFailed) }
+    ensures { PutsOrFails S.told S.failed sink.old sink.new
+        (line_text (decimal line ∷ codes ": " ∷ cause.now ∷ [])) result }
 {
     let mut buffer = Buffer::new();
     put_parts(sink, &[buffer.format(line).as_bytes(), b": ", cause, b"\n"])
 }
 
-// What is said further, and the end of the line.
+// Puts what is said further of a refusal, and the end of the line.
 fn tell_details<S: Sink>(sink: &mut S, refusal: &Refusal) -> Result<(), Refusal>
     requires { S.failed sink.old + 1 < 2 ^ 64 }
-    ensures all { OnOk result (S.told sink.new
-        ≡ S.told sink.old ++ joined (detail_parts refusal.now ++ codes "\n" ∷ [])) }
-    ensures beginning { AddsBeginning (S.told sink.old) (S.told sink.new)
-        (joined (detail_parts refusal.now ++ codes "\n" ∷ [])) }
-    ensures sound { OnOk result (S.failed sink.new ≡ S.failed sink.old) }
-    ensures counted { OnErr result (S.failed sink.new ≡ S.failed sink.old + 1) }
-    ensures refusal { IfErr result (λ refusal. refusal ≡ Refusal.OutputFailed) }
+    ensures { PutsOrFails S.told S.failed sink.old sink.new
+        (line_text (detail_parts refusal.now)) result }
 {
     match refusal {
         Refusal::Conflict(conflict) => tell_conflict(sink, conflict),
         Refusal::NotShown(accesses) => tell_accesses(sink, accesses),
         Refusal::Input(fault) => tell_line(sink, fault.line, fault.cause.wording()),
-        _ => put_all(sink, b"\n"),
+        _ => put_text(sink, b"\n"),
     }
 }
 
-// Its words.
+// Puts the words of a refusal.
 fn put_words<S: Sink>(sink: &mut S, refusal: &Refusal) -> Result<(), Refusal>
     requires { S.failed sink.old + 1 < 2 ^ 64 }
-    ensures all { OnOk result (S.told sink.new
-        ≡ S.told sink.old ++ joined (words_of refusal.now ∷ [])) }
-    ensures beginning { AddsBeginning (S.told sink.old) (S.told sink.new)
-        (joined (words_of refusal.now ∷ [])) }
-    ensures sound { OnOk result (S.failed sink.new ≡ S.failed sink.old) }
-    ensures counted { OnErr result (S.failed sink.new ≡ S.failed sink.old + 1) }
-    ensures refusal { IfErr result (λ refusal. refusal ≡ Refusal.OutputFailed) }
+    ensures { PutsOrFails S.told S.failed sink.old sink.new
+        (joined (words_of refusal.now ∷ [])) result }
 {
     put_parts(sink, &[refusal.wording()])
 }
 
-// What is wrong, and what is said further.
+// Puts the words of a refusal and what is said further, and the end of the line.
 fn tell_words<S: Sink>(sink: &mut S, refusal: &Refusal) -> Result<(), Refusal>
     requires { S.failed sink.old + 1 < 2 ^ 64 }
-    ensures all { OnOk result (S.told sink.new
-        ≡ S.told sink.old ++ joined (words_of refusal.now
-        ∷ (detail_parts refusal.now ++ codes "\n" ∷ []))) }
-    ensures beginning { AddsBeginning (S.told sink.old) (S.told sink.new)
-        (joined (words_of refusal.now ∷ (detail_parts refusal.now ++ codes "\n" ∷ []))) }
-    ensures sound { OnOk result (S.failed sink.new ≡ S.failed sink.old) }
-    ensures counted { OnErr result (S.failed sink.new ≡ S.failed sink.old + 1) }
-    ensures refusal { IfErr result (λ refusal. refusal ≡ Refusal.OutputFailed) }
+    ensures { PutsOrFails S.told S.failed sink.old sink.new
+        (line_text (words_of refusal.now ∷ detail_parts refusal.now)) result }
 {
     put_words(sink, refusal)?;
     tell_details(sink, refusal)
@@ -304,11 +230,7 @@ fn tell_words<S: Sink>(sink: &mut S, refusal: &Refusal) -> Result<(), Refusal>
 /// `OutputFailed` where the sink fails; a beginning of the line may be written then. No memory is taken.
 pub fn tell<S: Sink>(refusal: &Refusal, sink: &mut S) -> Result<(), Refusal>
     requires { S.failed sink.old + 1 < 2 ^ 64 }
-    ensures all { OnOk result (S.told sink.new ≡ S.told sink.old ++ message_of refusal.now) }
-    ensures beginning { AddsBeginning (S.told sink.old) (S.told sink.new) (message_of refusal.now) }
-    ensures sound { OnOk result (S.failed sink.new ≡ S.failed sink.old) }
-    ensures counted { OnErr result (S.failed sink.new ≡ S.failed sink.old + 1) }
-    ensures refusal { IfErr result (λ refusal. refusal ≡ Refusal.OutputFailed) }
+    ensures { PutsOrFails S.told S.failed sink.old sink.new (message_of refusal.now) result }
 {
     put_start(sink, refusal)?;
     tell_words(sink, refusal)

@@ -1,38 +1,18 @@
 -- Directive lines, item by item.
-use Rattle.std.specs.Prelude.{ℕ, suc, ◌+◌, ◌-◌, Bool, true, false, ◌||◌, ◌≡◌, ◌<◌, ◌↔◌, List, [], ◌∷◌, ◌++◌, length, get_or, take, drop, Option, Some, None, string_bytes}
-use Rattle.std.proofs.Common.{Vec, Box, Global, add-one, drop-cons, refl, sym, ap, ◌∙◌, subst, arith}
+use Rattle.std.specs.Prelude.{ℕ, ◌+◌, ◌-◌, Bool, true, false, ◌||◌, ◌≡◌, ◌<◌, ◌↔◌, List, [], ◌++◌, length, get_or, take, drop, Option, Some, None, string_bytes}
+use Rattle.std.proofs.Common.{Box, Global, refl, sym, ap, ◌∙◌, subst, arith}
 use Rattle.std.proofs.lemmas.List.{length-drop, take_all}
 use Rattle.semantics.specs.Tree
 use Rattle.semantics.specs.Loops.Nest.{Loop}
-use Rattle.ktree.specs.View.{source_of, cond_of, increment_of, stmt_of, items_row_of, items_of, with_item}
-use Rattle.ktree.specs.declared.statement.Stmt.{Stmt, For, Block, Block', Row_of-Item, end_of-Item, more_of-Item, items-the_row-Item, items_hidden-the_row-Item-0}
+use Rattle.ktree.specs.View.{source_of, cond_of, increment_of, stmt_of, items_of, with_item}
+use Rattle.ktree.specs.declared.statement.Stmt.{Stmt, For}
 use Rattle.ktree.specs.declared.statement.Head.{Head}
 use Rattle.ktree.specs.declared.statement.Item.{Item, Directive, Local, Statement'}
-use mathlib.Core.Former.{Count}
+use Rattle.ktree.proofs.Trees.{next_item}
 use Rattle.pragma.specs.Parallel.{LineHas, LoopsHave, ItemsHave}
 use Rattle.pragma.specs.Plain.{has_line, has_line_among, IsPlainLoop, FirstLineHas, FirstLoopsHave, Judges}
 
--- the items of a block, as a list
-block_row : (n : _) (row : Row_of-Item n) → items_row_of row ≡ items_of (items-the_row-Item n row)
-block_row n end_of-Item = refl
-block_row n (more_of-Item i rest) = ap (with_item i) (block_row _ rest)
-
-abbrev items_at : Stmt → (n : Count) × Row_of-Item n
-items_at (Block' shape row) = (_, row)
-items_at _ = (_, end_of-Item)
-
-pub block_is : (s : Stmt) (items : Vec Item Global) (xs : List Item) → s ≡ Block items → xs ≡ items.items → stmt_of s ≡ Tree.Block (items_of xs)
-block_is s items xs p q =
-    let row = items_at (Block items) in
-    ap stmt_of p ∙ ap Tree.Block (block_row row.0 row.1 ∙ ap items_of (items_hidden-the_row-Item-0 items)) ∙ ap (λ ys. Tree.Block (items_of ys)) (sym q)
-
--- the next item, and what is behind it
-pub next_item : (is : List Item) (i : ℕ) (e : Item) → i < length is → e ≡ get_or is i e → items_of (drop i is) ≡ with_item e (items_of (drop (i + 1) is))
-next_item is i e lt p =
-    let here : drop i is ≡ e ∷ drop (i + 1) is = rw add-one (drop-cons is i e lt ∙ ap (λ x. x ∷ drop (suc i) is) (sym p)) in
-    ap items_of here
-
--- what is behind them, to the end
+-- what is behind some items, to the end
 pub all_behind : (is : List Item) (i : ℕ) → take (length is - i) (drop i is) ≡ drop i is
 all_behind is i = let n = length-drop i is in take_all (length is - i) (drop i is) (omega (arith, n))
 

@@ -9,8 +9,9 @@ ghost use Rattle.pragma_clause.specs.Views.{with_rest, names_of, written_clause}
 
 use crate::name::{Setting, name, names};
 use crate::number::{loops, schedule};
-use crate::tokens::{close_paren, colon, comma, is_word, open_paren, run, word};
+use crate::tokens::{is_word, punctuator, run, word};
 use crate::unread::Unread;
+use crate::word::Punctuator;
 use ktree::{Clause, ReductionOperator, Written};
 
 /// The reduction operator that a word is (OpenMP 5.2, 5.5.1).
@@ -53,14 +54,14 @@ fn identifier(text: &[u8]) -> Option<(ReductionOperator, &[u8])>
 {
     let (word, rest) = run(text)?;
     let operator = operator(word)?;
-    Some((operator, colon(rest)?))
+    Some((operator, punctuator(Punctuator::Colon, rest)?))
 }
 
 /// The operator and the one name behind `inscan`, and what stands behind them.
 fn inscan<'l>(setting: Setting, text: &'l [u8]) -> Result<(Clause<Written>, &'l [u8]), Unread>
     ensures { Gives (with_rest written_clause) result (inscan (words text.now)) }
 {
-    let Some(text) = comma(text) else {
+    let Some(text) = punctuator(Punctuator::Comma, text) else {
         return Err(Unread::Malformed);
     };
     let Some((operator, text)) = identifier(text) else {
@@ -88,7 +89,7 @@ fn reduction<'l>(setting: Setting, text: &'l [u8]) -> Result<(Clause<Written>, &
 fn conditional(text: &[u8]) -> Option<&[u8]>
     ensures { option_map (λ rest. words rest.now) result ≡ conditional (words text.now) }
 {
-    colon(word(b"conditional", text)?)
+    punctuator(Punctuator::Colon, word(b"conditional", text)?)
 }
 
 /// What stands between the parentheses of a lastprivate clause, and what stands behind that.
@@ -217,11 +218,11 @@ fn enclosed_clause<'l>(
     ensures { Gives (with_rest written_clause) result
         (enclosed setting.exact setting.length word.now (words text.now)) }
 {
-    let Some(inner) = open_paren(text) else {
+    let Some(inner) = punctuator(Punctuator::OpenParen, text) else {
         return Err(Unread::Malformed);
     };
     match inside(setting, word, inner) {
-        Ok((clause, rest)) => match close_paren(rest) {
+        Ok((clause, rest)) => match punctuator(Punctuator::CloseParen, rest) {
             Some(rest) => Ok((clause, rest)),
             None => Err(Unread::Malformed),
         },
@@ -236,7 +237,7 @@ fn ordered_loops(exact: bool, text: &[u8]) -> Option<(Clause<Written>, &[u8])>
     let Some((loops, rest)) = loops(exact, text) else {
         return None;
     };
-    let rest = close_paren(rest)?;
+    let rest = punctuator(Punctuator::CloseParen, rest)?;
     Some((Clause::OrderedLoops(loops), rest))
 }
 
@@ -244,7 +245,7 @@ fn ordered_loops(exact: bool, text: &[u8]) -> Option<(Clause<Written>, &[u8])>
 fn ordered_clause(exact: bool, text: &[u8]) -> Option<(Clause<Written>, &[u8])>
     ensures { option_map (with_rest written_clause) result ≡ ordered_clause exact (words text.now) }
 {
-    match open_paren(text) {
+    match punctuator(Punctuator::OpenParen, text) {
         None => Some((Clause::Ordered, text)),
         Some(inner) => ordered_loops(exact, inner),
     }

@@ -10,8 +10,9 @@ ghost use Rattle.pragma_clause.specs.Views.{written_clause, clauses_of};
 
 use crate::clause::clause;
 use crate::name::Setting;
-use crate::tokens::{comma, is_end};
+use crate::tokens::{is_end, punctuator};
 use crate::unread::Unread;
+use crate::word::Punctuator;
 use ktree::{Clause, Written};
 
 /// A directive that has clauses.
@@ -108,7 +109,7 @@ fn each_once(clauses: &[Clause<Written>]) -> bool
 fn behind_comma(text: &[u8]) -> &[u8]
     ensures { words result.now ≡ behind_comma (words text.now) }
 {
-    match comma(text) {
+    match punctuator(Punctuator::Comma, text) {
         None => text,
         Some(rest) => rest,
     }
@@ -136,7 +137,7 @@ fn further(setting: Setting, text: &[u8]) -> Result<Vec<Clause<Written>>, Unread
 fn clauses(setting: Setting, text: &[u8]) -> Result<Vec<Clause<Written>>, Unread>
     ensures { Gives clauses_of result (clauses setting.exact setting.length (words text.now)) }
 {
-    match comma(text) {
+    match punctuator(Punctuator::Comma, text) {
         None => further(setting, text),
         Some(_) => Err(Unread::Malformed),
     }

@@ -10,15 +10,16 @@ ghost use Rattle.pragma_clause.specs.Views.{written_directive};
 use crate::clauses::{On, directive_clauses};
 use crate::element::vector;
 use crate::name::{Setting, name};
-use crate::tokens::{close_paren, colon, is_end, is_word, open_paren, run, word};
+use crate::tokens::{is_end, is_word, punctuator, run, word};
 use crate::unread::Unread;
+use crate::word::Punctuator;
 use ktree::{Directive, Written};
 
 /// What stands behind `)`, where that comes next and no word stands behind it.
 fn closes(text: &[u8]) -> Option<&[u8]>
     ensures { option_map (λ rest. words rest.now) result ≡ closes (words text.now) }
 {
-    let rest = close_paren(text)?;
+    let rest = punctuator(Punctuator::CloseParen, text)?;
     if is_end(rest) { Some(rest) } else { None }
 }
 
@@ -26,7 +27,7 @@ fn closes(text: &[u8]) -> Option<&[u8]>
 fn enclosed_name(setting: Setting, text: &[u8]) -> Result<Written, Unread>
     ensures { Gives name_of result (enclosed_name (words text.now)) }
 {
-    let Some(inner) = open_paren(text) else {
+    let Some(inner) = punctuator(Punctuator::OpenParen, text) else {
         return Err(Unread::Malformed);
     };
     let (name, rest) = name(setting, inner)?;
@@ -105,13 +106,13 @@ fn dependence(setting: Setting, word: &[u8], text: &[u8]) -> Result<Directive<Wr
 fn doacross(setting: Setting, text: &[u8]) -> Result<Directive<Written>, Unread>
     ensures { Gives written_directive result (doacross setting.length (words text.now)) }
 {
-    let Some(inner) = open_paren(text) else {
+    let Some(inner) = punctuator(Punctuator::OpenParen, text) else {
         return Err(Unread::Malformed);
     };
     let Some((word, rest)) = run(inner) else {
         return Err(Unread::Malformed);
     };
-    let Some(behind) = colon(rest) else {
+    let Some(behind) = punctuator(Punctuator::Colon, rest) else {
         return Err(Unread::Malformed);
     };
     dependence(setting, word, behind)

@@ -9,8 +9,9 @@ ghost use Rattle.pragma_clause.specs.Outcome.{Gives};
 ghost use Rattle.pragma_clause.specs.Views.{with_rest, written_element, elements_of};
 
 use crate::name::{Setting, name_in, place_of};
-use crate::tokens::{comma, is_word, run};
+use crate::tokens::{is_word, punctuator, run};
 use crate::unread::Unread;
+use crate::word::Punctuator;
 use ktree::{Offset, SinkElement, Suffix, Written};
 use text::{is_decimal, is_digit, value};
 
@@ -128,7 +129,7 @@ pub fn vector<'l>(
     for _turn in 0..setting.length {
         let (element, behind) = element(setting, rest)?;
         elements.push(element)?;
-        let Some(next) = comma(behind) else {
+        let Some(next) = punctuator(Punctuator::Comma, behind) else {
             return Ok((elements, behind));
         };
         rest = next;

@@ -9,8 +9,9 @@ ghost use Rattle.pragma_clause.specs.ClauseReader.{name_in, name, names};
 ghost use Rattle.pragma_clause.specs.Outcome.{Gives};
 ghost use Rattle.pragma_clause.specs.Views.{with_rest, names_of};
 
-use crate::tokens::{comma, run};
+use crate::tokens::{punctuator, run};
 use crate::unread::Unread;
+use crate::word::Punctuator;
 use cparse_cursor::scope::is_reserved;
 use ktree::{Place, Written};
 use std::alloc::Global;
@@ -99,7 +100,7 @@ pub fn names<'l>(setting: Setting, text: &'l [u8]) -> Result<(Vec<Written>, &'l 
     for _turn in 0..setting.length {
         let (name, behind) = name(setting, rest)?;
         names.push(name)?;
-        let Some(next) = comma(behind) else {
+        let Some(next) = punctuator(Punctuator::Comma, behind) else {
             return Ok((names, behind));
         };
         rest = next;

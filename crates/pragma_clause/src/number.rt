@@ -6,7 +6,8 @@ ghost use Rattle.ktree.specs.DirectiveView.{schedule_of};
 ghost use Rattle.pragma_clause.specs.ClauseReader.{number_in, number, size, plain_kind, sized_kind, kind, schedule};
 ghost use Rattle.pragma_clause.specs.Views.{with_rest};
 
-use crate::tokens::{comma, is_word, run};
+use crate::tokens::{is_word, punctuator, run};
+use crate::word::Punctuator;
 use ktree::limits::{ASSOCIATED_LOOPS, CHUNK_ITERATIONS};
 use ktree::{AssociatedLoops, ChunkSize, Schedule};
 use text::{is_decimal, value};
@@ -52,7 +53,7 @@ fn chunk(exact: bool, text: &[u8]) -> Option<(ChunkSize, &[u8])>
 fn size(exact: bool, text: &[u8]) -> Option<(Option<ChunkSize>, &[u8])>
     ensures { option_map (with_rest (λ k. k)) result ≡ size exact (words text.now) }
 {
-    let Some(behind) = comma(text) else {
+    let Some(behind) = punctuator(Punctuator::Comma, text) else {
         return Some((None, text));
     };
     let Some((size, rest)) = chunk(exact, behind) else {

@@ -1,11 +1,13 @@
 //! What comes next on a line.
 
 ghost use Rattle.std.specs.Prelude.{◌≡◌, option_map};
+ghost use Rattle.semantics.specs.Source.Cuts.{symbol_text};
 ghost use Rattle.semantics.specs.Source.Scope.{same_name};
 ghost use Rattle.semantics.specs.Directives.DirectiveGrammar.{words};
-ghost use Rattle.cparse_grammar.specs.NextTokens.{open_paren, close_paren, comma, colon, word};
+ghost use Rattle.cparse_grammar.specs.NextTokens.{punctuator, word};
 ghost use Rattle.pragma_clause.specs.ClauseReader.{run, is_end};
 ghost use Rattle.pragma_clause.specs.Views.{with_rest};
+ghost use Rattle.pragma_clause.specs.Words.{symbol_of};
 
 use crate::word::{Punctuator, Word, next_word};
 
@@ -45,42 +47,21 @@ pub fn word<'l>(expected: &[u8], text: &'l [u8]) -> Option<&'l [u8]>
     }
 }
 
-/// What stands behind `(`, if it comes next.
-pub fn open_paren(text: &[u8]) -> Option<&[u8]>
-    ensures { option_map (λ rest. words rest.now) result ≡ open_paren (words text.now) }
+/// Whether two punctuators are the same.
+fn is_punctuator(one: Punctuator, other: Punctuator) -> bool
+    ensures { result
+        ≡ same_name (symbol_text (symbol_of one)) (symbol_text (symbol_of other)) }
 {
-    match next_word(text)? {
-        (Word::Punctuator(Punctuator::OpenParen), rest) => Some(rest),
-        _ => None,
-    }
+    one == other
 }
 
-/// What stands behind `)`, if it comes next.
-pub fn close_paren(text: &[u8]) -> Option<&[u8]>
-    ensures { option_map (λ rest. words rest.now) result ≡ close_paren (words text.now) }
+/// What stands behind this punctuator, if it comes next.
+pub fn punctuator(expected: Punctuator, text: &[u8]) -> Option<&[u8]>
+    ensures { option_map (λ rest. words rest.now) result
+        ≡ punctuator (symbol_of expected) (words text.now) }
 {
     match next_word(text)? {
-        (Word::Punctuator(Punctuator::CloseParen), rest) => Some(rest),
-        _ => None,
-    }
-}
-
-/// What stands behind a comma, if one comes next.
-pub fn comma(text: &[u8]) -> Option<&[u8]>
-    ensures { option_map (λ rest. words rest.now) result ≡ comma (words text.now) }
-{
-    match next_word(text)? {
-        (Word::Punctuator(Punctuator::Comma), rest) => Some(rest),
-        _ => None,
-    }
-}
-
-/// What stands behind a colon, if one comes next.
-pub fn colon(text: &[u8]) -> Option<&[u8]>
-    ensures { option_map (λ rest. words rest.now) result ≡ colon (words text.now) }
-{
-    match next_word(text)? {
-        (Word::Punctuator(Punctuator::Colon), rest) => Some(rest),
+        (Word::Punctuator(found), rest) if is_punctuator(found, expected) => Some(rest),
         _ => None,
     }
 }

@@ -8,7 +8,7 @@ ghost use Rattle.pragma_clause.specs.Words.{token_of, symbol_of, symbol_at, run_
 use text::{is_blank, skip_blanks};
 
 /// One of the four signs that are words of their own.
-#[derive(Clone, Copy)]
+#[derive(Clone, Copy, PartialEq, Eq)]
 pub enum Punctuator {
     OpenParen,
     CloseParen,

@@ -1,13 +1,13 @@
 use Rattle.std.specs.Prelude.{[], ◌∷◌, map, codes}
 use Rattle.ompk_message.specs.Message.{index_text}
-use Rattle.ompk_message.proofs.Parts.{front_begun, rest_begun, both_put_ok}
+use Rattle.std.proofs.lemmas.Result.{err_from_is_err_and}
+use Rattle.ompk_message.proofs.Parts.{both_put, front_put}
 use Rattle.ompk_message.proofs.telling.tell_indexes.Goals as goal
 
-pub returns-in_err-put_indexes-clause-beginning : goal.returns-in_err-put_indexes-clause-beginning
-returns-in_err-put_indexes-clause-beginning g c = front_begun _ _ (map index_text c.args.indexes.now) (codes "\n" ∷ []) c.in_err-put_indexes.ensures.beginning
+pub returns-in_err-put_indexes : goal.returns-in_err-put_indexes
+returns-in_err-put_indexes g c =
+    let p = err_from_is_err_and c.from_residual.result c.from_residual.ensures.1 in
+    rw (p.1, p.2) (front_put (map index_text c.args.indexes.now) (codes "\n" ∷ []) c.in_err-put_indexes.ensures)
 
-pub returns-clause-all : goal.returns-clause-all
-returns-clause-all g c = both_put_ok c.put_all.result _ _ _ (map index_text c.args.indexes.now) (codes "\n" ∷ []) c.in_ok-put_indexes.ensures.all c.put_all.ensures.all
-
-pub returns-clause-beginning : goal.returns-clause-beginning
-returns-clause-beginning g c = rest_begun _ _ _ (map index_text c.args.indexes.now) (codes "\n" ∷ []) c.in_ok-put_indexes.ensures.all c.put_all.ensures.beginning
+pub returns : goal.returns
+returns g c = both_put (map index_text c.args.indexes.now) (codes "\n" ∷ []) c.put_text.result c.in_ok-put_indexes.ensures c.put_text.ensures

@@ -1,6 +1,7 @@
 use Rattle.std.proofs.Common.{ap, sym, ◌∙◌}
 use Rattle.pragma.specs.Plain.{has_line}
-use Rattle.pragma.proofs.PlainLaw.{block_is, line_here, line_later}
+use Rattle.ktree.proofs.Trees.{block_is}
+use Rattle.pragma.proofs.PlainLaw.{line_here, line_later}
 use Rattle.pragma.proofs.placed.+line.Goals as goal
 
 pub line_in-returns-in-Block : goal.line_in-returns-in-Block

@@ -4,7 +4,8 @@ use Rattle.semantics.specs.Tree.{no_items}
 use Rattle.ktree.specs.View.{with_item, items_of}
 use Rattle.pragma.specs.Parallel.{LoopsHave}
 use Rattle.pragma.specs.Plain.{IsPlainLoop, FirstLineHas, Judges}
-use Rattle.pragma.proofs.PlainLaw.{block_is, for_judged, all_behind, line_refused, item_parts, item_more}
+use Rattle.ktree.proofs.Trees.{block_is}
+use Rattle.pragma.proofs.PlainLaw.{for_judged, all_behind, line_refused, item_parts, item_more}
 use Rattle.pragma.proofs.placed.+statement.Goals as goal
 
 pub statement_fault-returns-in-For : goal.statement_fault-returns-in-For

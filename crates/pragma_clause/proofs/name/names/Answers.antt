@@ -19,7 +19,7 @@ pub returns-in_default : goal.returns-in_default
 returns-in_default c =
     let xs = names_of c.loop-turn.names in
     let ts = words c.loop-turn.rest.now in
-    let h = sym c.comma.ensures ∙ ap (option_map (λ rest. words rest.now)) c.in_default.is in
+    let h = sym c.punctuator.ensures ∙ ap (option_map (λ rest. words rest.now)) c.in_default.is in
     let items = mapped name_of c.loop-turn.names.items _ _ c.in_ok-push.ensures.items in
     closes (listed_run name) _ _ (xs, ts) _ c.loop-turn.invariant _ c.loop-turn-test.true (λ n. listed_close name n xs ts (with_rest name_of (c.in_ok-name.name, c.in_ok-name.behind)) c.in_ok-name.ensures h)
     ∙ ap (λ xs. Some (xs, words c.in_ok-name.behind.now)) (sym items)
@@ -30,7 +30,7 @@ loop-turn-preserved c =
     let ts = words c.loop-turn.rest.now in
     let x = with_rest name_of (c.in_ok-name.name, c.in_ok-name.behind) in
     let next = words c.in-Some.next.now in
-    let h = sym c.comma.ensures ∙ ap (option_map (λ rest. words rest.now)) c.in-Some.is in
+    let h = sym c.punctuator.ensures ∙ ap (option_map (λ rest. words rest.now)) c.in-Some.is in
     let items = mapped name_of c.loop-turn.names.items _ _ c.in_ok-push.ensures.items in
     ap (λ xs. listed_run name (c.args.setting.length - (c.loop-turn._turn + 1)) (xs, next)) items
     ∙ goes (listed_run name) _ _ (xs, ts) _ c.loop-turn.invariant (xs ++ x.0 ∷ [], next) c.loop-turn-test.true (λ n. listed_go name n xs ts x next c.in_ok-name.ensures h)
