@@ -170,6 +170,13 @@ impl Space {
         self.count
     }
 
+    /// A space has at most 2^24 vectors.
+    pub fn confirm_few(&self)
+        ensures { length (vectors self.now) ≤ 2 ^ 24 }
+    {
+        let _count = self.count;
+    }
+
     /// The vector of a number, the outermost loop's value first.
     pub fn vector(&self, number: u64, values: &mut [u64])
         requires number { number < length (vectors self.now) }

@@ -21,7 +21,8 @@ pub(crate) struct Prepared<'k> {
     pub(crate) registers: Vec<u64>,
 }
 
-// The outline of an accepted kernel's body over the variables of a store, and registers.
+// The outline of an accepted kernel's body over the variables of a store, and registers. More locals than 32 bits can number count as
+// memory that is not there.
 pub(crate) fn prepare<'k>(
     alloc: Global,
     checked: &'k Checked,
@@ -34,7 +35,9 @@ pub(crate) fn prepare<'k>(
 {
     let body = checked.body();
     let declarations = checked.declarations();
-    let mark = mark_among(body);
+    let Ok(mark) = u32::try_from(mark_among(body)) else {
+        return Err(Refusal::OutOfMemory);
+    };
     let layout = layout_of(alloc, declarations)?;
     let target = Target {
         layout: layout.as_slice(),
@@ -47,6 +50,6 @@ pub(crate) fn prepare<'k>(
         nests: parallel.doacross.as_slice(),
     };
     let outline = outline(alloc, body, loops, target)?;
-    let registers = zero_registers(alloc, mark, store)?;
+    let registers = zero_registers(alloc, u64::from(mark), store)?;
     Ok(Prepared { outline, registers })
 }

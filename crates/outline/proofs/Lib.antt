@@ -4,6 +4,7 @@ pub mod Found
 pub mod Lookups
 pub mod Nested
 pub mod Phased
+pub mod Right
 pub mod Shaped
 pub mod Standing
 pub mod Whole

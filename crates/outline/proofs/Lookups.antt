@@ -1,12 +1,9 @@
--- The loops behind directive lines, as they are looked up by their places.
-use Rattle.std.specs.Prelude.{ℕ, suc, Bool, true, false, ◌≡◌, ◌+◌, ◌<◌, ◌≤◌, ◌&&◌, ◌==◌, if◌then◌else◌, List, [], ◌∷◌, ◌++◌, length, map, take, drop, Option, Some, All, None}
-use Rattle.std.proofs.Common.{sym, ap, ◌∙◌, get_or, drop-cons, add-one}
-use Rattle.std.proofs.lemmas.Bool.{eqb-true, eq-eqb}
+-- The loops behind directive lines, as they are looked up by the lines' numbers.
+use Rattle.std.specs.Prelude.{ℕ, suc, Bool, true, false, ◌≡◌, ◌+◌, ◌<◌, ◌≤◌, ◌==◌, if◌then◌else◌, List, [], ◌∷◌, ◌++◌, length, map, take, drop, Option, Some, All, Contains, None}
+use Rattle.std.proofs.Common.{sym, ap, ◌∙◌, subst, get_or, drop-cons, add-one}
 use Rattle.std.proofs.lemmas.List.{take_more, take_all, drop_all}
 use Rattle.std.proofs.lemmas.List.Elements.{All-same, All-push}
 use Rattle.semantics.specs.Loops.Order.{Distance}
-use Rattle.semantics.proofs.EraseTokenLaw.{first_of, second_of, and_true}
-use Rattle.ktree.specs.declared.place.Place.{Place}
 use Rattle.flow.specs.declared.environment.ParallelLoop.{ParallelLoop}
 use Rattle.flow.specs.Phases.{PhasesSaid}
 use Rattle.flow_doacross.specs.Listed.{nest_at}
@@ -14,39 +11,27 @@ use Rattle.flow_doacross.specs.Views.{distance_kept, nest_part}
 use Rattle.flow_doacross.specs.declared.listing.DoacrossLoop.{DoacrossLoop}
 use Rattle.flow_scan.specs.Views.{scan_part, phases_at}
 use Rattle.flow_scan.specs.declared.listing.ScanLoop.{ScanLoop}
-use Rattle.outline.specs.Handed.{StandsAt, NoneStandsAt}
+use Rattle.outline.specs.Accepted.{StandsAt}
 
--- two places are the same
-abbrev pub is_place : Place → Place → Bool
-is_place p q = (p.line == q.line) && (p.column == q.column)
+-- the loop of this number stands behind the line
+pub stands : (loops : List ParallelLoop) (line i : ℕ) (l : ParallelLoop) → i < length loops → l ≡ get_or loops i l → l.line.line ≡ line → StandsAt loops line l
+stands loops line i l lt at here = ((i, lt, sym at), here)
 
-same : (p q : Place) → is_place p q ≡ true → p ≡ q
-same p q e =
-    let line = eqb-true p.line q.line (first_of (p.line == q.line) (p.column == q.column) e) in
-    let column = eqb-true p.column q.column (second_of (p.line == q.line) (p.column == q.column) e) in
-    λ i. record { line = line i; column = column i }
+-- it does not, as none before it
+pub stands_not : (loops : List ParallelLoop) (line i : ℕ) (l : ParallelLoop) → i < length loops → l ≡ get_or loops i l → (l.line.line ≡ line → ⊥) → All (λ p. p.line.line ≡ line → ⊥) (take i loops)
+    → All (λ p. p.line.line ≡ line → ⊥) (take (i + 1) loops)
+stands_not loops line i l lt at other earlier =
+    let Other : ParallelLoop → Type 0 = λ p. p.line.line ≡ line → ⊥ in
+    All-same Other (take (i + 1) loops) (take i loops ++ l ∷ []) (take_more loops i l lt ∙ ap (λ p. take i loops ++ p ∷ []) (sym at)) (All-push Other (take i loops) l earlier other)
 
-other : (p q : Place) → is_place p q ≡ false → p ≡ q → ⊥
-other p q e is =
-    let test : is_place p q ≡ true = and_true (p.line == q.line) (p.column == q.column) (eq-eqb p.line q.line (ap (λ r. r.line) is)) (eq-eqb p.column q.column (ap (λ r. r.column) is)) in
-    absurd (cc (e, test))
-
--- the loop of this number stands at the place
-pub stands : (loops : List ParallelLoop) (line : Place) (i : ℕ) (l : ParallelLoop) → i < length loops → l ≡ get_or loops i l → is_place l.line line ≡ true
-    → StandsAt loops line l
-stands loops line i l lt at here = ((i, lt, sym at), same l.line line here)
-
--- it does not stand there, as none before it
-pub stands_not : (loops : List ParallelLoop) (line : Place) (i : ℕ) (l : ParallelLoop) → i < length loops → l ≡ get_or loops i l → is_place l.line line ≡ false
-    → All (λ p. p.line ≡ line → ⊥) (take i loops) → All (λ p. p.line ≡ line → ⊥) (take (i + 1) loops)
-stands_not loops line i l lt at here earlier =
-    let Other : ParallelLoop → Type 0 = λ p. p.line ≡ line → ⊥ in
-    All-same Other (take (i + 1) loops) (take i loops ++ l ∷ []) (take_more loops i l lt ∙ ap (λ p. take i loops ++ p ∷ []) (sym at))
-    (All-push Other (take i loops) l earlier (other l.line line here))
-
--- none stands there
-pub none_stands : (loops : List ParallelLoop) (line : Place) (i : ℕ) → length loops ≤ i → All (λ p. p.line ≡ line → ⊥) (take i loops) → NoneStandsAt loops line
-none_stands loops line i le all = All-same (λ (p : ParallelLoop). p.line ≡ line → ⊥) loops (take i loops) (sym (take_all i loops le)) all
+-- where one does, it is found
+pub one_stands : (loops : List ParallelLoop) (line i : ℕ) → length loops ≤ i → All (λ p. p.line.line ≡ line → ⊥) (take i loops) → (l : ParallelLoop) × StandsAt loops line l → ⊥
+one_stands loops line i le none (l, (at, here)) =
+    let all = All-same (λ (p : ParallelLoop). p.line.line ≡ line → ⊥) loops (take i loops) (sym (take_all i loops le)) none in
+    absurd (of_all (λ (p : ParallelLoop). p.line.line ≡ line → ⊥) loops l all at here)
+  where
+    of_all : {A : Type 0} (P : A → Type 0) (xs : List A) (x : A) → All P xs → Contains xs x → P x
+    of_all P xs x all c = subst P c.2 (all c.0 x c.1)
 
 -- ---- the loops of scans
 

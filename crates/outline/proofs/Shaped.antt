@@ -212,8 +212,8 @@ module _ (layout : List Laid) (mark : ℕ) (loops : Loops) where
           → TeamFits layout mark R serial l
       team_fits text ds R P serial given (k, c, reads, share) all =
           let own = of_all (IsOfText text R) loops.parallel.now h.parallel given.table h.stands.0 in
-          let here = subst (λ (p : Place). ReadsLoop (line_at text p.line) (scheduled h.parallel.directive) h.parallel.directive.collapse) h.stands.1 own.reads in
-          let kept = subst (λ (p : Place). AreRolesOf (R p.line) h.parallel.roles) h.stands.1 own.roles in
+          let here = subst (λ (m : ℕ). ReadsLoop (line_at text m) (scheduled h.parallel.directive) h.parallel.directive.collapse) h.stands.1 own.reads in
+          let kept = subst (λ (m : ℕ). AreRolesOf (R m) h.parallel.roles) h.stands.1 own.roles in
           let same = (read_once (line_at text line.line) (scheduled h.parallel.directive) h.parallel.directive.collapse k c here reads).1 in
           let depth : associated c ≡ l.depth = ap associated (sym same) ∙ sym h.depth in
           let roles : used_roles s (left_roles (R line.line)) ≡ roles_in R l = sym (ap (λ a. used_roles a (left_roles (R l.line))) h.statement ∙ ap (λ m. used_roles s (left_roles (R m))) h.at) in

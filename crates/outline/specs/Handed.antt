@@ -37,18 +37,11 @@ use Rattle.lower_block.specs.declared.tree.Compiled.{Compiled}
 use Rattle.lower_run.specs.Walk.{Performs}
 use Rattle.lower.specs.Roles.{AreRolesAt}
 use Rattle.lower.specs.declared.lowered.LoweredLoop.{LoweredLoop}
+use Rattle.outline.specs.Accepted.{StandsAt}
 use Rattle.outline.specs.declared.handing.Loops.{Loops}
 use Rattle.outline.specs.declared.shape.TeamLoop.{TeamLoop}
 use Rattle.outline.specs.declared.shape.Way.{Way}
 use Rattle.outline.specs.declared.shape.Way.TheVariants.{Chunks, Scan, Waves, Alone}
-
--- one of these loops, which stands behind the directive line at this place
-abbrev pub StandsAt : List ParallelLoop → Place → ParallelLoop → Type 0
-StandsAt loops line l = Contains loops l × (l.line ≡ line)
-
--- none of them stands there
-abbrev pub NoneStandsAt : List ParallelLoop → Place → Type 0
-NoneStandsAt loops line = All (λ l. l.line ≡ line → ⊥) loops
 
 -- the directive line of a loop says what is kept of it
 pub record IsOfText (text : List ℕ) (R : LineData) (l : ParallelLoop) : Type 0 where
@@ -143,7 +136,7 @@ IsWay layout mark box inside line n s kept Alone = Unit {0}
 -- a statement behind the directive line at this place is handed over, as many loops of it as that line associates, with its schedule (OpenMP 5.2, 11.5.3) and the way in which it may be run, and with code of its body and of the whole
 pub record IsHanded (layout : List Laid) (mark : ℕ) (box : List Side) (loops : Loops) (line : Place) (s : Stmt) (l : TeamLoop) : Type 0 where
   pub parallel : ParallelLoop
-  pub stands : StandsAt loops.parallel.now line parallel
+  pub stands : StandsAt loops.parallel.now line.line parallel
   pub statement : stmt_of l.statement.now ≡ s
   pub at : l.line ≡ line.line
   pub depth : l.depth ≡ associated parallel.directive.collapse

@@ -1,3 +1,4 @@
+pub mod Accepted
 pub mod Fit
 pub mod Given
 pub mod Handed

@@ -25,7 +25,7 @@ use std::alloc::Global;
 #[derive(Clone, Copy)]
 pub struct Target<'l> {
     pub layout: &'l [Laid],
-    pub registers: u64,
+    pub registers: u32,
 }
 
 // Code as a block over at least so many registers.
@@ -38,11 +38,12 @@ fn compile_as_it_is(alloc: Global, code: Code, registers: u64) -> Result<Compile
 }
 
 // Code as such a block, its short loops over locals written out.
-fn compile_code(alloc: Global, code: Code, registers: u64) -> Result<Compiled, Refusal>
+fn compile_code(alloc: Global, code: Code, registers: u32) -> Result<Compiled, Refusal>
     ensures ok { IfOk result
         (λ c. Compiles code registers c × registers ≤ c.registers) }
     ensures refusal { IfErr result (λ refusal. refusal ≡ OutOfMemory) }
 {
+    let registers = u64::from(registers);
     let unrolled = unroll(alloc, code, registers)?;
     compile_as_it_is(alloc, unrolled, registers)
 }

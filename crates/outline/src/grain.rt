@@ -1,11 +1,8 @@
 //! Which doacross nests a team would not run sooner than one thread.
 
-ghost use Rattle.std.specs.Prelude.{◌≡◌, IfErr};
-ghost use Rattle.ktree.specs.declared.refusal.Refusal.TheVariants.{OutOfMemory};
-
-use ktree::Refusal;
 use lower::LoweredLoop;
 use lower_block::Block;
+use nest_space::Space;
 use std::alloc::Global;
 
 /// So many instructions take as long as it takes to hand over what an iteration leaves from one processor to another, and the store's lines
@@ -49,16 +46,12 @@ fn is_chain(distances: &[Vec<i64>]) -> bool {
 /// Whether one thread runs a doacross nest whose sinks lie so far before their iterations sooner than a team does wave by wave, however many
 /// workers that has: the nest has many iterations, which are so light that to hand over what each of them leaves takes longer than to run
 /// it, or of which each waits for the one before.
-pub(crate) fn is_run_alone(
-    alloc: Global,
-    distances: &[Vec<i64>],
-    nest: &LoweredLoop,
-) -> Result<bool, Refusal>
-    ensures refusal { IfErr result (λ refusal. refusal ≡ OutOfMemory) }
-{
+pub(crate) fn is_run_alone(alloc: Global, distances: &[Vec<i64>], nest: &LoweredLoop) -> bool {
     if !are_light(nest) && !is_chain(distances) {
-        return Ok(false);
+        return false;
     }
-    let space = nest.space(alloc, &[])?;
-    Ok(space.count() >= MANY)
+    match Space::at(alloc, nest.loops.as_slice(), &[]) {
+        Some(space) => space.count() >= MANY,
+        None => false,
+    }
 }

@@ -1,11 +1,13 @@
 //! Which statements are handed to a team.
 
 ghost use Rattle.flow_reduction.specs.Reduced.{reduced};
-ghost use Rattle.std.specs.Prelude.{◌≡◌, false, [], IfOk, IfErr, IfSome, MatchOption};
-ghost use Rattle.nest.specs.Perfect.{NestHas, AreRectangular};
+ghost use Rattle.std.specs.Prelude.{◌≡◌, false, [], IfOk, IfErr, IfSome};
+ghost use Rattle.nest.specs.Perfect.{NestHas, AreRectangular, IsRightNest};
+ghost use Rattle.flow.specs.declared.environment.ParallelLoop.{ParallelLoop as ParallelLoops};
+ghost use Rattle.outline.specs.Accepted.{StandsAt, HasNest, IsLoopOf};
 ghost use Rattle.ktree.specs.View.{stmt_of, items_of};
 ghost use Rattle.ktree.specs.declared.refusal.Refusal.TheVariants.{OutOfMemory};
-ghost use Rattle.outline.specs.Handed.{StandsAt, NoneStandsAt, ListsLocals, IsBodyOf, IsBodyCode, AreItemsCode, IsLowered, IsInputIn, IsWay, IsHanded, inside_told};
+ghost use Rattle.outline.specs.Handed.{ListsLocals, IsBodyOf, IsBodyCode, AreItemsCode, IsLowered, IsInputIn, IsWay, IsHanded, inside_told};
 
 use crate::compiling::{Target, compile_items, compile_statement};
 use crate::grain::is_run_alone;
@@ -32,27 +34,30 @@ pub struct Loops<'l> {
     pub nests: &'l [DoacrossLoop],
 }
 
-// The parallel loop behind the directive line at this place.
-fn loop_at(loops: &[ParallelLoop], directive: Place) -> Option<&ParallelLoop>
-    ensures { MatchOption result (NoneStandsAt loops.now directive)
-        (λ parallel. StandsAt loops.now directive parallel.now) }
+// The parallel loop behind the directive line of this number.
+fn loop_at(loops: &[ParallelLoop], line: u32) -> &ParallelLoop
+    requires { (parallel : ParallelLoops) × StandsAt loops.now line parallel }
+    ensures { StandsAt loops.now line result.now }
 {
     for parallel in loops {
-        if parallel.line == directive {
-            return Some(parallel);
+        if parallel.line.line == line {
+            return parallel;
         }
     }
-    None
+    unreachable!()
 }
 
 // The body of so many loops, one directly in the other.
-fn body_of(depth: u64, stmt: &Stmt) -> Option<&Stmt>
-    ensures { IfSome result (λ body. IsBodyOf depth (stmt_of stmt.now) (stmt_of body.now)) }
+fn body_of(depth: u64, stmt: &Stmt) -> &Stmt
+    requires { HasNest depth (stmt_of stmt.now) }
+    ensures { IsBodyOf depth (stmt_of stmt.now) (stmt_of result.now) }
 {
     if depth == 0 {
-        return Some(stmt);
+        return stmt;
     }
-    let level = as_loop(stmt)?;
+    let Some(level) = as_loop(stmt) else {
+        unreachable!()
+    };
     body_of(depth - 1, level.body)
 }
 
@@ -64,14 +69,13 @@ fn canonical_loops(
     bounds: &VarBox,
     directive: Place,
 ) -> Result<Vec<Canonical>, Refusal>
+    requires { IsRightNest bounds.now depth (stmt_of stmt.now) }
     ensures ok { IfOk result (λ loops. NestHas
         (λ hs. AreRectangular bounds.now hs loops.items) depth (stmt_of stmt.now)) }
     ensures refusal { IfErr result (λ refusal. refusal ≡ OutOfMemory) }
 {
-    match Nest::new(alloc, depth, stmt, bounds, directive) {
-        Ok(nest) => Ok(nest.loops),
-        Err(_fault) => Err(Refusal::OutOfMemory),
-    }
+    let nest = Nest::new(alloc, depth, stmt, bounds, directive)?;
+    Ok(nest.loops)
 }
 
 // The variables of a box that have registers.
@@ -87,22 +91,6 @@ fn variables_of(alloc: Global, bounds: &VarBox, registers: u32) -> Result<Vec<Va
     Ok(variables)
 }
 
-// The variables of the loops round a nest; there are no more than so many locals.
-fn variables_round(
-    alloc: Global,
-    bounds: &VarBox,
-    target: Target<'_>,
-) -> Result<Vec<VarId>, Refusal>
-    ensures ok { IfOk result
-        (λ variables. ListsLocals target.entry.registers bounds.now variables.items) }
-    ensures refusal { IfErr result (λ refusal. refusal ≡ OutOfMemory) }
-{
-    let Ok(registers) = u32::try_from(target.registers) else {
-        return Err(Refusal::OutOfMemory);
-    };
-    Ok(variables_of(alloc, bounds, registers)?)
-}
-
 // The code of a nest's body.
 fn compile_body(
     alloc: Global,
@@ -110,14 +98,12 @@ fn compile_body(
     stmt: &Stmt,
     target: Target<'_>,
 ) -> Result<Compiled, Refusal>
+    requires { HasNest depth (stmt_of stmt.now) }
     ensures ok { IfOk result
         (IsBodyCode target.entry.layout.now target.entry.registers depth (stmt_of stmt.now)) }
     ensures refusal { IfErr result (λ refusal. refusal ≡ OutOfMemory) }
 {
-    match body_of(depth, stmt) {
-        Some(body) => compile_statement(alloc, body, target),
-        None => Err(Refusal::OutOfMemory),
-    }
+    compile_statement(alloc, body_of(depth, stmt), target)
 }
 
 // What the nest of a parallel loop is lowered to, inside the loops of a box, with this code for its body.
@@ -130,6 +116,7 @@ fn lower(
     target: Target<'_>,
     bounds: &VarBox,
 ) -> Result<LoweredLoop, Refusal>
+    requires { IsRightNest bounds.now depth (stmt_of stmt.now) }
     ensures lowered { IfOk result
         (IsLowered target.entry.layout.now target.entry.registers bounds.now depth
         (stmt_of stmt.now) parallel.now.roles) }
@@ -139,7 +126,7 @@ fn lower(
 {
     let schedule = parallel.directive.schedule;
     let loops = canonical_loops(alloc, depth, stmt, bounds, parallel.line)?;
-    let around = variables_round(alloc, bounds, target)?;
+    let around = variables_of(alloc, bounds, target.registers)?;
     let roles = lower_roles(alloc, &parallel.roles, stmt, target)?;
     Ok(LoweredLoop {
         around,
@@ -159,6 +146,7 @@ fn lower_whole(
     target: Target<'_>,
     bounds: &VarBox,
 ) -> Result<LoweredLoop, Refusal>
+    requires { IsRightNest bounds.now depth (stmt_of stmt.now) }
     ensures lowered { IfOk result
         (IsLowered target.entry.layout.now target.entry.registers bounds.now depth
         (stmt_of stmt.now) parallel.now.roles) }
@@ -181,6 +169,7 @@ fn lower_part(
     target: Target<'_>,
     bounds: &VarBox,
 ) -> Result<LoweredLoop, Refusal>
+    requires { IsRightNest bounds.now depth (stmt_of stmt.now) }
     ensures lowered { IfOk result
         (IsLowered target.entry.layout.now target.entry.registers bounds.now depth
         (stmt_of stmt.now) parallel.now.roles) }
@@ -204,12 +193,12 @@ fn carries(kept: &LoopRoles) -> bool
 
 // The items in the input phase of a nest's body; None where that is no block without directive lines, with so many items in front.
 fn input_of<'s>(depth: u64, stmt: &'s Stmt, scan: &ScanLoop) -> Option<&'s [Item]>
+    requires { HasNest depth (stmt_of stmt.now) }
     ensures { IfSome result (λ part. IsInputIn scan.now.inclusive scan.now.front depth
         (stmt_of stmt.now)
         (items_of part.now)) }
 {
-    let body = body_of(depth, stmt)?;
-    input_among(body, scan)
+    input_among(body_of(depth, stmt), scan)
 }
 
 // The way in which the nest of a parallel loop may be run, which is lowered to this.
@@ -223,13 +212,14 @@ fn way_of(
     bounds: &VarBox,
     lowered: &LoweredLoop,
 ) -> Result<Way, Refusal>
+    requires { IsRightNest bounds.now depth (stmt_of stmt.now) }
     ensures way { IfOk result
         (IsWay target.entry.layout.now target.entry.registers bounds.now (inside_told loops.entry)
         parallel.now.line.line depth (stmt_of stmt.now) parallel.now.roles) }
     ensures refusal { IfErr result (λ refusal. refusal ≡ OutOfMemory) }
 {
     if let Some(nest) = nest_at(loops.nests, parallel.line.line) {
-        if is_run_alone(alloc, &nest.distances, lowered)? {
+        if is_run_alone(alloc, &nest.distances, lowered) {
             return Ok(Way::Alone);
         }
         return waves_of(alloc, depth, &nest.distances);
@@ -254,8 +244,7 @@ fn way_of(
 //
 // # Errors
 //
-// `OutOfMemory` alone. It stands also for a statement that is no nest of as many loops as its line associates, or with no line of its
-// own among these, and for a variable with a role that is no scalar: a kernel that is accepted has no such one.
+// `OutOfMemory` alone. It stands also for a variable with a role that is no scalar: a kernel that is accepted has no such one.
 pub(crate) fn loop_for_team<'k>(
     alloc: Global,
     loops: Loops<'_>,
@@ -264,14 +253,13 @@ pub(crate) fn loop_for_team<'k>(
     target: Target<'_>,
     bounds: &VarBox,
 ) -> Result<TeamLoop<'k>, Refusal>
+    requires { IsLoopOf loops.parallel.now bounds.now directive.line (stmt_of stmt.now) }
     ensures handed { IfOk result
         (IsHanded target.entry.layout.now target.entry.registers bounds.now loops.entry directive
         (stmt_of stmt.now)) }
     ensures refusal { IfErr result (λ refusal. refusal ≡ OutOfMemory) }
 {
-    let Some(parallel) = loop_at(loops.parallel, directive) else {
-        return Err(Refusal::OutOfMemory);
-    };
+    let parallel = loop_at(loops.parallel, directive.line);
     let depth = parallel.directive.associated_loops();
     let code = compile_statement(alloc, stmt, target)?;
     let lowered = lower_whole(alloc, depth, stmt, parallel, target, bounds)?;

@@ -6,12 +6,14 @@ ghost use Rattle.semantics.specs.Meaning.Agrees.{declared_among};
 ghost use Rattle.ktree.specs.View.{stmt_of, items_of, cond_of, if_of};
 ghost use Rattle.ktree.specs.declared.refusal.Refusal.TheVariants.{OutOfMemory};
 ghost use Rattle.affine.specs.declared.interval.Side.{Side};
+ghost use Rattle.flow.specs.declared.environment.ParallelLoop.{ParallelLoop};
 ghost use Rattle.outline.specs.declared.handing.Loops.{Loops};
 ghost use Rattle.semantics.specs.Tree.{Declaration};
 ghost use Rattle.flow.specs.Roles.{LineData, ItemsHaveBy};
 ghost use Rattle.law_independence.specs.Said.{LinesInside};
 ghost use Rattle.law_independence.specs.OrderLaws.{SharesBy};
 ghost use Rattle.law_apart.specs.Apart.{apart_items};
+ghost use Rattle.outline.specs.Accepted.{HasRightLoops, HaveRightLoops, IsRightBehind, ItemIsRight};
 ghost use Rattle.outline.specs.Given.{ArePrivateLocals};
 ghost use Rattle.outline.specs.Handed.{AreOfText, inside_told};
 ghost use Rattle.pragma.specs.Plain.{has_line};
@@ -60,13 +62,16 @@ fn outline_serial<'k>(
 
 // Goes into the loop of a head.
 fn go_into(alloc: Global, head: &Head, body: &Stmt, bounds: &mut VarBox) -> Result<(), Refusal>
+    requires { (loops : List ParallelLoop)
+        × HasRightLoops loops bounds.old (loop_with head.now (stmt_of body.now)) }
     ensures ok { OnOk result (IsInside head.now bounds.old bounds.new) }
+    ensures right { OnOk result ((loops : List ParallelLoop)
+        → HasRightLoops loops bounds.old (loop_with head.now (stmt_of body.now))
+        → HasRightLoops loops bounds.new (stmt_of body.now)) }
     ensures refusal { IfErr result (λ refusal. refusal ≡ OutOfMemory) }
 {
-    match enter(alloc, head, body, bounds) {
-        Ok(_facts) => Ok(()),
-        Err(_fault) => Err(Refusal::OutOfMemory),
-    }
+    enter(alloc, head, body, bounds)?;
+    Ok(())
 }
 
 // The outline of an `if` without `else`.
@@ -133,6 +138,7 @@ fn outline_inside<'k>(
     target: Target<'_>,
     bounds: &mut VarBox,
 ) -> Result<Box<Outline<'k>>, Refusal>
+    requires { HasRightLoops loops.parallel.now bounds.old (stmt_of stmt.now) }
     ensures made { IfOk result (λ o. IsMade target.entry.layout.now target.entry.registers
         loops.entry
         bounds.old None (stmt_of stmt.now) o.value) }
@@ -164,9 +170,7 @@ fn outline_inside<'k>(
             let outlines = outline_items(alloc, items, loops, target, bounds)?;
             Ok(Box::new(alloc, Outline::Block(outlines))?)
         }
-        Stmt::Assign(_, _) => Err(Refusal::OutOfMemory),
-        Stmt::Update(_, _, _) => Err(Refusal::OutOfMemory),
-        Stmt::Print(_, _) => Err(Refusal::OutOfMemory),
+        Stmt::Assign(_, _) | Stmt::Update(_, _, _) | Stmt::Print(_, _) => unreachable!(),
     }
 }
 
@@ -180,6 +184,7 @@ fn outline_behind<'k>(
     target: Target<'_>,
     bounds: &mut VarBox,
 ) -> Result<Box<Outline<'k>>, Refusal>
+    requires { IsRightBehind loops.parallel.now bounds.old directive (stmt_of stmt.now) }
     ensures made { IfOk result (λ o. IsMade target.entry.layout.now target.entry.registers
         loops.entry
         bounds.old directive (stmt_of stmt.now) o.value) }
@@ -205,6 +210,7 @@ fn outline_item<'k>(
     target: Target<'_>,
     bounds: &mut VarBox,
 ) -> Result<OutlineItem<'k>, Refusal>
+    requires { ItemIsRight loops.parallel.now bounds.old directive item.now }
     ensures made { IfOk result (λ o. IsMadeItem target.entry.layout.now target.entry.registers
         loops.entry bounds.old directive item.now o) }
     ensures back { OnOk result (bounds.new ≡ bounds.old) }
@@ -227,6 +233,7 @@ fn outline_items<'k>(
     target: Target<'_>,
     bounds: &mut VarBox,
 ) -> Result<Vec<OutlineItem<'k>>, Refusal>
+    requires { HaveRightLoops loops.parallel.now bounds.old (items_of items.now) }
     ensures made { IfOk result (λ os. AreMade target.entry.layout.now target.entry.registers
         loops.entry bounds.old None items.now os.items) }
     ensures back { OnOk result (bounds.new ≡ bounds.old) }
@@ -245,17 +252,19 @@ fn outline_items<'k>(
 /// The outline of a kernel's body: each loop behind a directive line is lowered for a team, whatever its form and its schedule, with those
 /// reduction and lastprivate variables of its line that it assigns from outside (OpenMP 5.2, 5.4.5 and 5.5.8), that of a scan also for
 /// the first of its two passes (5.6), and a doacross nest with its sinks (15.9.6); all else is compiled for one thread, over registers below that number for the locals.
+/// The body is that of an accepted kernel: its loops are canonical, and behind each of its directive lines stands one of these parallel loops,
+/// in a right nest (4.4.1 and 4.4.3).
 ///
 /// # Errors
 ///
-/// `OutOfMemory` alone. It stands also for a directive line that is none of these loops', or with no nest behind it, for a loop that is
-/// not canonical, and for such a variable that is no scalar: a kernel that is accepted has no such one.
+/// `OutOfMemory` alone. It stands also for such a variable that is no scalar: a kernel that is accepted has no such one.
 pub fn outline<'k>(
     alloc: Global,
     items: &'k [Item],
     loops: Loops<'_>,
     target: Target<'_>,
 ) -> Result<Vec<OutlineItem<'k>>, Refusal>
+    requires { HaveRightLoops loops.parallel.now [] (items_of items.now) }
     ensures is { IfOk result (λ os. (R : LineData)
         → items_performed R [] os.items ≡ apart_items R [] (items_of items.now)) }
     ensures fits { IfOk result

@@ -70,7 +70,7 @@ fn spot_of(variable: VarId, target: Target<'_>) -> Option<Spot>
     if (variable.0 as usize) < target.layout.len() {
         let place = cell_of(target.layout, variable)?;
         Some(Spot::Cell(place))
-    } else if u64::from(variable.0) < target.registers {
+    } else if variable.0 < target.registers {
         Some(Spot::Register(variable))
     } else {
         None

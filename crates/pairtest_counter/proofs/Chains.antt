@@ -6,7 +6,6 @@ use Rattle.std.proofs.Common.{refl, sym, ap, ◌∙◌, subst, arith}
 use Rattle.affine.specs.declared.interval.Side.{Side}
 use Rattle.affine.specs.Box.{side}
 use Rattle.semantics.specs.Tree.{Variable, Source, Cond, NotZero, Compare, Not, LogicalAnd, LogicalOr, Increment, Stmt}
-use Rattle.affine.specs.declared.interval.Interval.{Interval}
 use Rattle.nest_loop.specs.declared.head.Canonical.{Canonical}
 use Rattle.nest_loop.specs.Most.{IsMost}
 use Rattle.affine.specs.Affine.{Affine}

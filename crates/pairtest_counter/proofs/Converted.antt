@@ -1,11 +1,13 @@
 -- Forms in the counters, step by step.
-use Rattle.std.specs.Prelude.{ℕ, ◌≡◌, pos, List, [], ◌∷◌, length, Bool, true, false, ◌==◌, option_map, IfOk, IfErr}
+use Rattle.std.specs.Prelude.{ℕ, ◌≡◌, pos, List, [], ◌∷◌, length, Bool, false, ◌==◌, option_map, IfOk, IfErr}
 use Rattle.std.proofs.Common.{refl, sym, ap, ◌∙◌, subst, inl, inr, cond, arith}
 use Rattle.std.proofs.lemmas.Option.{same_Some}
 use Rattle.ktree.specs.declared.place.Place.{Place}
 use Rattle.ktree.specs.declared.refusal.Refusal.{Refusal}
-use Rattle.ktree.specs.declared.refusal.Refusal.TheVariants.{OutOfMemory}
+use Rattle.ktree.specs.declared.refusal.Refusal.TheVariants.{OutOfMemory, Limit}
 use Rattle.affine.specs.declared.term.Term.{Term}
+use Rattle.affine_expr.specs.declared.faults.Fault.{Fault}
+use Rattle.affine_expr.specs.declared.faults.Fault.TheVariants as faults
 use Rattle.affine.specs.Affine.{Affine}
 use Rattle.affine.specs.Arithmetic.{constant_form, variable_form, sum_form, multiple_form}
 use Rattle.affine.specs.Limits.{Fits, Refuses}
@@ -169,6 +171,12 @@ forms_made outer l start limit n place r e s t =
     makes_too place (AreFormsBetween n l start limit) (AreForms outer l) r (λ f. of_ends outer l start limit n f e s t) (λ f. to_ends outer l start limit n f e s t)
 
 -- there are none where the limit is told
-pub none_within : {A : Type 0} (place : Place) (P : A → Type 0) (r : Refusal) (b : Bool) → (r ≡ OutOfMemory → b ≡ false) → b ≡ true → Stops place P r → (a : A) → P a → ⊥
-none_within place P r b f e (inl m) = let g = f m in absurd cc
-none_within place P r b f e (inr k) = k.1
+pub none_within : {A : Type 0} (place : Place) (P : A → Type 0) (r : Refusal) (f : Fault) (told : Place) → (r ≡ OutOfMemory → f ≡ faults.OutOfMemory) → f ≡ faults.Limit told → Stops place P r → (a : A) → P a → ⊥
+none_within place P r f told m e (inl k) = let g = m k in absurd cc
+none_within place P r f told m e (inr k) = k.1
+
+-- what is told is memory's, where it is no limit
+pub only_memory : {A : Type 0} (place : Place) (P : A → Type 0) (r : Refusal) (f : Fault) → (r ≡ OutOfMemory → f ≡ faults.OutOfMemory) → (r ≡ Limit place → f ≡ faults.Limit place)
+    → ((told : Place) → f ≡ faults.Limit told → ⊥) → Stops place P r → f ≡ faults.OutOfMemory
+only_memory place P r f m l other (inl k) = m k
+only_memory place P r f m l other (inr k) = absurd (other place (l k.0))

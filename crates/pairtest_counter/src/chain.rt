@@ -3,7 +3,7 @@
 ghost use Rattle.std.specs.Prelude.{◌≡◌, ◌⊎◌, ◌<◌, ◌≤◌, [], ◌∷◌, drop, length, true, false, IfOk, IfErr, OnOk, OnErr};
 ghost use Rattle.ktree.specs.declared.refusal.Refusal.TheVariants as refusals;
 ghost use Rattle.affine.specs.Affine.{Affine};
-ghost use Rattle.affine.specs.Box.{side};
+ghost use Rattle.affine.specs.Box.{side, EndsFit};
 ghost use Rattle.affine_expr.specs.declared.faults.Fault.TheVariants.{OutOfMemory, Limit};
 ghost use Rattle.nest_loop.specs.Loops.{inside};
 ghost use Rattle.pairtest_counter.specs.Counters.{InCounters, AreForms, Given};
@@ -13,7 +13,7 @@ use crate::convert::{forms_of, in_counters};
 use crate::copied::copy_of;
 use crate::level::{EnclosingLoop, Forms, Inner};
 use affine::{Form, Interval, VarBox};
-use affine_expr::Fault;
+use affine_expr::{Fault, fault_of_refusal};
 use ktree::{Head, Place, Refusal, VarId};
 use nest_loop::{Canonical, LoopFacts};
 use std::alloc::Global;
@@ -36,13 +36,6 @@ impl Model for EnclosingLoops {
     ghost invariant = { λ c. AreLevels c.bounds c.levels.items };
 }
 
-/// Whether a form passes the limits.
-fn is_limit(refusal: &Refusal) -> bool
-    ensures { refusal.now ≡ refusals.OutOfMemory → result ≡ false }
-{
-    matches!(refusal, Refusal::Limit(_))
-}
-
 /// The forms of a loop inside others, none where a number of these passes the limits.
 fn forms_within(
     alloc: Global,
@@ -57,13 +50,10 @@ fn forms_within(
     let counter = VarId(outer.len() as u32);
     match forms_of(alloc, outer, canonical, counter, place) {
         Ok(forms) => Ok(Some(forms)),
-        Err(refusal) => {
-            if is_limit(&refusal) {
-                Ok(None)
-            } else {
-                Err(Fault::OutOfMemory)
-            }
-        }
+        Err(refusal) => match fault_of_refusal(refusal, place) {
+            Fault::Limit(_) => Ok(None),
+            fault => Err(fault),
+        },
     }
 }
 
@@ -89,14 +79,24 @@ fn level_of(
     })
 }
 
-/// Gives the variable of a loop its numbers, and says whether the box took them.
-fn bind_variable(bounds: &mut VarBox, variable: VarId, numbers: Interval, place: Place) -> bool
-    ensures ok { result ≡ true → bounds.new ≡ inside bounds.old variable.0 numbers }
-    ensures err { result ≡ false → bounds.new ≡ bounds.old }
+/// Gives the variable of a loop its numbers, which a box can take. Where memory runs out, the box stays as it is.
+fn bind_variable(
+    bounds: &mut VarBox,
+    variable: VarId,
+    numbers: Interval,
+    place: Place,
+) -> Result<(), Fault>
+    requires { EndsFit numbers.least numbers.greatest }
+    ensures ok { OnOk result (bounds.new ≡ inside bounds.old variable.0 numbers) }
+    ensures err { OnErr result (bounds.new ≡ bounds.old) }
+    ensures fault { IfErr result (λ fault. fault ≡ OutOfMemory) }
 {
     let least = i128::from(numbers.least);
     let greatest = i128::from(numbers.greatest);
-    bounds.bind(variable, least, greatest, place).is_ok()
+    match bounds.bind(variable, least, greatest, place) {
+        Ok(()) => Ok(()),
+        Err(refusal) => Err(fault_of_refusal(refusal, place)),
+    }
 }
 
 /// Puts a loop and the numbers of its variable before those of others, which stay as they are where memory runs out.
@@ -106,6 +106,7 @@ fn put_inside(
     inner: Inner,
     place: Place,
 ) -> Result<(), Fault>
+    requires { EndsFit inner.numbers.least inner.numbers.greatest }
     ensures numbers { OnOk result (bounds.new
         ≡ inside bounds.old inner.level.canonical.variable.0 inner.numbers) }
     ensures levels { OnOk result (levels.new.items ≡ inner.level ∷ levels.old.items) }
@@ -114,9 +115,7 @@ fn put_inside(
     ensures fault { IfErr result (λ fault. fault ≡ OutOfMemory) }
 {
     let variable = inner.level.canonical.variable;
-    if !bind_variable(bounds, variable, inner.numbers, place) {
-        return Err(Fault::OutOfMemory);
-    }
+    bind_variable(bounds, variable, inner.numbers, place)?;
     if levels.insert(0, inner.level).is_err() {
         bounds.unbind();
         return Err(Fault::OutOfMemory);
@@ -155,6 +154,7 @@ impl EnclosingLoops {
     fn inner(&self, alloc: Global, head: &Head, facts: &LoopFacts) -> Result<Inner, Fault>
         requires { IsLoopWith self.now.box head.now facts.now }
         ensures ok { IfOk result (IsInnerWith self.now head.now facts.now) }
+        ensures numbers { IfOk result (λ inner. inner.numbers ≡ facts.now.numbers) }
         ensures fault { IfErr result (λ fault. fault ≡ OutOfMemory) }
     {
         let outer = self.levels.as_slice();
@@ -167,9 +167,10 @@ impl EnclosingLoops {
 
     /// Puts a loop inside those of the chain, which stay as they are where memory runs out.
     fn put(&mut self, inner: Inner, place: Place) -> Result<(), Fault>
-        requires { IsLevel self.old.box self.old.levels
+        requires level { IsLevel self.old.box self.old.levels
             (side inner.level.canonical.variable.0 inner.numbers.least inner.numbers.greatest)
             inner.level }
+        requires fits { EndsFit inner.numbers.least inner.numbers.greatest }
         ensures ok { OnOk result (self.new ≡ with_inner self.old inner) }
         ensures err { OnErr result (self.new ≡ self.old) }
         ensures fault { IfErr result (λ fault. fault ≡ OutOfMemory) }
@@ -216,13 +217,7 @@ impl EnclosingLoops {
     {
         match in_counters(alloc, self.levels.as_slice(), form, place) {
             Ok(found) => Ok(found),
-            Err(refusal) => {
-                if is_limit(&refusal) {
-                    Err(Fault::Limit(place))
-                } else {
-                    Err(Fault::OutOfMemory)
-                }
-            }
+            Err(refusal) => Err(fault_of_refusal(refusal, place)),
         }
     }
 }

@@ -4,7 +4,7 @@ ghost use Rattle.std.specs.Prelude.{◌≡◌, ◌⊎◌, ◌<◌, ◌^◌, leng
 ghost use Rattle.ktree.specs.declared.refusal.Refusal.TheVariants as refusals;
 ghost use Rattle.affine.specs.Affine.{Affine};
 ghost use Rattle.affine.specs.Arithmetic.{sum_form, multiple_form, constant_form, variable_form};
-ghost use Rattle.affine.specs.Limits.{Fits};
+ghost use Rattle.affine.specs.Limits.{Fits, IsWithin};
 ghost use Rattle.nest_loop.specs.Most.{way};
 ghost use Rattle.nest_loop.specs.Sides.{end_shift};
 ghost use Rattle.pairtest_counter.specs.Counters.{step_by, Adds, InCounters, AreForms, IsProduct, IsWay, IsStepped, IsReached, AreFormsBetween, Makes};
@@ -16,14 +16,14 @@ use nest_loop::{Bound, Canonical, Direction, Stride};
 use std::alloc::Global;
 
 /// The form that is this number everywhere.
-fn constant(alloc: Global, number: i64, place: Place) -> Result<Form, Refusal>
-    ensures ok { IfOk result (λ form. form ≡ constant_form number) }
-    ensures err { IfErr result (λ refusal. refusal ≡ refusals.OutOfMemory) }
+fn constant(alloc: Global, number: i64, place: Place) -> Form
+    requires { IsWithin (2 ^ 62) number }
+    ensures { result ≡ constant_form number }
 {
-    match Form::constant(alloc, i128::from(number), place) {
-        Ok(form) => Ok(form),
-        Err(_) => Err(Refusal::OutOfMemory),
-    }
+    let Ok(form) = Form::constant(alloc, i128::from(number), place) else {
+        unreachable!()
+    };
+    form
 }
 
 /// A term, its variable being a form in the counters.
@@ -36,7 +36,7 @@ fn scale_term(
     ensures { Makes result place (IsProduct levels.now term.now) }
 {
     let Some((level, outer)) = levels.split_first() else {
-        return constant(alloc, 0, place)?.scale(term.coefficient, place);
+        return constant(alloc, 0, place).scale(term.coefficient, place);
     };
     if level.canonical.variable != term.variable {
         return scale_term(alloc, outer, term, place);
@@ -74,8 +74,9 @@ pub fn in_counters(
 ) -> Result<Form, Refusal>
     ensures { Makes result place (InCounters levels.now form.now) }
 {
-    let constant = constant(alloc, form.constant_term(), place)?;
-    add_terms(alloc, levels, constant, form.terms(), place)
+    let terms = form.terms();
+    let constant = constant(alloc, form.constant_term(), place);
+    add_terms(alloc, levels, constant, terms, place)
 }
 
 /// How far a variable goes with each step.
@@ -94,15 +95,13 @@ fn steps(alloc: Global, counter: VarId, stride: Stride, place: Place) -> Result<
         ≡ multiple_form (variable_form counter.0) (step_by stride.direction stride.by)) }
     ensures err { IfErr result (λ refusal. refusal ≡ refusals.OutOfMemory) }
 {
-    match Form::variable(alloc, counter).scale(step_by(stride), place) {
-        Ok(form) => Ok(form),
-        Err(_) => Err(Refusal::OutOfMemory),
-    }
+    Form::variable(alloc, counter).scale(step_by(stride), place)
 }
 
 /// How far the end of a loop lies behind what its variable is compared with, on its way.
 fn short(direction: Direction, bound: Bound) -> i64
-    ensures { result ≡ way direction (pos 0) (end_shift direction bound) }
+    ensures way { result ≡ way direction (pos 0) (end_shift direction bound) }
+    ensures within { IsWithin 1 result }
 {
     match (direction, bound) {
         (_, Bound::Inclusive) => 0,
@@ -147,7 +146,7 @@ fn reach_of(
 {
     let direction = canonical.stride.direction;
     let apart = way(direction, start, limit, place)?;
-    let short = constant(alloc, short(direction, canonical.bound), place)?;
+    let short = constant(alloc, short(direction, canonical.bound), place);
     apart.add(&short, place)
 }
 

@@ -92,10 +92,8 @@ fn levels_by(
     ensures levels { IfOk result (λ ls.
         AreLevels (vectors space.now) (map (λ d. d.items) distances.now) ls.items) }
 {
-    // A space has at most 2^24 iterations.
-    let Ok(count) = u32::try_from(space.count()) else {
-        return Err(AllocError);
-    };
+    space.confirm_few();
+    let count = space.count() as u32;
     let mut levels = Vec::with_capacity(alloc, count as usize)?;
     begin(space, values);
     for _number in 0..count {

@@ -1,4 +1,4 @@
-use Rattle.std.proofs.Common.{◌≡◌, [], map, sym, ap, ◌∙◌, subst}
+use Rattle.std.proofs.Common.{◌≡◌, ◌≤◌, [], length, map, sym, ap, ◌∙◌, subst, rules}
 use Rattle.semantics.specs.Meaning.Agrees.{declared_among}
 use Rattle.ktree.specs.View.{kernel_of, items_of}
 use Rattle.law_apart.specs.Apart.{apart_items}
@@ -6,17 +6,29 @@ use Rattle.lower_code.specs.Layout.{shapes_of, shapes_in}
 use Rattle.lower_code.specs.Meaning.{AreBelow}
 use Rattle.flow_doacross.specs.Views.{nest_part}
 use Rattle.flow_scan.specs.Views.{scan_part}
+use Rattle.outline.specs.Accepted.{HaveRightLoops}
 use Rattle.outline.specs.Handed.{AreOfText}
 use Rattle.deptest.specs.Accepted.{tree_of, data_passed}
 use Rattle.ompk_run.proofs.Listed.{are_of_text}
+use Rattle.ompk_run.proofs.RightLoops.{right_loops}
 use Rattle.ompk_run.proofs.Readied.{said_by, said_same, fitted, prepared}
 use Rattle.ompk_run.proofs.preparing.prepare.Goals as goal
+
+pub outline-requires : goal.outline-requires
+outline-requires c =
+    let a = c.args.checked.now in
+    let keeps = c.parallel-parallel.ensures.keeps in
+    let right = right_loops a.text (data_passed keeps.accepted.passed) (kernel_of a.kernel) c.parallel-parallel.result.now.loops.items keeps.listed keeps.accepted.passed.nested in
+    subst (λ ls. HaveRightLoops ls [] (items_of c.body-body.result.now)) (sym c.as_slice-2.ensures.value)
+    (subst (λ is. HaveRightLoops c.parallel-parallel.result.now.loops.items [] (items_of is)) (sym c.body-body.ensures) right)
 
 pub returns-clause-prepared : goal.returns-clause-prepared
 returns-clause-prepared c =
     let a = c.args.checked.now in
     let layout = c.in_ok-layout.layout.items in
-    let mark = c.mark_among-mark.result in
+    let mark = c.in-Ok.mark in
+    let same : c.mark_among.result ≡ mark = search rules in
+    let wide : c.from.result ≡ mark = search rules in
     let kept = c.parallel-parallel.ensures in
     let keeps = kept.keeps in
     let loops = c.as_slice-2.result.now in
@@ -28,6 +40,6 @@ returns-clause-prepared c =
     prepared a c.in_ok-outline.outline.items c.in_ok-registers.registers.items c.args.store.now layout mark keeps.accepted
     (c.in_ok-outline.ensures.is R ∙ ap (λ is. apart_items R [] (items_of is)) c.body-body.ensures)
     c.in_ok-layout.ensures.laid shapes c.requires
-    (subst (λ is. AreBelow mark (declared_among (items_of is))) c.body-body.ensures c.mark_among-mark.ensures)
+    (subst (λ is. AreBelow mark (declared_among (items_of is))) c.body-body.ensures (subst (λ n. AreBelow n (declared_among (items_of c.body-body.result.now))) same c.mark_among.ensures))
     (fitted a c.in_ok-outline.outline.items layout mark keeps.accepted c.body-body.result.now loops (said_by (map scan_part c.as_slice-3.result.now) (map nest_part c.as_slice-4.result.now)) c.body-body.ensures shapes listed told fits)
-    c.in_ok-registers.ensures.wide c.in_ok-registers.ensures.words c.in_ok-registers.ensures.room c.in_ok-registers.ensures.filled
+    (subst (λ n. n ≤ length c.in_ok-registers.registers.items) wide c.in_ok-registers.ensures.wide) c.in_ok-registers.ensures.words c.in_ok-registers.ensures.room c.in_ok-registers.ensures.filled

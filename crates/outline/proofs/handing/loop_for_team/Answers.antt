@@ -1,20 +1,29 @@
-use Rattle.std.proofs.Common.{refl, subst}
+use Rattle.std.specs.Prelude.{ℕ}
+use Rattle.std.proofs.Common.{refl, sym, subst}
 use Rattle.ktree.specs.View.{stmt_of}
-use Rattle.ktree.specs.declared.place.Place.{Place}
+use Rattle.nest.specs.Perfect.{IsRightNest}
 use Rattle.outline.specs.Handed.{IsWay, inside_told}
 use Rattle.outline.proofs.handing.loop_for_team.Goals as goal
 
+pub lower_whole-requires : goal.lower_whole-requires
+lower_whole-requires c =
+    subst (λ (n : ℕ). IsRightNest c.args.bounds.now n (stmt_of c.args.stmt.now)) (sym c.associated_loops-depth.ensures) (c.requires.nest c.loop_at-parallel.result.now c.loop_at-parallel.ensures)
+
+pub way_of-requires : goal.way_of-requires
+way_of-requires c =
+    subst (λ (n : ℕ). IsRightNest c.args.bounds.now n (stmt_of c.args.stmt.now)) (sym c.associated_loops-depth.ensures) (c.requires.nest c.loop_at-parallel.result.now c.loop_at-parallel.ensures)
+
 pub returns-clause-handed : goal.returns-clause-handed
 returns-clause-handed c = record {
-  parallel = c.in-Some.parallel.now;
-  stands = c.in-Some.ensures;
+  parallel = c.loop_at-parallel.result.now;
+  stands = c.loop_at-parallel.ensures;
   statement = refl;
   at = refl;
   depth = c.associated_loops-depth.ensures;
   schedule = c.in_ok-lowered.ensures.schedule;
   way =
-      subst (λ (place : Place). IsWay c.args.target.layout.now c.args.target.registers c.args.bounds.now (inside_told c.args.loops) place.line c.associated_loops-depth.result (stmt_of c.args.stmt.now) c.in-Some.parallel.now.roles c.in_ok-way.way)
-      c.in-Some.ensures.1 c.in_ok-way.ensures.way;
+      subst (λ (line : ℕ). IsWay c.args.target.layout.now c.args.target.registers c.args.bounds.now (inside_told c.args.loops) line c.associated_loops-depth.result (stmt_of c.args.stmt.now) c.loop_at-parallel.result.now.roles c.in_ok-way.way)
+      c.loop_at-parallel.ensures.1 c.in_ok-way.ensures.way;
   lowered = c.in_ok-lowered.ensures.lowered;
   body = c.in_ok-lowered.ensures.body;
   code = c.in_ok-code.ensures.ok;

@@ -6,7 +6,7 @@ use Rattle.pairtest_counter.proofs.chain.put_inside.Goals as goal
 
 pub unbind-requires : goal.unbind-requires
 unbind-requires c =
-    let box : c.bind_variable.new.bounds ≡ inside c.args.bounds.now c.args.inner.level.canonical.variable.0 c.args.inner.numbers = c.bind_variable.ensures.ok (search rules) in
+    let box : c.bind_variable.new.bounds ≡ inside c.args.bounds.now c.args.inner.level.canonical.variable.0 c.args.inner.numbers = c.in_ok-bind_variable.ensures.ok in
     let e = ap (λ ss. length ss) box in omega arith
 
 pub returns-clause-levels : goal.returns-clause-levels

@@ -14,5 +14,5 @@ returns-in_err-apart c =
 pub returns : goal.returns
 returns c =
     let read : to_z w64 (of_z w64 c.short.result) ≡ c.short.result = search (rules, ints) in
-    reached_made c.args.canonical.now c.args.start.now c.args.limit.now c.in_ok-apart.apart c.in_ok-short.short c.args.place c.add.result c.in_ok-apart.ensures
-    (c.in_ok-short.ensures.ok ∙ ap constant_form (read ∙ c.short.ensures)) c.add.ensures.ok c.add.ensures.fits c.add.ensures.refusal
+    reached_made c.args.canonical.now c.args.start.now c.args.limit.now c.in_ok-apart.apart c.constant-short.result c.args.place c.add.result c.in_ok-apart.ensures
+    (c.constant-short.ensures ∙ ap constant_form (read ∙ c.short.ensures.way)) c.add.ensures.ok c.add.ensures.fits c.add.ensures.refusal

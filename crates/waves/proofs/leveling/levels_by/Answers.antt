@@ -9,7 +9,7 @@ use Rattle.waves.proofs.leveling.levels_by.Goals as goal
 -- the iteration at hand
 there : (c : After-fit) → slice_get (vectors c.args.space.now) c.loop-number._number ≡ Some c.loop-number.values
 there c =
-    let all : c.in-Ok.count ≡ length (vectors c.args.space.now) = search rules in
+    let all : c.count-count.result ≡ length (vectors c.args.space.now) = c.count-count.ensures in
     c.loop-number.invariant.3 (subst (λ n. c.loop-number._number < n) all c.loop-number-test.true)
 
 pub level_above-level-requires-clause-at : goal.level_above-level-requires-clause-at

@@ -8,7 +8,7 @@ pub invariant_of-self : goal.invariant_of-self
 invariant_of-self c =
     let v = c.args.inner in
     put_inside c.put_inside.result (record { box = c.self.inside.bounds; levels = c.self.inside.levels.items }) v c.put_inside.new.bounds c.put_inside.new.levels.items c.self.invariant
-    (subst (λ (m : Nesting). IsLevel m.box m.levels (side v.level.canonical.variable.0 v.numbers.least v.numbers.greatest) v.level) (sym c.self.view_is) c.requires)
+    (subst (λ (m : Nesting). IsLevel m.box m.levels (side v.level.canonical.variable.0 v.numbers.least v.numbers.greatest) v.level) (sym c.self.view_is) c.requires.level)
     c.put_inside.ensures.numbers c.put_inside.ensures.levels c.put_inside.ensures.same_numbers c.put_inside.ensures.same_levels
 
 pub returns-clause-ok : goal.returns-clause-ok
