@@ -23,6 +23,10 @@ pub trait Job<T, K> {
 
     /// Does a part.
     fn work(&self, part: Part, tools: &T, kept: &mut K);
+
+    /// Makes what a thread keeps ready for the next job. The others of a crew do so while they have none; the first never waits for a job, and
+    /// leaves it out.
+    fn make_ready(alloc: Global, kept: &mut K);
 }
 
 /// Where a job lies for one thread, on cache lines of its own.

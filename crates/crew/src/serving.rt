@@ -8,6 +8,7 @@ use std::thread::{Threads, map_indices};
 /// Takes part in jobs until the crew is dismissed, as the thread at this place.
 fn serve<R: Wait, T, K: Default + Drop, J: Job<T, K> + Drop>(
     rt: &R,
+    alloc: Global,
     crew: &Crew<J, K>,
     place: usize,
     tools: &T,
@@ -21,6 +22,8 @@ fn serve<R: Wait, T, K: Default + Drop, J: Job<T, K> + Drop>(
         seen = word;
         if let Some(job) = take_job(rt, crew, place) {
             work_at(crew, place, tools, &mut kept, &*job);
+            drop(job);
+            J::make_ready(alloc, &mut kept);
         }
     }
 }
@@ -32,7 +35,7 @@ pub fn serve_all<
     K: Default + Send + Drop,
     J: Job<T, K> + Send + Sync + Drop,
 >(rt: &R, alloc: Global, crew: &Crew<J, K>, tools: &T) {
-    let one = |place: usize| serve(rt, crew, place, tools);
+    let one = |place: usize| serve(rt, alloc, crew, place, tools);
     let _ended = map_indices(rt, alloc, crew.others() as usize, &one);
 }
 

@@ -4,4 +4,5 @@ pub mod Ending
 pub mod Positions
 pub mod Running
 pub mod Spots
+pub mod Unwritten
 pub mod Walking

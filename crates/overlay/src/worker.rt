@@ -48,21 +48,37 @@ pub struct Piece {
     pub text: Memory,
 }
 
-/// What a worker leaves to one of a later loop: memory, and nothing written in the cells of its own.
+/// What a worker's tools are: cells of its own, which are with its chunk while it runs, registers, and room for rows.
 #[derive(Drop)]
-pub struct Tools {
-    own: Own,
+struct Kept {
+    own: Option<Own>,
     registers: Vec<u64>,
     bench: Bench,
-    pub ghost unwritten: { own ≡ replicate (length own) None },
+}
+
+/// What a worker leaves to one of a later loop: memory, and nothing written in the cells of its own. It stands in a box, since it is moved from
+/// loop to loop. Contracts see it as how many cells there are.
+#[derive(Drop)]
+pub struct Tools {
+    kept: Box<Kept>,
+}
+
+impl Model for Tools {
+    ghost use Rattle.std.specs.Prelude.{ℕ};
+    ghost use Rattle.overlay.specs.Unwritten.{count_of, AreUnwritten};
+
+    ghost Value = { ℕ };
+
+    ghost view = { λ t. count_of t.kept.value.own };
+
+    ghost invariant = { λ t. AreUnwritten t.kept.value.own };
 }
 
 /// What a worker keeps from chunk to chunk, over the store before the loop.
 #[derive(Drop)]
 pub struct Worker<'s> {
     cells: Chunk<'s>,
-    registers: Vec<u64>,
-    bench: Bench,
+    kept: Box<Kept>,
 }
 
 impl<'s> Model for Worker<'s> {
@@ -143,34 +159,62 @@ fn run_whole(
     }
 }
 
-// Tools over the cells of a store.
-fn new_tools(alloc: Global, store: &Store) -> Result<Tools, Refusal>
-    ensures many { IfOk result (λ tools. length tools.own ≡ length (values_of store.now)) }
-    ensures refusal { IfErr result (λ refusal. refusal ≡ OutOfMemory) }
+// Tools in which nothing is written, in a box.
+fn boxed(alloc: Global, own: Own, bench: Bench) -> Result<Tools, AllocError>
+    requires { own ≡ replicate (length own) None }
+    ensures { IfOk result (λ tools. tools ≡ length own) }
 {
-    let own = Own::new(alloc, store)?;
-    let bench = new_bench(alloc)?;
-    Ok(Tools {
-        own,
+    let kept = Kept {
+        own: Some(own),
         registers: Vec::new(alloc),
         bench,
+    };
+    Ok(Tools {
+        kept: Box::new(alloc, kept)?,
     })
 }
 
-// A worker with these tools.
-fn worker_over<'s>(store: &'s Store, tools: Tools) -> Worker<'s>
-    requires { length tools.own ≡ length (values_of store.now) }
-    ensures { result ≡ store.now }
-{
-    let Tools {
-        own,
-        registers,
-        bench,
-    } = tools;
-    Worker {
-        cells: Chunk::over(store, own),
-        registers,
-        bench,
+impl Tools {
+    /// Tools for a worker over the cells of a store.
+    ///
+    /// # Errors
+    ///
+    /// `OutOfMemory` alone.
+    pub fn new(alloc: Global, store: &Store) -> Result<Tools, Refusal>
+        ensures many { IfOk result (λ tools. tools ≡ length (values_of store.now)) }
+        ensures refusal { IfErr result (λ refusal. refusal ≡ OutOfMemory) }
+    {
+        let own = Own::new(alloc, store)?;
+        let bench = new_bench(alloc)?;
+        Ok(boxed(alloc, own, bench)?)
+    }
+
+    // Of how many cells they are.
+    fn cells(&self) -> u64
+        ensures { result ≡ self.now }
+    {
+        match &self.kept.own {
+            Some(own) => own.cells(),
+            None => 0,
+        }
+    }
+
+    /// What another worker left, if that is of as many cells as the store has; else new ones.
+    ///
+    /// # Errors
+    ///
+    /// `OutOfMemory` alone.
+    pub fn resume(alloc: Global, store: &Store, left: Option<Tools>) -> Result<Tools, Refusal>
+        ensures many { IfOk result (λ tools. tools ≡ length (values_of store.now)) }
+        ensures refusal { IfErr result (λ refusal. refusal ≡ OutOfMemory) }
+    {
+        let Some(tools) = left else {
+            return Tools::new(alloc, store);
+        };
+        if tools.cells() != store.cells().len() as u64 {
+            return Tools::new(alloc, store);
+        }
+        Ok(tools)
     }
 }
 
@@ -184,46 +228,32 @@ impl<'s> Worker<'s> {
         ensures store { IfOk result (λ worker. worker ≡ store.now) }
         ensures refusal { IfErr result (λ refusal. refusal ≡ OutOfMemory) }
     {
-        let tools = new_tools(alloc, store)?;
-        Ok(worker_over(store, tools))
+        let tools = Tools::new(alloc, store)?;
+        Ok(Worker::over(store, tools))
     }
 
-    /// A worker with what another one left, if that is of as many cells as the store has; else as a new one.
-    ///
-    /// # Errors
-    ///
-    /// `OutOfMemory` alone.
-    pub fn resume(
-        alloc: Global,
-        store: &'s Store,
-        left: Option<Tools>,
-    ) -> Result<Worker<'s>, Refusal>
-        ensures store { IfOk result (λ worker. worker ≡ store.now) }
-        ensures refusal { IfErr result (λ refusal. refusal ≡ OutOfMemory) }
+    /// A worker with these tools, over a store of as many cells.
+    pub fn over(store: &'s Store, tools: Tools) -> Worker<'s>
+        requires { tools ≡ length (values_of store.now) }
+        ensures { result ≡ store.now }
     {
-        let Some(tools) = left else {
-            return Worker::new(alloc, store);
+        let Tools { mut kept } = tools;
+        let Some(own) = kept.own.take() else {
+            unreachable!()
         };
-        if tools.own.cells() != store.cells().len() as u64 {
-            return Worker::new(alloc, store);
+        Worker {
+            cells: Chunk::over(store, own),
+            kept,
         }
-        Ok(worker_over(store, tools))
     }
 
     /// What it leaves to one of a later loop.
     pub fn leave(self) -> Tools
-        ensures { length result.own ≡ length (values_of self.entry) }
+        ensures { result ≡ length (values_of self.entry) }
     {
-        let Worker {
-            cells,
-            registers,
-            bench,
-        } = self;
-        Tools {
-            own: cells.release(),
-            registers,
-            bench,
-        }
+        let Worker { cells, mut kept } = self;
+        kept.own = Some(cells.release());
+        Tools { kept }
     }
 
     /// Runs a chunk, whose iterations are taken in this order, from the store before the loop and from registers that stand as before it,
@@ -258,6 +288,7 @@ impl<'s> Worker<'s> {
         ensures once { IfOk result (λ piece. AreOnce piece.changes) }
         ensures refusal { IfErr result (λ refusal. refusal ≡ OutOfMemory) }
     {
+        let kept: &mut Kept = &mut self.kept;
         run_whole(
             alloc,
             lowered,
@@ -266,9 +297,9 @@ impl<'s> Worker<'s> {
             order,
             work,
             start,
-            &mut self.registers,
+            &mut kept.registers,
             &mut self.cells,
-            &mut self.bench,
+            &mut kept.bench,
         )
     }
 }

@@ -28,11 +28,11 @@ module _ (l : LoweredLoop) (registers : List ℕ) (ks : List Kept) (pass : Pass)
       }
 
   -- one more end
-  pub taken_more : (seats seats' : List SeatState) (a a' : Account) (f : Finished) → seats' ≡ seats ++ f.seat ∷ [] → a' ≡ both a f.log
+  pub taken_more : (seats seats' : List SeatState) (a a' : Account) (f : Finished) → seats' ≡ seats ++ f.seat ∷ [] → a' ≡ both a f.log.value
       → AreTaken l registers ks pass chunks of seats a → IsFinished l registers ks pass chunks of f → AreTaken l registers ks pass chunks of seats' a'
   taken_more seats seats' a a' f more joined was one =
       let tickets : all_tickets seats' ≡ all_tickets seats ++ f.seat.tickets = ap all_tickets more ∙ all_tickets-snoc seats f.seat in
-      let all = account_both l registers ks pass chunks (all_tickets seats) f.seat.tickets a f.log was.account one.account in
+      let all = account_both l registers ks pass chunks (all_tickets seats) f.seat.tickets a f.log.value was.account one.account in
       record {
         named = All-same (λ (s : SeatState). s.of ≡ of) seats' (seats ++ f.seat ∷ []) more (All-push (λ (s : SeatState). s.of ≡ of) seats f.seat was.named one.seat);
         ended = All-same (λ (s : SeatState). s.ended ≡ true) seats' (seats ++ f.seat ∷ []) more (All-push (λ (s : SeatState). s.ended ≡ true) seats f.seat was.ended one.ended);

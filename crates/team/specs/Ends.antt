@@ -80,7 +80,7 @@ IsAccountOf job numbers a = IsAccount job.lowered.now job.registers.now job.stor
 pub record IsFinished (l : LoweredLoop) (registers : List ℕ) (ks : List Kept) (pass : Pass) (chunks : List Chunk) (of : DrawingName) (f : Finished) : Type 0 where
   pub seat : f.seat.of ≡ of
   pub ended : f.seat.ended ≡ true
-  pub account : IsAccount l registers ks pass chunks f.seat.tickets f.log
+  pub account : IsAccount l registers ks pass chunks f.seat.tickets f.log.value
 
 -- seats of a drawing, each of which met its end, and the account of the chunks that they drew
 pub record AreTaken (l : LoweredLoop) (registers : List ℕ) (ks : List Kept) (pass : Pass) (chunks : List Chunk) (of : DrawingName) (seats : List SeatState) (a : Account) : Type 0 where

@@ -13,7 +13,7 @@ use Rattle.team.specs.declared.way.Way.TheVariants.{Dealt, Drawn}
 use Rattle.team.specs.declared.grounds.Grounds.{Grounds}
 use Rattle.team.specs.declared.pass.Pass.{Pass}
 use Rattle.team.specs.declared.place.End.{End}
-use Rattle.team.specs.declared.place.End.TheVariants.{Share, Draws}
+use Rattle.team.specs.declared.place.End.TheVariants.{Share, Draws, Spare}
 use Rattle.team.specs.Ends.{IsSplit, IsAccount, IsFinished}
 use Rattle.team.specs.Starts.{taken_in}
 use Rattle.team.specs.Dealt.{own_numbers}
@@ -29,9 +29,10 @@ pub record Aim : Type 0 where
   pub workers : ℕ
   pub number : ℕ
 
--- what this worker leaves, by the way that chunks come to it
+-- what this worker leaves, by the way that chunks come to it; memory may be any
 abbrev pub IsEndBy : Aim → Way → End → Type 0
-IsEndBy a (Dealt size) (Share account) = IsAccount a.lowered a.registers a.store a.pass a.chunks (own_numbers size (length a.chunks) a.workers a.number) account
+IsEndBy a way (Spare log) = Unit
+IsEndBy a (Dealt size) (Share log) = IsAccount a.lowered a.registers a.store a.pass a.chunks (own_numbers size (length a.chunks) a.workers a.number) log.value
 IsEndBy a (Drawn draws) (Draws f) = IsFinished a.lowered a.registers a.store a.pass a.chunks draws.value.drawing f
 IsEndBy a _ _ = ⊥
 

@@ -103,7 +103,8 @@ pub(crate) fn run_own<G: Gate>(
     if is_idle(job, workers, worker, size) {
         return Ok(());
     }
-    let mut runner = Worker::resume(alloc, job.store, tools.take())?;
+    let resumed = Tools::resume(alloc, job.store, tools.take())?;
+    let mut runner = Worker::over(job.store, resumed);
     run_dealt(alloc, job, workers, worker, size, &mut runner, log, gate)?;
     *tools = Some(runner.leave());
     Ok(())
@@ -122,14 +123,18 @@ pub(crate) fn gather(alloc: Global, places: Vec<Place>) -> Result<Vec<ChunkLog>,
         let Some(log) = place.share() else {
             return Err(Refusal::OutOfMemory);
         };
-        logs.push(log)?;
+        logs.push(Box::into_inner(log))?;
     }
     Ok(logs)
 }
 
-/// Overwrites a store by the changes of all chunks of these workers, one worker's after another's, and takes their places away. No list of
-/// their logs is made. Where a worker has left no log, the store is as before.
-pub(crate) fn apply_dealt(places: &mut Vec<Place>, store: &mut Store) -> Result<(), AllocError>
+/// Overwrites a store by the changes of all chunks of these workers, one worker's after another's, and takes their places away. The memory of
+/// their logs is kept, as far as there is memory to keep it in. Where a worker has left no log, the store is as before.
+pub(crate) fn apply_dealt(
+    places: &mut Vec<Place>,
+    store: &mut Store,
+    logs: &mut Vec<Box<ChunkLog>>,
+) -> Result<(), AllocError>
     ensures dealt { OnOk result ((aim : Aim) (size : Option ℕ) → aim.way ≡ Dealt size
         → AreFor aim places.old.items → AreOverwrittenBy aim
         (flat_map (own_numbers size (length aim.chunks) aim.workers)
@@ -143,7 +148,8 @@ pub(crate) fn apply_dealt(places: &mut Vec<Place>, store: &mut Store) -> Result<
     let Some(log) = place.share() else {
         return Err(AllocError);
     };
-    apply_dealt(places, store)?;
+    apply_dealt(places, store, logs)?;
     log.apply(store);
+    let _kept = logs.push(log);
     Ok(())
 }

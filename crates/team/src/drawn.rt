@@ -50,7 +50,7 @@ pub(crate) fn collect(
             return Err(Refusal::OutOfMemory);
         };
         seat_back(&mut seats, seat)?;
-        logs.push(log)?;
+        logs.push(Box::into_inner(log))?;
     }
     Ok((seats, logs))
 }

@@ -1,6 +1,7 @@
 //! A loop that is lent to a crew.
 
 ghost use Rattle.std.specs.Prelude.{◌≡◌, ◌<◌, ◌≤◌, ◌^◌, ℕ, length, map, vec_len, All, IfOk, IfErr, IfSome, OnOk};
+ghost use Rattle.std.specs.Global.{Box};
 ghost use Rattle.semantics.specs.Loops.Chunk.{cut};
 ghost use Rattle.draw.specs.Tickets.{fresh};
 ghost use Rattle.nest_space.specs.Space.{vectors};
@@ -22,13 +23,13 @@ use crate::gate::Gate;
 use crate::grounds::Grounds;
 use crate::job::Job;
 use crate::log::ChunkLog;
+use crate::memory::{Spare, ThreadMemory};
 use crate::place::{End, Place, Plan};
 use crate::way::{Draw, Way, seat_of, way_of};
 use crate::worker::{Finished, Member, work};
 use crew::{Crew, Part, lend};
 use ktree::{Refusal, Workers};
 use lower::LoweredLoop;
-use overlay::Tools;
 use schedule::Sched;
 use std::alloc::{AllocError, Global};
 use std::mem;
@@ -52,24 +53,27 @@ pub struct LentLoop<'l> {
     pub ghost made: { AreFor (aim_of lowered.now grounds.value store way workers) places.items },
 }
 
-/// A crew to which loops are lent. Each thread keeps its tools from loop to loop.
-pub type LoopCrew<'l> = Crew<LentLoop<'l>, Option<Tools>>;
+/// A crew to which loops are lent.
+pub type LoopCrew<'l> = Crew<LentLoop<'l>, ThreadMemory>;
 
-/// A place for each of so many workers, in the memory of other places.
+/// A place for each of so many workers, in memory that is kept.
 fn places_for(
+    alloc: Global,
     lowered: &LoweredLoop,
     grounds: &Grounds,
     store: &Store,
     way: &Way,
     workers: Workers,
-    memory: Vec<Place>,
+    spare: &mut Spare,
 ) -> Result<Vec<Place>, Refusal>
     ensures all { IfOk result (λ places. vec_len places ≡ workers) }
     ensures made { IfOk result (λ places. AreFor
         (aim_of lowered.now grounds.now store.now way.now workers) places.items) }
     ensures refusal { IfErr result (λ refusal. refusal ≡ Refusal.OutOfMemory) }
 {
-    let mut places = memory;
+    let mut places = mem::replace(&mut spare.places, Vec::new(alloc));
+    // each worker finds memory at its place that it had before
+    spare.logs.reverse();
     places.clear();
     places.reserve(workers.get() as usize)?;
     for number in 0..workers.get() {
@@ -83,20 +87,20 @@ fn places_for(
             workers,
             number,
         );
-        places.push_reserved(Place::new(&plan));
+        places.push_reserved(Place::new(&plan, spare.log(alloc)?));
     }
     Ok(places)
 }
 
-/// The way that chunks come to so many workers of a loop, and a place for each, in the memory of other places.
-fn equipped(
+/// The way that chunks come to so many workers of a loop, and a place for each, in memory that is kept.
+fn way_and_places(
     alloc: Global,
     lowered: &LoweredLoop,
     grounds: &Grounds,
     store: &Store,
     workers: Workers,
     sched: &Sched,
-    memory: Vec<Place>,
+    spare: &mut Spare,
 ) -> Result<(Way, Vec<Place>), Refusal>
     requires split { AreSplit lowered.now grounds.now }
     requires chunks { grounds.now.chunks
@@ -109,7 +113,7 @@ fn equipped(
     ensures refusal { IfErr result (λ refusal. refusal ≡ Refusal.OutOfMemory) }
 {
     let way = way_of(alloc, sched, grounds.count(), &grounds.chunks, workers)?;
-    let places = places_for(lowered, grounds, store, &way, workers, memory)?;
+    let places = places_for(alloc, lowered, grounds, store, &way, workers, spare)?;
     Ok((way, places))
 }
 
@@ -122,19 +126,22 @@ fn leave_share<G: Gate>(
     size: Option<u64>,
     place: &Place,
     gate: &G,
-    tools: &mut Option<Tools>,
+    memory: &mut ThreadMemory,
 )
     requires ready { IsReady job }
     requires chunks { job.chunks.now
         ≡ cut (static_kind size) (length (taken_in job.pass.now (vectors job.space.now))) workers }
     requires size { IfSome size (λ k. (1 ≤ k) × (k ≤ 2 ^ 24)) }
     requires number { number < workers }
-    requires place { (log : Account) → IsAccountOf job (own_numbers size (length job.chunks.now)
-        workers number) log → IsEnd place.now (Share log) }
+    requires place { (log : Box Account) → IsAccountOf job (own_numbers size
+        (length job.chunks.now) workers number) log.value → IsEnd place.now (Share log) }
 {
-    let mut log = ChunkLog::new(alloc);
+    let Ok(mut log) = memory.empty_log(alloc) else {
+        return;
+    };
+    let tools = &mut memory.tools;
     if let Ok(()) = run_own(alloc, job, workers, number, size, gate, tools, &mut log) {
-        place.hand_in(End::Share(log));
+        memory.used = place.hand_in(End::Share(log));
     }
 }
 
@@ -146,7 +153,7 @@ fn leave_draws<G: Gate>(
     number: u64,
     place: &Place,
     gate: &G,
-    tools: &mut Option<Tools>,
+    memory: &mut ThreadMemory,
 )
     requires ready { IsReady job }
     requires count { draw.now.drawing.count ≡ length job.chunks.now }
@@ -160,13 +167,13 @@ fn leave_draws<G: Gate>(
         return;
     };
     let member = Member { number, seat };
-    if let Ok(finished) = work(alloc, job, &draw.drawing, member, gate, tools) {
-        place.hand_in(End::Draws(finished));
+    if let Ok(finished) = work(alloc, job, &draw.drawing, member, gate, memory) {
+        memory.used = place.hand_in(End::Draws(finished));
     }
 }
 
 /// Runs the worker of a number, and leaves its end at its place, if memory is left for that.
-fn run_worker<G: Gate>(lent: &LentLoop<'_>, number: u64, gate: &G, tools: &mut Option<Tools>) {
+fn run_worker<G: Gate>(lent: &LentLoop<'_>, number: u64, gate: &G, memory: &mut ThreadMemory) {
     let Some(place) = lent.places.get(number as usize) else {
         return;
     };
@@ -187,28 +194,32 @@ fn run_worker<G: Gate>(lent: &LentLoop<'_>, number: u64, gate: &G, tools: &mut O
             *size,
             place,
             gate,
-            tools,
+            memory,
         ),
-        Way::Drawn(draw) => leave_draws(lent.alloc, job, draw, number, place, gate, tools),
+        Way::Drawn(draw) => leave_draws(lent.alloc, job, draw, number, place, gate, memory),
     }
 }
 
-impl<'l, G: Gate> crew::Job<G, Option<Tools>> for LentLoop<'l> {
+impl<'l, G: Gate> crew::Job<G, ThreadMemory> for LentLoop<'l> {
     // Workers that come to no chunk need no thread of their own.
     fn parts(&self) -> u64 {
         self.grounds.chunks.len().min(self.workers.get())
     }
 
     // A part is the worker of its number, and of each number that is as many parts further on.
-    fn work(&self, part: Part, gate: &G, tools: &mut Option<Tools>) {
+    fn work(&self, part: Part, gate: &G, memory: &mut ThreadMemory) {
         let mut number = part.number;
         for _worker in 0..self.workers.get() {
             if number >= self.workers.get() {
                 return;
             }
-            run_worker(self, number, gate, tools);
+            run_worker(self, number, gate, memory);
             number = number.saturating_add(part.of);
         }
+    }
+
+    fn make_ready(alloc: Global, memory: &mut ThreadMemory) {
+        memory.make_ready(alloc);
     }
 }
 
@@ -239,20 +250,21 @@ fn logs_left(alloc: Global, way: Way, places: Vec<Place>) -> Result<Vec<ChunkLog
 pub(crate) fn apply_left(
     alloc: Global,
     way: Way,
-    places: &mut Vec<Place>,
+    spare: &mut Spare,
     store: &mut Store,
 ) -> Result<(), AllocError>
-    requires { (aim : Aim) × (count : ℕ) × AreLeft aim count way places.old.items }
+    requires { (aim : Aim) × (count : ℕ) × AreLeft aim count way spare.old.places.items }
     ensures applied { OnOk result ((aim : Aim) (count : ℕ)
-        → AreLeft aim count way places.old.items
+        → AreLeft aim count way spare.old.places.items
         → AreOverwrittenByAll aim (values_of store.old) (values_of store.new)) }
     ensures shape { map (λ k. k.lengths) store.new ≡ map (λ k. k.lengths) store.old }
     ensures kept { IfErr result (λ _. store.new ≡ store.old) }
 {
     if let Way::Dealt(_) = &way {
-        return apply_dealt(places, store);
+        return apply_dealt(&mut spare.places, store, &mut spare.logs);
     }
-    let Ok(logs) = logs_left(alloc, way, mem::replace(places, Vec::new(alloc))) else {
+    let places = mem::replace(&mut spare.places, Vec::new(alloc));
+    let Ok(logs) = logs_left(alloc, way, places) else {
         return Err(AllocError);
     };
     apply_all(store, logs.as_slice());
@@ -268,7 +280,7 @@ pub(crate) struct Returned {
 }
 
 /// Takes a loop back from its workers: its store, and beside what it was run from what these have left.
-fn taken_back(lent: LentLoop<'_>, store: &mut Store) -> Returned
+fn take_back(lent: LentLoop<'_>, store: &mut Store) -> Returned
     ensures store { store.new ≡ lent.entry.store }
     ensures grounds { result.grounds ≡ lent.entry.grounds }
     ensures left { AreLeft
@@ -294,15 +306,15 @@ fn taken_back(lent: LentLoop<'_>, store: &mut Store) -> Returned
     }
 }
 
-/// Lends a loop to a crew until all of its chunks have been run, with places in the memory of others; what it was run from comes back
-/// beside what its workers have left.
+/// Lends a loop to a crew until all of its chunks have been run, with places in memory that is kept; what it was run from comes back beside
+/// what its workers have left.
 pub(crate) fn lent_whole<'l, R: Wait, G: Gate>(
     rt: &R,
     alloc: Global,
     crew: &LoopCrew<'l>,
     lowered: &'l LoweredLoop,
     grounds: Box<Grounds>,
-    memory: Vec<Place>,
+    spare: &mut Spare,
     store: &mut Store,
     workers: Workers,
     sched: &Sched,
@@ -318,7 +330,7 @@ pub(crate) fn lent_whole<'l, R: Wait, G: Gate>(
     ensures store { store.new ≡ store.old }
     ensures refusal { IfErr result (λ refusal. refusal ≡ Refusal.OutOfMemory) }
 {
-    let (way, places) = equipped(alloc, lowered, &grounds, store, workers, sched, memory)?;
+    let (way, places) = way_and_places(alloc, lowered, &grounds, store, workers, sched, spare)?;
     let nothing = Store::zeros(alloc, Vec::new(alloc))?;
     let lent = LentLoop {
         alloc,
@@ -329,7 +341,7 @@ pub(crate) fn lent_whole<'l, R: Wait, G: Gate>(
         way,
         places,
     };
-    Ok(taken_back(lend(rt, alloc, crew, gate, lent), store))
+    Ok(take_back(lend(rt, alloc, crew, gate, lent), store))
 }
 
 /// The logs of all chunks of a loop that is lent to a crew.
@@ -352,9 +364,9 @@ pub(crate) fn lent_logs<'l, R: Wait, G: Gate>(
     ensures refusal { IfErr result (λ refusal. refusal ≡ Refusal.OutOfMemory) }
 {
     let grounds = Box::new(alloc, grounds)?;
-    let memory = Vec::new(alloc);
+    let mut spare = Spare::new(alloc);
     match lent_whole(
-        rt, alloc, crew, lowered, grounds, memory, store, workers, sched, gate,
+        rt, alloc, crew, lowered, grounds, &mut spare, store, workers, sched, gate,
     ) {
         Ok(
             Returned {

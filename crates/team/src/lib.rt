@@ -10,6 +10,7 @@ mod job;
 mod leading;
 mod lent;
 mod log;
+mod memory;
 mod pass;
 mod place;
 mod printing;

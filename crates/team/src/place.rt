@@ -18,11 +18,13 @@ use std::marker::Model;
 use std::snapshot::Snapshot;
 use store::Store;
 
-/// What a worker leaves: the log of its own chunks, or of those that it drew.
+/// What lies at a place: what a worker leaves there, the log of its own chunks or of those that it drew; before that the memory of a log,
+/// whatever it holds, which the worker takes in exchange. Boxes pass through few cache lines from thread to thread.
 #[derive(Drop)]
 pub enum End {
-    Share(ChunkLog),
+    Share(Box<ChunkLog>),
     Draws(Finished),
+    Spare(Box<ChunkLog>),
 }
 
 /// What a place is made for. Only proofs see it.
@@ -107,7 +109,9 @@ impl Fits for End {
 /// A place for the end of a worker. Contracts see it as what it is made for.
 #[derive(Drop)]
 pub struct Place {
-    slot: Counted<Option<End>>,
+    slot: Counted<End>,
+    // has the next place of a list on other cache lines, since other threads write there
+    apart: [u64; 8],
 }
 
 impl Model for Place {
@@ -123,44 +127,48 @@ impl Model for Place {
 }
 
 impl Place {
-    /// A place with nothing in it.
-    pub(crate) fn new(plan: &Plan) -> Place
+    /// A place with memory for a log in it.
+    pub(crate) fn new(plan: &Plan, memory: Box<ChunkLog>) -> Place
         ensures { result ≡ plan.now }
     {
         Place {
-            slot: Counted::new(None, plan),
+            slot: Counted::new(End::Spare(memory), plan),
+            apart: [0; 8],
         }
     }
 
-    /// Puts an end here, if nobody has done so.
+    /// Puts an end here, if nobody has done so, and takes the memory that was here.
     #[inline(always)]
-    pub(crate) fn hand_in(&self, end: End)
+    pub(crate) fn hand_in(&self, end: End) -> Option<Box<ChunkLog>>
         requires { IsEnd self.now end }
     {
         let (found, claim) = self.slot.turn(FREE, TAKEN);
-        if found == FREE {
-            let _nothing = claim.put(Some(end), PRESENT);
-        } else {
+        if found != FREE {
             claim.done();
+            return None;
+        }
+        match claim.put(end, PRESENT) {
+            End::Spare(memory) => Some(memory),
+            _ => None,
         }
     }
 
     /// What is here.
-    fn close(self) -> Option<End>
-        ensures { IfSome result (λ end. IsEnd self end) }
+    fn close(self) -> End
+        ensures { IsEnd self result }
     {
-        let Place { slot } = self;
+        let Place { slot, apart: _ } = self;
         slot.into_inner()
     }
 
     /// The log of a worker's own chunks, if that is here.
     #[inline(always)]
-    pub(crate) fn share(self) -> Option<ChunkLog>
+    pub(crate) fn share(self) -> Option<Box<ChunkLog>>
         ensures { IfSome result (λ log. (size : Option ℕ) → self.way ≡ Dealt size
             → IsEndBy self (Dealt size) (End.Share log)) }
     {
         match self.close() {
-            Some(End::Share(log)) => Some(log),
+            End::Share(log) => Some(log),
             _ => None,
         }
     }
@@ -171,7 +179,7 @@ impl Place {
             → IsEndBy self (Drawn draw) (End.Draws f)) }
     {
         match self.close() {
-            Some(End::Draws(finished)) => Some(finished),
+            End::Draws(finished) => Some(finished),
             _ => None,
         }
     }

@@ -36,7 +36,7 @@ fn enter_all<'l>(logs: &'l [ChunkLog], texts: &mut [&'l [u8]])
 }
 
 // So many times this text.
-fn repeated<'l>(alloc: Global, text: &'l [u8], count: u64) -> Result<Vec<&'l [u8]>, AllocError>
+fn copies_of<'l>(alloc: Global, text: &'l [u8], count: u64) -> Result<Vec<&'l [u8]>, AllocError>
     ensures { IfOk result (λ texts. map (λ t. t.now) texts.items ≡ replicate count text.now) }
 {
     Vec::from_elem(alloc, text, count as usize)
@@ -51,7 +51,7 @@ fn texts_of<'l>(
     ensures { IfOk result (λ texts. map (λ t. t.now) texts.items
         ≡ entered (joined logs.now).chunks (replicate count [])) }
 {
-    let mut texts = repeated(alloc, &[], count)?;
+    let mut texts = copies_of(alloc, &[], count)?;
     enter_all(logs, texts.as_mut_slice());
     Ok(texts)
 }

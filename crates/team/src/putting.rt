@@ -56,14 +56,14 @@ fn write_register(variable: VarId, value: u64, registers: &mut [u64])
 }
 
 // A value combined with what all chunks tell of the reduction variable of an index (OpenMP 5.2, 5.5.5).
-fn combined(logs: &[ChunkLog], operator: ReductionOperator, index: u64, value: u64) -> u64
+fn combine_logs(logs: &[ChunkLog], operator: ReductionOperator, index: u64, value: u64) -> u64
     ensures { result ≡ combined_all (operator_of operator) value
         (told_of index (joined logs.now).chunks) }
 {
     let Some((log, rest)) = logs.split_first() else {
         return value;
     };
-    combined(rest, operator, index, log.combine(operator, index, value))
+    combine_logs(rest, operator, index, log.combine(operator, index, value))
 }
 
 // What the last chunk leaves in lastprivate variables (OpenMP 5.2, 5.4.5).
@@ -95,7 +95,7 @@ fn put_reductions(
         return;
     };
     let held = read(reduction.spot, registers, store);
-    let value = combined(logs, reduction.operator, index, held);
+    let value = combine_logs(logs, reduction.operator, index, held);
     write(reduction.spot, value, registers, store);
     put_reductions(rest, index + 1, logs, registers, store);
 }

@@ -40,7 +40,7 @@ fn enter_all(logs: &[ChunkLog], table: &mut [Partial])
 }
 
 // So many partials of nothing.
-fn untouched(alloc: Global, count: u64) -> Result<Vec<Partial>, AllocError>
+fn untouched_partials(alloc: Global, count: u64) -> Result<Vec<Partial>, AllocError>
     ensures { IfOk result (λ table. map partial_of table.items ≡ replicate count None) }
 {
     Vec::from_elem(alloc, Partial::Untouched, count as usize)
@@ -51,7 +51,7 @@ fn partials_of(alloc: Global, logs: &[ChunkLog], count: u64) -> Result<Vec<Parti
     ensures { IfOk result (λ partials. map partial_of partials.items
         ≡ partials_in_order count (joined logs.now).chunks) }
 {
-    let mut table = untouched(alloc, count)?;
+    let mut table = untouched_partials(alloc, count)?;
     enter_all(logs, table.as_mut_slice());
     Ok(table)
 }

@@ -12,8 +12,8 @@ ghost use Rattle.team.specs.Waved.{WaveTogether, AreWaved, LeavesInWaves, IsReac
 use crate::gate::Gate;
 use crate::grounds::Grounds;
 use crate::lent::{LoopCrew, Returned, apply_left, lent_whole};
+use crate::memory::Spare;
 use crate::pass::Pass;
-use crate::place::Place;
 use crate::teamwork::confirm_filled;
 use ktree::{Refusal, Workers};
 use lower::LoweredLoop;
@@ -59,13 +59,13 @@ fn reach_nest(
 }
 
 // These numbers, in the memory of others.
-fn listed(numbers: &[u64], memory: Vec<u64>) -> Result<Vec<u64>, AllocError>
-    ensures { IfOk result (λ listed. listed.items ≡ numbers.now) }
+fn copy_numbers(numbers: &[u64], memory: Vec<u64>) -> Result<Vec<u64>, AllocError>
+    ensures { IfOk result (λ copy. copy.items ≡ numbers.now) }
 {
-    let mut listed = memory;
-    listed.clear();
-    listed.extend_from_slice(numbers)?;
-    Ok(listed)
+    let mut copy = memory;
+    copy.clear();
+    copy.extend_from_slice(numbers)?;
+    Ok(copy)
 }
 
 // The memory of the numbers of a wave.
@@ -114,7 +114,7 @@ fn set_wave(
     let chunks = chunk_list(alloc, *sched, numbers.len() as u64, workers)?;
     grounds.chunks = chunks;
     let before = mem::replace(&mut grounds.pass, Pass::Plain);
-    let numbers = listed(numbers, memory_of(alloc, before))?;
+    let numbers = copy_numbers(numbers, memory_of(alloc, before))?;
     grounds.pass = Pass::Wave(numbers);
     Ok(())
 }
@@ -124,7 +124,7 @@ fn put_wave(
     alloc: Global,
     returned: Returned,
     store: &mut Store,
-    spare: &mut Vec<Place>,
+    spare: &mut Spare,
 ) -> Result<Box<Grounds>, Refusal>
     requires { (aim : Aim) × (count : ℕ) × AreLeft aim count returned.way returned.places.items }
     ensures grounds { IfOk result (λ grounds. grounds ≡ returned.grounds) }
@@ -140,7 +140,7 @@ fn put_wave(
         way,
         places,
     } = returned;
-    *spare = places;
+    spare.places = places;
     confirm_filled(store);
     apply_left(alloc, way, spare, store)?;
     Ok(grounds)
@@ -158,7 +158,7 @@ fn run_wave<'l, R: Wait, G: Gate>(
     workers: Workers,
     sched: &Sched,
     gate: &G,
-    spare: &mut Vec<Place>,
+    spare: &mut Spare,
 ) -> Result<Box<Grounds>, Refusal>
     requires by { IsReachedBy lowered.now (standing here.value) }
     requires numbers { IsWaveIn (vectors here.value.space) numbers.now }
@@ -170,9 +170,8 @@ fn run_wave<'l, R: Wait, G: Gate>(
 {
     let mut grounds = here;
     set_wave(alloc, &mut grounds, numbers, sched, workers)?;
-    let memory = mem::replace(spare, Vec::new(alloc));
     let returned = lent_whole(
-        rt, alloc, crew, lowered, grounds, memory, store, workers, sched, gate,
+        rt, alloc, crew, lowered, grounds, spare, store, workers, sched, gate,
     )?;
     put_wave(alloc, returned, store, spare)
 }
@@ -198,7 +197,7 @@ fn run_waves<'l, R: Wait, G: Gate>(
     ensures refusal { IfErr result (λ refusal. refusal ≡ Refusal.OutOfMemory) }
 {
     let mut here = first_grounds(alloc, reached, sched, workers)?;
-    let mut spare = Vec::new(alloc);
+    let mut spare = Spare::new(alloc);
     for level in 0..waves.len() {
         here = run_wave(
             rt,

@@ -8,6 +8,7 @@ ghost use Rattle.team.specs.Logged.{account_of};
 use crate::gate::{Gate, Taken};
 use crate::job::Job;
 use crate::log::ChunkLog;
+use crate::memory::ThreadMemory;
 use draw::{DrawSeat, Drawing, RestingSeat};
 use ktree::{ChunkNo, Refusal};
 use overlay::{Piece, Tools, Work, Worker};
@@ -32,7 +33,7 @@ pub struct Member {
 #[derive(Drop)]
 pub struct Finished {
     pub seat: RestingSeat,
-    pub log: ChunkLog,
+    pub log: Box<ChunkLog>,
 }
 
 /// Runs a chunk that a worker has taken, after the gate is told of it, and enters what it leaves in the worker's log.
@@ -111,14 +112,14 @@ fn run_drawn<G: Gate>(
     Ok(())
 }
 
-/// Draws until the end, and runs each chunk drawn. The tools are what the thread keeps from loop to loop.
+/// Draws until the end, and runs each chunk drawn.
 pub(crate) fn work<G: Gate>(
     alloc: Global,
     job: Job,
     drawing: &Drawing,
     member: Member,
     gate: &G,
-    tools: &mut Option<Tools>,
+    memory: &mut ThreadMemory,
 ) -> Result<Finished, Refusal>
     requires ready { IsReady job }
     requires count { drawing.now.count ≡ length job.chunks.now }
@@ -131,8 +132,9 @@ pub(crate) fn work<G: Gate>(
         number: worker,
         mut seat,
     } = member;
-    let mut runner = Worker::resume(alloc, job.store, tools.take())?;
-    let mut log = ChunkLog::new(alloc);
+    let mut log = memory.empty_log(alloc)?;
+    let tools = Tools::resume(alloc, job.store, memory.tools.take())?;
+    let mut runner = Worker::over(job.store, tools);
     run_drawn(
         alloc,
         job,
@@ -143,7 +145,7 @@ pub(crate) fn work<G: Gate>(
         &mut log,
         gate,
     )?;
-    *tools = Some(runner.leave());
+    memory.tools = Some(runner.leave());
     Ok(Finished {
         seat: RestingSeat::new(seat),
         log,

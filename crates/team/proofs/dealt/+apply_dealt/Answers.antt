@@ -3,8 +3,10 @@ use Rattle.semantics.specs.Meaning.Places.{below}
 use Rattle.store.specs.Flat.{values_of}
 use Rattle.team.specs.declared.way.Way.TheVariants.{Dealt}
 use Rattle.team.specs.declared.place.End.TheVariants.{Share}
+use Rattle.team.specs.Applied.{AreApplied}
 use Rattle.team.specs.Ends.{IsAccount}
 use Rattle.team.specs.Dealt.{own_numbers}
+use Rattle.team.specs.Logged.{Account}
 use Rattle.team.specs.Overwritten.{AreOverwrittenBy}
 use Rattle.team.specs.Places.{Aim, IsEndBy}
 use Rattle.team.proofs.Ending.{place_of}
@@ -29,8 +31,8 @@ returns-clause-dealt t c = λ aim size way are.
     let whole : all ≡ first ++ place ∷ [] = c.in-Some.ensures.items in
     let here = place_of aim first [] all place (sym whole) are in
     let own = own_numbers size (length aim.chunks) aim.workers in
-    let last : IsAccount aim.lowered aim.registers aim.store aim.pass aim.chunks (own (length first)) log
+    let last : IsAccount aim.lowered aim.registers aim.store aim.pass aim.chunks (own (length first)) log.value
     = subst (λ (a : Aim). IsEndBy a (Dealt size) (Share log)) here (c.in-Some-share.ensures size (ap (λ (a : Aim). a.way) here ∙ way)) in
     let long : length all ≡ suc (length first) = omega (arith, ap (λ (l : List Aim). length l) whole, length-append first (place ∷ [])) in
-    overwritten_more aim own (length first) (length all) (values_of c.args.store.now) (values_of c.apply_dealt.new.store) (values_of c.apply.new.store) log long
-    (c.in_ok-apply_dealt.ensures.dealt aim size way (for_first aim first all place whole are)) last c.apply.ensures.applied
+    overwritten_more aim own (length first) (length all) (values_of c.args.store.now) (values_of c.apply_dealt.new.store) (values_of c.apply.new.store) log.value long
+    (c.in_ok-apply_dealt.ensures.dealt aim size way (for_first aim first all place whole are)) last (subst (λ (a : Account). AreApplied (values_of c.apply_dealt.new.store) (values_of c.apply.new.store) a.chunks) c.deref.ensures c.apply.ensures.applied)

@@ -25,9 +25,10 @@ loop-place-preserved c =
       dealt = λ aim size way are.
           let here = place_of aim ys _ c.args.places.items place whole are in
           let own = own_numbers size (length aim.chunks) aim.workers in
-          let last : IsAccount aim.lowered aim.registers aim.store aim.pass aim.chunks (own (length ys)) log
+          let last : IsAccount aim.lowered aim.registers aim.store aim.pass aim.chunks (own (length ys)) log.value
           = subst (λ (a : Aim). IsEndBy a (Dealt size) (Share log)) here (c.in-Some-share.ensures size (ap (λ (a : Aim). a.way) here ∙ way)) in
-          dealt_more aim.lowered aim.registers aim.store aim.pass aim.chunks own (length ys) (length (ys ++ place ∷ [])) (joined c.loop-place.logs.items) log _ long (joined_more c.loop-place.logs.items c.push.new.self.items log c.in_ok-push.ensures.items) (was.dealt aim size way are) last;
+          let taken = subst (IsAccount aim.lowered aim.registers aim.store aim.pass aim.chunks (own (length ys))) (sym c.into_inner.ensures) last in
+          dealt_more aim.lowered aim.registers aim.store aim.pass aim.chunks own (length ys) (length (ys ++ place ∷ [])) (joined c.loop-place.logs.items) c.into_inner.result _ long (joined_more c.loop-place.logs.items c.push.new.self.items c.into_inner.result c.in_ok-push.ensures.items) (was.dealt aim size way are) taken;
     }
 
 pub returns-clause-dealt : goal.returns-clause-dealt

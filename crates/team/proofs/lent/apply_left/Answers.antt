@@ -13,7 +13,7 @@ pub returns-in-Dealt-clause-applied : goal.returns-in-Dealt-clause-applied
 returns-in-Dealt-clause-applied c =
     let size = c.in-Dealt.field-0 in
     let is = c.in-Dealt.is in
-    let places = c.args.places.now.items in
+    let places = c.args.spare.now.places.items in
     let before = values_of c.args.store.now in
     let after = values_of c.apply_dealt.new.store in
     on_ok_weaker c.apply_dealt.result (λ dealt aim n left.
@@ -25,14 +25,14 @@ pub logs_left-requires : goal.logs_left-requires
 logs_left-requires c =
     let aim = c.requires.0 in
     let n = c.requires.1 in
-    (aim, n, subst (λ (ps : Vec Place). AreLeft aim n c.args.way ps.items) (sym c.replace.ensures.value) c.requires.2)
+    (aim, n, subst (λ (ps : Vec Place). AreLeft aim n c.args.way ps.items) (sym c.replace-places.ensures.value) c.requires.2)
 
 pub returns-clause-applied : goal.returns-clause-applied
 returns-clause-applied c = λ aim n left.
     let logs = c.in-Ok.logs.items in
     let before = values_of c.args.store.now in
     let after = values_of c.apply_all.new.store in
-    let taken = subst (λ (ps : Vec Place). AreLeft aim n c.args.way ps.items) (sym c.replace.ensures.value) left in
+    let taken = subst (λ (ps : Vec Place). AreLeft aim n c.args.way ps.items) (sym c.replace-places.ensures.value) left in
     record {
       account = joined logs;
       all = c.in-Ok.ensures.all aim n taken;

@@ -1,5 +1,5 @@
 use Rattle.std.proofs.Common.{◌≤◌, refl, subst, sym, ◌∙◌}
-use Rattle.team.proofs.lent.taken_back.Goals as goal
+use Rattle.team.proofs.lent.take_back.Goals as goal
 
 pub returns-clause-left : goal.returns-clause-left
 returns-clause-left c =

@@ -4,7 +4,7 @@ use Rattle.semantics.specs.Loops.Operator.{combined_all}
 use Rattle.team.specs.Logged.{Account, joined}
 use Rattle.team.specs.Spots.{told_of}
 use Rattle.team.proofs.Combining.{combined_more}
-use Rattle.team.proofs.putting.+combined.Goals as goal
+use Rattle.team.proofs.putting.+combine_logs.Goals as goal
 
 pub returns : goal.returns
 returns t c =
@@ -12,7 +12,7 @@ returns t c =
     let rest = c.in-Some.rest.now in
     let op = operator_of c.args.operator in
     let whole : c.args.logs.now ≡ log ∷ rest = search rules in
-    c.combined.ensures
+    c.combine_logs.ensures
     ∙ ap (λ v. combined_all op v (told_of c.args.index (joined rest).chunks)) c.combine.ensures
     ∙ combined_more op c.args.value c.args.index log rest
     ∙ ap (λ (ls : List Account). combined_all op c.args.value (told_of c.args.index (joined ls).chunks)) (sym whole)

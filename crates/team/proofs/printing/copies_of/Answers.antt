@@ -1,6 +1,6 @@
 use Rattle.std.proofs.lemmas.Result.{IfOk-weaker}
 use Rattle.team.proofs.Texts.{all_same}
-use Rattle.team.proofs.printing.repeated.Goals as goal
+use Rattle.team.proofs.printing.copies_of.Goals as goal
 
 pub returns : goal.returns
 returns c =

@@ -1,7 +1,7 @@
 use Rattle.std.proofs.Common.{arith}
 use Rattle.team.specs.Places.{count_taken}
 use Rattle.team.proofs.Cutting.{few_chunks}
-use Rattle.team.proofs.lent.equipped.Goals as goal
+use Rattle.team.proofs.lent.way_and_places.Goals as goal
 
 pub way_of-requires-clause-few : goal.way_of-requires-clause-few
 way_of-requires-clause-few c =
