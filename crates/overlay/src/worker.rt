@@ -160,7 +160,7 @@ fn run_whole(
 }
 
 // Tools in which nothing is written, in a box.
-fn boxed(alloc: Global, own: Own, bench: Bench) -> Result<Tools, AllocError>
+fn box_tools(alloc: Global, own: Own, bench: Bench) -> Result<Tools, AllocError>
     requires { own ≡ replicate (length own) None }
     ensures { IfOk result (λ tools. tools ≡ length own) }
 {
@@ -186,7 +186,7 @@ impl Tools {
     {
         let own = Own::new(alloc, store)?;
         let bench = new_bench(alloc)?;
-        Ok(boxed(alloc, own, bench)?)
+        Ok(box_tools(alloc, own, bench)?)
     }
 
     // Of how many cells they are.

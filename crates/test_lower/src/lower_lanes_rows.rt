@@ -27,7 +27,7 @@ fn digest(cells: &FlatCells) -> u64 {
 }
 
 /// What code leaves of cells that are 0, with so many rows for lanes.
-fn left(alloc: Global, compiled: &Compiled, bench: &mut Bench) -> Option<u64> {
+fn digest_of_run(alloc: Global, compiled: &Compiled, bench: &mut Bench) -> Option<u64> {
     let Ok(mut registers) = Vec::from_elem(alloc, 0u64, compiled.registers as usize) else {
         return None;
     };
@@ -53,7 +53,7 @@ fn leaves(alloc: Global, compiled: &Compiled, rows: u32, expected: u64) -> bool 
     let Ok(mut bench) = Bench::new(alloc, rows) else {
         return false;
     };
-    left(alloc, compiled, &mut bench) == Some(expected)
+    digest_of_run(alloc, compiled, &mut bench) == Some(expected)
 }
 
 /// Whether the kernel of a text leaves this in lanes, and without.
@@ -761,6 +761,58 @@ fn turns_that_read_what_one_of_them_writes_run(rt: HostRuntime) {
         (
             "for (uint64_t i = 0; i < 20000; i++) { A[i] = A[i] * A[5] + A[19999]; } for (uint64_t i = 0; i < 20000; i += 2) { B[i] = B[i] + B[7] + B[4000]; }",
             17634958214004173245,
+        ),
+    ];
+    assert_eq!(rt; first_wrong(rt.alloc(), ROWS), 0);
+}
+
+/// Elements that change by products of two others: rows by multiples of other rows, one by all products, and others by operators that take rows.
+#[test]
+fn cells_changed_by_products_run(rt: HostRuntime) {
+    const ROWS: &[(&str, u64)] = &[
+        (
+            "for (uint64_t i = 0; i < 60; i++) { for (uint64_t k = 0; k < 60; k++) { for (uint64_t j = 0; j < 70; j++) { M[i][j] += A[i + k] * N[k][j]; } } }",
+            12607708118269728528,
+        ),
+        (
+            "for (uint64_t k = 0; k < 59; k++) { for (uint64_t i = k + 1; i < 60; i++) { for (uint64_t j = k + 1; j < 70; j++) { M[i][j] -= M[i][k] * M[k][j]; } } }",
+            17276307267688367972,
+        ),
+        (
+            "for (uint64_t i = 0; i < 60; i++) { for (uint64_t j = 0; j < 70; j++) { A[i] += M[i][j] * B[j]; } }",
+            12434663305941430992,
+        ),
+        (
+            "for (uint64_t i = 0; i < 60; i++) { for (uint64_t j = 0; j < 60; j++) { for (uint64_t k = 0; k < 60; k++) { M[i][j] += N[i][k] * N[k][j]; } } }",
+            10288285683104886784,
+        ),
+        (
+            "for (uint64_t j = 0; j < 70; j++) { for (uint64_t i = 0; i < 60; i++) { M[i][j] ^= N[i][j] * B[j]; } }",
+            8333274998537750450,
+        ),
+    ];
+    assert_eq!(rt; first_wrong(rt.alloc(), ROWS), 0);
+}
+
+/// Rows that are made of themselves alone, tests as numbers, locals that only the last turn leaves, and sums that no turn changes.
+#[test]
+fn what_the_last_turn_leaves_runs(rt: HostRuntime) {
+    const ROWS: &[(&str, u64)] = &[
+        (
+            "for (uint64_t i = 1; i < 20000; i++) { uint64_t x = A[i]; x ^= x << 13; x ^= x >> 7; A[i] = x * x; B[i] = x == 3 ? 1 : 0; }",
+            2426507936279497047,
+        ),
+        (
+            "uint64_t x = 7; for (uint64_t i = 0; i < 20000; i++) { B[i] = A[i] + s; x = B[i] * 3; x = x ^ i; } s = x;",
+            15243754100424867743,
+        ),
+        (
+            "for (uint64_t i = 1; i < 60; i++) { for (uint64_t j = 1; j < 70; j++) { uint64_t best = M[i - 1][j - 1] + (A[i] != B[j] ? 1 : 0); if (M[i - 1][j] + 1 < best) best = M[i - 1][j] + 1; if (M[i][j - 1] + 1 < best) best = M[i][j - 1] + 1; M[i][j] = best; s += best; } }",
+            10136717512420012487,
+        ),
+        (
+            "for (uint64_t t = 0; t < 3; t++) { for (uint64_t i = 0; i < 20000; i++) { A[i] = B[i] + A[i] * (t + 3); } }",
+            11391125278254545920,
         ),
     ];
     assert_eq!(rt; first_wrong(rt.alloc(), ROWS), 0);

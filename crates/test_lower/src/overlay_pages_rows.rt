@@ -59,7 +59,7 @@ fn digest<M: Cells>(cells: &M) -> u64 {
 }
 
 /// What code leaves of cells that are 0.
-fn left(alloc: Global, compiled: &Compiled) -> Option<u64> {
+fn digest_of_run(alloc: Global, compiled: &Compiled) -> Option<u64> {
     let Ok(numbers) = Vec::from_elem(alloc, 0u64, 201) else {
         return None;
     };
@@ -133,7 +133,7 @@ fn are_right_over(
 
 /// Whether chunks of this code see what code sees that runs over plain cells, and leave that, and how many places they change.
 fn are_chunks_right(alloc: Global, compiled: &Compiled, count: u64) -> bool {
-    let Some(seen) = left(alloc, compiled) else {
+    let Some(seen) = digest_of_run(alloc, compiled) else {
         return false;
     };
     match long_array_and_a_scalar(alloc) {

@@ -138,7 +138,7 @@ fn lowered_in(alloc: Global, text: &[u8], part: Part) -> Option<LoweredLoop> {
 }
 
 /// The nest at the end of the kernel with these lines.
-pub(crate) fn lowered(alloc: Global, lines: &str, part: Part) -> Option<LoweredLoop> {
+pub(crate) fn lower_nest(alloc: Global, lines: &str, part: Part) -> Option<LoweredLoop> {
     match format!(in alloc;
         "#include <inttypes.h>\n#include <stdint.h>\n#include <stdio.h>\nuint64_t A[8]; uint64_t B[2][3]; uint64_t s; void kernel(void) {{\n{lines}\n}}\n"
     ) {
@@ -265,7 +265,7 @@ fn leaves(alloc: Global, lowered: &LoweredLoop, part: Part, expected: &[u64]) ->
 
 /// Whether these chunks of the kernel with these lines leave this in `A`, in `B` and in `s`.
 fn is_right(alloc: Global, lines: &str, part: Part, expected: &[u64]) -> bool {
-    match lowered(alloc, lines, part) {
+    match lower_nest(alloc, lines, part) {
         Some(lowered) => leaves(alloc, &lowered, part, expected),
         None => false,
     }

@@ -1,6 +1,6 @@
 //! Chunks of loops with a reduction or lastprivate variable, and what they tell of it; the values are counted by hand, by OpenMP 5.2, 5.4.5 and 5.5.
 
-use crate::overlay_rows::{chunk, lowered, one_loop};
+use crate::overlay_rows::{chunk, lower_nest, one_loop};
 use crate::stores::two_arrays_and_a_scalar;
 use ktree::{ChunkNo, ReductionOperator, VarId};
 use lower::{LoweredLoop, LoweredReduction, Spot};
@@ -67,9 +67,9 @@ type Reduced = (
 );
 
 /// The loop of such a row.
-fn reducing(alloc: Global, row: &Reduced) -> Option<LoweredLoop> {
+fn reduction_loop(alloc: Global, row: &Reduced) -> Option<LoweredLoop> {
     let (lines, (operator, spot), _before, _range, _partial) = *row;
-    let mut lowered = lowered(alloc, lines, one_loop(0, 0, 1))?;
+    let mut lowered = lower_nest(alloc, lines, one_loop(0, 0, 1))?;
     lowered
         .roles
         .reductions
@@ -97,7 +97,7 @@ fn has_partial(alloc: Global, lowered: &LoweredLoop, row: &Reduced) -> bool {
 
 /// The same of the row alone.
 fn is_reduced(alloc: Global, row: &Reduced) -> bool {
-    match reducing(alloc, row) {
+    match reduction_loop(alloc, row) {
         Some(lowered) => has_partial(alloc, &lowered, row),
         None => false,
     }
@@ -251,8 +251,8 @@ fn chunks_tell_partials(rt: HostRuntime) {
 const SQUARES: &str = "for (uint64_t i = 0; i < 6; i++) { s = i * i; A[i] = 1; }";
 
 /// The loop with its lastprivate scalar.
-fn lasting(alloc: Global) -> Option<LoweredLoop> {
-    let mut lowered = lowered(alloc, SQUARES, one_loop(0, 0, 1))?;
+fn lastprivate_loop(alloc: Global) -> Option<LoweredLoop> {
+    let mut lowered = lower_nest(alloc, SQUARES, one_loop(0, 0, 1))?;
     lowered.roles.lasts.push(SCALAR).ok()?;
     Some(lowered)
 }
@@ -267,7 +267,7 @@ fn tells(piece: Option<Piece>, changes: u64, lasts: &[u64]) -> bool {
 
 /// Whether the chunk with the last iteration tells what it holds there, and no other does.
 fn are_last(alloc: Global) -> bool {
-    match lasting(alloc) {
+    match lastprivate_loop(alloc) {
         Some(lowered) => {
             tells(piece_of(alloc, &lowered, 7, (2, 4)), 4, &[25])
                 && tells(piece_of(alloc, &lowered, 7, (0, 5)), 5, &[])
@@ -286,7 +286,7 @@ const SUMMING: &str = "for (uint64_t i = 0; i < 6; i++) { s += i + 1; A[i] = i; 
 /// Whether a chunk of a loop that sums up and writes tells its changes and its partial, and no last values.
 fn tells_both(alloc: Global, row: &Reduced, changes: u64) -> bool {
     let (_lines, _reduced, before, range, partial) = *row;
-    let Some(lowered) = reducing(alloc, row) else {
+    let Some(lowered) = reduction_loop(alloc, row) else {
         return false;
     };
     match piece_of(alloc, &lowered, before, range) {

@@ -1,6 +1,6 @@
 //! Chunks of scans in two passes over `A` = 1 2 3 4 5 and `s` = 10, and what they leave; the values are counted by hand, by OpenMP 5.2, 5.6.
 
-use crate::overlay_rows::{lowered, one_loop};
+use crate::overlay_rows::{lower_nest, one_loop};
 use crate::stores::two_arrays_and_a_scalar;
 use inscan::{first_pass, second_pass, starts};
 use ktree::{ChunkNo, ReductionOperator};
@@ -11,8 +11,8 @@ use std::alloc::Global;
 use store::Store;
 
 /// The loop of these lines, in which `s` is summed up.
-fn summing(alloc: Global, lines: &str) -> Option<LoweredLoop> {
-    let mut lowered = lowered(alloc, lines, one_loop(0, 0, 1))?;
+fn sum_loop(alloc: Global, lines: &str) -> Option<LoweredLoop> {
+    let mut lowered = lower_nest(alloc, lines, one_loop(0, 0, 1))?;
     let reduction = LoweredReduction {
         operator: ReductionOperator::Sum,
         spot: Spot::Cell(14),
@@ -41,7 +41,7 @@ fn work(range: (u64, u64)) -> Work {
 }
 
 /// What a chunk of the input phase adds, if the space has its iterations.
-fn added(
+fn chunk_partial(
     alloc: Global,
     first: &LoweredLoop,
     worker: &mut Worker<'_>,
@@ -58,7 +58,7 @@ fn added(
 }
 
 /// What a chunk of the whole leaves from this start, if the space has its iterations.
-fn left(
+fn chunk_piece(
     alloc: Global,
     second: &LoweredLoop,
     worker: &mut Worker<'_>,
@@ -76,7 +76,7 @@ fn left(
 }
 
 /// What the chunks of the input phase add.
-fn all_added(
+fn chunk_partials(
     alloc: Global,
     first: &LoweredLoop,
     store: &Store,
@@ -86,7 +86,7 @@ fn all_added(
     let mut partials = Vec::new(alloc);
     for range in chunks {
         partials
-            .push(added(alloc, first, &mut worker, work(*range))?)
+            .push(chunk_partial(alloc, first, &mut worker, work(*range))?)
             .ok()?;
     }
     Some(partials)
@@ -102,7 +102,7 @@ fn put_chunk(
     after: &mut Store,
 ) -> Option<()> {
     let mut worker = Worker::new(alloc, store).ok()?;
-    let piece = left(alloc, second, &mut worker, work(range), start)?;
+    let piece = chunk_piece(alloc, second, &mut worker, work(range), start)?;
     piece.changes.apply(after);
     Some(())
 }
@@ -134,8 +134,8 @@ type Row = (
 /// Whether the starts are the row's.
 fn starts_so(alloc: Global, store: &Store, row: &Row) -> Option<bool> {
     let (lines, chunks, wanted, _cells) = *row;
-    let first = summing(alloc, lines.0)?;
-    let partials = all_added(alloc, &first, store, chunks)?;
+    let first = sum_loop(alloc, lines.0)?;
+    let partials = chunk_partials(alloc, &first, store, chunks)?;
     let told = starts(alloc, ReductionOperator::Sum, 10, partials.as_slice()).ok()?;
     Some(told.as_slice() == wanted)
 }
@@ -143,7 +143,7 @@ fn starts_so(alloc: Global, store: &Store, row: &Row) -> Option<bool> {
 /// Whether the cells are.
 fn leaves_so(alloc: Global, store: &Store, row: &Row) -> Option<bool> {
     let (lines, chunks, starts, cells) = *row;
-    let second = summing(alloc, lines.1)?;
+    let second = sum_loop(alloc, lines.1)?;
     leave(alloc, &second, store, chunks, starts, &cells)
 }
 

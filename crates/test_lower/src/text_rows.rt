@@ -1,6 +1,6 @@
 //! Chunks that print, and the text that is kept of each.
 
-use crate::overlay_rows::{chunk, lowered, one_loop};
+use crate::overlay_rows::{chunk, lower_nest, one_loop};
 use crate::stores::two_arrays_and_a_scalar;
 use ktree::ChunkNo;
 use lower::LoweredLoop;
@@ -53,7 +53,7 @@ fn keeps_both(
 
 /// Whether the first two iterations of these lines print the one text, and the three behind them the other.
 fn is_kept(alloc: Global, lines: &str, first: &[u8], next: &[u8]) -> bool {
-    let Some(lowered) = lowered(alloc, lines, one_loop(0, 0, 1)) else {
+    let Some(lowered) = lower_nest(alloc, lines, one_loop(0, 0, 1)) else {
         return false;
     };
     match two_arrays_and_a_scalar(alloc) {
