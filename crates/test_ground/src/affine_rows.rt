@@ -91,7 +91,7 @@ fn range_if(alloc: Global, form: Result<Form, Refusal>, sides: Sides<'_>) -> Opt
 }
 
 /// The range of 5 - 3 * i where i has these values, whatever another i round it has.
-fn falling(alloc: Global, least: i128, greatest: i128) -> Option<(i128, i128)> {
+fn falling_form_range(alloc: Global, least: i128, greatest: i128) -> Option<(i128, i128)> {
     range_if(
         alloc,
         line(alloc, -3, I, 5),
@@ -110,7 +110,7 @@ type Falling = (i128, i128, Option<(i128, i128)>);
 /// The number of the first row that has another range.
 fn first_other_falling(alloc: Global, rows: &[Falling]) -> Option<usize> {
     for (number, (least, greatest, range)) in rows.iter().enumerate() {
-        if falling(alloc, *least, *greatest) != *range {
+        if falling_form_range(alloc, *least, *greatest) != *range {
             return Some(number);
         }
     }
@@ -138,7 +138,7 @@ fn at_line(alloc: Global, form: &Form) -> Result<Form, Refusal> {
 }
 
 /// 3 * j + 4 at j = 2 * k + 1.
-fn substituted(alloc: Global) -> Result<Form, Refusal> {
+fn substituted_form(alloc: Global) -> Result<Form, Refusal> {
     let form = line(alloc, 3, J, 4)?;
     at_line(alloc, &form)
 }
@@ -171,8 +171,8 @@ fn length_of(form: Result<Form, Refusal>) -> Result<usize, bool> {
 
 #[test]
 fn substitutions(rt: HostRuntime) {
-    assert!(rt; numbers_of(substituted(rt.alloc())) == Some((7, 0, 0, 6)));
-    assert!(rt; length_of(substituted(rt.alloc())) == Ok(1));
+    assert!(rt; numbers_of(substituted_form(rt.alloc())) == Some((7, 0, 0, 6)));
+    assert!(rt; length_of(substituted_form(rt.alloc())) == Ok(1));
 }
 
 const GREATEST: i128 = 1 << 62;
@@ -285,7 +285,7 @@ fn without_last(alloc: Global) -> Result<VarBox, Refusal> {
 }
 
 /// A copy of a box, with values for `i` once more, of which there are none.
-fn emptied(bounds: &VarBox) -> Result<VarBox, Refusal> {
+fn with_no_values(bounds: &VarBox) -> Result<VarBox, Refusal> {
     let mut copy = bounds.clone()?;
     copy.bind(I, 4, 3, HERE)?;
     Ok(copy)
@@ -293,14 +293,14 @@ fn emptied(bounds: &VarBox) -> Result<VarBox, Refusal> {
 
 /// Whether that copy is empty, and how many variables it has.
 fn emptied_shape(bounds: &VarBox) -> Option<(bool, usize)> {
-    match emptied(bounds) {
+    match with_no_values(bounds) {
         Ok(copy) => Some((copy.is_empty(), copy.len())),
         Err(_) => None,
     }
 }
 
 /// Whether these values of `k` are refused by the limit, and are taken.
-fn bounded(alloc: Global, least: i128, greatest: i128) -> (bool, bool) {
+fn bind_outcome(alloc: Global, least: i128, greatest: i128) -> (bool, bool) {
     match box_of(alloc, &[(I, 1, 2), (K, least, greatest)]) {
         Ok(_) => (false, true),
         Err(refusal) => (is_limit(&refusal), false),
@@ -331,6 +331,6 @@ fn has_first_alone(alloc: Global) -> bool {
 fn sides(rt: HostRuntime) {
     let alloc = rt.alloc();
     assert!(rt; has_first_alone(alloc));
-    assert!(rt; bounded(alloc, 0, (1 << 33) + 1) == (true, false));
-    assert!(rt; bounded(alloc, -(1 << 33), 1 << 33) == (false, true));
+    assert!(rt; bind_outcome(alloc, 0, (1 << 33) + 1) == (true, false));
+    assert!(rt; bind_outcome(alloc, -(1 << 33), 1 << 33) == (false, true));
 }

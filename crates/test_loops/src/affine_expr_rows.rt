@@ -93,7 +93,12 @@ fn bare(alloc: Global, value: u64) -> Result<Box<Expr>, AllocError> {
 }
 
 /// The constant that `left op right` is.
-fn computed(alloc: Global, op: BinaryOp, left: u64, right: u64) -> Result<Option<u32>, AllocError> {
+fn constant_of_operation(
+    alloc: Global,
+    op: BinaryOp,
+    left: u64,
+    right: u64,
+) -> Result<Option<u32>, AllocError> {
     let left = bare(alloc, left)?;
     let right = bare(alloc, right)?;
     Ok(constant(&Expr::Binary(op, left, right)))
@@ -107,9 +112,9 @@ fn constant_of_long(value: u64) -> Option<u32> {
 #[test]
 fn constants_of_expressions(rt: HostRuntime) {
     let alloc = rt.alloc();
-    assert!(rt; computed(alloc, BinaryOp::Times, 6, 7) == Ok(Some(42)));
-    assert!(rt; computed(alloc, BinaryOp::Minus, 6, 7) == Ok(None));
-    assert!(rt; computed(alloc, BinaryOp::Plus, 2147483647, 1) == Ok(None));
+    assert!(rt; constant_of_operation(alloc, BinaryOp::Times, 6, 7) == Ok(Some(42)));
+    assert!(rt; constant_of_operation(alloc, BinaryOp::Minus, 6, 7) == Ok(None));
+    assert!(rt; constant_of_operation(alloc, BinaryOp::Plus, 2147483647, 1) == Ok(None));
     assert!(rt; constant_of_long(1).is_none());
 }
 

@@ -1,6 +1,6 @@
 //! Where ordered regions may stand, and where a parallel loop may print.
 
-use crate::texts::{OUT_OF_MEMORY, at, no_other, parsed, text};
+use crate::texts::{OUT_OF_MEMORY, at, no_other, parse_text, text};
 use flow_ordered::{Disorder, first_disorder};
 use ktree::Kernel;
 use pragma::Directives;
@@ -16,7 +16,7 @@ fn disorder_of(alloc: Global, kernel: &Kernel, text: &str) -> Result<Option<Diso
 
 /// What is out of order in a text, or the number of its refusal.
 fn disorder_in(alloc: Global, text: &str) -> Result<Option<Disorder>, u8> {
-    match parsed(alloc, text) {
+    match parse_text(alloc, text) {
         Ok(kernel) => disorder_of(alloc, &kernel, text),
         Err(number) => Err(number),
     }

@@ -1,6 +1,8 @@
 //! Whether locals are assigned before they are read, and the data of parallel loops.
 
-use crate::texts::{I, J, OUT_OF_MEMORY, S, X, add_last, at, kernel, name, no_other, parsed, text};
+use crate::texts::{
+    I, J, OUT_OF_MEMORY, S, X, add_last, at, kernel, name, no_other, parse_text, text,
+};
 use flow::*;
 use flow_definite::definite;
 use flow_reduction::Reduction;
@@ -15,7 +17,7 @@ use std::alloc::{AllocError, Global};
 use std::collections::HashMap;
 
 /// What a refusal tells of a kernel's locals.
-fn told(refusal: &Refusal) -> Result<Option<Place>, u8> {
+fn unassigned_place(refusal: &Refusal) -> Result<Option<Place>, u8> {
     match refusal {
         Refusal::MayBeUnassigned(place) => Ok(Some(*place)),
         _ => Err(refusal.number()),
@@ -26,7 +28,7 @@ fn told(refusal: &Refusal) -> Result<Option<Place>, u8> {
 fn unassigned_by(alloc: Global, kernel: &Kernel, lines: &LineClauses) -> Result<Option<Place>, u8> {
     match definite(alloc, kernel, lines) {
         Ok(()) => Ok(None),
-        Err(refusal) => told(&refusal),
+        Err(refusal) => unassigned_place(&refusal),
     }
 }
 
@@ -37,7 +39,11 @@ fn unassigned_in(alloc: Global, kernel: &Kernel) -> Result<Option<Place>, u8> {
 }
 
 /// The clauses of a kernel's directive lines.
-fn attached(alloc: Global, kernel: &Kernel, directives: &Directives) -> Result<LineClauses, u8> {
+fn attach_clauses(
+    alloc: Global,
+    kernel: &Kernel,
+    directives: &Directives,
+) -> Result<LineClauses, u8> {
     match attach(alloc, kernel, directives) {
         Ok(lines) => Ok(lines),
         Err(refusal) => Err(refusal.number()),
@@ -47,7 +53,7 @@ fn attached(alloc: Global, kernel: &Kernel, directives: &Directives) -> Result<L
 /// The clauses of the directive lines of a text with this kernel.
 fn clauses_of(alloc: Global, kernel: &Kernel, text: &str) -> Result<LineClauses, u8> {
     match Directives::read(alloc, text.as_bytes()) {
-        Ok(directives) => attached(alloc, kernel, &directives),
+        Ok(directives) => attach_clauses(alloc, kernel, &directives),
         Err(_error) => Err(OUT_OF_MEMORY),
     }
 }
@@ -62,14 +68,14 @@ fn unassigned_under(alloc: Global, kernel: &Kernel, text: &str) -> Result<Option
 
 /// The same of a text.
 fn unassigned_text(alloc: Global, text: &str) -> Result<Option<Place>, u8> {
-    match parsed(alloc, text) {
+    match parse_text(alloc, text) {
         Ok(kernel) => unassigned_under(alloc, &kernel, text),
         Err(number) => Err(number),
     }
 }
 
 /// The same of the text with these lines.
-fn unassigned(alloc: Global, lines: &str) -> Result<Option<Place>, u8> {
+fn first_unassigned(alloc: Global, lines: &str) -> Result<Option<Place>, u8> {
     match text(alloc, lines) {
         Ok(text) => unassigned_text(alloc, text.as_str()),
         Err(_error) => Err(OUT_OF_MEMORY),
@@ -79,7 +85,7 @@ fn unassigned(alloc: Global, lines: &str) -> Result<Option<Place>, u8> {
 /// The first of some rows of lines of which something else is told.
 fn first_other<'r>(alloc: Global, rows: &[(&'r str, Option<Place>)]) -> Option<&'r str> {
     for (text, expected) in rows {
-        if unassigned(alloc, text) != Ok(*expected) {
+        if first_unassigned(alloc, text) != Ok(*expected) {
             return Some(*text);
         }
     }
@@ -317,7 +323,7 @@ fn data_of(alloc: Global, kernel: &Kernel, directives: &Directives, lines: &Line
 
 /// The same with the clauses of its directive lines.
 fn data_by(alloc: Global, kernel: &Kernel, directives: &Directives) -> Result<Loops, u8> {
-    match attached(alloc, kernel, directives) {
+    match attach_clauses(alloc, kernel, directives) {
         Ok(lines) => Ok(data_of(alloc, kernel, directives, &lines)),
         Err(number) => Err(number),
     }
@@ -333,7 +339,7 @@ fn data_under(alloc: Global, kernel: &Kernel, text: &str) -> Result<Loops, u8> {
 
 /// The same of a text, or the number of its refusal.
 fn data_in(alloc: Global, text: &str) -> Result<Loops, u8> {
-    match parsed(alloc, text) {
+    match parse_text(alloc, text) {
         Ok(kernel) => data_under(alloc, &kernel, text),
         Err(number) => Err(number),
     }
@@ -622,7 +628,7 @@ for (uint64_t i = 0; i < 8; i++) A[i] = 1;
 
 /// The same of the kernel of that text.
 fn fault_of_two(alloc: Global) -> Result<Option<DataFault>, u8> {
-    match parsed(alloc, PLAIN_LOOP) {
+    match parse_text(alloc, PLAIN_LOOP) {
         Ok(kernel) => fault_of_two_roles(alloc, &kernel),
         Err(number) => Err(number),
     }

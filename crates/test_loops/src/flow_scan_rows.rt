@@ -1,6 +1,6 @@
 //! Where scans may stand, and what their phases share.
 
-use crate::texts::{OUT_OF_MEMORY, at, no_other, parsed, text};
+use crate::texts::{OUT_OF_MEMORY, at, no_other, parse_text, text};
 use flow_scan::{ScanFault, ScanLoop, first_misuse, scans_of};
 use ktree::Kernel;
 use pragma::Directives;
@@ -48,7 +48,7 @@ fn fault_of(
 /// What is wrong with the scans of a text, or the number of its refusal.
 fn fault_in(alloc: Global, text: &str) -> Result<Option<ScanFault>, u8> {
     match (
-        parsed(alloc, text),
+        parse_text(alloc, text),
         Directives::read(alloc, text.as_bytes()),
     ) {
         (Ok(kernel), Ok(directives)) => fault_of(alloc, &kernel, &directives),
@@ -316,7 +316,7 @@ fn are_told(alloc: Global, lines: &str, expected: &[ScanLoop]) -> bool {
         return false;
     };
     match (
-        parsed(alloc, text.as_str()),
+        parse_text(alloc, text.as_str()),
         Directives::read(alloc, text.as_bytes()),
     ) {
         (Ok(kernel), Ok(directives)) => are_read(alloc, &kernel, &directives, expected),

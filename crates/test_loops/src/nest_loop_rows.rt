@@ -23,7 +23,7 @@ fn innermost(alloc: Global, statement: &Stmt, bounds: &mut VarBox) -> Result<Var
 }
 
 /// How many loops a kernel's last statement is, one directly in the other, and the numbers that the innermost's variable has.
-fn entered(alloc: Global, kernel: &Kernel) -> Entered {
+fn enter_innermost(alloc: Global, kernel: &Kernel) -> Entered {
     let Some(statement) = last_statement(kernel) else {
         return Err(Fault::OutOfMemory);
     };
@@ -36,7 +36,7 @@ fn entered(alloc: Global, kernel: &Kernel) -> Entered {
 /// The same of the text with these lines; `OutOfMemory` stands for the refusal of the text too.
 fn inside(alloc: Global, lines: &str) -> Entered {
     match kernel(alloc, lines) {
-        Ok(kernel) => entered(alloc, &kernel),
+        Ok(kernel) => enter_innermost(alloc, &kernel),
         Err(_number) => Err(Fault::OutOfMemory),
     }
 }

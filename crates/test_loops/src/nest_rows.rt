@@ -1,8 +1,8 @@
 //! Kernels whose loops, nests and subscripts are looked at, and the first faults of others.
 
 use crate::texts::{
-    A, I, OUT_OF_MEMORY, X, add_last, at, kernel, last_statement, name, nest_of, no_other, parsed,
-    text,
+    A, I, OUT_OF_MEMORY, X, add_last, at, kernel, last_statement, name, nest_of, no_other,
+    parse_text, text,
 };
 use affine::VarBox;
 use affine_expr::Fault;
@@ -36,7 +36,7 @@ fn faults_in(alloc: Global, kernel: &Kernel, text: &str) -> Told {
 
 /// Those of a text, or the number of its refusal.
 fn faults_of(alloc: Global, text: &str) -> Result<Told, u8> {
-    match parsed(alloc, text) {
+    match parse_text(alloc, text) {
         Ok(kernel) => Ok(faults_in(alloc, &kernel, text)),
         Err(number) => Err(number),
     }
@@ -186,7 +186,7 @@ fn trip_counts_in(alloc: Global, kernel: &Kernel, text: &str) -> Option<[Option<
 
 /// Those of a text.
 fn trip_counts_of(alloc: Global, text: &str) -> Option<[Option<u64>; 3]> {
-    match parsed(alloc, text) {
+    match parse_text(alloc, text) {
         Ok(kernel) => trip_counts_in(alloc, &kernel, text),
         Err(_number) => None,
     }
@@ -281,7 +281,7 @@ fn other_statements(rt: HostRuntime) {
 }
 
 /// What is told of the nests of the text with these lines.
-fn nested(alloc: Global, lines: &str) -> Result<Option<Fault>, u8> {
+fn nest_fault(alloc: Global, lines: &str) -> Result<Option<Fault>, u8> {
     match first_faults(alloc, lines) {
         Ok(told) => Ok(told.err()),
         Err(number) => Err(number),
@@ -291,7 +291,7 @@ fn nested(alloc: Global, lines: &str) -> Result<Option<Fault>, u8> {
 /// The first of some rows of lines of which something else is told.
 fn first_other_nest<'r>(alloc: Global, rows: &[(&'r str, Option<Fault>)]) -> Option<&'r str> {
     for (text, expected) in rows {
-        if nested(alloc, text) != Ok(*expected) {
+        if nest_fault(alloc, text) != Ok(*expected) {
             return Some(*text);
         }
     }

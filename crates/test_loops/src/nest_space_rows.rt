@@ -29,7 +29,7 @@ struct Shape {
 type Run = (Direction, u32, Bound, i128, i128);
 
 /// `for (v = start; v op limit; v += by)`, or with `-=` where it falls.
-fn shaped(variable: VarId, run: Run) -> Shape {
+fn loop_shape(variable: VarId, run: Run) -> Shape {
     let (direction, by, bound, start, limit) = run;
     Shape {
         variable,
@@ -87,7 +87,7 @@ fn are_values(turns: LoopTurns, values: &[u64]) -> bool {
 
 /// Whether these are the values of the loop's variable.
 fn has_values(alloc: Global, run: Run, values: &[u64]) -> bool {
-    match turns(alloc, shaped(I, run)) {
+    match turns(alloc, loop_shape(I, run)) {
         Some(turns) => are_values(turns, values),
         None => false,
     }
@@ -116,7 +116,7 @@ fn falling_loops(rt: HostRuntime) {
 /// The first of some loops that does not turn so often.
 fn first_other(alloc: Global, rows: &[(Run, Option<u64>)]) -> Option<usize> {
     for (i, (run, expected)) in rows.iter().enumerate() {
-        if count(alloc, shaped(I, *run)) != *expected {
+        if count(alloc, loop_shape(I, *run)) != *expected {
             return Some(i);
         }
     }
@@ -237,11 +237,11 @@ fn two_heads(alloc: Global, outer: Shape, inner: Shape) -> Result<[Canonical; 2]
 }
 
 /// `for (i = 5; i > 1; i -= 2) for (j = 0; j <= 4; j += 2)`, collapsed.
-fn collapsed(alloc: Global) -> Option<Space>
+fn collapsed_space(alloc: Global) -> Option<Space>
     ensures { IfSome result (λ ts. length ts ≡ 2) }
 {
-    let outer = shaped(I, (Direction::Falling, 2, Bound::Strict, 5, 1));
-    let inner = shaped(J, (Direction::Rising, 2, Bound::Inclusive, 0, 4));
+    let outer = loop_shape(I, (Direction::Falling, 2, Bound::Strict, 5, 1));
+    let inner = loop_shape(J, (Direction::Rising, 2, Bound::Inclusive, 0, 4));
     match two_heads(alloc, outer, inner) {
         Ok(loops) => Space::at(alloc, &loops, &[]),
         Err(_refusal) => None,
@@ -250,7 +250,7 @@ fn collapsed(alloc: Global) -> Option<Space>
 
 /// How many vectors there are.
 fn collapsed_count(alloc: Global) -> Option<u64> {
-    collapsed(alloc).map(|space| space.count())
+    collapsed_space(alloc).map(|space| space.count())
 }
 
 /// The vector of a number, where there is one.
@@ -268,7 +268,7 @@ fn vector_in(space: &Space, number: u64) -> Option<[u64; 2]>
 
 /// That of the collapsed loops.
 fn vector(alloc: Global, number: u64) -> Option<[u64; 2]> {
-    match collapsed(alloc) {
+    match collapsed_space(alloc) {
         Some(space) => vector_in(&space, number),
         None => None,
     }
@@ -276,7 +276,7 @@ fn vector(alloc: Global, number: u64) -> Option<[u64; 2]> {
 
 /// The number of the vector of the collapsed loops that lies so far before some values, where there is one.
 fn number_before(alloc: Global, values: &[u64; 2], distance: &[i64]) -> Option<u64> {
-    match collapsed(alloc) {
+    match collapsed_space(alloc) {
         Some(space) => space.number_before(values, distance),
         None => None,
     }
@@ -337,8 +337,8 @@ fn vectors_of_two_loops(rt: HostRuntime) {
 
 /// How many vectors a nest of two loops has that turn so often, or the number of a refusal.
 fn rectangle(alloc: Global, outer: i128, inner: i128) -> Result<Option<u64>, u8> {
-    let outer = shaped(I, (Direction::Rising, 1, Bound::Strict, 0, outer));
-    let inner = shaped(J, (Direction::Rising, 1, Bound::Strict, 0, inner));
+    let outer = loop_shape(I, (Direction::Rising, 1, Bound::Strict, 0, outer));
+    let inner = loop_shape(J, (Direction::Rising, 1, Bound::Strict, 0, inner));
     match two_heads(alloc, outer, inner) {
         Ok(loops) => Ok(Space::at(alloc, &loops, &[]).map(|space| space.count())),
         Err(refusal) => Err(refusal.number()),
@@ -380,7 +380,7 @@ fn fifth_is_too_many(alloc: Global, head: &Canonical) -> bool {
 fn five(alloc: Global) -> bool {
     match head(
         alloc,
-        shaped(I, (Direction::Rising, 1, Bound::Strict, 0, 1)),
+        loop_shape(I, (Direction::Rising, 1, Bound::Strict, 0, 1)),
     ) {
         Ok(head) => fifth_is_too_many(alloc, &head),
         Err(_refusal) => false,

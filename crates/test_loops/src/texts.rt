@@ -36,7 +36,7 @@ pub(crate) fn text(alloc: Global, lines: &str) -> Result<String, AllocError> {
 }
 
 /// The kernel of a text, or the number of its refusal.
-pub(crate) fn parsed(alloc: Global, text: &str) -> Result<Kernel, u8> {
+pub(crate) fn parse_text(alloc: Global, text: &str) -> Result<Kernel, u8> {
     match parse(alloc, text.as_bytes()) {
         Ok(kernel) => Ok(kernel),
         Err(refusal) => Err(refusal.number()),
@@ -46,7 +46,7 @@ pub(crate) fn parsed(alloc: Global, text: &str) -> Result<Kernel, u8> {
 /// That of the text with these lines.
 pub(crate) fn kernel(alloc: Global, lines: &str) -> Result<Kernel, u8> {
     match text(alloc, lines) {
-        Ok(text) => parsed(alloc, text.as_str()),
+        Ok(text) => parse_text(alloc, text.as_str()),
         Err(_error) => Err(OUT_OF_MEMORY),
     }
 }

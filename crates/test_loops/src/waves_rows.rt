@@ -53,7 +53,7 @@ fn waves_of(alloc: Global, nest: Nest) -> Option<Waves> {
 }
 
 /// The numbers of the iterations, with a mark before each level.
-fn written(alloc: Global, waves: &Waves) -> Option<Vec<u64>> {
+fn numbers_by_level(alloc: Global, waves: &Waves) -> Option<Vec<u64>> {
     let mut written = Vec::new(alloc);
     for level in 0..waves.len() {
         written.push(MARK).ok()?;
@@ -67,7 +67,7 @@ const MARK: u64 = 99;
 /// Whether the nest's levels are these.
 fn has_levels(alloc: Global, nest: Nest, levels: &[u64]) -> bool {
     match waves_of(alloc, nest) {
-        Some(waves) => match written(alloc, &waves) {
+        Some(waves) => match numbers_by_level(alloc, &waves) {
             Some(written) => written.as_slice() == levels,
             None => false,
         },

@@ -102,7 +102,7 @@ fn met_at(found: &Option<Meeting>) -> Met {
 }
 
 /// What two accesses give in these loops; None where they are refused.
-fn between(
+fn met_by_accesses(
     alloc: Global,
     serial: &[Canonical],
     nest: &[Canonical],
@@ -128,7 +128,7 @@ fn met_by_first(
         subscripts: &subscripts,
         inner: if question.both_inside { x.inner } else { &[] },
     };
-    between(alloc, serial, nest, x, &y)
+    met_by_accesses(alloc, serial, nest, x, &y)
 }
 
 /// The same, with the accesses of the question.
@@ -165,18 +165,18 @@ fn met_in(alloc: Global, serial: &[Canonical], question: Question<'_>) -> Option
 }
 
 /// What the accesses of a question give; None where they are refused.
-fn met(alloc: Global, question: Question<'_>) -> Option<Met> {
+fn meeting_of(alloc: Global, question: Question<'_>) -> Option<Met> {
     let serial = loops_of(alloc, question.serial).ok()?;
     met_in(alloc, serial.as_slice(), question)
 }
 
 /// Whether they give this.
 fn gives(alloc: Global, question: Question<'_>, wanted: Met) -> bool {
-    met(alloc, question) == Some(wanted)
+    meeting_of(alloc, question) == Some(wanted)
 }
 
 /// `for (variable = start; variable < limit; variable++)`.
-fn rising(variable: VarId, start: i128, limit: i128) -> Round {
+fn rising_loop(variable: VarId, start: i128, limit: i128) -> Round {
     Round {
         variable,
         direction: Direction::Rising,
@@ -206,7 +206,7 @@ type Row = (i128, i128, (i64, i128), (i64, i128), Met);
 fn first_other(alloc: Global, rows: &[Row]) -> Option<usize> {
     for (number, row) in rows.iter().enumerate() {
         let (start, limit, x, y, wanted) = *row;
-        if !gives_in(alloc, rising(I, start, limit), x, y, wanted) {
+        if !gives_in(alloc, rising_loop(I, start, limit), x, y, wanted) {
             return Some(number);
         }
     }
@@ -256,7 +256,7 @@ fn falling_loop(rt: HostRuntime) {
 fn two_loops(rt: HostRuntime) {
     let question = Question {
         serial: &[],
-        nest: &[rising(I, 0, 3), rising(J, 0, 5)],
+        nest: &[rising_loop(I, 0, 3), rising_loop(J, 0, 5)],
         inner: &[],
         x: (4, 1, 0, 0),
         y: (4, 1, 0, 0),
@@ -270,11 +270,11 @@ fn two_loops(rt: HostRuntime) {
 fn gives_with_inner(alloc: Global, itself: bool, wanted: Met) -> bool {
     let below_i = Round {
         limit: (1, 0, 0, 0),
-        ..rising(J, 0, 0)
+        ..rising_loop(J, 0, 0)
     };
     let question = Question {
         serial: &[],
-        nest: &[rising(I, 0, 4)],
+        nest: &[rising_loop(I, 0, 4)],
         inner: &[below_i],
         x: (0, 1, 0, 0),
         y: if itself { (0, 1, 0, 0) } else { (0, 0, 0, 0) },
@@ -293,8 +293,8 @@ fn inner_loops(rt: HostRuntime) {
 /// Whether `A[i + n]` and `A[i + n + 1]` give this, where `i` is below 4, in a loop over `n`.
 fn gives_in_serial(alloc: Global, start: i128, limit: i128, wanted: Met) -> bool {
     let question = Question {
-        serial: &[rising(N, start, limit)],
-        nest: &[rising(I, 0, 4)],
+        serial: &[rising_loop(N, start, limit)],
+        nest: &[rising_loop(I, 0, 4)],
         inner: &[],
         x: (1, 0, 1, 0),
         y: (1, 0, 1, 1),

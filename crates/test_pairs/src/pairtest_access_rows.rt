@@ -72,7 +72,7 @@ fn listed_of(alloc: Global, kernel: &Kernel) -> Option<Vec<Access>> {
 }
 
 /// The accesses of the body of that kernel's loop.
-fn listed(alloc: Global) -> Option<Vec<Access>> {
+fn accesses_of_text(alloc: Global) -> Option<Vec<Access>> {
     match parse(alloc, TEXT) {
         Ok(kernel) => listed_of(alloc, &kernel),
         Err(_refusal) => None,
@@ -98,7 +98,7 @@ fn is_access(access: &Access, row: Row<'_>) -> bool {
 
 /// Whether the accesses of that body are these, in order.
 fn are_accesses(alloc: Global, rows: &[Row<'_>]) -> bool {
-    let Some(found) = listed(alloc) else {
+    let Some(found) = accesses_of_text(alloc) else {
         return false;
     };
     if found.len() != rows.len() {
@@ -180,7 +180,7 @@ fn told_in_kernel(alloc: Global, kernel: &Kernel, number: usize) -> Option<Optio
 }
 
 /// The same of that kernel's loop.
-fn told(alloc: Global, number: usize) -> Option<Option<Told>> {
+fn told_of_access(alloc: Global, number: usize) -> Option<Option<Told>> {
     match parse(alloc, TEXT) {
         Ok(kernel) => told_in_kernel(alloc, &kernel, number),
         Err(_refusal) => None,
@@ -189,7 +189,7 @@ fn told(alloc: Global, number: usize) -> Option<Option<Told>> {
 
 /// Whether this is told of the access of that loop with so many before it, where it has one.
 fn is_told(alloc: Global, number: usize, wanted: Option<Told>) -> bool {
-    told(alloc, number) == Some(wanted)
+    told_of_access(alloc, number) == Some(wanted)
 }
 
 #[test]

@@ -69,7 +69,7 @@ fn said_of(alloc: Global, x: &Access, y: &Access, pair: Pair) -> Result<Option<b
 }
 
 /// What is said of a pair.
-fn said(alloc: Global, pair: Pair) -> Result<Option<bool>, AllocError> {
+fn said_of_pair(alloc: Global, pair: Pair) -> Result<Option<bool>, AllocError> {
     let x = access(alloc, pair.x)?;
     let y = access(alloc, pair.y)?;
     said_of(alloc, &x, &y, pair)
@@ -78,7 +78,7 @@ fn said(alloc: Global, pair: Pair) -> Result<Option<bool>, AllocError> {
 /// The number of the first pair of which something else is said.
 fn first_other(alloc: Global, rows: &[(Pair, Option<bool>)]) -> Option<usize> {
     for (number, (pair, wanted)) in rows.iter().enumerate() {
-        match said(alloc, *pair) {
+        match said_of_pair(alloc, *pair) {
             Ok(said) => {
                 if said != *wanted {
                     return Some(number);

@@ -69,14 +69,14 @@ fn said_in(alloc: Global, nest: &Nest, pair: Pair<'_>) -> Result<Option<bool>, A
 }
 
 /// What is said of them in their own nest.
-fn said(alloc: Global, pair: Pair<'_>) -> Result<Option<bool>, AllocError> {
+fn said_of_pair(alloc: Global, pair: Pair<'_>) -> Result<Option<bool>, AllocError> {
     let nest = nest(alloc, pair.serial, pair.loops)?;
     said_in(alloc, &nest, pair)
 }
 
 /// Whether this is said of them.
 fn is_said(alloc: Global, pair: Pair<'_>, wanted: Option<bool>) -> bool {
-    match said(alloc, pair) {
+    match said_of_pair(alloc, pair) {
         Ok(said) => said == wanted,
         Err(_error) => false,
     }

@@ -122,7 +122,10 @@ fn draw_together<R: Threads + Sync>(
 }
 
 /// All tickets that threads have drawn, in order.
-fn sorted(alloc: Global, drawn: Vec<Result<Vec<u64>, AllocError>>) -> Result<Vec<u64>, AllocError> {
+fn sorted_tickets(
+    alloc: Global,
+    drawn: Vec<Result<Vec<u64>, AllocError>>,
+) -> Result<Vec<u64>, AllocError> {
     let mut all = Vec::new(alloc);
     for tickets in drawn {
         all.append(&mut tickets?)?;
@@ -135,7 +138,7 @@ fn sorted(alloc: Global, drawn: Vec<Result<Vec<u64>, AllocError>>) -> Result<Vec
 fn drawn_by_three<R: Threads + Sync>(rt: &R, alloc: Global) -> Result<Vec<u64>, AllocError> {
     let (drawing, seats) = Drawing::new(alloc, TICKETS, THREADS)?;
     let drawn = draw_together(rt, alloc, &drawing, seats)?;
-    sorted(alloc, drawn)
+    sorted_tickets(alloc, drawn)
 }
 
 /// Whether these are all tickets.

@@ -127,7 +127,7 @@ fn lowered_at(alloc: Global, site: Site) -> Option<LoweredLoop> {
 }
 
 /// The nest at a text's end, behind such a clause.
-pub(crate) fn lowered(
+pub(crate) fn lower_nest(
     alloc: Global,
     site: Site,
     schedule: Option<Schedule>,

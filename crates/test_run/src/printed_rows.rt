@@ -2,7 +2,7 @@
 
 ghost use Rattle.std.specs.Prelude.{◌≡◌, ◌≤◌};
 
-use crate::lowering::{Site, lowered, variables};
+use crate::lowering::{Site, lower_nest, variables};
 use ktree::{ChunkSize, Refusal, Schedule, Workers};
 use lower::LoweredLoop;
 use schedule::Sched;
@@ -82,7 +82,7 @@ fn loop_of(alloc: Global, lines: &str, schedule: Option<Schedule>) -> Option<Low
         depth: 1,
         turn: None,
     };
-    lowered(alloc, site, schedule)
+    lower_nest(alloc, site, schedule)
 }
 
 /// How a loop ends on a store, and what it puts into a sink.

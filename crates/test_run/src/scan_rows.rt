@@ -1,7 +1,7 @@
 //! Scans that a team runs in two passes, over `A` = 1 2 3 4 5: what they leave in `B` and in the scan variable, what they print, and of how
 //! many chunks the gate is told; the values are counted by hand, by OpenMP 5.2, 5.6.
 
-use crate::lowering::{Site, lowered, variables};
+use crate::lowering::{Site, lower_nest, variables};
 use ktree::{ChunkSize, ReductionOperator, Schedule, VarId, Workers};
 use lower::{LoweredLoop, LoweredReduction, Spot};
 use seqrun_io::Memory;
@@ -37,7 +37,7 @@ type Row = (
 );
 
 /// The loop of these lines, whose scan variable is this, behind a clause that does not count.
-fn scanning(
+fn scan_loop(
     alloc: Global,
     lines: &str,
     operator: ReductionOperator,
@@ -50,7 +50,7 @@ fn scanning(
         turn: None,
     };
     let size = ChunkSize::new(1)?;
-    let mut lowered = lowered(alloc, site, Some(Schedule::Dynamic(size)))?;
+    let mut lowered = lower_nest(alloc, site, Some(Schedule::Dynamic(size)))?;
     lowered
         .roles
         .reductions
@@ -144,8 +144,8 @@ fn leaves<R: Threads + Wait + Sync>(
 /// Whether it does so by one worker, two, three, four and 64.
 fn leaves_always<R: Threads + Wait + Sync>(rt: &R, alloc: Global, row: &Row) -> Option<bool> {
     let (lines, (operator, spot), _values, _cells, _text) = *row;
-    let first = scanning(alloc, lines.0, operator, spot)?;
-    let second = scanning(alloc, lines.1, operator, spot)?;
+    let first = scan_loop(alloc, lines.0, operator, spot)?;
+    let second = scan_loop(alloc, lines.1, operator, spot)?;
     let mut same = true;
     for count in [1, 2, 3, 4, 64] {
         same &= leaves(rt, alloc, (&first, &second), row, count)?;

@@ -66,7 +66,7 @@ fn keeps_what_it_took(rt: HostRuntime) {
 }
 
 /// `A`, of so many elements.
-fn declared(alloc: Global, length: u64) -> Result<Vec<Declaration>, AllocError>
+fn one_declaration(alloc: Global, length: u64) -> Result<Vec<Declaration>, AllocError>
     ensures { IfOk result (λ ds. map declaration_of ds.items
         ≡ record { name = codes "A"; lengths = length ∷ [] } ∷ []) }
 {
@@ -95,7 +95,7 @@ fn fault(alloc: Global, length: u64, bytes: &[u8]) -> Option<Option<InputFault>>
     requires least { 1 ≤ length }
     requires most { length ≤ 8 }
 {
-    let declarations = declared(alloc, length).ok()?;
+    let declarations = one_declaration(alloc, length).ok()?;
     match input(alloc, declarations.as_slice(), bytes) {
         Ok(_store) => Some(None),
         Err(refusal) => fault_of(&refusal),
@@ -192,8 +192,8 @@ fn names_the_first_fault(rt: HostRuntime) {
 
 /// The number of the refusal of a dump of `A = 1 2 3 4 5 6 7 8`, or 0, and how often the sink fails, over a writer that takes one
 /// byte a call and fails at a call.
-fn dumped(alloc: Global, failing: usize) -> Result<(u8, u64), AllocError> {
-    let declarations = declared(alloc, 8)?;
+fn dump_outcome(alloc: Global, failing: usize) -> Result<(u8, u64), AllocError> {
+    let declarations = one_declaration(alloc, 8)?;
     let store = one_array(alloc, &[1, 2, 3, 4, 5, 6, 7, 8])?;
     let mut sink = Writer::new(OneByte { calls: 0, failing });
     let number = number_of(dump(alloc, declarations.as_slice(), &store, &mut sink));
@@ -202,6 +202,6 @@ fn dumped(alloc: Global, failing: usize) -> Result<(u8, u64), AllocError> {
 
 #[test]
 fn dumps_to_a_slow_sink(rt: HostRuntime) {
-    assert!(rt; matches!(dumped(rt.alloc(), 21), Ok((0, 0))));
-    assert!(rt; matches!(dumped(rt.alloc(), 8), Ok((24, 1))));
+    assert!(rt; matches!(dump_outcome(rt.alloc(), 21), Ok((0, 0))));
+    assert!(rt; matches!(dump_outcome(rt.alloc(), 8), Ok((24, 1))));
 }

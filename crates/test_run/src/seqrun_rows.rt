@@ -121,7 +121,7 @@ fn turns(alloc: Global, body: Box<Stmt>) -> Result<Box<Stmt>, AllocError>
 }
 
 /// The loop that prints, which has a run wherever it stands.
-fn counting(alloc: Global) -> Result<Box<Stmt>, AllocError>
+fn printing_loop(alloc: Global) -> Result<Box<Stmt>, AllocError>
     ensures { IfOk result (λ s. (frame : List Slot) (ks : List Kept)
         → IsSome (run (stmt_of s.value) (standing frame ks))) }
 {
@@ -145,7 +145,12 @@ fn declaration(alloc: Global, n: u64) -> Result<Item, AllocError>
 }
 
 /// Runs a statement without locals; the number of its refusal, where it is refused.
-fn refused<S: Sink>(alloc: Global, stmt: &Stmt, store: &mut Store, sink: &mut S) -> Option<u8>
+fn refusal_number<S: Sink>(
+    alloc: Global,
+    stmt: &Stmt,
+    store: &mut Store,
+    sink: &mut S,
+) -> Option<u8>
     requires room { S.failed sink.old + 1 < 2 ^ 64 }
     requires runs { IsSome (run (stmt_of stmt.now) (standing [] store.old)) }
 {
@@ -165,7 +170,7 @@ fn leaves(alloc: Global, stmt: &Stmt, values: &[u64], output: &[u8]) -> bool
         return false;
     };
     let mut sink = Memory::new(alloc);
-    refused(alloc, stmt, &mut store, &mut sink).is_none()
+    refusal_number(alloc, stmt, &mut store, &mut sink).is_none()
         && holds(&store, values)
         && sink.bytes() == output
 }
@@ -185,7 +190,7 @@ fn updates_take_the_old_value(rt: HostRuntime) -> Result<(), Fail> {
 }
 
 /// A choice by the local: the first element is 1 or 2.
-fn chosen(alloc: Global) -> Result<Box<Stmt>, AllocError>
+fn choice_by_local(alloc: Global) -> Result<Box<Stmt>, AllocError>
     ensures { IfOk result (λ s. stmt_of s.value
         ≡ Tree.IfElse (Tree.Compare Tree.Less (Tree.Object 1 Tree.no_exprs)
         (Tree.Literal 4 Tree.Ull)) (Tree.Assign 0
@@ -211,7 +216,7 @@ fn body(alloc: Global) -> Result<Vec<Item>, AllocError>
         (Tree.Assign 0 (Tree.more_exprs (Tree.Literal 0 Tree.Ull) Tree.no_exprs)
         (Tree.Number (Tree.Literal 2 Tree.Ull)))) Tree.no_items)) }
 {
-    let choice = chosen(alloc)?;
+    let choice = choice_by_local(alloc)?;
     let mut items = Vec::new(alloc);
     items.push(declaration(alloc, 4)?)?;
     items.push(Item::Statement(choice))?;
@@ -240,7 +245,7 @@ fn blocks_run_their_items_in_order(rt: HostRuntime) -> Result<(), Fail> {
 
 #[test]
 fn loops_print_in_each_turn(rt: HostRuntime) -> Result<(), Fail> {
-    let stmt = counting(rt.alloc())?;
+    let stmt = printing_loop(rt.alloc())?;
     assert!(rt; leaves(rt.alloc(), &*stmt, &[7, 7, 7], b"9\n10\n11\n"));
     Ok(())
 }
@@ -272,13 +277,13 @@ fn fails_once(alloc: Global, stmt: &Stmt) -> Result<bool, AllocError>
 {
     let mut store = one_array(alloc, &[7, 7, 7])?;
     let mut sink = Writer::new(OneByte { calls: 0 });
-    let number = refused(alloc, stmt, &mut store, &mut sink);
+    let number = refusal_number(alloc, stmt, &mut store, &mut sink);
     Ok(number == Some(Refusal::OutputFailed.number()) && sink.failures() == 1)
 }
 
 #[test]
 fn a_failing_sink_ends_the_run(rt: HostRuntime) -> Result<(), Fail> {
-    let stmt = counting(rt.alloc())?;
+    let stmt = printing_loop(rt.alloc())?;
     assert!(rt; matches!(fails_once(rt.alloc(), &*stmt), Ok(true)));
     Ok(())
 }

@@ -1,7 +1,7 @@
 //! Loops of one chunk with reduction and lastprivate variables, and what a team leaves of them; the values are counted by hand, by OpenMP 5.2,
 //! 5.4.5 and 5.5.
 
-use crate::lowering::{Site, lowered, variables};
+use crate::lowering::{Site, lower_nest, variables};
 use ktree::{ReductionOperator, VarId, Workers};
 use lower::{LoweredLoop, LoweredReduction, Spot};
 use schedule::Sched;
@@ -31,7 +31,7 @@ fn loop_of(alloc: Global, row: &Row) -> Option<LoweredLoop> {
         depth: 1,
         turn: None,
     };
-    let mut lowered = lowered(alloc, site, None)?;
+    let mut lowered = lower_nest(alloc, site, None)?;
     for spot in *sums {
         let sum = LoweredReduction {
             operator: ReductionOperator::Sum,

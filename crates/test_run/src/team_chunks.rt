@@ -3,7 +3,7 @@
 
 ghost use Rattle.std.specs.Prelude.{◌≤◌};
 
-use crate::lowering::{Site, left_by, lowered};
+use crate::lowering::{Site, left_by, lower_nest};
 use ktree::{ChunkSize, Schedule};
 use lower::LoweredLoop;
 use schedule::Sched;
@@ -50,7 +50,7 @@ fn is_cut<R: Threads + Wait + Sync>(
     values: &[u64; 11],
 ) -> bool {
     let site = over(CHAIN);
-    let Some(lowered) = lowered(alloc, site, schedule) else {
+    let Some(lowered) = lower_nest(alloc, site, schedule) else {
         return false;
     };
     match left_by(rt, alloc, &lowered, site, 3, Sched::PlainStatic, &OpenGate) {
@@ -183,7 +183,7 @@ fn told_behind<R: Threads + Wait + Sync>(
     count: u64,
     size: ChunkSize,
 ) -> Option<Told> {
-    let lowered = lowered(alloc, over(lines), Some(Schedule::Dynamic(size)))?;
+    let lowered = lower_nest(alloc, over(lines), Some(Schedule::Dynamic(size)))?;
     told_in(rt, alloc, &lowered, count)
 }
 
@@ -285,7 +285,7 @@ fn entered<R: Threads + Wait + Sync>(
     count: u64,
 ) -> Option<Entered> {
     let site = over(lines);
-    let lowered = lowered(alloc, site, schedule)?;
+    let lowered = lower_nest(alloc, site, schedule)?;
     entered_in(rt, alloc, &lowered, site, count)
 }
 

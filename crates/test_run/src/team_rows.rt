@@ -1,6 +1,6 @@
 //! Loops that a team runs: what they leave under every schedule, by one worker, three and 64; the values are C's, or counted by hand.
 
-use crate::lowering::{Site, left_by, lowered};
+use crate::lowering::{Site, left_by, lower_nest};
 use ktree::{ChunkSize, Schedule};
 use lower::LoweredLoop;
 use schedule::Sched;
@@ -69,7 +69,7 @@ fn leaves_by_all<R: Threads + Wait + Sync>(
         depth: *depth,
         turn: *turn,
     };
-    let Some(lowered) = lowered(alloc, site, clause(number, size)) else {
+    let Some(lowered) = lower_nest(alloc, site, clause(number, size)) else {
         return false;
     };
     let mut same = true;

@@ -8,7 +8,7 @@ use pragma_attach::attach;
 use std::alloc::Global;
 
 /// The number of a refusal, and where the text is at fault.
-fn told(refusal: &Refusal) -> Option<(u8, Place)> {
+fn number_with_place(refusal: &Refusal) -> Option<(u8, Place)> {
     match refusal.place() {
         Some(place) => Some((refusal.number(), place)),
         None => None,
@@ -19,7 +19,7 @@ fn told(refusal: &Refusal) -> Option<(u8, Place)> {
 fn told_of(alloc: Global, kernel: &Kernel, directives: &Directives) -> Option<(u8, Place)> {
     match attach(alloc, kernel, directives) {
         Ok(_) => None,
-        Err(refusal) => told(&refusal),
+        Err(refusal) => number_with_place(&refusal),
     }
 }
 
@@ -27,7 +27,7 @@ fn told_of(alloc: Global, kernel: &Kernel, directives: &Directives) -> Option<(u
 fn told_among(alloc: Global, kernel: &Kernel, text: &[u8]) -> Option<(u8, Place)> {
     match Directives::read(alloc, text) {
         Ok(directives) => told_of(alloc, kernel, &directives),
-        Err(refusal) => told(&refusal),
+        Err(refusal) => number_with_place(&refusal),
     }
 }
 
@@ -35,7 +35,7 @@ fn told_among(alloc: Global, kernel: &Kernel, text: &[u8]) -> Option<(u8, Place)
 fn told_in(alloc: Global, text: &[u8]) -> Option<(u8, Place)> {
     match parse(alloc, text) {
         Ok(kernel) => told_among(alloc, &kernel, text),
-        Err(refusal) => told(&refusal),
+        Err(refusal) => number_with_place(&refusal),
     }
 }
 

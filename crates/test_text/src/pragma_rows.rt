@@ -198,7 +198,7 @@ fn size(rt: &impl Abort, iterations: u64) -> ChunkSize {
 }
 
 /// What a line with this schedule says.
-fn scheduled(schedule: Schedule) -> Result<ParallelFor, u8> {
+fn with_schedule(schedule: Schedule) -> Result<ParallelFor, u8> {
     Ok(ParallelFor {
         schedule: Some(schedule),
         collapse: None,
@@ -214,11 +214,11 @@ fn each_kind_of_schedule_is_read(rt: HostRuntime) {
 #pragma omp parallel for schedule(runtime)
 #pragma omp parallel for schedule(auto) schedule(runtime)";
     let rows = [
-        (1, scheduled(Schedule::Static)),
-        (2, scheduled(Schedule::StaticChunks(size(&rt, 3)))),
-        (3, scheduled(Schedule::Guided(size(&rt, 1)))),
-        (4, scheduled(Schedule::Auto)),
-        (5, scheduled(Schedule::Runtime)),
+        (1, with_schedule(Schedule::Static)),
+        (2, with_schedule(Schedule::StaticChunks(size(&rt, 3)))),
+        (3, with_schedule(Schedule::Guided(size(&rt, 1)))),
+        (4, with_schedule(Schedule::Auto)),
+        (5, with_schedule(Schedule::Runtime)),
         (6, Err(11)),
     ];
     assert_eq!(rt; other_line(rt.alloc(), text, &rows), None);
