@@ -2,9 +2,15 @@
 #![tactic(auto)]
 
 #[cfg(test)]
+mod branch_rows;
+#[cfg(test)]
 mod codes;
 #[cfg(test)]
+mod fold_rows;
+#[cfg(test)]
 mod greatest_rows;
+#[cfg(test)]
+mod lane_digests;
 #[cfg(test)]
 mod lane_rows_rows;
 #[cfg(test)]
@@ -27,3 +33,5 @@ mod stores;
 mod text_rows;
 #[cfg(test)]
 mod turns_rows;
+#[cfg(test)]
+mod update_rows;
