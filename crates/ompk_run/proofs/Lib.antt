@@ -10,6 +10,7 @@ pub mod Scanning
 pub mod Waving
 pub mod Listed
 pub mod Readied
+pub mod Placed
 pub mod RightLoops
 pub mod Steps
 pub mod Turns

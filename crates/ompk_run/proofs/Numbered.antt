@@ -1,5 +1,6 @@
 -- Locals have numbers behind those of the file-scope variables, and no objects there.
-use Rattle.std.specs.Prelude.{ℕ, Bool, true, false, not, ◌≡◌, ◌==◌, ◌≤◌, ◌||◌, List, [], ◌∷◌, length, None, slice_get, option_and_then}
+use Rattle.std.specs.Prelude.{ℕ, Bool, true, false, not, ◌≡◌, ◌==◌, ◌<◌, ◌≤◌, ◌||◌, List, [], ◌∷◌, length, None, slice_get, option_and_then}
+use Rattle.std.specs.List.{AllByRecursion}
 use Rattle.std.proofs.Common.{refl, sym, ap, ◌∙◌, subst}
 use Rattle.std.proofs.lemmas.Bool.{eqb-true}
 use Rattle.std.proofs.lemmas.List.{length-map}
@@ -15,13 +16,17 @@ use Rattle.lower_code.specs.Layout.{shapes_of, spot_in, first_of, cell_at}
 use Rattle.lower_code.specs.Meaning.{AreLocals}
 use Rattle.lower_run.specs.Walk.{StandFor}
 
-number_of : (layout : List Laid) (mark : ℕ) (xs : List Variable) (x : Variable) → AreLocals layout mark xs → is_among xs x ≡ true → length layout ≤ x
-number_of layout mark [] x h e = absurd cc
-number_of layout mark (y ∷ ys) x h e = go (y == x) refl e (λ k. number_of layout mark ys x h.1 k)
+-- what holds of each of a list holds of one among them
+pub of_among : (P : Variable → Type 0) (xs : List Variable) (x : Variable) → AllByRecursion P xs → is_among xs x ≡ true → P x
+of_among P [] x h e = absurd cc
+of_among P (y ∷ ys) x h e = go (y == x) refl e (λ k. of_among P ys x h.1 k)
   where
-    go : (b : Bool) → (y == x) ≡ b → (b || is_among ys x) ≡ true → (is_among ys x ≡ true → length layout ≤ x) → length layout ≤ x
-    go true q k rest = subst (λ z. length layout ≤ z) (eqb-true y x q) h.0.0
+    go : (b : Bool) → (y == x) ≡ b → (b || is_among ys x) ≡ true → (is_among ys x ≡ true → P x) → P x
+    go true q k rest = subst P (eqb-true y x q) h.0
     go false q k rest = rest k
+
+number_of : (layout : List Laid) (mark : ℕ) (xs : List Variable) (x : Variable) → AreLocals layout mark xs → is_among xs x ≡ true → length layout ≤ x
+number_of layout mark xs x h e = (of_among (λ y. (length layout ≤ y) × (y < mark)) xs x h e).0
 
 pub no_cell : (layout : List Laid) (cells : List ℕ) (x : Variable) (is : List ℕ) → length layout ≤ x → cell_at (shapes_of layout) cells x is ≡ None
 no_cell layout cells x is le =

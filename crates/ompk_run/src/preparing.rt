@@ -39,6 +39,7 @@ pub(crate) fn prepare<'k>(
         return Err(Refusal::OutOfMemory);
     };
     let layout = layout_of(alloc, declarations)?;
+    let registers = zero_registers(alloc, u64::from(mark), store)?;
     let target = Target {
         layout: layout.as_slice(),
         registers: mark,
@@ -50,6 +51,5 @@ pub(crate) fn prepare<'k>(
         nests: parallel.doacross.as_slice(),
     };
     let outline = outline(alloc, body, loops, target)?;
-    let registers = zero_registers(alloc, u64::from(mark), store)?;
     Ok(Prepared { outline, registers })
 }

@@ -1,76 +1,22 @@
 -- Where the variables with a role stand, one after another.
-use Rattle.std.specs.Prelude.{ℕ, zero, suc, Bool, true, false, ◌≡◌, ◌+◌, ◌*◌, ◌<◌, ◌≤◌, if◌then◌else◌, List, [], ◌∷◌, ◌++◌, length, get_or, take, drop, map, filter, Some, slice_get}
-use Rattle.std.proofs.Common.{refl, sym, ap, ◌∙◌, arith, add-one, drop-cons, subst}
-use Rattle.std.proofs.lemmas.List.{take_more, drop_all}
+use Rattle.std.specs.Prelude.{ℕ, Bool, true, false, ◌≡◌, ◌+◌, ◌<◌, if◌then◌else◌, List, [], ◌∷◌, ◌++◌, length, get_or, take, map, filter}
+use Rattle.std.proofs.Common.{refl, sym, ap, ◌∙◌, subst}
+use Rattle.std.proofs.lemmas.List.{take_more}
 use Rattle.std.proofs.lemmas.List.Elements.{filter-append}
 use Rattle.semantics.specs.Tree.{Variable}
 use Rattle.semantics.specs.Loops.Operator.{ReduceOp}
-use Rattle.semantics.specs.Meaning.Places.{size}
 use Rattle.ktree.specs.DirectiveView.{operator_of}
 use Rattle.ktree.specs.declared.place.VarId.{VarId}
 use Rattle.flow_reduction.specs.Reduced.{reduction_of, reduced}
 use Rattle.flow.specs.Parallel.{numbers}
 use Rattle.flow_reduction.specs.declared.reduction.Reduction.{Reduction}
 use Rattle.lower_code.specs.declared.term.Laid.{Laid}
-use Rattle.lower_code.specs.Layout.{first_of, shapes_of, spot_in, spot}
 use Rattle.lower.specs.declared.roles.Spot.{Spot}
 use Rattle.lower.specs.declared.roles.LoweredReduction.{LoweredReduction}
 use Rattle.lower.specs.Roles.{StandsAt, StandEach, AreReduced}
 
 abbrev number : VarId → Variable
 number v = v.0
-
--- ---- cells
-
--- one more length in a product
-pub product_on : (count next : ℕ) (lengths : List ℕ) (i n : ℕ) → i < length lengths → n ≡ get_or lengths i 0 → count * size (drop i lengths) ≡ size lengths → next ≡ count * n → next * size (drop (i + 1) lengths) ≡ size lengths
-product_on count next lengths i n lt is so_far e =
-    let here : drop i lengths ≡ n ∷ drop (i + 1) lengths = rw add-one (drop-cons lengths i 0 lt ∙ ap (λ x. x ∷ drop (suc i) lengths) (sym is)) in
-    let rest = size (drop (i + 1) lengths) in
-    let group : count * n * rest ≡ count * (n * rest) = omega arith in
-    ap (λ k. k * rest) e ∙ group ∙ ap (λ ns. count * size ns) (sym here) ∙ so_far
-
-pub product_over : (count : ℕ) (lengths : List ℕ) (i : ℕ) → length lengths ≤ i → count * size (drop i lengths) ≡ size lengths → count ≡ size lengths
-product_over count lengths i le so_far =
-    let one : count ≡ count * 1 = omega arith in
-    one ∙ ap (λ ns. count * size ns) (sym (drop_all i lengths le)) ∙ so_far
-
-pub first_none : (shapes : List (List ℕ)) → 0 ≡ first_of shapes 0
-first_none [] = refl
-first_none (ns ∷ shapes) = refl
-
--- the elements of the next variable begin behind those of this one
-pub first_on : (layout : List Laid) (i : ℕ) (l : Laid) → i < length layout → l ≡ get_or layout i l → first_of (shapes_of layout) (i + 1) ≡ first_of (shapes_of layout) i + size l.lengths.items
-first_on [] i l lt is = absurd (omega arith)
-first_on (k ∷ layout) zero l lt is =
-    let same : size k.lengths.items ≡ size l.lengths.items = ap (λ (m : Laid). size m.lengths.items) (sym is) in
-    at (shapes_of layout) same
-  where
-    at : (shapes : List (List ℕ)) → size k.lengths.items ≡ size l.lengths.items → size k.lengths.items + first_of shapes 0 ≡ 0 + size l.lengths.items
-    at [] e = omega arith
-    at (ns ∷ shapes) e = omega arith
-first_on (k ∷ layout) (suc i) l lt is =
-    let e : suc i + 1 ≡ suc (i + 1) = omega arith in
-    let later = first_on layout i l (omega arith) is in
-    let sum : size k.lengths.items + first_of (shapes_of layout) (i + 1) ≡ size k.lengths.items + first_of (shapes_of layout) i + size l.lengths.items = omega arith in
-    ap (first_of (shapes_of (k ∷ layout))) e ∙ sum
-
-pub none_left : (xs : List ℕ) → length xs ≡ 0 → xs ≡ []
-none_left [] e = refl
-none_left (x ∷ xs) e = absurd (omega arith)
-
--- a scalar's only element is the first
-pub spot_is : (layout : List Laid) (x : ℕ) (l : Laid) (first : ℕ) → x < length layout → l ≡ get_or layout x l → l.lengths.items ≡ [] → first ≡ first_of (shapes_of layout) x → spot (shapes_of layout) x [] ≡ Some first
-spot_is layout x l first lt is none at =
-    ap (λ o. spot_in o (first_of (shapes_of layout) x) []) (there layout x lt is ∙ ap Some none) ∙ ap Some (same ∙ sym at)
-  where
-    same : first_of (shapes_of layout) x + 0 ≡ first_of (shapes_of layout) x
-    same = omega arith
-
-    there : (layout : List Laid) (x : ℕ) → x < length layout → l ≡ get_or layout x l → slice_get (shapes_of layout) x ≡ Some l.lengths.items
-    there [] x lt is = absurd (omega arith)
-    there (k ∷ layout) zero lt is = ap (λ (m : Laid). Some m.lengths.items) (sym is)
-    there (k ∷ layout) (suc x) lt is = there layout x (omega arith) is
 
 -- ---- those that a test leaves
 

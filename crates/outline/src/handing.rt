@@ -4,7 +4,7 @@ ghost use Rattle.flow_reduction.specs.Reduced.{reduced};
 ghost use Rattle.std.specs.Prelude.{◌≡◌, false, [], IfOk, IfErr, IfSome};
 ghost use Rattle.nest.specs.Perfect.{NestHas, AreRectangular, IsRightNest};
 ghost use Rattle.flow.specs.declared.environment.ParallelLoop.{ParallelLoop as ParallelLoops};
-ghost use Rattle.outline.specs.Accepted.{StandsAt, HasNest, IsLoopOf};
+ghost use Rattle.outline.specs.Accepted.{HavePlaces, StandsAt, HasNest, IsLoopOf};
 ghost use Rattle.ktree.specs.View.{stmt_of, items_of};
 ghost use Rattle.ktree.specs.declared.refusal.Refusal.TheVariants.{OutOfMemory};
 ghost use Rattle.outline.specs.Handed.{ListsLocals, IsBodyOf, IsBodyCode, AreItemsCode, IsLowered, IsInputIn, IsWay, IsHanded, inside_told};
@@ -116,7 +116,8 @@ fn lower(
     target: Target<'_>,
     bounds: &VarBox,
 ) -> Result<LoweredLoop, Refusal>
-    requires { IsRightNest bounds.now depth (stmt_of stmt.now) }
+    requires { IsRightNest bounds.now depth (stmt_of stmt.now)
+        × HavePlaces target.layout.now target.registers (stmt_of stmt.now) }
     ensures lowered { IfOk result
         (IsLowered target.entry.layout.now target.entry.registers bounds.now depth
         (stmt_of stmt.now) parallel.now.roles) }
@@ -146,7 +147,8 @@ fn lower_whole(
     target: Target<'_>,
     bounds: &VarBox,
 ) -> Result<LoweredLoop, Refusal>
-    requires { IsRightNest bounds.now depth (stmt_of stmt.now) }
+    requires { IsRightNest bounds.now depth (stmt_of stmt.now)
+        × HavePlaces target.layout.now target.registers (stmt_of stmt.now) }
     ensures lowered { IfOk result
         (IsLowered target.entry.layout.now target.entry.registers bounds.now depth
         (stmt_of stmt.now) parallel.now.roles) }
@@ -169,7 +171,8 @@ fn lower_part(
     target: Target<'_>,
     bounds: &VarBox,
 ) -> Result<LoweredLoop, Refusal>
-    requires { IsRightNest bounds.now depth (stmt_of stmt.now) }
+    requires { IsRightNest bounds.now depth (stmt_of stmt.now)
+        × HavePlaces target.layout.now target.registers (stmt_of stmt.now) }
     ensures lowered { IfOk result
         (IsLowered target.entry.layout.now target.entry.registers bounds.now depth
         (stmt_of stmt.now) parallel.now.roles) }
@@ -212,7 +215,8 @@ fn way_of(
     bounds: &VarBox,
     lowered: &LoweredLoop,
 ) -> Result<Way, Refusal>
-    requires { IsRightNest bounds.now depth (stmt_of stmt.now) }
+    requires { IsRightNest bounds.now depth (stmt_of stmt.now)
+        × HavePlaces target.layout.now target.registers (stmt_of stmt.now) }
     ensures way { IfOk result
         (IsWay target.entry.layout.now target.entry.registers bounds.now (inside_told loops.entry)
         parallel.now.line.line depth (stmt_of stmt.now) parallel.now.roles) }
@@ -244,7 +248,7 @@ fn way_of(
 //
 // # Errors
 //
-// `OutOfMemory` alone. It stands also for a variable with a role that is no scalar: a kernel that is accepted has no such one.
+// Where memory runs out.
 pub(crate) fn loop_for_team<'k>(
     alloc: Global,
     loops: Loops<'_>,
@@ -253,7 +257,8 @@ pub(crate) fn loop_for_team<'k>(
     target: Target<'_>,
     bounds: &VarBox,
 ) -> Result<TeamLoop<'k>, Refusal>
-    requires { IsLoopOf loops.parallel.now bounds.now directive.line (stmt_of stmt.now) }
+    requires { IsLoopOf target.layout.now target.registers loops.parallel.now bounds.now
+        directive.line (stmt_of stmt.now) }
     ensures handed { IfOk result
         (IsHanded target.entry.layout.now target.entry.registers bounds.now loops.entry directive
         (stmt_of stmt.now)) }

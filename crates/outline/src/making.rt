@@ -7,6 +7,7 @@ ghost use Rattle.ktree.specs.View.{stmt_of, items_of, cond_of, if_of};
 ghost use Rattle.ktree.specs.declared.refusal.Refusal.TheVariants.{OutOfMemory};
 ghost use Rattle.affine.specs.declared.interval.Side.{Side};
 ghost use Rattle.flow.specs.declared.environment.ParallelLoop.{ParallelLoop};
+ghost use Rattle.lower_code.specs.declared.term.Laid.{Laid};
 ghost use Rattle.outline.specs.declared.handing.Loops.{Loops};
 ghost use Rattle.semantics.specs.Tree.{Declaration};
 ghost use Rattle.flow.specs.Roles.{LineData, ItemsHaveBy};
@@ -62,12 +63,12 @@ fn outline_serial<'k>(
 
 // Goes into the loop of a head.
 fn go_into(alloc: Global, head: &Head, body: &Stmt, bounds: &mut VarBox) -> Result<(), Refusal>
-    requires { (loops : List ParallelLoop)
-        × HasRightLoops loops bounds.old (loop_with head.now (stmt_of body.now)) }
+    requires { (layout : List Laid) × (mark : ℕ) × (loops : List ParallelLoop)
+        × HasRightLoops layout mark loops bounds.old (loop_with head.now (stmt_of body.now)) }
     ensures ok { OnOk result (IsInside head.now bounds.old bounds.new) }
-    ensures right { OnOk result ((loops : List ParallelLoop)
-        → HasRightLoops loops bounds.old (loop_with head.now (stmt_of body.now))
-        → HasRightLoops loops bounds.new (stmt_of body.now)) }
+    ensures right { OnOk result ((layout : List Laid) (mark : ℕ) (loops : List ParallelLoop)
+        → HasRightLoops layout mark loops bounds.old (loop_with head.now (stmt_of body.now))
+        → HasRightLoops layout mark loops bounds.new (stmt_of body.now)) }
     ensures refusal { IfErr result (λ refusal. refusal ≡ OutOfMemory) }
 {
     enter(alloc, head, body, bounds)?;
@@ -138,7 +139,8 @@ fn outline_inside<'k>(
     target: Target<'_>,
     bounds: &mut VarBox,
 ) -> Result<Box<Outline<'k>>, Refusal>
-    requires { HasRightLoops loops.parallel.now bounds.old (stmt_of stmt.now) }
+    requires { HasRightLoops target.layout.now target.registers loops.parallel.now bounds.old
+        (stmt_of stmt.now) }
     ensures made { IfOk result (λ o. IsMade target.entry.layout.now target.entry.registers
         loops.entry
         bounds.old None (stmt_of stmt.now) o.value) }
@@ -184,7 +186,8 @@ fn outline_behind<'k>(
     target: Target<'_>,
     bounds: &mut VarBox,
 ) -> Result<Box<Outline<'k>>, Refusal>
-    requires { IsRightBehind loops.parallel.now bounds.old directive (stmt_of stmt.now) }
+    requires { IsRightBehind target.layout.now target.registers loops.parallel.now bounds.old
+        directive (stmt_of stmt.now) }
     ensures made { IfOk result (λ o. IsMade target.entry.layout.now target.entry.registers
         loops.entry
         bounds.old directive (stmt_of stmt.now) o.value) }
@@ -210,7 +213,8 @@ fn outline_item<'k>(
     target: Target<'_>,
     bounds: &mut VarBox,
 ) -> Result<OutlineItem<'k>, Refusal>
-    requires { ItemIsRight loops.parallel.now bounds.old directive item.now }
+    requires { ItemIsRight target.layout.now target.registers loops.parallel.now bounds.old
+        directive item.now }
     ensures made { IfOk result (λ o. IsMadeItem target.entry.layout.now target.entry.registers
         loops.entry bounds.old directive item.now o) }
     ensures back { OnOk result (bounds.new ≡ bounds.old) }
@@ -233,7 +237,8 @@ fn outline_items<'k>(
     target: Target<'_>,
     bounds: &mut VarBox,
 ) -> Result<Vec<OutlineItem<'k>>, Refusal>
-    requires { HaveRightLoops loops.parallel.now bounds.old (items_of items.now) }
+    requires { HaveRightLoops target.layout.now target.registers loops.parallel.now bounds.old
+        (items_of items.now) }
     ensures made { IfOk result (λ os. AreMade target.entry.layout.now target.entry.registers
         loops.entry bounds.old None items.now os.items) }
     ensures back { OnOk result (bounds.new ≡ bounds.old) }
@@ -253,18 +258,19 @@ fn outline_items<'k>(
 /// reduction and lastprivate variables of its line that it assigns from outside (OpenMP 5.2, 5.4.5 and 5.5.8), that of a scan also for
 /// the first of its two passes (5.6), and a doacross nest with its sinks (15.9.6); all else is compiled for one thread, over registers below that number for the locals.
 /// The body is that of an accepted kernel: its loops are canonical, and behind each of its directive lines stands one of these parallel loops,
-/// in a right nest (4.4.1 and 4.4.3).
+/// in a right nest (4.4.1 and 4.4.3), which assigns from outside only scalars that have a cell or a register.
 ///
 /// # Errors
 ///
-/// `OutOfMemory` alone. It stands also for such a variable that is no scalar: a kernel that is accepted has no such one.
+/// Where memory runs out.
 pub fn outline<'k>(
     alloc: Global,
     items: &'k [Item],
     loops: Loops<'_>,
     target: Target<'_>,
 ) -> Result<Vec<OutlineItem<'k>>, Refusal>
-    requires { HaveRightLoops loops.parallel.now [] (items_of items.now) }
+    requires { HaveRightLoops target.layout.now target.registers loops.parallel.now []
+        (items_of items.now) }
     ensures is { IfOk result (λ os. (R : LineData)
         → items_performed R [] os.items ≡ apart_items R [] (items_of items.now)) }
     ensures fits { IfOk result

@@ -1,17 +1,15 @@
 //! Where the variables stand that leave something behind a loop.
 
-ghost use Rattle.std.specs.Prelude.{◌≡◌, ◌<◌, [], Some, length, filter, IfOk, IfErr, IfSome};
+ghost use Rattle.std.specs.Prelude.{◌≡◌, filter, IfOk, IfErr};
 ghost use Rattle.semantics.specs.Meaning.Agrees.{is_among};
-ghost use Rattle.semantics.specs.Meaning.Places.{size};
 ghost use Rattle.law_commute.specs.Targets.{targets_outside};
 ghost use Rattle.ktree.specs.View.{stmt_of};
 ghost use Rattle.ktree.specs.declared.refusal.Refusal.TheVariants.{OutOfMemory};
 ghost use Rattle.flow_reduction.specs.Reduced.{reduced};
 ghost use Rattle.flow.specs.Parallel.{numbers};
 ghost use Rattle.law_independence.specs.OrderLaws.{used_roles};
-ghost use Rattle.lower_code.specs.Layout as cells;
-ghost use Rattle.lower_code.specs.Layout.{shapes_of};
 ghost use Rattle.lower.specs.Roles.{StandsAt, StandEach, AreReduced, AreRolesAt};
+ghost use Rattle.outline.specs.Accepted.{HasPlace, HavePlaces};
 ghost use Rattle.outline.specs.Handed.{roles_of};
 
 use crate::compiling::Target;
@@ -20,60 +18,16 @@ use flow::LoopRoles;
 use flow_reduction::Reduction;
 use ktree::{Refusal, Stmt, VarId};
 use lower::{LoweredReduction, LoweredRoles, Spot};
-use lower_code::Laid;
 use std::alloc::{AllocError, Global};
 
-// The number of an array's elements.
-fn elements(lengths: &[u64]) -> Option<u64>
-    ensures { IfSome result (λ count. count ≡ size lengths.now) }
-{
-    let mut count = 1u64;
-    for length in lengths {
-        count = count.checked_mul(*length)?;
-    }
-    Some(count)
-}
-
-// Where the elements of a variable at file scope begin among the cells: behind those of all variables before it.
-fn first_cell(layout: &[Laid], variable: usize) -> Option<u64>
-    requires { variable < length layout.now }
-    ensures { IfSome result (λ first. first ≡ cells.first_of (shapes_of layout.now) variable) }
-{
-    let mut first = 0u64;
-    for before in 0..variable {
-        let count = elements(&layout[before].lengths)?;
-        first = first.checked_add(count)?;
-    }
-    Some(first)
-}
-
-// The cell of a scalar at file scope.
-fn cell_of(layout: &[Laid], variable: VarId) -> Option<u64>
-    requires { variable.0 < length layout.now }
-    ensures { IfSome result (λ place. cells.spot (shapes_of layout.now) variable.0 []
-        ≡ Some place) }
-{
-    let own = &layout[variable.0 as usize];
-    if own.lengths.is_empty() {
-        first_cell(layout, variable.0 as usize)
-    } else {
-        None
-    }
-}
-
 // Where a scalar stands: at file scope are the variables of the layout, and a local has the register of its number (C11 6.2.1).
-// None for an array, and for a local without a register.
-fn spot_of(variable: VarId, target: Target<'_>) -> Option<Spot>
-    ensures { IfSome result
-        (StandsAt target.entry.layout.now target.entry.registers variable.0) }
+fn spot_of(variable: VarId, target: Target<'_>) -> Spot
+    requires { HasPlace target.layout.now target.registers variable.0 }
+    ensures { StandsAt target.entry.layout.now target.entry.registers variable.0 result }
 {
-    if (variable.0 as usize) < target.layout.len() {
-        let place = cell_of(target.layout, variable)?;
-        Some(Spot::Cell(place))
-    } else if variable.0 < target.registers {
-        Some(Spot::Register(variable))
-    } else {
-        None
+    match target.layout.get(variable.0 as usize) {
+        Some(own) => Spot::Cell(own.first),
+        None => Spot::Register(variable),
     }
 }
 
@@ -84,6 +38,7 @@ fn lower_reductions(
     stmt: &Stmt,
     target: Target<'_>,
 ) -> Result<Vec<LoweredReduction>, Refusal>
+    requires { HavePlaces target.layout.now target.registers (stmt_of stmt.now) }
     ensures ok { IfOk result
         (λ ls. AreReduced target.entry.layout.now target.entry.registers
         (filter (λ r. is_among (targets_outside (stmt_of stmt.now)) r.0) (reduced reductions.now))
@@ -93,9 +48,7 @@ fn lower_reductions(
     let mut lowered = Vec::new(alloc);
     for reduction in reductions {
         if assigns_outside(stmt, reduction.variable) {
-            let Some(spot) = spot_of(reduction.variable, target) else {
-                return Err(Refusal::OutOfMemory);
-            };
+            let spot = spot_of(reduction.variable, target);
             let operator = reduction.operator;
             lowered.push(LoweredReduction { operator, spot })?;
         }
@@ -110,6 +63,7 @@ fn lower_lasts(
     stmt: &Stmt,
     target: Target<'_>,
 ) -> Result<Vec<Spot>, Refusal>
+    requires { HavePlaces target.layout.now target.registers (stmt_of stmt.now) }
     ensures ok { IfOk result
         (λ spots. StandEach target.entry.layout.now target.entry.registers
         (filter (is_among (targets_outside (stmt_of stmt.now))) (numbers lasts.now))
@@ -119,10 +73,7 @@ fn lower_lasts(
     let mut spots = Vec::new(alloc);
     for variable in lasts {
         if assigns_outside(stmt, *variable) {
-            let Some(spot) = spot_of(*variable, target) else {
-                return Err(Refusal::OutOfMemory);
-            };
-            spots.push(spot)?;
+            spots.push(spot_of(*variable, target))?;
         }
     }
     Ok(spots)
@@ -146,6 +97,7 @@ pub(crate) fn lower_roles(
     stmt: &Stmt,
     target: Target<'_>,
 ) -> Result<LoweredRoles, Refusal>
+    requires { HavePlaces target.layout.now target.registers (stmt_of stmt.now) }
     ensures ok { IfOk result
         (AreRolesAt target.entry.layout.now target.entry.registers
         (used_roles (stmt_of stmt.now) (roles_of kept.now))) }

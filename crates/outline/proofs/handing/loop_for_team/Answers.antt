@@ -7,11 +7,11 @@ use Rattle.outline.proofs.handing.loop_for_team.Goals as goal
 
 pub lower_whole-requires : goal.lower_whole-requires
 lower_whole-requires c =
-    subst (λ (n : ℕ). IsRightNest c.args.bounds.now n (stmt_of c.args.stmt.now)) (sym c.associated_loops-depth.ensures) (c.requires.nest c.loop_at-parallel.result.now c.loop_at-parallel.ensures)
+    (subst (λ (n : ℕ). IsRightNest c.args.bounds.now n (stmt_of c.args.stmt.now)) (sym c.associated_loops-depth.ensures) (c.requires.nest c.loop_at-parallel.result.now c.loop_at-parallel.ensures), c.requires.places)
 
 pub way_of-requires : goal.way_of-requires
 way_of-requires c =
-    subst (λ (n : ℕ). IsRightNest c.args.bounds.now n (stmt_of c.args.stmt.now)) (sym c.associated_loops-depth.ensures) (c.requires.nest c.loop_at-parallel.result.now c.loop_at-parallel.ensures)
+    (subst (λ (n : ℕ). IsRightNest c.args.bounds.now n (stmt_of c.args.stmt.now)) (sym c.associated_loops-depth.ensures) (c.requires.nest c.loop_at-parallel.result.now c.loop_at-parallel.ensures), c.requires.places)
 
 pub returns-clause-handed : goal.returns-clause-handed
 returns-clause-handed c = record {

@@ -29,7 +29,7 @@ outline_inside-returns-in_ok-inner-in-For-clause-made t c =
 pub outline_inside-outline_items-requires : goal.outline_inside-outline_items-requires
 outline_inside-outline_items-requires t c = (
   search (rules, the_lemmas),
-  subst (HasRightLoops c.args.loops.parallel.now c.args.bounds.now) (block_is c.args.stmt.now c.in-Block.items c.deref-in-Block.result.now c.in-Block.is c.deref-in-Block.ensures.value) c.requires,
+  subst (HasRightLoops c.args.target.layout.now c.args.target.registers c.args.loops.parallel.now c.args.bounds.now) (block_is c.args.stmt.now c.in-Block.items c.deref-in-Block.result.now c.in-Block.is c.deref-in-Block.ensures.value) c.requires,
 )
 
 pub outline_inside-returns-in_ok-new-in-Block-clause-made : goal.outline_inside-returns-in_ok-new-in-Block-clause-made
@@ -50,10 +50,10 @@ outline_items-loop-item-preserved t c =
     let mark = c.args.target.registers in
     let made = subst (λ b. IsMadeItem layout mark c.args.loops b c.loop-item.directive c.item-item.result c.in_ok-outline.outline) c.loop-item.invariant.1 c.in_ok-outline.ensures.made in
     let next = next_so_far layout mark c.args.loops c.args.bounds.now c.args.items.now c.loop-item.item-index c.loop-item.outlines.items c.loop-item.directive c.directive_place-directive.result c.item-item.result c.in_ok-outline.outline c.loop-item-test.true c.item-item.is c.loop-item.invariant.0 made c.directive_place-directive.ensures in
-    let right = item_right c.args.loops.parallel.now c.args.bounds.now c.loop-item.directive c.args.items.now c.loop-item.item-index c.item-item.result c.loop-item-test.true c.item-item.is c.loop-item.invariant.2 in (
+    let right = item_right layout mark c.args.loops.parallel.now c.args.bounds.now c.loop-item.directive c.args.items.now c.loop-item.item-index c.item-item.result c.loop-item-test.true c.item-item.is c.loop-item.invariant.2 in (
       subst (λ os. SoFar layout mark c.args.loops c.args.bounds.now c.args.items.now (c.loop-item.item-index + 1) os c.directive_place-directive.result) (sym c.in_ok-push.ensures.items) next,
       c.in_ok-outline.ensures.back ∙ c.loop-item.invariant.1,
-      subst (λ d. ItemsAreRight c.args.loops.parallel.now c.args.bounds.now d (items_of (drop (c.loop-item.item-index + 1) c.args.items.now))) (sym c.directive_place-directive.ensures) right.1,
+      subst (λ d. ItemsAreRight layout mark c.args.loops.parallel.now c.args.bounds.now d (items_of (drop (c.loop-item.item-index + 1) c.args.items.now))) (sym c.directive_place-directive.ensures) right.1,
     )
 
 pub outline_items-returns-clause-made : goal.outline_items-returns-clause-made

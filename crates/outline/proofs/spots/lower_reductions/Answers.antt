@@ -8,7 +8,7 @@ use Rattle.ktree.specs.View.{stmt_of}
 use Rattle.flow_reduction.specs.Reduced.{reduced}
 use Rattle.lower.specs.Roles.{AreReduced}
 use Rattle.outline.proofs.Standing.{reduced_next, reduced_same}
-use Rattle.outline.proofs.spots.lower_reductions.Goals.{then-assigns_outside+in-Some+in_ok-push, else-assigns_outside}
+use Rattle.outline.proofs.spots.lower_reductions.Goals.{then-assigns_outside+in_ok-push, else-assigns_outside}
 use Rattle.outline.proofs.spots.lower_reductions.Goals as goal
 
 pub loop-reduction-preserved : goal.loop-reduction-preserved
@@ -19,9 +19,9 @@ loop-reduction-preserved c =
     let rs = c.args.reductions.now in
     let i = c.loop-reduction.reduction-index in
     elim c.if-assigns_outside.branch [
-      | then-assigns_outside+in-Some+in_ok-push w ↦
+      | then-assigns_outside+in_ok-push w ↦
           subst (AreReduced layout mark (filter p (reduced (take (i + 1) rs)))) (sym (ap (λ v. v.items) w.lowered-is ∙ w.in_ok-push.ensures.items))
-          (reduced_next layout mark p rs i _ c.loop-reduction-test.true c.loop-reduction.lowered.items c.loop-reduction.invariant w.in-Some.spot (sym c.assigns_outside.ensures ∙ w.if-assigns_outside.true) w.in-Some.ensures)
+          (reduced_next layout mark p rs i _ c.loop-reduction-test.true c.loop-reduction.lowered.items c.loop-reduction.invariant w.spot_of-spot.result (sym c.assigns_outside.ensures ∙ w.if-assigns_outside.true) w.spot_of-spot.ensures)
       | else-assigns_outside w ↦
           subst (AreReduced layout mark (filter p (reduced (take (i + 1) rs)))) (sym (ap (λ v. v.items) w.lowered-is))
           (reduced_same layout mark p rs i _ c.loop-reduction-test.true c.loop-reduction.lowered.items c.loop-reduction.invariant (sym c.assigns_outside.ensures ∙ w.if-assigns_outside.false))
