@@ -1,10 +1,9 @@
 //! Where the variables stand that leave something behind a loop.
 
-ghost use Rattle.std.specs.Prelude.{◌≡◌, filter, IfOk, IfErr};
+ghost use Rattle.std.specs.Prelude.{◌≡◌, filter, IfOk};
 ghost use Rattle.semantics.specs.Meaning.Agrees.{is_among};
 ghost use Rattle.law_commute.specs.Targets.{targets_outside};
 ghost use Rattle.ktree.specs.View.{stmt_of};
-ghost use Rattle.ktree.specs.declared.refusal.Refusal.TheVariants.{OutOfMemory};
 ghost use Rattle.flow_reduction.specs.Reduced.{reduced};
 ghost use Rattle.flow.specs.Parallel.{numbers};
 ghost use Rattle.law_independence.specs.OrderLaws.{used_roles};
@@ -16,7 +15,7 @@ use crate::compiling::Target;
 use crate::targets::assigns_outside;
 use flow::LoopRoles;
 use flow_reduction::Reduction;
-use ktree::{Refusal, Stmt, VarId};
+use ktree::{Stmt, VarId};
 use lower::{LoweredReduction, LoweredRoles, Spot};
 use std::alloc::{AllocError, Global};
 
@@ -37,13 +36,12 @@ fn lower_reductions(
     reductions: &[Reduction],
     stmt: &Stmt,
     target: Target<'_>,
-) -> Result<Vec<LoweredReduction>, Refusal>
+) -> Result<Vec<LoweredReduction>, AllocError>
     requires { HavePlaces target.layout.now target.registers (stmt_of stmt.now) }
-    ensures ok { IfOk result
+    ensures { IfOk result
         (λ ls. AreReduced target.entry.layout.now target.entry.registers
         (filter (λ r. is_among (targets_outside (stmt_of stmt.now)) r.0) (reduced reductions.now))
         ls.items) }
-    ensures refusal { IfErr result (λ refusal. refusal ≡ OutOfMemory) }
 {
     let mut lowered = Vec::new(alloc);
     for reduction in reductions {
@@ -62,13 +60,12 @@ fn lower_lasts(
     lasts: &[VarId],
     stmt: &Stmt,
     target: Target<'_>,
-) -> Result<Vec<Spot>, Refusal>
+) -> Result<Vec<Spot>, AllocError>
     requires { HavePlaces target.layout.now target.registers (stmt_of stmt.now) }
-    ensures ok { IfOk result
+    ensures { IfOk result
         (λ spots. StandEach target.entry.layout.now target.entry.registers
         (filter (is_among (targets_outside (stmt_of stmt.now))) (numbers lasts.now))
         spots.items) }
-    ensures refusal { IfErr result (λ refusal. refusal ≡ OutOfMemory) }
 {
     let mut spots = Vec::new(alloc);
     for variable in lasts {
@@ -96,12 +93,11 @@ pub(crate) fn lower_roles(
     kept: &LoopRoles,
     stmt: &Stmt,
     target: Target<'_>,
-) -> Result<LoweredRoles, Refusal>
+) -> Result<LoweredRoles, AllocError>
     requires { HavePlaces target.layout.now target.registers (stmt_of stmt.now) }
-    ensures ok { IfOk result
+    ensures { IfOk result
         (AreRolesAt target.entry.layout.now target.entry.registers
         (used_roles (stmt_of stmt.now) (roles_of kept.now))) }
-    ensures refusal { IfErr result (λ refusal. refusal ≡ OutOfMemory) }
 {
     let reduced = left_reductions(alloc, kept)?;
     let reductions = lower_reductions(alloc, &reduced, stmt, target)?;
