@@ -21,7 +21,7 @@ use ktree::{BinaryOp, Cond, Expr, Head, Item, Place, ReductionOperator, Source, 
 
 /// Which of the names in an update is told where its operand names reduction variables: where the variable that is updated is among
 /// them, the whole is no update of it, and it is named first on the left.
-fn told(target: &Target, own: Option<Place>, any: Option<Place>) -> Option<Place>
+fn name_at_fault(target: &Target, own: Option<Place>, any: Option<Place>) -> Option<Place>
     ensures { is_none result ≡ is_none any }
 {
     match any {
@@ -47,7 +47,7 @@ fn number_misuse(
         variable: target.variable,
         operator,
     }];
-    told(
+    name_at_fault(
         target,
         named_in_expression(operand, &own),
         named_in_expression(operand, reductions),
@@ -68,7 +68,7 @@ fn truth_misuse(
         variable: target.variable,
         operator,
     }];
-    told(
+    name_at_fault(
         target,
         named_in_condition(operand, &own),
         named_in_condition(operand, reductions),

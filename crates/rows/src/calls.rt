@@ -335,7 +335,7 @@ struct Task {
 }
 
 /// How a task ends.
-fn ended<R: Threads + Wait + Sync, G: Gate + Sync, S: Sink>(
+fn end_of_task<R: Threads + Wait + Sync, G: Gate + Sync, S: Sink>(
     rt: &R,
     alloc: Global,
     task: Task,
@@ -366,7 +366,7 @@ fn ends<R: Threads + Wait + Sync, G: Gate + Sync>(
     output: &[u8],
 ) -> bool {
     let mut sink = Memory::new(alloc);
-    ended(rt, alloc, task, gate, &mut sink) == wanted && sink.bytes() == output
+    end_of_task(rt, alloc, task, gate, &mut sink) == wanted && sink.bytes() == output
 }
 
 /// Whether so many workers increment an array of ones.
@@ -409,7 +409,7 @@ fn is_told_by_a_team<R: Threads + Wait + Sync>(rt: &R, alloc: Global, text: &'st
         workers: 2,
     };
     let mut sink = Closed { failures: 0 };
-    ended(rt, alloc, task, &OpenGate, &mut sink) == End::OutputFailed && sink.failures == 1
+    end_of_task(rt, alloc, task, &OpenGate, &mut sink) == End::OutputFailed && sink.failures == 1
 }
 
 #[test]
@@ -433,7 +433,7 @@ fn is_told_slowly<R: Threads + Wait + Sync>(
         workers: 2,
     };
     let mut sink = OneByte::new(alloc, failing);
-    ended(rt, alloc, task, &OpenGate, &mut sink) == wanted
+    end_of_task(rt, alloc, task, &OpenGate, &mut sink) == wanted
         && sink.failures == failures
         && sink.bytes.as_slice() == told
 }

@@ -254,7 +254,7 @@ const NEVER: &str = "for (uint64_t i = 3; i < 3; i++) A[i] = 7;";
 type Entered = (u64, u64, u64);
 
 /// This of a loop, by so many workers.
-fn entered_in<R: Threads + Wait + Sync>(
+fn entries_in<R: Threads + Wait + Sync>(
     rt: &R,
     alloc: Global,
     lowered: &LoweredLoop,
@@ -277,7 +277,7 @@ fn entered_in<R: Threads + Wait + Sync>(
 }
 
 /// The same of the loop at a text's end, behind such a clause.
-fn entered<R: Threads + Wait + Sync>(
+fn entries<R: Threads + Wait + Sync>(
     rt: &R,
     alloc: Global,
     lines: &str,
@@ -286,46 +286,46 @@ fn entered<R: Threads + Wait + Sync>(
 ) -> Option<Entered> {
     let site = over(lines);
     let lowered = lower_nest(alloc, site, schedule)?;
-    entered_in(rt, alloc, &lowered, site, count)
+    entries_in(rt, alloc, &lowered, site, count)
 }
 
 #[test]
 fn workers_enter_their_own_chunks(rt: HostRuntime) {
     let heap = rt.alloc();
     let threes = Some(Schedule::StaticChunks(size(&rt, 3)));
-    assert!(rt; entered(&rt, heap, NUMBERS, threes, 2) == Some((15, 4, 0)));
-    assert!(rt; entered(&rt, heap, NUMBERS, None, 64) == Some((1023, 10, 0)));
-    assert!(rt; entered(&rt, heap, NUMBERS, Some(Schedule::Static), 3) == Some((7, 3, 0)));
+    assert!(rt; entries(&rt, heap, NUMBERS, threes, 2) == Some((15, 4, 0)));
+    assert!(rt; entries(&rt, heap, NUMBERS, None, 64) == Some((1023, 10, 0)));
+    assert!(rt; entries(&rt, heap, NUMBERS, Some(Schedule::Static), 3) == Some((7, 3, 0)));
     // The worker of the only chunk enters it as others do.
-    assert!(rt; entered(&rt, heap, NUMBERS, None, 1) == Some((1, 1, 0)));
+    assert!(rt; entries(&rt, heap, NUMBERS, None, 1) == Some((1, 1, 0)));
 }
 
 /// Which chunks are entered, and how many these are.
-fn drawn<R: Threads + Wait + Sync>(
+fn draws<R: Threads + Wait + Sync>(
     rt: &R,
     alloc: Global,
     schedule: Schedule,
     count: u64,
 ) -> Option<(u64, u64)> {
-    let (chunks, number, _others) = entered(rt, alloc, NUMBERS, Some(schedule), count)?;
+    let (chunks, number, _others) = entries(rt, alloc, NUMBERS, Some(schedule), count)?;
     Some((chunks, number))
 }
 
 #[test]
 fn each_drawn_chunk_is_entered_once(rt: HostRuntime) {
     let heap = rt.alloc();
-    assert!(rt; drawn(&rt, heap, Schedule::Dynamic(size(&rt, 3)), 2) == Some((15, 4)));
-    assert!(rt; drawn(&rt, heap, Schedule::Dynamic(size(&rt, 1)), 64) == Some((1023, 10)));
-    assert!(rt; drawn(&rt, heap, Schedule::Guided(size(&rt, 1)), 3) == Some((31, 5)));
-    assert!(rt; drawn(&rt, heap, Schedule::Guided(size(&rt, 3)), 3) == Some((7, 3)));
-    assert!(rt; drawn(&rt, heap, Schedule::Dynamic(size(&rt, 16)), 3) == Some((1, 1)));
+    assert!(rt; draws(&rt, heap, Schedule::Dynamic(size(&rt, 3)), 2) == Some((15, 4)));
+    assert!(rt; draws(&rt, heap, Schedule::Dynamic(size(&rt, 1)), 64) == Some((1023, 10)));
+    assert!(rt; draws(&rt, heap, Schedule::Guided(size(&rt, 1)), 3) == Some((31, 5)));
+    assert!(rt; draws(&rt, heap, Schedule::Guided(size(&rt, 3)), 3) == Some((7, 3)));
+    assert!(rt; draws(&rt, heap, Schedule::Dynamic(size(&rt, 16)), 3) == Some((1, 1)));
 }
 
 #[test]
 fn no_gate_is_entered_without_iterations(rt: HostRuntime) {
     let heap = rt.alloc();
-    assert!(rt; entered(&rt, heap, NEVER, None, 64) == Some((0, 0, 0)));
+    assert!(rt; entries(&rt, heap, NEVER, None, 64) == Some((0, 0, 0)));
     assert!(rt;
-        entered(&rt, heap, NEVER, Some(Schedule::Dynamic(size(&rt, 1))), 64) == Some((0, 0, 0))
+        entries(&rt, heap, NEVER, Some(Schedule::Dynamic(size(&rt, 1))), 64) == Some((0, 0, 0))
     );
 }
