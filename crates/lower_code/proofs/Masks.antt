@@ -1,8 +1,7 @@
 -- The remainder by a power of two, as the bits below it.
-use Rattle.std.proofs.Common.{◌≡◌, ℕ, zero, suc, ◌-◌, ◌*◌, ◌%◌, ◌^◌, ◌<◌, sym, ap, ◌∙◌, arith}
+use Rattle.std.proofs.Common.{◌≡◌, ℕ, zero, suc, ◌-◌, ◌*◌, ◌%◌, ◌^◌, sym, ap, ◌∙◌, arith}
 use Rattle.std.specs.Int.Bits.{bit_and}
 use Rattle.std.proofs.lemmas.Nat.{and_mask, one_shl, pow_pos}
-use Rattle.std.proofs.Math.Nat.{mod-lt}
 use Rattle.semantics.specs.Tree
 use Rattle.lower_code.specs.Machine.{operate_or_zero}
 
