@@ -3,6 +3,7 @@
 ghost use Rattle.std.specs.Prelude.{◌≡◌, length, IfOk, IfErr};
 ghost use Rattle.ktree.specs.declared.refusal.Refusal.TheVariants.{OutOfMemory};
 ghost use Rattle.lower.specs.Lowered.{IsSpaceOf, values_in};
+ghost use Rattle.nest_space.specs.Rises.{EachRises, HeadsRise};
 
 use crate::roles::LoweredRoles;
 use ktree::{Refusal, Schedule, VarId};
@@ -50,6 +51,7 @@ impl LoweredLoop {
     pub fn space(&self, alloc: Global, registers: &[u64]) -> Result<Space, Refusal>
         ensures loops { IfOk result (λ space. length space ≡ length self.now.loops.items) }
         ensures iterations { IfOk result (IsSpaceOf self.now registers.now) }
+        ensures rise { IfOk result (λ space. HeadsRise self.now.loops.items → EachRises space) }
         ensures refusal { IfErr result (λ refusal. refusal ≡ OutOfMemory) }
     {
         let values = values_at(alloc, &self.around, registers)?;

@@ -6,3 +6,4 @@ pub mod Walks
 pub mod Nesting
 pub mod Runs
 pub mod Along
+pub mod Rising

@@ -3,7 +3,6 @@
 ghost use Rattle.std.specs.Prelude.{◌≡◌, ◌*◌, ◌+◌, ◌/◌, ◌<◌, ◌≤◌, ◌↔◌, ◌∷◌, [], ℕ, length, All, ◌%◌, ◌^◌, slice_get, Some, None, IsTrue, MatchOption, ⊤};
 ghost use Rattle.std.specs.Option.{SomeIff};
 ghost use Rattle.nest_space.specs.Space.{Turns, product, vectors, IsSpace};
-ghost use Rattle.nest_space.specs.Rises.{EachRises};
 ghost use Rattle.nest_space.specs.Rows.{turns_inside, IsRow};
 ghost use Rattle.nest_space.specs.Sinks.{IsSinkAt, HasNoSink};
 
@@ -119,16 +118,6 @@ fn step(loops: &[LoopTurns], values: &mut [u64])
     }
 }
 
-/// Whether each of these loops rises.
-fn rise(loops: &[LoopTurns]) -> bool
-    ensures { IsTrue result ↔ EachRises loops.now }
-{
-    match loops.split_first() {
-        None => true,
-        Some((first, rest)) => first.rises() && rise(rest),
-    }
-}
-
 /// The row of these loops' vectors that begins at a number.
 fn row_at(loops: &[LoopTurns], number: u64) -> Row
     requires { number < product loops.now }
@@ -168,6 +157,13 @@ impl Space {
         ensures { result ≡ length (vectors self.now) }
     {
         self.count
+    }
+
+    /// How many loops it has.
+    pub fn depth(&self) -> usize
+        ensures { result ≡ length self.now }
+    {
+        self.loops.len()
     }
 
     /// A space has at most 2^24 vectors.
@@ -221,12 +217,5 @@ impl Space {
             return None;
         }
         number_at(self.loops.as_slice(), values, distance)
-    }
-
-    /// Whether each of its loops rises, as those of a doacross nest do (OpenMP 5.2, 15.9.6).
-    pub fn rises(&self) -> bool
-        ensures { IsTrue result ↔ EachRises self.now }
-    {
-        rise(self.loops.as_slice())
     }
 }

@@ -10,5 +10,6 @@ mod turns;
 
 pub use bounds::{Value, turns_at, value_at};
 pub use iterations::{Space, product_within};
+pub use nests::rise;
 pub use rows::Row;
 pub use turns::LoopTurns;

@@ -136,14 +136,6 @@ impl LoopTurns {
         self.count
     }
 
-    /// Whether it rises.
-    pub(crate) fn rises(self) -> bool
-        ensures rises { IsTrue result ↔ (self.stride.direction ≡ Rising) }
-        ensures least { 1 ≤ self.stride.by }
-    {
-        self.stride.direction == Direction::Rising
-    }
-
     /// Where its variable begins.
     pub(crate) fn first(self) -> u64
         ensures { result ≡ self.first }

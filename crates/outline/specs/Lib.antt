@@ -4,3 +4,4 @@ pub mod Given
 pub mod Handed
 pub mod Made
 pub mod View
+pub mod Waved

@@ -8,6 +8,7 @@ ghost use Rattle.outline.specs.Accepted.{HavePlaces, StandsAt, HasNest, IsLoopOf
 ghost use Rattle.ktree.specs.View.{stmt_of, items_of};
 ghost use Rattle.ktree.specs.declared.refusal.Refusal.TheVariants.{OutOfMemory};
 ghost use Rattle.outline.specs.Handed.{ListsLocals, IsBodyOf, IsBodyCode, AreItemsCode, IsLowered, IsInputIn, IsWay, IsHanded, inside_told};
+ghost use Rattle.outline.specs.Waved.{RisesInWaves};
 
 use crate::compiling::{Target, compile_items, compile_statement};
 use crate::grain::is_run_alone;
@@ -220,13 +221,14 @@ fn way_of(
     ensures way { IfOk result
         (IsWay target.entry.layout.now target.entry.registers bounds.now (inside_told loops.entry)
         parallel.now.line.line depth (stmt_of stmt.now) parallel.now.roles) }
+    ensures rise { IfOk result (RisesInWaves lowered.now) }
     ensures refusal { IfErr result (λ refusal. refusal ≡ OutOfMemory) }
 {
     if let Some(nest) = nest_at(loops.nests, parallel.line.line) {
         if is_run_alone(alloc, &nest.distances, lowered) {
             return Ok(Way::Alone);
         }
-        return waves_of(alloc, depth, &nest.distances);
+        return waves_of(alloc, depth, &nest.distances, lowered);
     }
     if !carries(&parallel.roles) {
         return Ok(Way::Chunks);

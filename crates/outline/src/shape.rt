@@ -1,5 +1,7 @@
 //! What is made of a kernel before it is run.
 
+ghost use Rattle.outline.specs.Waved.{RisesInWaves};
+
 use ktree::{Cond, Head, Item, Stmt};
 use lower::LoweredLoop;
 use lower_block::Compiled;
@@ -20,7 +22,8 @@ pub enum Way {
 }
 
 /// A loop that a team runs: the statement, the number of the directive line before it, how many loops of it are associated
-/// (OpenMP 5.2, 4.4.3), how it may be run, what it is lowered to, and the code of the whole statement for a team of one thread.
+/// (OpenMP 5.2, 4.4.3), how it may be run, what it is lowered to, and the code of the whole statement for a team of one thread. What is run
+/// in waves rises (15.9.6).
 #[derive(Drop)]
 pub struct TeamLoop<'k> {
     pub statement: &'k Stmt,
@@ -29,6 +32,7 @@ pub struct TeamLoop<'k> {
     pub way: Way,
     pub lowered: LoweredLoop,
     pub code: Compiled,
+    pub ghost rising: { RisesInWaves lowered way },
 }
 
 /// A loop's head as it is run: the first value of its variable, the test before each turn, and the step behind it (C11 6.8.5.3).

@@ -5,10 +5,13 @@ ghost use Rattle.flow_doacross.specs.Listed.{nest_at};
 ghost use Rattle.flow_doacross.specs.Views.{distance_kept, nest_part};
 ghost use Rattle.ktree.specs.declared.refusal.Refusal.TheVariants.{OutOfMemory};
 ghost use Rattle.outline.specs.Handed.{IsWavesOf};
+ghost use Rattle.outline.specs.Waved.{RisesInWaves};
 
 use crate::shape::Way;
 use flow_doacross::DoacrossLoop;
 use ktree::Refusal;
+use lower::LoweredLoop;
+use nest_space::rise;
 use std::alloc::{AllocError, Global};
 use waves::Sinks;
 
@@ -40,11 +43,21 @@ fn add_sinks(alloc: Global, distances: &[Vec<i64>], sinks: &mut Sinks) -> Result
     add_sinks(alloc, rest, sinks)
 }
 
-// The way in which a nest of so many loops may be run, the sinks of which lie so far before the iteration that names them.
-pub(crate) fn waves_of(alloc: Global, depth: u64, distances: &[Vec<i64>]) -> Result<Way, Refusal>
+// The way in which a nest of so many loops may be run, the sinks of which lie so far before the iteration that names them, and which is
+// lowered to this.
+pub(crate) fn waves_of(
+    alloc: Global,
+    depth: u64,
+    distances: &[Vec<i64>],
+    lowered: &LoweredLoop,
+) -> Result<Way, Refusal>
     ensures way { IfOk result (IsWavesOf (map distance_kept distances.now)) }
+    ensures rise { IfOk result (RisesInWaves lowered.now) }
     ensures refusal { IfErr result (λ refusal. refusal ≡ OutOfMemory) }
 {
+    if !rise(lowered.loops.as_slice()) {
+        return Ok(Way::Alone);
+    }
     let mut sinks = Sinks::new(alloc, depth as usize);
     if !add_sinks(alloc, distances, &mut sinks)? {
         return Ok(Way::Alone);

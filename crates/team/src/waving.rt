@@ -1,7 +1,7 @@
 //! Doacross nests, which a team runs wave by wave (OpenMP 5.2, 15.9.6 and 15.10.1).
 
 ghost use Rattle.std.specs.Prelude.{◌≡◌, ◌≤◌, ◌^◌, ℕ, length, map, IfOk, IfErr, OnOk};
-ghost use Rattle.nest_space.specs.Rises.{EachRises};
+ghost use Rattle.nest_space.specs.Rises.{EachRises, HeadsRise};
 ghost use Rattle.nest_space.specs.Space.{vectors};
 ghost use Rattle.schedule.specs.Sched.{kind_of, kind_said};
 ghost use Rattle.store.specs.Flat.{AreFilled, values_of};
@@ -33,27 +33,19 @@ pub struct Reached {
     pub space: Space,
 }
 
-// A doacross nest where it is reached with these registers. What is refused is want of memory; it stands also for a nest with a loop that
-// falls, or with other loops than its sinks have numbers for: no doacross nest of an accepted kernel is such.
+// A doacross nest where it is reached with these registers.
 fn reach_nest(
     alloc: Global,
     lowered: &LoweredLoop,
-    sinks: &Sinks,
     registers: &[u64],
 ) -> Result<Reached, Refusal>
+    requires { HeadsRise lowered.now.loops.items }
     ensures by { IfOk result (IsReachedBy lowered.now) }
     ensures registers { IfOk result (λ r. r.registers.items ≡ registers.now) }
     ensures rise { IfOk result (λ r. EachRises r.space) }
-    ensures loops { IfOk result (λ r. length r.space ≡ sinks.now.loops) }
     ensures refusal { IfErr result (λ refusal. refusal ≡ Refusal.OutOfMemory) }
 {
     let space = lowered.space(alloc, registers)?;
-    if !space.rises() {
-        return Err(Refusal::OutOfMemory);
-    }
-    if lowered.loops.len() as u64 != sinks.loops() {
-        return Err(Refusal::OutOfMemory);
-    }
     let registers = Vec::from_slice(alloc, registers)?;
     Ok(Reached { registers, space })
 }
@@ -217,18 +209,17 @@ fn run_waves<'l, R: Wait, G: Gate>(
     Ok(())
 }
 
-/// Runs a doacross nest on a crew that stands by, wave after wave: its iterations are taken by the levels that its sinks give them, so
-/// that each iteration waits for those that its sinks name. Each wave is cut into chunks by the schedule of the nest's clause, and for
-/// `runtime` by this one, over the positions of its iterations, with a drawing of its own where chunks are drawn; its chunks begin from
-/// the store behind the wave before, and the gate is told of each of them, by its number in its wave (OpenMP 5.2, 11.5.3, 15.9.6 and
+/// Runs a doacross nest on a crew that stands by, wave after wave: its loops rise, and its iterations are taken by the levels that its sinks
+/// give them, so that each iteration waits for those that its sinks name. Each wave is cut into chunks by the schedule of the nest's clause,
+/// and for `runtime` by this one, over the positions of its iterations, with a drawing of its own where chunks are drawn; its chunks begin
+/// from the store behind the wave before, and the gate is told of each of them, by its number in its wave (OpenMP 5.2, 11.5.3, 15.9.6 and
 /// 15.10.1). These registers stand as where the nest is reached. Where the chunks of a wave have a run each from there, each object at
 /// file scope is behind the wave as before where none of these runs changes it, and else as one of them leaves it that does. It holds
 /// for nests that have neither reduction nor lastprivate variables, and nothing is put that they print.
 ///
 /// # Errors
 ///
-/// `OutOfMemory` alone; some waves may have been run then, and the store is as behind the last of these. It stands also for a nest with a
-/// loop that falls, or with other loops than the sinks have numbers for: no doacross nest of an accepted kernel is such.
+/// `OutOfMemory` alone; some waves may have been run then, and the store is as behind the last of these.
 pub fn share_waves<'l, R: Wait, G: Gate>(
     rt: &R,
     alloc: Global,
@@ -241,13 +232,14 @@ pub fn share_waves<'l, R: Wait, G: Gate>(
     runtime: Sched,
     gate: &G,
 ) -> Result<(), Refusal>
+    requires { HeadsRise lowered.now.loops.items }
     ensures waved { OnOk result (LeavesInWaves lowered.now sinks.now.distances registers.now
         store.old store.new (kind_said lowered.now.schedule runtime) workers) }
     ensures shape { map (λ k. k.lengths) store.new ≡ map (λ k. k.lengths) store.old }
     ensures refusal { IfErr result (λ refusal. refusal ≡ Refusal.OutOfMemory) }
 {
     let sched = sched_of(lowered.schedule, runtime);
-    let reached = reach_nest(alloc, lowered, sinks, registers)?;
+    let reached = reach_nest(alloc, lowered, registers)?;
     let waves = levels(alloc, &reached.space, sinks)?;
     run_waves(
         rt, alloc, crew, lowered, reached, &waves, store, workers, &sched, gate,

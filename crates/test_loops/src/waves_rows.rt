@@ -1,6 +1,5 @@
 ghost use Rattle.std.specs.Prelude.{◌≡◌, ◌≤◌, IfSome};
 ghost use Rattle.nest_loop.specs.declared.stride.Direction.TheVariants.{Rising};
-ghost use Rattle.waves.specs.Wanted.{SinkList};
 
 use nest_loop::{Direction, Stride};
 use nest_space::{LoopTurns, Space};
@@ -21,9 +20,7 @@ fn loop_of(first: u64, count: u64) -> Option<LoopTurns>
 }
 
 /// Two sinks of a nest of three loops.
-fn sinks_of(alloc: Global, first: &[i64], second: &[i64]) -> Option<Sinks>
-    ensures { IfSome result (λ s. s.loops ≡ 3) }
-{
+fn sinks_of(alloc: Global, first: &[i64], second: &[i64]) -> Option<Sinks> {
     let mut sinks = Sinks::new(alloc, 3);
     let Ok(_first) = sinks.push(alloc, first) else {
         return None;

@@ -113,11 +113,10 @@ fn levels_by(
 /// Where memory runs out.
 pub fn levels(alloc: Global, space: &Space, sinks: &Sinks) -> Result<Waves, Refusal>
     requires rise { EachRises space.now }
-    requires loops { length space.now ≡ sinks.now.loops }
     ensures ok { IfOk result (λ ws. AreWaves (vectors space.now) sinks.now.distances ws) }
     ensures err { IfErr result (λ refusal. refusal ≡ Refusal.OutOfMemory) }
 {
-    let mut values = Vec::from_elem(alloc, 0u64, sinks.loops)?;
+    let mut values = Vec::from_elem(alloc, 0u64, space.depth())?;
     let levels = levels_by(alloc, space, &sinks.distances, &mut values)?;
     let waves = numbers_by_level(alloc, &levels)?;
     Ok(waves)

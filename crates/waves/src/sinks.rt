@@ -58,13 +58,6 @@ impl Sinks {
         }
     }
 
-    /// How many loops the nest has.
-    pub fn loops(&self) -> u64
-        ensures { result ≡ self.now.loops }
-    {
-        self.loops as u64
-    }
-
     /// Adds a sink, if it has a number for each loop and is ahead; false where not.
     ///
     /// # Errors
