@@ -34,11 +34,7 @@ pub struct Reached {
 }
 
 // A doacross nest where it is reached with these registers.
-fn reach_nest(
-    alloc: Global,
-    lowered: &LoweredLoop,
-    registers: &[u64],
-) -> Result<Reached, Refusal>
+fn reach_nest(alloc: Global, lowered: &LoweredLoop, registers: &[u64]) -> Result<Reached, Refusal>
     requires { HeadsRise lowered.now.loops.items }
     ensures by { IfOk result (IsReachedBy lowered.now) }
     ensures registers { IfOk result (λ r. r.registers.items ≡ registers.now) }
