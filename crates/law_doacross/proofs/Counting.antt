@@ -5,12 +5,11 @@ use Rattle.std.proofs.Common.{refl, sym, ap, ◌∙◌, subst, cond, arith}
 use Rattle.std.proofs.lemmas.Bool.{eq-eqb}
 use Rattle.std.proofs.lemmas.Int.{ints}
 use Rattle.std.proofs.lemmas.Option.{same_Some}
-use Rattle.semantics.specs.Tree.{Variable}
 use Rattle.semantics.specs.Meaning.State.{State}
 use Rattle.semantics.specs.Loops.Nest.{Loop, iterations}
 use Rattle.semantics.specs.Loops.Order.{Distance}
 use Rattle.affine.specs.declared.interval.Side.{Side}
-use Rattle.affine.specs.Affine.{Affine, term_sum, value}
+use Rattle.affine.specs.Affine.{value}
 use Rattle.affine.proofs.Values.{with_value-same}
 use Rattle.affine_expr.specs.Forms.{is_counter}
 use Rattle.nest_loop.specs.declared.head.Canonical.{Canonical}
@@ -18,13 +17,14 @@ use Rattle.nest_loop.specs.declared.stride.Stride.{Stride}
 use Rattle.nest_loop.specs.declared.stride.Direction.{Direction}
 use Rattle.nest_loop.specs.declared.stride.Direction.TheVariants.{Rising}
 use Rattle.nest_loop.specs.Canonical.{canonical}
-use Rattle.nest_loop.specs.Sides.{HasNumbers, IsModest, Room, IsCount, end_of}
+use Rattle.nest_loop.specs.Sides.{HasNumbers}
 use Rattle.pairtest_counter.specs.Counters.{step_by}
 use Rattle.pairtest_counter.specs.Levels.{Nesting, AreLevels, IsTurn, values_at}
 use Rattle.pairtest_counter.proofs.Chains.{canonical_named}
 use Rattle.nest_space.specs.Space.{Turns, vectors}
 use Rattle.nest_space.specs.Nests.{IsRunOf, AreRunsOf}
 use Rattle.nest_space.specs.Heads.{AreHeadsOf}
+use Rattle.nest_space.proofs.Anywhere.{number_anywhere, run_anywhere}
 use Rattle.nest_space.proofs.Nesting.{nest_law}
 use Rattle.pairtest_cover.specs.Behind.{LiesBehind, EachRisesByOne, at_counters}
 use Rattle.flow_doacross.specs.Nests.{counts_up}
@@ -53,28 +53,6 @@ is_up box h l up is =
     let c = count_up_anywhere [] h up in
     let there = wider_loop [] box (λ x none. absurd (cc none)) h.variable h.start h.test h.step c.loop c.form in
     subst (IsUp h) (same_Some c.loop l (sym there ∙ is)) (record { form = c.form; numbers = c.numbers; rises = c.rises; by_one = c.by_one })
-
--- a number without variables
-alone : (f : Affine) (a b : Variable → ℤ) → f.terms ≡ [] → value f a ≡ value f b
-alone f a b e = ap (λ ts. f.constant +ℤ term_sum ts a) e ∙ sym (ap (λ ts. f.constant +ℤ term_sum ts b) e)
-
--- it runs alike wherever the variables round it stand
-run_anywhere : (l : Canonical) (a b : Variable → ℤ) (t : Turns) → HasNumbers l → IsRunOf l a t → IsRunOf l b t
-run_anywhere l a b t numbers run =
-    let p = alone l.start a b numbers.start in
-    let q = alone l.limit a b numbers.limit in
-    let e = alone (end_of l) a b numbers.limit in
-    record {
-      stays = record {
-        start = subst IsModest p run.stays.start;
-        limit = subst IsModest q run.stays.limit;
-        room = subst (λ z. Room l.stride.direction l.bound l.stride.by z (value l.limit b)) p (subst (λ z. Room l.stride.direction l.bound l.stride.by (value l.start a) z) q run.stays.room);
-      };
-      least = run.least;
-      stride = run.stride;
-      first = sym p ∙ run.first;
-      count = subst (λ z. IsCount l.stride z (value (end_of l) b) t.count) p (subst (λ z. IsCount l.stride (value l.start a) z t.count) e run.count);
-    }
 
 -- its variable's value after some steps
 risen : (d : Direction) (by first k : ℕ) (z : ℤ) → d ≡ Rising → by ≡ 1 → z ≡ pos k → pos first +ℤ step_by d by *ℤ z ≡ pos (first + k)
@@ -133,7 +111,7 @@ space_there (h ∷ hs) before after steps up (s, v, is, level, rest) are turn =
         let more = longer hs (nested before s v) after rest in
         values_kept hs (nested before s v) after others h.variable rest counts
         ∙ with_value-same (values_at before.levels others) v.canonical.variable.0 (value v.canonical.start (values_at before.levels others) +ℤ step_by v.canonical.stride.direction v.canonical.stride.by *ℤ others (length before.levels)) h.variable named
-        ∙ ap (λ z. z +ℤ step_by v.canonical.stride.direction v.canonical.stride.by *ℤ others (length before.levels)) (alone v.canonical.start (values_at before.levels others) (values_at before.levels steps) own.numbers.start ∙ run.1.first)
+        ∙ ap (λ z. z +ℤ step_by v.canonical.stride.direction v.canonical.stride.by *ℤ others (length before.levels)) (number_anywhere v.canonical.start (values_at before.levels others) (values_at before.levels steps) own.numbers.start ∙ run.1.first)
         ∙ risen v.canonical.stride.direction v.canonical.stride.by run.0.first (k (length before.levels)) (others (length before.levels)) own.rises own.by_one (natural (length before.levels) (omega arith))
 
 module _ (before after : Nesting) (hs : List Loop) (space : HasSpace before after hs) where

@@ -1,9 +1,10 @@
 //! A lowered loop.
 
-ghost use Rattle.std.specs.Prelude.{◌≡◌, length, IfOk, IfErr};
+ghost use Rattle.std.specs.Prelude.{◌≡◌, ℕ, List, length, IfOk, IfErr};
 ghost use Rattle.ktree.specs.declared.refusal.Refusal.TheVariants.{OutOfMemory};
 ghost use Rattle.lower.specs.Lowered.{IsSpaceOf, values_in};
-ghost use Rattle.nest_space.specs.Rises.{EachRises, HeadsRise};
+ghost use Rattle.nest_space.specs.Fixed.{AreFixed};
+ghost use Rattle.nest_space.specs.Rises.{EachRises};
 
 use crate::roles::LoweredRoles;
 use ktree::{Refusal, Schedule, VarId};
@@ -51,7 +52,6 @@ impl LoweredLoop {
     pub fn space(&self, alloc: Global, registers: &[u64]) -> Result<Space, Refusal>
         ensures loops { IfOk result (λ space. length space ≡ length self.now.loops.items) }
         ensures iterations { IfOk result (IsSpaceOf self.now registers.now) }
-        ensures rise { IfOk result (λ space. HeadsRise self.now.loops.items → EachRises space) }
         ensures refusal { IfErr result (λ refusal. refusal ≡ OutOfMemory) }
     {
         let values = values_at(alloc, &self.around, registers)?;
@@ -59,5 +59,15 @@ impl LoweredLoop {
             Some(space) => Ok(space),
             None => Err(Refusal::OutOfMemory),
         }
+    }
+
+    /// Its iterations, where its loops rise between numbers and have a space: the same wherever it is reached (OpenMP 5.2, 4.4.2 and 15.9.6).
+    pub fn fixed_space(&self, alloc: Global) -> Space
+        requires { AreFixed self.now.loops.items }
+        ensures loops { length result ≡ length self.now.loops.items }
+        ensures iterations { (registers : List ℕ) → IsSpaceOf self.now registers result }
+        ensures rise { EachRises result }
+    {
+        Space::anywhere(alloc, self.loops.as_slice())
     }
 }

@@ -7,3 +7,4 @@ pub mod Nesting
 pub mod Runs
 pub mod Along
 pub mod Rising
+pub mod Anywhere

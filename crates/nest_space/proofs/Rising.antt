@@ -1,5 +1,5 @@
 -- The turns of loops that rise.
-use Rattle.std.specs.Prelude.{◌≡◌, ◌≤◌, ◌↔◌, ℤ, List, [], ◌∷◌}
+use Rattle.std.specs.Prelude.{◌≡◌, ◌≤◌, ◌↔◌, ℤ, List, [], ◌∷◌, All}
 use Rattle.std.specs.List.{AllByRecursion}
 use Rattle.std.proofs.Common.{sym, ap, ◌∙◌, subst}
 use Rattle.std.proofs.lemmas.List.Elements.{All-cons, All-from_recursion, recursion_from_All}
@@ -23,10 +23,10 @@ each_rises (l ∷ ls) values (t ∷ ts) runs rise =
 pub runs_rise : (ls : List Canonical) (values : Variable → ℤ) (ts : List Turns) → AreRunsOf ls values ts → HeadsRise ls → EachRises ts
 runs_rise ls values ts runs rise = each_rises ls values ts runs (recursion_from_All (λ (l : Canonical). l.stride.direction ≡ Rising) ls rise)
 
--- one more in front
-pub rise_more : (r : Type 0) (ls : List Canonical) (l : Canonical) (rest : List Canonical) → ls ≡ l ∷ rest → l.stride.direction ≡ Rising → r ↔ HeadsRise rest → r ↔ HeadsRise ls
-rise_more r ls l rest is first others =
-    subst (λ (xs : List Canonical). r ↔ HeadsRise xs) (sym is) (
-      λ holds. All-cons (λ (h : Canonical). h.stride.direction ≡ Rising) l rest first (others.0 holds),
-      λ rise. others.1 (All-from_recursion (λ (h : Canonical). h.stride.direction ≡ Rising) rest (recursion_from_All (λ (h : Canonical). h.stride.direction ≡ Rising) (l ∷ rest) rise).1),
+-- what holds of each loop, with one more in front of which it holds
+pub each_more : (P : Canonical → Type 0) (r : Type 0) (ls : List Canonical) (l : Canonical) (rest : List Canonical) → ls ≡ l ∷ rest → P l → r ↔ All P rest → r ↔ All P ls
+each_more P r ls l rest is first others =
+    subst (λ (xs : List Canonical). r ↔ All P xs) (sym is) (
+      λ holds. All-cons P l rest first (others.0 holds),
+      λ all. others.1 (All-from_recursion P rest (recursion_from_All P (l ∷ rest) all).1),
     )

@@ -1,3 +1,4 @@
+pub mod Fixed
 pub mod Heads
 pub mod Nests
 pub mod Numbers

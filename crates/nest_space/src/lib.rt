@@ -2,6 +2,7 @@
 #![tactic(auto)]
 
 mod bounds;
+mod fixed;
 mod iterations;
 mod nests;
 mod rows;
@@ -9,7 +10,7 @@ mod sinks;
 mod turns;
 
 pub use bounds::{Value, turns_at, value_at};
+pub use fixed::are_fixed;
 pub use iterations::{Space, product_within};
-pub use nests::rise;
 pub use rows::Row;
 pub use turns::LoopTurns;

@@ -1,16 +1,15 @@
 //! The space of a nest of canonical loops.
 
-ghost use Rattle.std.specs.Prelude.{◌≡◌, ◌↔◌, List, length, IsTrue, IfSome, MatchOption};
+ghost use Rattle.std.specs.Prelude.{◌≡◌, List, length, IsTrue, IfSome, MatchOption};
 ghost use Rattle.nest_space.specs.Space.{Turns, IsSpace};
 ghost use Rattle.nest_space.specs.Nests.{given, AreModest, AreRunsOf};
 ghost use Rattle.nest_space.specs.Heads.{HasIterations};
-ghost use Rattle.nest_space.specs.Rises.{HeadsRise};
 
 use crate::bounds::{Value, are_modest, run_of};
 use crate::iterations::Space;
 use crate::turns::LoopTurns;
 use ktree::limits::ASSOCIATED_LOOPS;
-use nest_loop::{Canonical, Direction};
+use nest_loop::Canonical;
 use std::alloc::Global;
 
 /// Puts down how each loop runs; false where one does not stay.
@@ -32,16 +31,6 @@ fn fill(loops: &[Canonical], values: &[Value], turns: &mut [LoopTurns]) -> bool
     };
     *place = run;
     fill(rest, values, others)
-}
-
-/// Whether each of these loops rises wherever it is reached, as those of a doacross nest do (OpenMP 5.2, 15.9.6).
-pub fn rise(loops: &[Canonical]) -> bool
-    ensures { IsTrue result ↔ HeadsRise loops.now }
-{
-    match loops.split_first() {
-        None => true,
-        Some((first, rest)) => first.stride.direction == Direction::Rising && rise(rest),
-    }
 }
 
 impl Space {

@@ -8,7 +8,7 @@ ghost use Rattle.outline.specs.Accepted.{HavePlaces, StandsAt, HasNest, IsLoopOf
 ghost use Rattle.ktree.specs.View.{stmt_of, items_of};
 ghost use Rattle.ktree.specs.declared.refusal.Refusal.TheVariants.{OutOfMemory};
 ghost use Rattle.outline.specs.Handed.{ListsLocals, IsBodyOf, IsBodyCode, AreItemsCode, IsLowered, IsInputIn, IsWay, IsHanded, inside_told};
-ghost use Rattle.outline.specs.Waved.{RisesInWaves};
+ghost use Rattle.outline.specs.Waved.{IsFixedInWaves};
 
 use crate::compiling::{Target, compile_items, compile_statement};
 use crate::grain::is_run_alone;
@@ -221,7 +221,7 @@ fn way_of(
     ensures way { IfOk result
         (IsWay target.entry.layout.now target.entry.registers bounds.now (inside_told loops.entry)
         parallel.now.line.line depth (stmt_of stmt.now) parallel.now.roles) }
-    ensures rise { IfOk result (RisesInWaves lowered.now) }
+    ensures fixed { IfOk result (IsFixedInWaves lowered.now) }
     ensures refusal { IfErr result (λ refusal. refusal ≡ OutOfMemory) }
 {
     if let Some(nest) = nest_at(loops.nests, parallel.line.line) {

@@ -1,6 +1,6 @@
 //! What is made of a kernel before it is run.
 
-ghost use Rattle.outline.specs.Waved.{RisesInWaves};
+ghost use Rattle.outline.specs.Waved.{IsFixedInWaves};
 
 use ktree::{Cond, Head, Item, Stmt};
 use lower::LoweredLoop;
@@ -22,8 +22,8 @@ pub enum Way {
 }
 
 /// A loop that a team runs: the statement, the number of the directive line before it, how many loops of it are associated
-/// (OpenMP 5.2, 4.4.3), how it may be run, what it is lowered to, and the code of the whole statement for a team of one thread. What is run
-/// in waves rises (15.9.6).
+/// (OpenMP 5.2, 4.4.3), how it may be run, what it is lowered to, and the code of the whole statement for a team of one thread. The
+/// loops of a nest that is run in waves rise between numbers, and have a space (15.9.6).
 #[derive(Drop)]
 pub struct TeamLoop<'k> {
     pub statement: &'k Stmt,
@@ -32,7 +32,7 @@ pub struct TeamLoop<'k> {
     pub way: Way,
     pub lowered: LoweredLoop,
     pub code: Compiled,
-    pub ghost rising: { RisesInWaves lowered way },
+    pub ghost fixed: { IsFixedInWaves lowered way },
 }
 
 /// A loop's head as it is run: the first value of its variable, the test before each turn, and the step behind it (C11 6.8.5.3).

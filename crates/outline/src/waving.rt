@@ -5,13 +5,13 @@ ghost use Rattle.flow_doacross.specs.Listed.{nest_at};
 ghost use Rattle.flow_doacross.specs.Views.{distance_kept, nest_part};
 ghost use Rattle.ktree.specs.declared.refusal.Refusal.TheVariants.{OutOfMemory};
 ghost use Rattle.outline.specs.Handed.{IsWavesOf};
-ghost use Rattle.outline.specs.Waved.{RisesInWaves};
+ghost use Rattle.outline.specs.Waved.{IsFixedInWaves};
 
 use crate::shape::Way;
 use flow_doacross::DoacrossLoop;
 use ktree::Refusal;
 use lower::LoweredLoop;
-use nest_space::rise;
+use nest_space::are_fixed;
 use std::alloc::{AllocError, Global};
 use waves::Sinks;
 
@@ -52,10 +52,10 @@ pub(crate) fn waves_of(
     lowered: &LoweredLoop,
 ) -> Result<Way, Refusal>
     ensures way { IfOk result (IsWavesOf (map distance_kept distances.now)) }
-    ensures rise { IfOk result (RisesInWaves lowered.now) }
+    ensures fixed { IfOk result (IsFixedInWaves lowered.now) }
     ensures refusal { IfErr result (λ refusal. refusal ≡ OutOfMemory) }
 {
-    if !rise(lowered.loops.as_slice()) {
+    if !are_fixed(alloc, lowered.loops.as_slice()) {
         return Ok(Way::Alone);
     }
     let mut sinks = Sinks::new(alloc, depth as usize);

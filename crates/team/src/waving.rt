@@ -1,7 +1,8 @@
 //! Doacross nests, which a team runs wave by wave (OpenMP 5.2, 15.9.6 and 15.10.1).
 
 ghost use Rattle.std.specs.Prelude.{◌≡◌, ◌≤◌, ◌^◌, ℕ, length, map, IfOk, IfErr, OnOk};
-ghost use Rattle.nest_space.specs.Rises.{EachRises, HeadsRise};
+ghost use Rattle.nest_space.specs.Fixed.{AreFixed};
+ghost use Rattle.nest_space.specs.Rises.{EachRises};
 ghost use Rattle.nest_space.specs.Space.{vectors};
 ghost use Rattle.schedule.specs.Sched.{kind_of, kind_said};
 ghost use Rattle.store.specs.Flat.{AreFilled, values_of};
@@ -35,14 +36,15 @@ pub struct Reached {
 
 // A doacross nest where it is reached with these registers.
 fn reach_nest(alloc: Global, lowered: &LoweredLoop, registers: &[u64]) -> Result<Reached, Refusal>
-    requires { HeadsRise lowered.now.loops.items }
+    requires { AreFixed lowered.now.loops.items }
     ensures by { IfOk result (IsReachedBy lowered.now) }
     ensures registers { IfOk result (λ r. r.registers.items ≡ registers.now) }
     ensures rise { IfOk result (λ r. EachRises r.space) }
     ensures refusal { IfErr result (λ refusal. refusal ≡ Refusal.OutOfMemory) }
 {
-    let space = lowered.space(alloc, registers)?;
     let registers = Vec::from_slice(alloc, registers)?;
+    let space = lowered.fixed_space(alloc);
+    space.confirm_few();
     Ok(Reached { registers, space })
 }
 
@@ -205,13 +207,13 @@ fn run_waves<'l, R: Wait, G: Gate>(
     Ok(())
 }
 
-/// Runs a doacross nest on a crew that stands by, wave after wave: its loops rise, and its iterations are taken by the levels that its sinks
-/// give them, so that each iteration waits for those that its sinks name. Each wave is cut into chunks by the schedule of the nest's clause,
-/// and for `runtime` by this one, over the positions of its iterations, with a drawing of its own where chunks are drawn; its chunks begin
-/// from the store behind the wave before, and the gate is told of each of them, by its number in its wave (OpenMP 5.2, 11.5.3, 15.9.6 and
-/// 15.10.1). These registers stand as where the nest is reached. Where the chunks of a wave have a run each from there, each object at
-/// file scope is behind the wave as before where none of these runs changes it, and else as one of them leaves it that does. It holds
-/// for nests that have neither reduction nor lastprivate variables, and nothing is put that they print.
+/// Runs a doacross nest on a crew that stands by, wave after wave: its loops rise between numbers and have a space, and its iterations are
+/// taken by the levels that its sinks give them, so that each iteration waits for those that its sinks name. Each wave is cut into chunks by
+/// the schedule of the nest's clause, and for `runtime` by this one, over the positions of its iterations, with a drawing of its own where
+/// chunks are drawn; its chunks begin from the store behind the wave before, and the gate is told of each of them, by its number in its wave
+/// (OpenMP 5.2, 11.5.3, 15.9.6 and 15.10.1). These registers stand as where the nest is reached. Where the chunks of a wave have a run each
+/// from there, each object at file scope is behind the wave as before where none of these runs changes it, and else as one of them leaves it
+/// that does. It holds for nests that have neither reduction nor lastprivate variables, and nothing is put that they print.
 ///
 /// # Errors
 ///
@@ -228,7 +230,7 @@ pub fn share_waves<'l, R: Wait, G: Gate>(
     runtime: Sched,
     gate: &G,
 ) -> Result<(), Refusal>
-    requires { HeadsRise lowered.now.loops.items }
+    requires { AreFixed lowered.now.loops.items }
     ensures waved { OnOk result (LeavesInWaves lowered.now sinks.now.distances registers.now
         store.old store.new (kind_said lowered.now.schedule runtime) workers) }
     ensures shape { map (λ k. k.lengths) store.new ≡ map (λ k. k.lengths) store.old }

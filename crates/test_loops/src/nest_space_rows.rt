@@ -395,6 +395,55 @@ fn limits(rt: HostRuntime) {
     assert!(rt; five(rt.alloc()));
 }
 
+/// Whether two such loops rise between numbers and have a space.
+fn are_fixed_runs(alloc: Global, outer: Run, inner: Run) -> bool {
+    match two_heads(alloc, loop_shape(I, outer), loop_shape(J, inner)) {
+        Ok(loops) => are_fixed(alloc, &loops),
+        Err(_refusal) => false,
+    }
+}
+
+/// The first of some rows of two loops that says something else of them.
+fn first_other_fixed(alloc: Global, rows: &[(Run, Run, bool)]) -> Option<usize> {
+    for (i, (outer, inner, expected)) in rows.iter().enumerate() {
+        if are_fixed_runs(alloc, *outer, *inner) != *expected {
+            return Some(i);
+        }
+    }
+    None
+}
+
+/// Whether a loop between variables is so.
+fn is_fixed_by_variable(alloc: Global) -> bool {
+    match by_variable(alloc) {
+        Ok(head) => are_fixed(alloc, &[head]),
+        Err(_refusal) => true,
+    }
+}
+
+#[test]
+fn loops_between_numbers(rt: HostRuntime) {
+    const UP: Run = (Direction::Rising, 1, Bound::Strict, 0, 4);
+    const DOWN: Run = (Direction::Falling, 1, Bound::Strict, 4, 0);
+    const ROWS: &[(Run, Run, bool)] = &[
+        (UP, UP, true),
+        (UP, (Direction::Rising, 2, Bound::Inclusive, 1, 9), true),
+        (UP, (Direction::Rising, 1, Bound::Strict, 5, 4), true),
+        (UP, DOWN, false),
+        (DOWN, UP, false),
+        // Too many iterations, and a bound that is too large.
+        (UP, (Direction::Rising, 1, Bound::Strict, 0, 1 << 23), false),
+        (
+            UP,
+            (Direction::Rising, 1, Bound::Strict, 0, (1 << 32) + 1),
+            false,
+        ),
+    ];
+    no_other(&rt, first_other_fixed(rt.alloc(), ROWS));
+    assert!(rt; !is_fixed_by_variable(rt.alloc()));
+    assert!(rt; are_fixed(rt.alloc(), &[]));
+}
+
 /// A loop that falls by four.
 fn by_four(first: u64, count: u64) -> Option<LoopTurns> {
     let down = Stride {

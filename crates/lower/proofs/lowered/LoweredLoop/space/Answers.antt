@@ -1,8 +1,4 @@
-use Rattle.std.proofs.Common.{List, ◌∙◌, ap, subst}
-use Rattle.nest_loop.specs.declared.head.Canonical.{Canonical}
-use Rattle.nest_space.specs.Rises.{EachRises, HeadsRise}
-use Rattle.nest_space.specs.Nests.{given}
-use Rattle.nest_space.proofs.Rising.{runs_rise}
+use Rattle.std.proofs.Common.{◌∙◌, ap}
 use Rattle.lower.specs.Lowered.{values_in}
 use Rattle.lower.proofs.Spaces.{space_of}
 use Rattle.lower.proofs.lowered.LoweredLoop.space.Goals as goal
@@ -12,8 +8,3 @@ returns-in-Some-clause-iterations c =
     let values = c.as_slice-2.ensures.value ∙ c.in_ok-values.ensures ∙ ap (λ vs. values_in vs c.args.registers.now) c.deref.ensures.value in
     space_of c.args.self.now c.args.registers.now c.in-Some.space
     (rw (c.as_slice.ensures.value, values) at c.in-Some.ensures.iterations)
-
-pub returns-in-Some-clause-rise : goal.returns-in-Some-clause-rise
-returns-in-Some-clause-rise c =
-    subst (λ (ls : List Canonical). HeadsRise ls → EachRises c.in-Some.space) c.as_slice.ensures.value
-    (runs_rise c.as_slice.result.now (given c.as_slice-2.result.now) c.in-Some.space c.in-Some.ensures.exact)
