@@ -48,14 +48,14 @@ impl LoweredLoop {
     ///
     /// # Errors
     ///
-    /// `OutOfMemory` alone. It stands also for a space that [`Space::at`] has not: no loop of an accepted kernel has such a one.
+    /// `OutOfMemory` alone. It stands also for a space that [`Space::reached_at`] has not: no loop of an accepted kernel has such a one.
     pub fn space(&self, alloc: Global, registers: &[u64]) -> Result<Space, Refusal>
         ensures loops { IfOk result (λ space. length space ≡ length self.now.loops.items) }
         ensures iterations { IfOk result (IsSpaceOf self.now registers.now) }
         ensures refusal { IfErr result (λ refusal. refusal ≡ OutOfMemory) }
     {
         let values = values_at(alloc, &self.around, registers)?;
-        match Space::at(alloc, self.loops.as_slice(), values.as_slice()) {
+        match Space::reached_at(alloc, self.loops.as_slice(), values.as_slice()) {
             Some(space) => Ok(space),
             None => Err(Refusal::OutOfMemory),
         }

@@ -8,3 +8,4 @@ pub mod Runs
 pub mod Along
 pub mod Rising
 pub mod Anywhere
+pub mod Reached

@@ -12,7 +12,7 @@ use Rattle.nest_space.specs.Heads.{HasIterations}
 use Rattle.nest_space.proofs.Walks.{counters_at, values_are}
 
 -- the same vectors behind each value
-joined : (us : List Vector) (inner : ℕ → Option (List Vector)) (vs : List ℕ) → ((v : ℕ) → inner v ≡ Some us)
+pub joined : (us : List Vector) (inner : ℕ → Option (List Vector)) (vs : List ℕ) → ((v : ℕ) → inner v ≡ Some us)
     → concat_options (map (λ v. map_option (map (λ u. v ∷ u)) (inner v)) vs) ≡ Some (flat_map (λ v. map (λ u. v ∷ u) us) vs)
 joined us inner [] same = refl
 joined us inner (v ∷ vs) same =

@@ -106,7 +106,7 @@ same_count st first end m n p q =
     (λ o. ⊎_elim (λ lt. let more : m < m = (p.counts m).1 ((q.counts m).0 lt) in absurd (omega arith)) (λ gt. let more : n < n = (q.counts n).1 ((p.counts n).0 gt) in absurd (omega arith)) o)
     (cases_order m n)
 
-same_run : (l : Canonical) (values : Variable → ℤ) (t u : Turns) → IsRunOf l values t → IsRunOf l values u → t ≡ u
+pub same_run : (l : Canonical) (values : Variable → ℤ) (t u : Turns) → IsRunOf l values t → IsRunOf l values u → t ≡ u
 same_run l values t u p q =
     let first = pos_same t.first u.first (sym p.first ∙ q.first) in
     let stride = p.stride ∙ sym q.stride in

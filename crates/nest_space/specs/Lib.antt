@@ -2,6 +2,7 @@ pub mod Fixed
 pub mod Heads
 pub mod Nests
 pub mod Numbers
+pub mod Reached
 pub mod Rises
 pub mod Rows
 pub mod Sinks

@@ -5,6 +5,7 @@ mod bounds;
 mod fixed;
 mod iterations;
 mod nests;
+mod reaching;
 mod rows;
 mod sinks;
 mod turns;

@@ -395,6 +395,42 @@ fn limits(rt: HostRuntime) {
     assert!(rt; five(rt.alloc()));
 }
 
+/// How many iterations two such loops have, where those that are reached stay.
+fn reached_count(alloc: Global, outer: Run, inner: Run) -> Option<u64> {
+    match two_heads(alloc, loop_shape(I, outer), loop_shape(J, inner)) {
+        Ok(loops) => Space::reached_at(alloc, &loops, &[]).map(|space| space.count()),
+        Err(_refusal) => None,
+    }
+}
+
+/// The first of some rows of two loops that have another number of them.
+fn first_other_reached(alloc: Global, rows: &[(Run, Run, Option<u64>)]) -> Option<usize> {
+    for (i, (outer, inner, expected)) in rows.iter().enumerate() {
+        if reached_count(alloc, *outer, *inner) != *expected {
+            return Some(i);
+        }
+    }
+    None
+}
+
+#[test]
+fn loops_that_are_never_reached(rt: HostRuntime) {
+    const THREE: Run = (Direction::Rising, 1, Bound::Strict, 0, 3);
+    const NEVER: Run = (Direction::Rising, 1, Bound::Strict, 3, 3);
+    const WRAPS: Run = (Direction::Falling, 1, Bound::Inclusive, 5, 0);
+    const LONG: Run = (Direction::Rising, 1, Bound::Strict, 0, 1 << 32);
+    const ROWS: &[(Run, Run, Option<u64>)] = &[
+        (THREE, THREE, Some(9)),
+        (NEVER, WRAPS, Some(0)),
+        (THREE, WRAPS, None),
+        (WRAPS, NEVER, None),
+        (NEVER, LONG, Some(0)),
+        (LONG, NEVER, Some(0)),
+        (THREE, LONG, None),
+    ];
+    no_other(&rt, first_other_reached(rt.alloc(), ROWS));
+}
+
 /// Whether two such loops rise between numbers and have a space.
 fn are_fixed_runs(alloc: Global, outer: Run, inner: Run) -> bool {
     match two_heads(alloc, loop_shape(I, outer), loop_shape(J, inner)) {
