@@ -122,6 +122,9 @@ const INNER: &str =
 
 const NEVER: &str = "for (uint64_t i = 3; i < 3; i++) A[i] = 7;";
 
+const NEVER_INSIDE: &str =
+    "for (uint64_t i = 3; i < 3; i++) for (uint64_t j = 2; j >= 0; j--) B[i][j] = 7;";
+
 #[test]
 fn loops_of_every_form_are_run(rt: HostRuntime) {
     const ROWS: &[Row<'static>] = &[
@@ -167,6 +170,12 @@ fn loops_of_every_form_are_run(rt: HostRuntime) {
             [3, 4, 5, 1, 1, 1, 1, 1, 0, 0, 0, 0, 0, 0, 0],
         ),
         (ONE, NEVER, [1, 1, 1, 1, 1, 1, 1, 1, 0, 0, 0, 0, 0, 0, 0]),
+        // The inner loop would wrap, but is never reached.
+        (
+            (2, None),
+            NEVER_INSIDE,
+            [1, 1, 1, 1, 1, 1, 1, 1, 0, 0, 0, 0, 0, 0, 0],
+        ),
     ];
     assert_eq!(rt; first_other(&rt, rt.alloc(), ROWS), None);
 }

@@ -66,6 +66,13 @@ pub(super) const ROWS: &[Row] = &[
         loops: "for (uint64_t i = 4; i < 4; i++) { B[i] = 2; }",
         output: "A = 0 0 0 0 0 0 0 0 0 0 0 0 0 0 0 0 0 0 0 0 0 0 0 0 0 0 0 0 0 0 0 0 0 0 0 0\nB = 0 0 0 1 0 0 0 0 0 0 0 0 0 0 0 0 0 0 0 0 0 0 0 0 0 0 0 0 0 0 0 0 0 0 0 0\n",
     },
+    // The inner loop would wrap, but is never reached.
+    Row {
+        before: "B[3] = 1;",
+        clause: "collapse(2)",
+        loops: "for (uint64_t i = 3; i < 3; i++) for (uint64_t j = 5; j >= 0; j--) { A[i][j] = 2; }",
+        output: "A = 0 0 0 0 0 0 0 0 0 0 0 0 0 0 0 0 0 0 0 0 0 0 0 0 0 0 0 0 0 0 0 0 0 0 0 0\nB = 0 0 0 1 0 0 0 0 0 0 0 0 0 0 0 0 0 0 0 0 0 0 0 0 0 0 0 0 0 0 0 0 0 0 0 0\n",
+    },
     Row {
         before: "uint64_t x;",
         clause: "private(x)",
