@@ -35,7 +35,7 @@ pub fn read_before(spot: Spot, before: &[u64], cells: &Chunk<'_>) -> u64
 {
     match spot {
         Spot::Register(variable) => register(before, variable),
-        Spot::Cell(place) => cells.held(place),
+        Spot::Cell(place) => cells.store_value(place),
     }
 }
 
@@ -58,7 +58,7 @@ pub fn put_back(spot: Spot, cells: &mut Chunk<'_>)
     ensures store { cells.new.store ≡ cells.old.store }
 {
     if let Spot::Cell(place) = spot {
-        let held = cells.held(place);
+        let held = cells.store_value(place);
         cells.write(place, held);
     }
 }

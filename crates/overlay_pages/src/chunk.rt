@@ -58,7 +58,7 @@ impl<'s> Chunk<'s> {
     }
 
     /// What the store holds at a place, and 0 outside.
-    pub fn held(&self, place: u64) -> u64
+    pub fn store_value(&self, place: u64) -> u64
         ensures { result ≡ slice_index (values_of self.now.store) place }
     {
         self.store.cell(place)
