@@ -277,7 +277,7 @@ fn entries_in<R: Threads + Wait + Sync>(
 }
 
 /// The same of the loop at a text's end, behind such a clause.
-fn entries<R: Threads + Wait + Sync>(
+fn entries_of<R: Threads + Wait + Sync>(
     rt: &R,
     alloc: Global,
     lines: &str,
@@ -293,11 +293,11 @@ fn entries<R: Threads + Wait + Sync>(
 fn workers_enter_their_own_chunks(rt: HostRuntime) {
     let heap = rt.alloc();
     let threes = Some(Schedule::StaticChunks(size(&rt, 3)));
-    assert!(rt; entries(&rt, heap, NUMBERS, threes, 2) == Some((15, 4, 0)));
-    assert!(rt; entries(&rt, heap, NUMBERS, None, 64) == Some((1023, 10, 0)));
-    assert!(rt; entries(&rt, heap, NUMBERS, Some(Schedule::Static), 3) == Some((7, 3, 0)));
+    assert!(rt; entries_of(&rt, heap, NUMBERS, threes, 2) == Some((15, 4, 0)));
+    assert!(rt; entries_of(&rt, heap, NUMBERS, None, 64) == Some((1023, 10, 0)));
+    assert!(rt; entries_of(&rt, heap, NUMBERS, Some(Schedule::Static), 3) == Some((7, 3, 0)));
     // The worker of the only chunk enters it as others do.
-    assert!(rt; entries(&rt, heap, NUMBERS, None, 1) == Some((1, 1, 0)));
+    assert!(rt; entries_of(&rt, heap, NUMBERS, None, 1) == Some((1, 1, 0)));
 }
 
 /// Which chunks are entered, and how many these are.
@@ -307,7 +307,7 @@ fn draws<R: Threads + Wait + Sync>(
     schedule: Schedule,
     count: u64,
 ) -> Option<(u64, u64)> {
-    let (chunks, number, _others) = entries(rt, alloc, NUMBERS, Some(schedule), count)?;
+    let (chunks, number, _others) = entries_of(rt, alloc, NUMBERS, Some(schedule), count)?;
     Some((chunks, number))
 }
 
@@ -324,8 +324,8 @@ fn each_drawn_chunk_is_entered_once(rt: HostRuntime) {
 #[test]
 fn no_gate_is_entered_without_iterations(rt: HostRuntime) {
     let heap = rt.alloc();
-    assert!(rt; entries(&rt, heap, NEVER, None, 64) == Some((0, 0, 0)));
+    assert!(rt; entries_of(&rt, heap, NEVER, None, 64) == Some((0, 0, 0)));
     assert!(rt;
-        entries(&rt, heap, NEVER, Some(Schedule::Dynamic(size(&rt, 1))), 64) == Some((0, 0, 0))
+        entries_of(&rt, heap, NEVER, Some(Schedule::Dynamic(size(&rt, 1))), 64) == Some((0, 0, 0))
     );
 }
