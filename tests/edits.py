@@ -328,6 +328,7 @@ def main(words):
         sys.exit(__doc__)
     os.chdir(TOP)
     rt = kit.load()
+    kit.sum_once(rt.rtlib)
     if words == ["--read"]:
         return read_all(rt)
     was_proved, is_anew = "--proved" in words, "--all" in words
