@@ -1,5 +1,5 @@
 -- Forms in the variables of a box have one value wherever these have the same values, and so do the runs of loops between such forms.
-use Rattle.std.specs.Prelude.{ℕ, Bool, true, false, ◌≡◌, ◌+ℤ◌, ◌*ℤ◌, ℤ, negsuc, Option, Some, List}
+use Rattle.std.specs.Prelude.{ℕ, Bool, true, false, ◌≡◌, ◌+ℤ◌, ◌*ℤ◌, ℤ, pos, negsuc, Option, Some, List}
 use Rattle.std.proofs.Common.{refl, sym, ap, ◌∙◌, subst, arith}
 use Rattle.std.proofs.lemmas.Int.{ints}
 use Rattle.std.proofs.lemmas.Option.{none-some, cond_some}
@@ -55,8 +55,8 @@ module _ (a b : Variable → ℤ) where
     variable_agrees x (more_exprs i is) f e = absurd (none-some f e)
 
     form_agrees : (e : Expr) (f : Affine) → form_of box e ≡ Some f → value f a ≡ value f b
-    form_agrees (Literal n suffix) f e = kept_agrees (constant_form _) f e refl
-    form_agrees (Constant name n) f e = kept_agrees (constant_form _) f e refl
+    form_agrees (Literal n suffix) f e = kept_agrees (constant_form (pos n)) f e refl
+    form_agrees (Constant name n) f e = kept_agrees (constant_form (pos n)) f e refl
     form_agrees (Object x is) f e = variable_agrees x is f e
     form_agrees (Unary Negate c) f e =
         let p = chained (λ g. kept (multiple_form g (negsuc 0))) (form_of box c) f e in

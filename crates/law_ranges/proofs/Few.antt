@@ -92,7 +92,11 @@ module _ (box : List Side) (values : Variable → ℤ) where
   run_within_most [] [] big v most heads is within more same = record { turns = []; runs = tt; few = omega arith }
   run_within_most [] (l ∷ ls) big v most heads is within more same = absurd heads
   run_within_most (h ∷ hs) [] big v most heads is within more same = absurd heads
-  run_within_most (h ∷ hs) (l ∷ ls) big v most heads (i, m, k, turns, inner, is) within more same = go run.0.count refl
+  run_within_most (h ∷ hs) (l ∷ ls) big v most heads (i, m, k, turns, inner, is) within more same =
+      go run.0.count refl
+      (λ z held.
+      run_within_most hs ls (inside big h.variable i) (with_value v h.variable z) k heads.1 inner (inside_more big v h.variable i z within held) (λ x c. counted_more big h.variable i x (more x c))
+      (λ x c. with_value-other v h.variable z x (apart box h.variable x heads.0.other c) ∙ same x c))
     where
       one : turns.loop ≡ l
       one = same_Some turns.loop l (sym turns.form ∙ wider_loop box big more h.variable h.start h.test h.step l heads.0.is)
@@ -106,14 +110,9 @@ module _ (box : List Side) (values : Variable → ℤ) where
       least : run.0.count ≤ m
       least = at_most big v l m run.0 (subst (λ (c : Canonical). IsMost big c m) one turns.most) within run.1
 
-      first : ℤ
-      first = after_steps l.stride (value l.start v) 0
-
-      go : (n : ℕ) → run.0.count ≡ n → RunWithin (l ∷ ls) most
-      go zero none = turned_never l ls run.0 most own none
-      go (suc n) some =
+      go : (n : ℕ) → run.0.count ≡ n → ((z : ℤ) → Holds i z → RunWithin ls k) → RunWithin (l ∷ ls) most
+      go zero none inside_it = turned_never l ls run.0 most own none
+      go (suc n) some inside_it =
           let turned : 0 < run.0.count = omega arith in
-          let held : Holds i first = side_there big v l i 0 (subst (λ (c : Canonical). IsSide big c i) one turns.numbers) within (run_within l v run.0 0 run.1 turned) in
           turned_some l ls run.0 m k most own least is
-          (run_within_most hs ls (inside big h.variable i) (with_value v h.variable first) k heads.1 inner (inside_more big v h.variable i first within held)
-          (λ x c. counted_more big h.variable i x (more x c)) (λ x c. with_value-other v h.variable first x (apart box h.variable x heads.0.other c) ∙ same x c))
+          (inside_it (after_steps l.stride (value l.start v) 0) (side_there big v l i 0 (subst (λ (c : Canonical). IsSide big c i) one turns.numbers) within (run_within l v run.0 0 run.1 turned)))

@@ -1,6 +1,6 @@
 -- The variables round a loop have the values in their registers, and its space is that of these values, where it is reached.
 use Rattle.std.proofs.Common.{◌≡◌, ℕ, Bool, true, false, cond, pos, List, [], ◌∷◌, map, Some, None, Option, length, zero, suc, refl, sym, ap, ◌∙◌, subst, Contains, arith}
-use Rattle.std.specs.Prelude.{◌==◌, ◌<◌, ◌≤◌, ◌^◌, ◌*◌, slice_index, slice_index_or, take, MatchOption}
+use Rattle.std.specs.Prelude.{◌==◌, ◌<◌, ◌^◌, slice_index, slice_index_or}
 use Rattle.std.proofs.lemmas.Bool.{eqb-true, eqb-false}
 use Rattle.semantics.specs.Tree.{Variable, Stmt}
 use Rattle.semantics.specs.Meaning.State.{State, Holds}
@@ -10,10 +10,9 @@ use Rattle.ktree.specs.declared.place.VarId.{VarId}
 use Rattle.affine.specs.declared.interval.Side.{Side}
 use Rattle.affine_expr.specs.Forms.{is_counter}
 use Rattle.nest_loop.specs.Turn.{HoldCounters}
-use Rattle.nest_space.specs.Nests.{given, AreModest}
-use Rattle.nest_space.specs.Space.{Turns, product, IsSpace}
+use Rattle.nest_space.specs.Nests.{given}
+use Rattle.nest_space.specs.Space.{Turns}
 use Rattle.nest_space.specs.Heads.{HasIterations}
-use Rattle.nest_space.specs.Reached.{AreRunsReached}
 use Rattle.store.specs.Kept.{Kept}
 use Rattle.lower_code.specs.declared.term.Laid.{Laid}
 use Rattle.lower_run.specs.Walk.{StandFor}
@@ -52,16 +51,3 @@ pub space_of : (l : LoweredLoop) (registers : List ℕ) (ts : List Turns) → Ha
 unfolding or_nothing
 space_of l registers ts has layout mark roles loops body outer us ks r =
     ap or_nothing (sym r.are ∙ has r.box loops outer (counters_held layout mark r.box roles loops body outer l registers ks r.lowered r.stand r.counters) r.lowered.heads)
-
--- where its loops have no space, a loop is not reached
-pub never_reached : (l : LoweredLoop) (registers : List ℕ) (ts : List Turns)
-    → ((us : List Turns) → AreModest (values_in l.around.items registers) → AreRunsReached l.loops.items (given (values_in l.around.items registers)) us → IsSpace us → ⊥) → IsSpaceOf l registers ts
-never_reached l registers ts none layout mark roles loops body outer us ks r = absurd (r.fits none)
-
--- as many loops that never turn, at most four
-pub idle_fits : (t : Turns) (n : ℕ) → t.count ≡ 0 → n ≤ 4 → IsSpace (take n (t ∷ t ∷ t ∷ t ∷ []))
-idle_fits t zero none few = record { loops = omega arith; few = omega arith }
-idle_fits t (suc n) none few = record { loops = shorter n (omega arith); few = let e : t.count * product (take n (t ∷ t ∷ t ∷ [])) ≡ 0 * product (take n (t ∷ t ∷ t ∷ [])) = ap (λ m. m * product (take n (t ∷ t ∷ t ∷ []))) none in omega arith }
-  where
-    shorter : (m : ℕ) → m ≤ 3 → length (t ∷ take m (t ∷ t ∷ t ∷ [])) ≤ 4
-    shorter m less = simp length-take (omega arith)
