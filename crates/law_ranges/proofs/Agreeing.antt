@@ -1,5 +1,5 @@
 -- Forms in the variables of a box have one value wherever these have the same values, and so do the runs of loops between such forms.
-use Rattle.std.specs.Prelude.{ℕ, Bool, true, false, ◌≡◌, ◌+ℤ◌, ◌*ℤ◌, ℤ, pos, negsuc, Option, Some, List}
+use Rattle.std.specs.Prelude.{Bool, true, false, ◌≡◌, ◌+ℤ◌, ◌*ℤ◌, ℤ, pos, negsuc, Some, List}
 use Rattle.std.proofs.Common.{refl, sym, ap, ◌∙◌, subst, arith}
 use Rattle.std.proofs.lemmas.Int.{ints}
 use Rattle.std.proofs.lemmas.Option.{none-some, cond_some}

@@ -1,8 +1,7 @@
 -- The loops of a right nest run where the variables round them have values of the box, and make few vectors.
-use Rattle.std.specs.Prelude.{ℕ, zero, suc, Bool, true, false, ◌≡◌, ◌==◌, ◌*◌, ◌<◌, ◌≤◌, ℤ, pos, ◌≤ℤ◌, List, [], ◌∷◌, length}
+use Rattle.std.specs.Prelude.{ℕ, zero, suc, Bool, true, false, ◌≡◌, ◌==◌, ◌*◌, ◌<◌, ◌≤◌, ℤ, List, [], ◌∷◌, length}
 use Rattle.std.proofs.Common.{refl, sym, ap, ◌∙◌, subst, cond, arith}
 use Rattle.std.proofs.lemmas.Bool.{true≢false, eqb-true, eqb-false}
-use Rattle.std.proofs.lemmas.Int.{ints}
 use Rattle.std.proofs.lemmas.Nat.{mul-le}
 use Rattle.std.proofs.lemmas.Option.{same_Some}
 use Rattle.semantics.specs.Tree.{Variable}
@@ -37,7 +36,7 @@ inside_more box v x i z within held y = at (x == y) refl
     at true e = subst (Holds i) (sym (with_value-same v x z y (sym (eqb-true x y e)))) held
     at false e = subst (Holds (interval_at box y)) (sym (with_value-other v x z y (λ q. eqb-false x y e (sym q)))) (within y)
 
-counted_more : (box : List Side) (x : Variable) (i : Interval) (y : Variable) → is_counter box y ≡ true → is_counter (inside box x i) y ≡ true
+pub counted_more : (box : List Side) (x : Variable) (i : Interval) (y : Variable) → is_counter box y ≡ true → is_counter (inside box x i) y ≡ true
 counted_more box x i y c = go (x == y)
   where
     go : (b : Bool) → cond b true (is_counter box y) ≡ true

@@ -1,13 +1,12 @@
 -- Right nests run at each turn of the loops round them.
-use Rattle.std.specs.Prelude.{ℕ, Bool, true, false, ◌≡◌, ◌==◌, ◌++◌, ◌*◌, ◌≤◌, ◌^◌, ◌<◌, ℤ, pos, ◌+ℤ◌, ◌≤ℤ◌, List, [], ◌∷◌, map, Contains, Some, slice_get}
+use Rattle.std.specs.Prelude.{ℕ, Bool, true, false, ◌≡◌, ◌==◌, ◌++◌, ◌*◌, ◌≤◌, ◌^◌, ℤ, pos, ◌+ℤ◌, ◌≤ℤ◌, List, [], ◌∷◌, map, Contains, Some}
 use Rattle.std.proofs.Common.{refl, sym, ap, ◌∙◌, subst, cond, arith}
 use Rattle.std.proofs.lemmas.Bool.{eqb-true, eqb-false, eq-eqb}
 use Rattle.std.proofs.lemmas.Int.{ints}
 use Rattle.std.proofs.lemmas.Option.{same_Some}
 use Rattle.semantics.specs.Tree.{Variable, Stmt, Assign, Update, If, IfElse, For, Block, Print, Items, no_items, mark, local, stmt}
 use Rattle.semantics.specs.Meaning.State.{State, Slot, Holds}
-use Rattle.semantics.specs.Loops.Nest.{Loop, Vector, at_value, at_vector, iterations, nest_of}
-use Rattle.semantics.specs.Theorems.{IsTurn}
+use Rattle.semantics.specs.Loops.Nest.{Loop, Vector, at_value, at_vector, iterations}
 use Rattle.law_lines.proofs.Kept.{kept_lines_are_read}
 use Rattle.affine.specs.declared.interval.Interval.{Interval}
 use Rattle.affine.specs.declared.interval.Side.{Side}
@@ -18,14 +17,12 @@ use Rattle.nest_loop.specs.declared.stride.Direction.{Direction}
 use Rattle.nest_loop.specs.declared.stride.Direction.TheVariants.{Rising, Falling}
 use Rattle.nest_loop.specs.declared.stride.Bound.{Bound}
 use Rattle.nest_loop.specs.declared.stride.Bound.TheVariants.{Strict, Inclusive, Unequal}
-use Rattle.nest_loop.specs.declared.head.Canonical.{Canonical}
-use Rattle.nest_loop.specs.Sides.{after_steps, end_shift, end_of}
+use Rattle.nest_loop.specs.Sides.{after_steps, end_shift}
 use Rattle.nest_loop.specs.Most.{way}
 use Rattle.nest_loop.specs.Loops.{inside}
-use Rattle.nest_loop.specs.Turn.{AtTurn, HoldsValue, HoldCounters}
+use Rattle.nest_loop.specs.Turn.{AtTurn, HoldsValue}
 use Rattle.nest.specs.Perfect.{IsRightNest, RightNestFirst, Nests, ItemsNest, HasProduct}
-use Rattle.nest_space.specs.Space.{Turns, values_of}
-use Rattle.nest_space.specs.Nests.{IsRunOf}
+use Rattle.nest_space.specs.Space.{values_of}
 use Rattle.nest_space.proofs.Counted.{found_at}
 use Rattle.pragma.specs.Parallel.{associated, FirstHas}
 use Rattle.flow.specs.Roles.{LoopsHaveBy, ItemsHaveBy}
@@ -34,10 +31,10 @@ use Rattle.law_turns.proofs.Joining.{contains_none, contains_cases, member}
 use Rattle.law_turns.proofs.Iterating.{iterations_by}
 use Rattle.law_independence.specs.Inside.{LoopsAreRead, ItemsAreRead}
 use Rattle.law_independence.proofs.Grammar.{decls_small, items_read}
-use Rattle.law_ranges.specs.Spaces.{RunFew, RunsFew, RunsFewAtTurns, RightNestsRunFew}
+use Rattle.law_ranges.specs.Spaces.{RunsFewAtTurns, RightNestsRunFew}
 use Rattle.law_ranges.proofs.Round.{AreRound, round_join}
 use Rattle.law_ranges.proofs.Turning.{at_start, run, values_are_these, turn_at}
-use Rattle.law_ranges.proofs.Few.{RunWithin, run_within_most, counted_more}
+use Rattle.law_ranges.proofs.Few.{run_within_most, counted_more}
 
 -- ---- the numbers of the loops' variables
 
@@ -115,7 +112,7 @@ small_number slot z n h e le =
     omega (arith, ints)
 
 nest_runs : (box : List Side) (serial : List Loop) (n : ℕ) (s : Stmt) → AreRound [] serial box → IsRightNest box n s → RunsFewAtTurns serial n s
-nest_runs box serial n s round (hs, b, is, forms, k, all, few) loops body outer nest turn =
+nest_runs box serial n s round (hs, b, is, (forms, (k, all, few))) loops body outer nest turn =
     let same : hs ≡ loops = ap (λ (p : List Loop × Stmt). p.0) (same_Some (hs, b) (loops, body) (sym is ∙ nest)) in
     let there : AtSmallTurn box outer =
     subst (AtSmallTurn box) (sym turn.is) (small_turn serial [] box (λ x. pos 0) outer turn.turns turn.turn round (at_start outer) (λ x c. absurd (cc c)) turn.are turn.among) in
