@@ -24,19 +24,19 @@ body_inside n m s b c h k e (hs, is) =
     (h ∷ hs, ap (λ j. nest_of j s) k ∙ ap (option_and_then (λ found. map_option (λ inner. (found.0 ∷ inner.0, inner.1)) (nest_of m found.1))) e ∙ ap (map_option (λ inner. (h ∷ inner.0, inner.1))) is)
 
 -- a nest has as many loops as it says, and as many forms
-abbrev InnerNest : ℕ → Loop → Stmt → Option (List Loop × Stmt)
-InnerNest n l b = map_option (λ (inner : List Loop × Stmt). (l ∷ inner.0, inner.1)) (nest_of n b)
+abbrev with_loop : Loop → List Loop × Stmt → List Loop × Stmt
+with_loop l inner = (l ∷ inner.0, inner.1)
 
 nest_length : (n : ℕ) (s : Stmt) (hs : List Loop) (body : Stmt) → nest_of n s ≡ Some (hs, body) → length hs ≡ n
 nest_length zero s hs body h = sym (ap (λ (p : List Loop × Stmt). length p.0) (same_Some ([], s) (hs, body) h))
 nest_length (suc n) s hs body h = at (as_loop s) h (λ b gs c k. nest_length n b gs c k)
   where
-    inner : (l : Loop) (b : Stmt) (o : Option (List Loop × Stmt)) → nest_of n b ≡ o → map_option (λ (inner : List Loop × Stmt). (l ∷ inner.0, inner.1)) o ≡ Some (hs, body)
+    inner : (l : Loop) (b : Stmt) (o : Option (List Loop × Stmt)) → nest_of n b ≡ o → map_option (with_loop l) o ≡ Some (hs, body)
         → ((b : Stmt) (gs : List Loop) (c : Stmt) → nest_of n b ≡ Some (gs, c) → length gs ≡ n) → length hs ≡ suc n
     inner l b None is k rest = absurd (none-some (hs, body) k)
     inner l b (Some (gs, c)) is k rest = sym (ap (λ (p : List Loop × Stmt). length p.0) (same_Some (l ∷ gs, c) (hs, body) k)) ∙ ap suc (rest b gs c is)
 
-    at : (o : Option (Loop × Stmt)) → option_and_then (λ (found : Loop × Stmt). InnerNest n found.0 found.1) o ≡ Some (hs, body)
+    at : (o : Option (Loop × Stmt)) → option_and_then (λ (found : Loop × Stmt). map_option (with_loop found.0) (nest_of n found.1)) o ≡ Some (hs, body)
         → ((b : Stmt) (gs : List Loop) (c : Stmt) → nest_of n b ≡ Some (gs, c) → length gs ≡ n) → length hs ≡ suc n
     at None k rest = absurd (none-some (hs, body) k)
     at (Some (l, b)) k rest = inner l b (nest_of n b) refl k rest
@@ -76,10 +76,10 @@ numbers_more (v ∷ vs) n = ap (λ l. v.0 ∷ l) (numbers_more vs n)
 
 -- the variables below the next number are listed
 pub none_listed : (box : List Side) (variables : List VarId) → variables ≡ [] → ListsLocals 0 box variables
-none_listed box variables e = record { each = λ x lt k. absurd (omega (arith, lt)); only = λ x among. absurd (contains_none x (subst (λ vs. Contains (map (λ (v : VarId). v.0) vs) x) e among)) }
+none_listed box variables e = record { each = λ x lt k. absurd (omega (arith, lt)); only = λ x among. absurd (none x (subst (λ (vs : List VarId). Contains (map (λ (v : VarId). v.0) vs) x) e among)) }
   where
-    contains_none : (x : Variable) → Contains {A = ℕ} [] x → ⊥
-    contains_none x h = let lt = h.1 in omega arith
+    none : (x : Variable) → Contains (map (λ (v : VarId). v.0) []) x → ⊥
+    none x h = let lt = h.1 in omega arith
 
 pub listed_more : (n : ℕ) (box : List Side) (variables : List VarId) → list_any (λ s. s.variable.0 == n) box ≡ true → ListsLocals n box variables → ListsLocals (n + 1) box (variables ++ record { 0 = n } ∷ [])
 listed_more n box variables one so_far = record {

@@ -5,7 +5,7 @@ use Rattle.outline.proofs.handing.variables_of.Goals.{then-has+in_ok-push, else-
 use Rattle.outline.proofs.handing.variables_of.Goals as goal
 
 pub loop-number-init : goal.loop-number-init
-loop-number-init c = none_listed c.args.bounds.now c.new-variables.result.items c.new-variables.ensures
+loop-number-init c = none_listed c.args.bounds.now c.new-variables.result.items c.new-variables.ensures.items
 
 pub loop-number-preserved : goal.loop-number-preserved
 loop-number-preserved c =
