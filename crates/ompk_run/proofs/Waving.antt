@@ -46,7 +46,7 @@ use Rattle.outline.specs.declared.shape.Way.TheVariants.{Waves}
 use Rattle.outline.specs.Fit.{WayFits, TeamFits}
 use Rattle.outline.specs.View.{roles_in}
 use Rattle.team.specs.Waved.{WaveLeaves, AreWaved, LeavesInWaves}
-use Rattle.team.proofs.Cutting.{at_below}
+use Rattle.team_worker.proofs.Cutting.{at_below}
 use Rattle.ompk_run.proofs.AtHand.{at_hand}
 use Rattle.ompk_run.proofs.AtTurn.{at_turn}
 use Rattle.ompk_run.proofs.Behind.{arrives}

@@ -5,7 +5,7 @@ use Rattle.semantics.specs.Meaning.State.{State}
 use Rattle.semantics.specs.Meaning.Runs.{Effect}
 use Rattle.semantics.specs.Loops.Nest.{Loop, Vector}
 use Rattle.law_nests.specs.Walks.{walk}
-use Rattle.team.specs.Starts.{HaveRuns}
+use Rattle.team_worker.specs.Starts.{HaveRuns}
 use Rattle.std.proofs.Common.{refl, sym, ap, ◌∙◌, subst}
 use Rattle.std.proofs.lemmas.List.{length-map}
 use Rattle.std.proofs.lemmas.Option.{same_Some, slice_get-map, slice_get_within, get_or_from_slice_get}

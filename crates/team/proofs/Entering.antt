@@ -1,61 +1,26 @@
--- What chunks tell, each by its number.
-use Rattle.std.specs.Prelude.{ℕ, Bool, true, false, ◌≡◌, ◌<◌, ◌==◌, ◌⊎◌, List, [], ◌∷◌, ◌++◌, length, map, replicate, slice_get, slice_set, All, Some}
-use Rattle.std.proofs.Common.{refl, sym, ◌∙◌, subst, inl, inr, arith, get_or}
-use Rattle.std.proofs.lemmas.Bool.Decides.{nat_tests}
-use Rattle.std.proofs.lemmas.Bool.{eqb-true}
-use Rattle.std.proofs.lemmas.List.{length-replicate, length-set, ext_get_or, get_or-set_same, get_or-set_other}
-use Rattle.std.proofs.lemmas.List.Elements.{All-head, All-tail, All-weaker}
-use Rattle.std.proofs.lemmas.Option.{slice_get_within, get_or_from_slice_get}
+-- What all chunks of a loop tell, each by its number.
+use Rattle.std.specs.Prelude.{ℕ, ◌≡◌, ◌<◌, List, length, replicate, slice_get, All, Some}
+use Rattle.std.proofs.Common.{sym, ◌∙◌, subst, inr, arith}
+use Rattle.std.proofs.lemmas.List.{length-replicate}
+use Rattle.std.proofs.lemmas.List.Elements.{All-weaker}
 use Rattle.semantics.specs.Loops.Arrangement.{times, once, once_below}
 use Rattle.semantics.specs.Loops.Chunk.{Chunk}
 use Rattle.store.specs.Kept.{Kept}
 use Rattle.lower.specs.declared.lowered.LoweredLoop.{LoweredLoop}
-use Rattle.team.specs.declared.pass.Pass.{Pass}
-use Rattle.team.specs.Ends.{IsLeaving, AreAll}
-use Rattle.team.specs.Logged.{Leaving, Account}
-use Rattle.team.specs.Printed.{entered_by}
-use Rattle.team.proofs.Cutting.{one_below}
+use Rattle.team_worker.specs.declared.pass.Pass.{Pass}
+use Rattle.team_worker.specs.Ends.{IsLeaving, AreAll}
+use Rattle.team_log.specs.Logged.{Leaving, Account}
+use Rattle.team_log.specs.Printed.{entered_by}
+use Rattle.team_worker.proofs.Cutting.{one_below}
+use Rattle.team_log.proofs.Entering.{entered_all}
 
-module _ {A : Type 0} (told : Leaving → A) where
-  pub entered_both : (cs ds : List Leaving) (table : List A) → entered_by told (cs ++ ds) table ≡ entered_by told ds (entered_by told cs table)
-  entered_both [] ds table = refl
-  entered_both (c ∷ cs) ds table = entered_both cs ds (slice_set table c.number (told c))
-
-  module _ (d : A) (wanted : List A) where
-    abbrev Right : Leaving → Type 0
-    Right c = slice_get wanted c.number ≡ Some (told c)
-
-    -- where each one tells what is wanted at its number, and each number that has something else so far is among them, all are as they are wanted
-    entered_all : (cs : List Leaving) (table : List A) → length table ≡ length wanted → All Right cs
-        → ((k : ℕ) → k < length wanted → (get_or table k d ≡ get_or wanted k d) ⊎ (0 < times k (map (λ (c : Leaving). c.number) cs))) → entered_by told cs table ≡ wanted
-    entered_all [] table count right there = ext_get_or d table wanted count (λ k lt. go k (there k (omega arith)))
-      where
-        go : (k : ℕ) → (get_or table k d ≡ get_or wanted k d) ⊎ (0 < 0) → get_or table k d ≡ get_or wanted k d
-        go k (inl e) = e
-        go k (inr none) = absurd (omega arith)
-    entered_all (c ∷ cs) table count right there =
-        entered_all cs (slice_set table c.number (told c)) (length-set table c.number (told c) ∙ count) (All-tail Right c cs right) (λ k lt. at k lt (c.number == k) refl (there k lt))
-      where
-        own : slice_get wanted c.number ≡ Some (told c)
-        own = All-head Right c cs right
-
-        at : (k : ℕ) → k < length wanted → (b : Bool) → (c.number == k) ≡ b → (get_or table k d ≡ get_or wanted k d) ⊎ (0 < times k (map (λ (c : Leaving). c.number) (c ∷ cs)))
-            → (get_or (slice_set table c.number (told c)) k d ≡ get_or wanted k d) ⊎ (0 < times k (map (λ (c : Leaving). c.number) cs))
-        at k lt true e is =
-            let same : c.number ≡ k = eqb-true c.number k e in
-            let here : get_or (slice_set table c.number (told c)) c.number d ≡ get_or wanted c.number d =
-            get_or-set_same table c.number (told c) d (let w = slice_get_within wanted c.number (told c) own in omega arith) ∙ sym (get_or_from_slice_get wanted c.number (told c) d own) in
-            inl (subst (λ n. get_or (slice_set table c.number (told c)) n d ≡ get_or wanted n d) same here)
-        at k lt false e (inl h) = inl (get_or-set_other table c.number k (told c) d (λ same. let z : (c.number == k) ≡ true = grind (arith, nat_tests) in absurd cc) ∙ h)
-        at k lt false e (inr some) = let none : once k c.number ≡ 0 = grind (arith, nat_tests) in inr (omega arith)
-
-    -- so it is of all chunks of a loop
-    pub all_entered : (l : LoweredLoop) (registers : List ℕ) (ks : List Kept) (pass : Pass) (chunks : List Chunk) (account : Account) → AreAll l registers ks pass chunks account → length wanted ≡ length chunks
-        → ((c : Leaving) → IsLeaving l registers ks pass chunks c → slice_get wanted c.number ≡ Some (told c)) → entered_by told account.chunks (replicate (length chunks) d) ≡ wanted
-    all_entered l registers ks pass chunks account all many one =
-        entered_all account.chunks (replicate (length chunks) d) (length-replicate (length chunks) d ∙ sym many) (All-weaker (IsLeaving l registers ks pass chunks) Right one account.chunks all.account.each)
-        (λ k lt.
-        let once_is = all.once k in
-        let is_one : once_below k (length chunks) ≡ 1 = one_below k (length chunks) (omega arith) in
-        let some : 0 < times k all.numbers = omega arith in
-        inr (subst (λ (ns : List ℕ). 0 < times k ns) (sym all.account.numbers_are) some))
+module _ {A : Type 0} (told : Leaving → A) (d : A) (wanted : List A) where
+  pub all_entered : (l : LoweredLoop) (registers : List ℕ) (ks : List Kept) (pass : Pass) (chunks : List Chunk) (account : Account) → AreAll l registers ks pass chunks account → length wanted ≡ length chunks
+      → ((c : Leaving) → IsLeaving l registers ks pass chunks c → slice_get wanted c.number ≡ Some (told c)) → entered_by told account.chunks (replicate (length chunks) d) ≡ wanted
+  all_entered l registers ks pass chunks account all many one =
+      entered_all told d wanted account.chunks (replicate (length chunks) d) (length-replicate (length chunks) d ∙ sym many) (All-weaker (IsLeaving l registers ks pass chunks) (λ (c : Leaving). slice_get wanted c.number ≡ Some (told c)) one account.chunks all.account.each)
+      (λ k lt.
+      let once_is = all.once k in
+      let is_one : once_below k (length chunks) ≡ 1 = one_below k (length chunks) (omega arith) in
+      let some : 0 < times k all.numbers = omega arith in
+      inr (subst (λ (ns : List ℕ). 0 < times k ns) (sym all.account.numbers_are) some))

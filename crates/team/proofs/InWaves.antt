@@ -27,18 +27,18 @@ use Rattle.lower.specs.declared.roles.Spot.{Spot}
 use Rattle.lower.specs.Lowered.{IsSpaceOf}
 use Rattle.lower.specs.Roles.{StandEach}
 use Rattle.waves.specs.Wanted.{vector_at, numbers_of, AreWaves}
-use Rattle.team.specs.declared.grounds.Grounds.{Grounds}
-use Rattle.team.specs.declared.pass.Pass.{Pass}
-use Rattle.team.specs.declared.pass.Pass.TheVariants.{Plain, Second, Wave}
+use Rattle.team_worker.specs.declared.grounds.Grounds.{Grounds}
+use Rattle.team_worker.specs.declared.pass.Pass.{Pass}
+use Rattle.team_worker.specs.declared.pass.Pass.TheVariants.{Plain, Second, Wave}
 use Rattle.team.specs.declared.waving.Reached.{Reached}
-use Rattle.team.specs.Applied.{AreApplied}
-use Rattle.team.specs.Ends.{IsCut, AreAll}
-use Rattle.team.specs.Logged.{Account}
-use Rattle.team.specs.Places.{AreSplit, count_taken}
-use Rattle.team.specs.Spots.{put_values, IsPutBy}
-use Rattle.team.specs.Starts.{taken_in, AreTakenFrom, TellsOf, started_in, HaveRuns}
+use Rattle.team_log.specs.Applied.{AreApplied}
+use Rattle.team_worker.specs.Ends.{IsCut, AreAll}
+use Rattle.team_log.specs.Logged.{Account}
+use Rattle.team_worker.specs.Places.{AreSplit, count_taken}
+use Rattle.team_log.specs.Spots.{put_values, IsPutBy}
+use Rattle.team_worker.specs.Starts.{taken_in, AreTakenFrom, TellsOf, started_in, HaveRuns}
 use Rattle.team.specs.Waved.{WaveTogether, WaveLeaves, AreWaved, IsReachedBy, IsWaveIn, AreWavesIn, IsWaveOf, AreOfWave}
-use Rattle.team.proofs.Cutting.{length_below, at_below}
+use Rattle.team_worker.proofs.Cutting.{length_below, at_below}
 use Rattle.team.proofs.Effects.{have_same}
 use Rattle.team.proofs.Merging.{IsAlike, merges_all}
 

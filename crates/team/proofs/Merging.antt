@@ -35,38 +35,28 @@ use Rattle.lower_code.specs.Layout.{first_of, shapes_of, spot, cell_at}
 use Rattle.lower_code.specs.Machine.{Machine, machine}
 use Rattle.lower_code.proofs.Spots.{lies, place_below}
 use Rattle.lower_code.proofs.Values.{no_object}
-use Rattle.overlay_pages.specs.Over.{Writes, or_else, writes_of, written_over}
+use Rattle.overlay_pages.specs.Over.{writes_of, written_over}
 use Rattle.overlay_pages.proofs.Overlays.{length_over}
 use Rattle.overlay.specs.declared.worker.Piece.{Piece}
 use Rattle.overlay.specs.Chunks.{LeavesPiece}
 use Rattle.lower.specs.declared.lowered.LoweredLoop.{LoweredLoop}
 use Rattle.lower.specs.Lowered.{IsReached}
-use Rattle.team.specs.Applied.{NoneWrites, OneWrites, AreApplied}
-use Rattle.team.specs.Ends.{IsCut, IsLeaving, AreAll, AreOfLoop}
-use Rattle.team.specs.Logged.{Leaving, Account}
-use Rattle.team.specs.Printed.{text_in_order}
-use Rattle.team.specs.Spots.{told_of, reduced, scanned, put_values, IsPutBy, IsPut}
-use Rattle.team.specs.declared.pass.Pass.{Pass}
-use Rattle.team.specs.declared.pass.Pass.TheVariants.{Plain}
-use Rattle.team.specs.Starts.{taken_in, TellsOf, started_in, HaveRuns}
+use Rattle.team_log.specs.Applied.{NoneWrites, OneWrites, AreApplied}
+use Rattle.team_log.proofs.Applying.{get_none, get_some}
+use Rattle.team_worker.specs.Ends.{IsCut, IsLeaving, AreAll, AreOfLoop}
+use Rattle.team_log.specs.Logged.{Leaving, Account}
+use Rattle.team_log.specs.Printed.{text_in_order}
+use Rattle.team_log.specs.Spots.{told_of, reduced, scanned, put_values, IsPutBy, IsPut}
+use Rattle.team_worker.specs.declared.pass.Pass.{Pass}
+use Rattle.team_worker.specs.declared.pass.Pass.TheVariants.{Plain}
+use Rattle.team_worker.specs.Starts.{taken_in, TellsOf, started_in, HaveRuns}
 use Rattle.lower.specs.Roles.{AreReduced}
 use Rattle.team.specs.Together.{HoldsAt, PutTogether, PutScan, LeavesTogether}
-use Rattle.team.proofs.Cutting.{chunk_within, each_filled, one_below}
+use Rattle.team_worker.proofs.Cutting.{chunk_within, each_filled, one_below}
 use Rattle.team.proofs.Effects.{all_at, have_same}
-use Rattle.team.proofs.Taking.{leaves_taken}
+use Rattle.team_worker.proofs.Taking.{leaves_taken}
 use Rattle.team.proofs.Texts.{printed}
-use Rattle.team.proofs.Standing.{HoldsIn, SameIn, HasRoomFor, AsLong, scanned_own, reduced_long, put_long, put_none, same_then, holds_still, room_still, put_others, put_own, reduced_others, reduced_own}
-
--- a cell under writes that leave it out, and under one that names it
-pub get_none : (w : Writes) (ns : List ℕ) (p : ℕ) → w p ≡ None → slice_get (written_over w ns) p ≡ slice_get ns p
-get_none w [] p e = refl
-get_none w (n ∷ ns) zero e = ap (λ o. Some (or_else o n)) e
-get_none w (n ∷ ns) (suc p) e = get_none (λ q. w (suc q)) ns p e
-
-pub get_some : (w : Writes) (ns : List ℕ) (p n : ℕ) → p < length ns → w p ≡ Some n → slice_get (written_over w ns) p ≡ Some n
-get_some w [] p n lt e = absurd (omega arith)
-get_some w (m ∷ ns) zero n lt e = ap (λ o. Some (or_else o m)) e
-get_some w (m ∷ ns) (suc p) n lt e = get_some (λ q. w (suc q)) ns p n (omega arith) e
+use Rattle.team_log.proofs.Standing.{HoldsIn, SameIn, HasRoomFor, AsLong, scanned_own, reduced_long, put_long, put_none, same_then, holds_still, room_still, put_others, put_own, reduced_others, reduced_own}
 
 -- changes of a number that stands in the list
 pub record Found (cs : List Leaving) (n : ℕ) : Type 0 where

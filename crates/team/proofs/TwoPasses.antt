@@ -1,5 +1,5 @@
 -- A scan's two passes.
-use Rattle.std.specs.Prelude.{ℕ, zero, suc, Bool, true, false, ◌≡◌, ◌+◌, ◌<◌, ◌≤◌, ◌==◌, List, [], ◌∷◌, ◌++◌, length, map, take, drop, replicate, slice_get, slice_index, Option, Some, None, option_map}
+use Rattle.std.specs.Prelude.{ℕ, zero, suc, Bool, true, false, ◌≡◌, ◌+◌, ◌<◌, ◌≤◌, ◌==◌, List, [], ◌∷◌, ◌++◌, length, map, take, drop, slice_get, slice_index, Option, Some, None, option_map}
 use Rattle.std.proofs.Common.{Vec, Global, refl, sym, ap, ◌∙◌, cond, subst, arith}
 use Rattle.std.proofs.lemmas.Bool.{eqb-true, eq-eqb}
 use Rattle.std.proofs.lemmas.List.{length-map, take_all}
@@ -25,9 +25,6 @@ use Rattle.law_starts.specs.Begun.{begun}
 use Rattle.law_scans.specs.Passes.{walks_from}
 use Rattle.law_scans.proofs.Changing.{Kin, kin_cells}
 use Rattle.law_scans.proofs.Steps.{same_slot}
-use Rattle.reduce.specs.declared.partial.Partial.{Partial}
-use Rattle.reduce.specs.declared.partial.Partial.TheVariants.{Untouched}
-use Rattle.reduce.specs.Partial.{partial_of}
 use Rattle.store.specs.Kept.{Kept}
 use Rattle.store.specs.Flat.{AreFilled, values_of}
 use Rattle.lower_code.specs.declared.term.Laid.{Laid}
@@ -42,29 +39,23 @@ use Rattle.overlay.specs.Chunks.{started}
 use Rattle.overlay.specs.Spots.{held_at}
 use Rattle.overlay.proofs.Standing.{some_value, held_in}
 use Rattle.overlay.proofs.Telling.{given_locals, given_cells}
-use Rattle.team.specs.declared.pass.Pass.TheVariants.{Plain, Second}
-use Rattle.team.specs.Ends.{IsCut, IsSplit, IsLeaving, AreAll}
-use Rattle.team.specs.Logged.{Leaving, Account}
+use Rattle.team_worker.specs.declared.pass.Pass.TheVariants.{Plain, Second}
+use Rattle.team_worker.specs.Ends.{IsCut, IsSplit, IsLeaving, AreAll}
+use Rattle.team_log.specs.Logged.{Leaving, Account}
 use Rattle.team.specs.Passed.{IsPassed, BeginsIn}
-use Rattle.team.specs.Printed.{text_in_order}
-use Rattle.team.specs.Scanned.{told_of_scan, partials_in_order, StartFrom, AreScanStarts}
-use Rattle.team.specs.Spots.{scanned, IsScanPut}
-use Rattle.team.specs.Starts.{start_at, started_in, HaveRuns}
+use Rattle.team_log.specs.Printed.{text_in_order}
+use Rattle.team_log.specs.Scanned.{told_of_scan, partials_in_order, StartFrom}
+use Rattle.team.specs.ScanStarts.{AreScanStarts}
+use Rattle.team_log.specs.Spots.{scanned, IsScanPut}
+use Rattle.team_worker.specs.Starts.{start_at, started_in, HaveRuns}
 use Rattle.team.specs.Together.{scan_starts, RunsInPasses, ScansTogether, ScansBeginning}
-use Rattle.team.proofs.Cutting.{length_below, at_below}
+use Rattle.team_worker.proofs.Cutting.{length_below, at_below}
 use Rattle.team.proofs.Effects.{all_at, same_length, have_same}
 use Rattle.team.proofs.Entering.{all_entered}
 use Rattle.team.proofs.Merging.{IsAlike, leaves_of, tells_of, put_scan}
-use Rattle.team.proofs.Standing.{scanned_long, scanned_others}
+use Rattle.team_log.proofs.Standing.{scanned_long, scanned_others}
 
 -- ---- the first pass
-
-pub all_untouched : (table : List Partial) (n : ℕ) → table ≡ replicate n Untouched → map partial_of table ≡ replicate n None
-all_untouched table n is = ap (map partial_of) is ∙ go n
-  where
-    go : (m : ℕ) → map partial_of (replicate m Untouched) ≡ replicate m None
-    go zero = refl
-    go (suc m) = ap (λ l. None ∷ l) (go m)
 
 only_known : (rs : List (Variable × ReduceOp)) (x : Variable) (op : ReduceOp) → rs ≡ (x, op) ∷ [] → operator_of rs x ≡ Some op
 only_known rs x op only = ap (λ qs. operator_of qs x) only ∙ ap (λ b. cond b (Some op) None) (eq-eqb x x refl)

@@ -1,14 +1,5 @@
-pub mod Starts
-pub mod Scanned
+pub mod ScanStarts
 pub mod Passed
 pub mod Together
 pub mod Waved
-pub mod Printed
-pub mod Applied
-pub mod Ends
-pub mod Dealt
-pub mod Places
-pub mod Logged
-pub mod Overwritten
-pub mod Spots
 pub mod Tasks

@@ -13,11 +13,11 @@ use Rattle.store.specs.Kept.{Kept}
 use Rattle.lower_code.specs.declared.term.Laid.{Laid}
 use Rattle.lower.specs.declared.lowered.LoweredLoop.{LoweredLoop}
 use Rattle.lower.specs.Lowered.{IsReached}
-use Rattle.team.specs.declared.pass.Pass.{Pass}
-use Rattle.team.specs.Ends.{AreOfLoop}
-use Rattle.team.specs.Logged.{Account}
-use Rattle.team.specs.Printed.{text_in_order}
-use Rattle.team.specs.Starts.{taken_in, started_in, HaveRuns}
+use Rattle.team_worker.specs.declared.pass.Pass.{Pass}
+use Rattle.team_worker.specs.Ends.{AreOfLoop}
+use Rattle.team_log.specs.Logged.{Account}
+use Rattle.team_log.specs.Printed.{text_in_order}
+use Rattle.team_worker.specs.Starts.{taken_in, started_in, HaveRuns}
 
 -- the account of all chunks of a loop, and behind the text from before what they print, in their order
 pub record IsPassed (l : LoweredLoop) (registers : List ℕ) (ks : List Kept) (pass : Pass) (kind : Kind) (workers : ℕ) (a : Account) (text text' : List ℕ) : Type 0 where

@@ -19,11 +19,11 @@ use Rattle.lower_code.specs.Machine.{Fits, machine}
 use Rattle.lower.specs.declared.lowered.LoweredLoop.{LoweredLoop}
 use Rattle.lower.specs.Lowered.{IsReached, IsSpaceOf}
 use Rattle.waves.specs.Wanted.{vector_at, AreWaves}
-use Rattle.team.specs.declared.grounds.Grounds.{Grounds}
-use Rattle.team.specs.declared.pass.Pass.{Pass}
-use Rattle.team.specs.declared.pass.Pass.TheVariants.{Plain, Second, Wave}
+use Rattle.team_worker.specs.declared.grounds.Grounds.{Grounds}
+use Rattle.team_worker.specs.declared.pass.Pass.{Pass}
+use Rattle.team_worker.specs.declared.pass.Pass.TheVariants.{Plain, Second, Wave}
 use Rattle.team.specs.declared.waving.Reached.{Reached}
-use Rattle.team.specs.Ends.{IsCut}
+use Rattle.team_worker.specs.Ends.{IsCut}
 
 -- wherever the loop is reached with these registers and this store, without reduction and lastprivate variables, and the chunks of the iterations of these numbers, cut so for so many workers, have a run each from there, each object at file scope is as before where no chunk changes it, and else as one leaves it that does
 abbrev pub WaveTogether : LoweredLoop → List ℕ → List ℕ → List Kept → List Kept → Kind → ℕ → Type 0

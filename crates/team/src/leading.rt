@@ -6,7 +6,6 @@ ghost use Rattle.seqrun_io.specs.Told.{Refuses};
 ghost use Rattle.team.specs.Together.{LeavesTogether, BeginsTogether, ScansTogether, ScansBeginning};
 ghost use Rattle.team.specs.Tasks.{IsLeft, IsBegun};
 
-use crate::gate::Gate;
 use crate::lent::LoopCrew;
 use crate::scanning::share_scan;
 use crate::teamwork::share_loop;
@@ -19,6 +18,7 @@ use std::alloc::Global;
 use std::sync::Wait;
 use std::thread::{Threads, join_mut};
 use store::Store;
+use team_worker::Gate;
 
 /// What a team runs: a loop, with what stands for the schedule `runtime`; or a scan, by the loop of its input phase and by the whole one.
 #[derive(Clone, Copy)]

@@ -1,77 +1,31 @@
 //! Scans, which a team runs in two passes (OpenMP 5.2, 5.6).
 
-ghost use Rattle.std.specs.Prelude.{◌≡◌, ◌+◌, ◌<◌, ◌^◌, length, map, replicate, None, IfOk, IfErr, OnOk};
-ghost use Rattle.reduce.specs.Partial.{partial_of};
+ghost use Rattle.std.specs.Prelude.{◌≡◌, ◌+◌, ◌<◌, ◌^◌, ℕ, length, map, slice_index, IfOk, IfErr, OnOk};
 ghost use Rattle.seqrun_io.specs.Told.{Refuses};
-ghost use Rattle.store.specs.Flat.{values_of};
-ghost use Rattle.lower_code.specs.Machine.{machine};
-ghost use Rattle.team.specs.Logged.{joined};
-ghost use Rattle.team.specs.Printed.{entered_by};
-ghost use Rattle.team.specs.Scanned.{told_of_scan, partials_in_order, StartFrom, AreScanStarts};
+ghost use Rattle.team.specs.ScanStarts.{AreScanStarts};
 ghost use Rattle.team.specs.Together.{ScansTogether, ScansBeginning};
 
-use crate::gate::Gate;
-use crate::grounds::grounds_of;
 use crate::lent::LoopCrew;
-use crate::log::ChunkLog;
-use crate::pass::{Pass, last_number};
-use crate::putting::{Total, put_together, read};
 use crate::teamwork::{confirm_filled, loop_logs, run_pass};
-use inscan::starts;
 use ktree::{Refusal, Workers};
-use lower::{LoweredLoop, LoweredReduction};
-use reduce::Partial;
+use lower::LoweredLoop;
 use schedule::Sched;
 use seqrun_io::Sink;
-use std::alloc::{AllocError, Global};
+use std::alloc::Global;
 use std::sync::Wait;
 use store::Store;
+use team_log::{Total, partials_of, put_together, starts_from};
+use team_worker::{Gate, Pass, grounds_of};
 
-// What each of these chunks tells of a scan's variable stands at its number.
-fn enter_all(logs: &[ChunkLog], table: &mut [Partial])
-    ensures { map partial_of table.new
-        ≡ entered_by told_of_scan (joined logs.now).chunks (map partial_of table.old) }
+// The last of some numbers, and 0 of none.
+fn last_number(numbers: &[u64]) -> u64
+    ensures { (count : ℕ) → length numbers.now ≡ count + 1
+        → result ≡ slice_index numbers.now count }
 {
-    let Some((log, rest)) = logs.split_first() else {
-        return;
-    };
-    log.enter_partials(table);
-    enter_all(rest, table);
-}
-
-// So many partials of nothing.
-fn untouched_partials(alloc: Global, count: u64) -> Result<Vec<Partial>, AllocError>
-    ensures { IfOk result (λ table. map partial_of table.items ≡ replicate count None) }
-{
-    Vec::from_elem(alloc, Partial::Untouched, count as usize)
-}
-
-// What so many chunks tell of a scan's variable, each by its number.
-fn partials_of(alloc: Global, logs: &[ChunkLog], count: u64) -> Result<Vec<Partial>, AllocError>
-    ensures { IfOk result (λ partials. map partial_of partials.items
-        ≡ partials_in_order count (joined logs.now).chunks) }
-{
-    let mut table = untouched_partials(alloc, count)?;
-    enter_all(logs, table.as_mut_slice());
-    Ok(table)
-}
-
-// The starts of a scan's chunks and of one more, where the variable, the first of these, holds what it held before the loop.
-fn starts_from(
-    alloc: Global,
-    reductions: &[LoweredReduction],
-    registers: &[u64],
-    store: &Store,
-    partials: &[Partial],
-) -> Result<Vec<u64>, AllocError>
-    ensures { IfOk result (λ starts. StartFrom reductions.now
-        (machine registers.now (values_of store.now)) (map partial_of partials.now) starts.items) }
-{
-    let Some((reduction, _)) = reductions.split_first() else {
-        return Ok(Vec::new(alloc));
-    };
-    let held = read(reduction.spot, registers, store);
-    starts(alloc, reduction.operator, held, partials)
+    match numbers.split_last() {
+        Some((last, _)) => *last,
+        None => 0,
+    }
 }
 
 // Runs the first pass, and tells the start of each chunk and of one more.

@@ -5,20 +5,14 @@ ghost use Rattle.semantics.specs.Loops.Chunk.{cut};
 ghost use Rattle.schedule.specs.Sched.{kind_of, kind_said};
 ghost use Rattle.seqrun_io.specs.Told.{Refuses};
 ghost use Rattle.store.specs.Flat.{AreFilled};
-ghost use Rattle.team.specs.Ends.{AreAll};
-ghost use Rattle.team.specs.Logged.{joined};
+ghost use Rattle.team_worker.specs.Ends.{AreAll};
+ghost use Rattle.team_log.specs.Logged.{joined};
 ghost use Rattle.team.specs.Passed.{IsPassed, BeginsIn};
-ghost use Rattle.team.specs.Places.{AreSplit, count_taken};
-ghost use Rattle.team.specs.Starts.{TakesAll};
+ghost use Rattle.team_worker.specs.Places.{AreSplit, count_taken};
+ghost use Rattle.team_worker.specs.Starts.{TakesAll};
 ghost use Rattle.team.specs.Together.{LeavesTogether, BeginsTogether};
 
-use crate::gate::Gate;
-use crate::grounds::{Grounds, grounds_of};
 use crate::lent::{LoopCrew, lent_logs};
-use crate::log::ChunkLog;
-use crate::pass::Pass;
-use crate::printing::put_texts;
-use crate::putting::{Total, put_together};
 use ktree::{Refusal, Workers};
 use lower::LoweredLoop;
 use schedule::{Sched, sched_of};
@@ -26,6 +20,8 @@ use seqrun_io::Sink;
 use std::alloc::Global;
 use std::sync::Wait;
 use store::Store;
+use team_log::{ChunkLog, Total, put_texts, put_together};
+use team_worker::{Gate, Grounds, Pass, grounds_of};
 
 /// The logs of all chunks of a loop. Where it has no iteration, nothing is lent to the crew.
 pub(crate) fn loop_logs<'l, R: Wait, G: Gate>(

@@ -6,15 +6,11 @@ ghost use Rattle.nest_space.specs.Rises.{EachRises};
 ghost use Rattle.nest_space.specs.Space.{vectors};
 ghost use Rattle.schedule.specs.Sched.{kind_of, kind_said};
 ghost use Rattle.store.specs.Flat.{AreFilled, values_of};
-ghost use Rattle.team.specs.Overwritten.{AreOverwrittenByAll};
-ghost use Rattle.team.specs.Places.{Aim, AreLeft};
+ghost use Rattle.team_worker.specs.Overwritten.{AreOverwrittenByAll};
+ghost use Rattle.team_worker.specs.Places.{Aim, AreLeft};
 ghost use Rattle.team.specs.Waved.{WaveTogether, AreWaved, LeavesInWaves, IsReachedBy, IsWaveIn, AreWavesIn, AreOfWave, standing};
 
-use crate::gate::Gate;
-use crate::grounds::Grounds;
-use crate::lent::{LoopCrew, Returned, apply_left, lent_whole};
-use crate::memory::Spare;
-use crate::pass::Pass;
+use crate::lent::{LoopCrew, Returned, lent_whole};
 use crate::teamwork::confirm_filled;
 use ktree::{Refusal, Workers};
 use lower::LoweredLoop;
@@ -25,6 +21,7 @@ use std::alloc::{AllocError, Global};
 use std::mem;
 use std::sync::Wait;
 use store::Store;
+use team_worker::{Gate, Grounds, Pass, Spare, apply_left};
 use waves::{Sinks, Waves, levels};
 
 /// A loop where it is reached, but for its store: its registers, and its iterations.

@@ -1,8 +1,8 @@
 use Rattle.std.proofs.Common.{IfOk, subst}
-use Rattle.team.specs.declared.grounds.Grounds.{Grounds}
-use Rattle.team.specs.Ends.{AreAll}
-use Rattle.team.specs.Logged.{joined}
-use Rattle.team.specs.Places.{aim_of, count_taken}
+use Rattle.team_worker.specs.declared.grounds.Grounds.{Grounds}
+use Rattle.team_worker.specs.Ends.{AreAll}
+use Rattle.team_log.specs.Logged.{joined}
+use Rattle.team_worker.specs.Places.{aim_of, count_taken}
 use Rattle.team.proofs.lent.lent_logs.Goals as goal
 
 pub logs_left-requires : goal.logs_left-requires

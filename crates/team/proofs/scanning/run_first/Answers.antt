@@ -5,11 +5,11 @@ use Rattle.store.specs.Kept.{Kept}
 use Rattle.store.specs.Flat.{values_of}
 use Rattle.lower_code.specs.Machine.{machine}
 use Rattle.lower.specs.declared.roles.LoweredReduction.{LoweredReduction}
-use Rattle.team.specs.declared.pass.Pass.{Pass}
-use Rattle.team.specs.declared.pass.Pass.TheVariants.{Plain}
-use Rattle.team.specs.Ends.{AreAll}
-use Rattle.team.specs.Logged.{joined}
-use Rattle.team.specs.Scanned.{StartFrom, partials_in_order}
+use Rattle.team_worker.specs.declared.pass.Pass.{Pass}
+use Rattle.team_worker.specs.declared.pass.Pass.TheVariants.{Plain}
+use Rattle.team_worker.specs.Ends.{AreAll}
+use Rattle.team_log.specs.Logged.{joined}
+use Rattle.team_log.specs.Scanned.{StartFrom, partials_in_order}
 use Rattle.team.proofs.TwoPasses.{first_starts}
 use Rattle.team.proofs.scanning.run_first.Goals as goal
 

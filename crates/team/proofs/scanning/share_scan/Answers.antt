@@ -3,12 +3,12 @@ use Rattle.std.specs.Prelude.{slice_index}
 use Rattle.semantics.specs.Loops.Chunk.{PlainStatic}
 use Rattle.store.specs.Kept.{Kept}
 use Rattle.store.specs.Flat.{AreFilled}
-use Rattle.team.specs.declared.pass.Pass.TheVariants.{Second}
-use Rattle.team.specs.Logged.{Account, joined}
+use Rattle.team_worker.specs.declared.pass.Pass.TheVariants.{Second}
+use Rattle.team_log.specs.Logged.{Account, joined}
 use Rattle.team.specs.Passed.{IsPassed, BeginsIn}
-use Rattle.team.specs.Spots.{IsScanPut, scanned}
+use Rattle.team_log.specs.Spots.{IsScanPut, scanned}
 use Rattle.team.proofs.Merging.{long_by}
-use Rattle.team.proofs.Standing.{scanned_long}
+use Rattle.team_log.proofs.Standing.{scanned_long}
 use Rattle.team.proofs.TwoPasses.{scans_together, scans_begin}
 use Rattle.team.proofs.scanning.share_scan.Goals as goal
 

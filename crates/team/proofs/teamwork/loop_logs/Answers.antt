@@ -1,6 +1,6 @@
 use Rattle.std.proofs.Common.{◌≡◌, [], ap}
-use Rattle.team.specs.Logged.{joined}
-use Rattle.team.proofs.Ending.{all_of_none}
+use Rattle.team_log.specs.Logged.{joined}
+use Rattle.team_worker.proofs.Ending.{all_of_none}
 use Rattle.team.proofs.teamwork.loop_logs.Goals as goal
 
 pub returns-then-is_empty-clause-all : goal.returns-then-is_empty-clause-all

@@ -3,12 +3,12 @@ use Rattle.semantics.specs.Loops.Chunk.{Chunk, cut}
 use Rattle.nest_space.specs.Space.{vectors}
 use Rattle.schedule.specs.Sched.{kind_of}
 use Rattle.seqrun_io.specs.Told.{AddsBeginning}
-use Rattle.team.specs.declared.pass.Pass.{Pass}
-use Rattle.team.specs.Ends.{IsCut, AreAll}
-use Rattle.team.specs.Logged.{joined}
-use Rattle.team.specs.Printed.{text_in_order}
-use Rattle.team.specs.Starts.{taken_in}
-use Rattle.team.proofs.Taking.{split_all, taken_chunks, grounds_split}
+use Rattle.team_worker.specs.declared.pass.Pass.{Pass}
+use Rattle.team_worker.specs.Ends.{IsCut, AreAll}
+use Rattle.team_log.specs.Logged.{joined}
+use Rattle.team_log.specs.Printed.{text_in_order}
+use Rattle.team_worker.specs.Starts.{taken_in}
+use Rattle.team_worker.proofs.Taking.{split_all, taken_chunks, grounds_split}
 use Rattle.team.proofs.Texts.{begins_all}
 use Rattle.team.proofs.teamwork.run_pass.Goals as goal
 

@@ -3,10 +3,10 @@ use Rattle.semantics.specs.Loops.Chunk.{Kind}
 use Rattle.schedule.specs.Sched.{kind_said}
 use Rattle.store.specs.Kept.{Kept}
 use Rattle.store.specs.Flat.{AreFilled}
-use Rattle.team.specs.declared.pass.Pass.TheVariants.{Plain}
-use Rattle.team.specs.Logged.{Account, joined}
+use Rattle.team_worker.specs.declared.pass.Pass.TheVariants.{Plain}
+use Rattle.team_log.specs.Logged.{Account, joined}
 use Rattle.team.specs.Passed.{IsPassed, BeginsIn}
-use Rattle.team.specs.Spots.{IsPut}
+use Rattle.team_log.specs.Spots.{IsPut}
 use Rattle.team.proofs.Merging.{together, long_after}
 use Rattle.team.proofs.Texts.{begins_plain}
 use Rattle.team.proofs.teamwork.share_loop.Goals as goal

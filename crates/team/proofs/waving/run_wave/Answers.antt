@@ -3,9 +3,9 @@ use Rattle.std.proofs.lemmas.Result.{on_ok_weaker}
 use Rattle.schedule.specs.Sched.{kind_of}
 use Rattle.store.specs.Kept.{Kept}
 use Rattle.store.specs.Flat.{AreFilled, values_of}
-use Rattle.team.specs.declared.grounds.Grounds.{Grounds}
-use Rattle.team.specs.Applied.{AreApplied}
-use Rattle.team.specs.Places.{aim_of, count_taken}
+use Rattle.team_worker.specs.declared.grounds.Grounds.{Grounds}
+use Rattle.team_log.specs.Applied.{AreApplied}
+use Rattle.team_worker.specs.Places.{aim_of, count_taken}
 use Rattle.team.specs.Waved.{AreOfWave, standing}
 use Rattle.team.proofs.InWaves.{wave_split, wave_chunks, wave_together}
 use Rattle.team.proofs.waving.run_wave.Goals as goal

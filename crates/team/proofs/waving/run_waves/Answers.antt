@@ -3,7 +3,7 @@ use Rattle.nest_space.specs.Space.{vectors}
 use Rattle.schedule.specs.Sched.{kind_of}
 use Rattle.store.specs.Flat.{values_of}
 use Rattle.lower_code.specs.Machine.{Fits, machine}
-use Rattle.team.specs.declared.grounds.Grounds.{Grounds}
+use Rattle.team_worker.specs.declared.grounds.Grounds.{Grounds}
 use Rattle.team.specs.declared.waving.Reached.{Reached}
 use Rattle.team.specs.Waved.{WaveTogether, WaveLeaves, IsReachedBy, IsWaveIn, standing}
 use Rattle.team.proofs.InWaves.{next_wave}

@@ -1,6 +1,6 @@
 use Rattle.std.proofs.Common.{length, refl}
 use Rattle.schedule.specs.Sched.{kind_of}
-use Rattle.team.proofs.Cutting.{is_cut}
+use Rattle.team_worker.proofs.Cutting.{is_cut}
 use Rattle.team.proofs.waving.set_wave.Goals as goal
 
 pub returns-clause-wave : goal.returns-clause-wave

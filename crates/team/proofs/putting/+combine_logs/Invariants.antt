@@ -1,5 +1,0 @@
-use Rattle.std.proofs.Common.{length}
-use Rattle.team.proofs.putting.+combine_logs.Given as goal
-
-abbrev pub decreases-combine_logs : goal.decreases-combine_logs
-decreases-combine_logs l = length l.logs.now

@@ -1,5 +1,0 @@
-use Rattle.std.proofs.Common.{length}
-use Rattle.team.proofs.scanning.+enter_all.Given as goal
-
-abbrev pub decreases-enter_all : goal.decreases-enter_all
-decreases-enter_all l = length l.logs.now

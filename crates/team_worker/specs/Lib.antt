@@ -1,0 +1,5 @@
+pub mod Starts
+pub mod Ends
+pub mod Dealt
+pub mod Places
+pub mod Overwritten
