@@ -216,6 +216,23 @@ def is_proved(rt, crate, edits, kept):
     return ran.returncode == 0
 
 
+def begin_with(rt, crate, kept):
+    """Makes a folder for kept work, with what is there: that of other checkouts on this machine, which some kits know of, or the crate's own."""
+    own = f"{crate.folder}/out/incremental"
+    before = rt.work_for(crate) if hasattr(rt, "work_for") else None
+    if before:
+        rt.linked(before, kept)
+    elif os.path.isdir(own):
+        shutil.copytree(own, kept)
+    else:
+        os.mkdir(kept)
+
+
+def is_refused(rt, status):
+    """Whether an edit that was tried alone is refused: some kits answer yes or no, others one of several words."""
+    return status is True or status in [getattr(rt, it) for it in ("REFUSED", "AT_LIMIT") if hasattr(rt, it)]
+
+
 def try_crate(rt, crate, files, was_proved):
     """The edits of a crate that are not refused, each with the reason; how many were shown together; and the checks it took."""
     edits, failed, checks = [], [], 0
@@ -226,12 +243,8 @@ def try_crate(rt, crate, files, was_proved):
         else:
             edits.append(edit)
     with tempfile.TemporaryDirectory(prefix="edits-") as room:
-        # some kits know of kept work of other checkouts on this machine
-        kept, before = f"{room}/kept", rt.work_for(crate) if hasattr(rt, "work_for") else None
-        if before:
-            rt.linked(before, kept)
-        else:
-            os.mkdir(kept)
+        kept = f"{room}/kept"
+        begin_with(rt, crate, kept)
         shown = []
         for batch in in_batches([it for it in edits if it.functions]):
             shown += try_batch(rt, crate, batch, kept)
@@ -243,9 +256,9 @@ def try_crate(rt, crate, files, was_proved):
         if not was_proved and not is_proved(rt, crate, edits, kept):
             shown, tried = [], [(it, *rt.must_fail(crate, it.file, JOBS)) for it in edits]
             checks += len(edits)
-    failed += [text for _, status, text in tried if status not in (rt.REFUSED, rt.AT_LIMIT)]
+    failed += [text for _, status, text in tried if not is_refused(rt, status)]
     for edit, status, text in tried:
-        if status == rt.REFUSED and NAMES_ALONE in text:
+        if is_refused(rt, status) and NAMES_ALONE in text:
             print(f"edits of {crate.name}: {edit.name} is refused for a name alone, which says little of the contract", flush=True)
     return failed, len(shown), checks
 
@@ -315,6 +328,7 @@ def main(words):
         sys.exit(__doc__)
     os.chdir(TOP)
     rt = kit.load()
+    kit.sum_once(rt.rtlib)
     if words == ["--read"]:
         return read_all(rt)
     was_proved, is_anew = "--proved" in words, "--all" in words

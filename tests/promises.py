@@ -173,7 +173,8 @@ def source_parts(text):
     groups = in_groups(promises(text).split("\n"), "")
     imports = "".join(f"{row}\n" for group in groups for row in group if IMPORT.match(f"{row}\n") and not row.startswith(("pub", " ")))
     for group in groups:
-        if REEXPORT.match(group[0]) or group[0].startswith("ghost use ") or not any(group):
+        # (what a macro of the crate's own writes is proved where it is called)
+        if REEXPORT.match(group[0]) or group[0].startswith(("ghost use ", "macro_rules! ")) or not any(group):
             continue
         for words, method, rows in parts_of(group):
             yield words, method, with_named_imports(imports + "\n".join(rows))

@@ -21,7 +21,7 @@ AreRound before [] after = before ≡ after
 AreRound before (h ∷ hs) after =
     (l : Canonical) × (i : Interval) × IsHeadOf before h l × CannotWrap before l × IsSide before l i × AreRound (inside before h.variable i) hs after
 
-round_join : (first second third : List Side) (hs gs : List Loop) → AreRound first hs second → AreRound second gs third → AreRound first (hs ++ gs) third
+pub round_join : (first second third : List Side) (hs gs : List Loop) → AreRound first hs second → AreRound second gs third → AreRound first (hs ++ gs) third
 round_join first second third [] gs e r = subst (λ (b : List Side). AreRound b gs third) (sym e) r
 round_join first second third (h ∷ hs) gs (l, i, is, stays, numbers, rest) r = (l, i, is, stays, numbers, round_join (inside first h.variable i) second third hs gs rest r)
 

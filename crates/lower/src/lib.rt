@@ -2,6 +2,7 @@
 #![tactic(auto)]
 
 mod lowered;
+mod reached;
 mod roles;
 
 pub use lowered::LoweredLoop;

@@ -5,7 +5,7 @@ use Rattle.std.proofs.Common.{refl, sym, ap, ◌∙◌, subst}
 use Rattle.std.proofs.lemmas.List.Folds.{list_all-append}
 use Rattle.semantics.specs.Tree.{Variable, Stmt}
 use Rattle.semantics.specs.Meaning.Agrees.{is_among, visible_behind}
-use Rattle.semantics.specs.Meaning.State.{State}
+use Rattle.semantics.specs.Meaning.State.{State, Holds}
 use Rattle.semantics.specs.Meaning.Value.{map_option}
 use Rattle.semantics.specs.Meaning.Runs.{Effect, run}
 use Rattle.semantics.specs.Loops.Chunk.{Kind, IsSized, cut}
@@ -13,6 +13,7 @@ use Rattle.semantics.specs.Loops.Joined.{chunked}
 use Rattle.semantics.specs.Loops.Nest.{Loop, Vector, iterations}
 use Rattle.semantics.specs.Loops.Piece.{Roles}
 use Rattle.ktree.specs.View.{stmt_of}
+use Rattle.affine_expr.specs.Forms.{is_counter}
 use Rattle.law_commute.proofs.Values.{first_of, second_of}
 use Rattle.law_roles.specs.Updates.{is_plain}
 use Rattle.law_roles.specs.Reducing.{AreHeld}
@@ -46,6 +47,7 @@ use Rattle.ompk_run.proofs.Behind.{AreBehind, arrives}
 use Rattle.ompk_run.proofs.Chunks.{cover}
 use Rattle.ompk_run.proofs.Leaving.{none_told, keep_numbers, told_scalar}
 use Rattle.ompk_run.proofs.Numbered.{declares}
+use Rattle.ompk_run.proofs.Spaced.{may_be_reached}
 
 -- a loop that may be run in chunks carries nothing, and has no sinks
 pub nothing_carried : (layout : List Laid) (mark : ℕ) (R : LineData) (serial : List Loop) (l : TeamLoop) (fits : TeamFits layout mark R serial l) → l.way ≡ Chunks → ((R l.line).carried ≡ []) × (fits.said.sinks ≡ None)
@@ -71,6 +73,10 @@ module _ (layout : List Laid) (mark : ℕ) (s : State) (rs : List ℕ) (ks : Lis
   lasts_plain =
       second_of (list_all (is_plain roles.reductions) roles.privates) (list_all (is_plain roles.reductions) roles.lasts) (sym (list_all-append (is_plain roles.reductions) roles.privates roles.lasts) ∙ apart.apart)
 
+  -- the variables of the loops round it hold numbers there
+  at_counters : is_at_turn serial s ≡ true → (x : Variable) → is_counter fits.box x ≡ true → (n : ℕ) × (s.locals x ≡ Holds n)
+  at_counters here x counter = at_turn s serial here x (fits.known x counter)
+
   -- where such a loop is reached, its chunks have a run each, and what they leave together is what the loop leaves
   record IsHanded (kind : Kind) (workers : ℕ) (e : Effect) : Type 0 where
     us : List Vector
@@ -84,6 +90,7 @@ module _ (layout : List Laid) (mark : ℕ) (s : State) (rs : List ℕ) (ks : Lis
       let here = first_of (is_at_turn serial s) (is_at_hand roles loop s) guard in
       let near = second_of (is_at_turn serial s) (is_at_hand roles loop s) guard in
       let turn = at_turns serial s here in
+      let counters = at_counters here in
       let hand = at_hand layout mark s rs ks stand roles loop near in
       let numbers = held layout mark s rs ks stand roles loop near in
       let us = some_of (iterations fits.loops s) (fits.nested.there fits.loops fits.body s fits.nest turn) in
@@ -92,7 +99,7 @@ module _ (layout : List Laid) (mark : ℕ) (s : State) (rs : List ℕ) (ks : Lis
         us = us.0;
         hand = hand;
         numbers = numbers;
-        reached = record { box = fits.box; lowered = fits.lowered; stand = stand; counters = λ x counter. at_turn s serial here x (fits.known x counter); are = us.1; different = apart.different; apart = lasts_plain; held = numbers };
+        reached = record { box = fits.box; lowered = fits.lowered; stand = stand; counters = counters; fits = may_be_reached layout mark fits.box roles serial fits.loops fits.body s l.lowered rs ks fits.lowered stand fits.known counters (fits.runs fits.loops fits.body s fits.nest turn); are = us.1; different = apart.different; apart = lasts_plain; held = numbers };
         shares = apart.chunks fits.loops fits.body s (begun roles s) us.0 chunks e fits.nest turn (declares layout mark s rs ks stand loop fits.locals) hand (may_begin roles s hand.scalars apart.different) us.1 (cover us.0 kind workers sized some) ran;
       }
 

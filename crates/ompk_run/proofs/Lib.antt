@@ -7,6 +7,7 @@ pub mod Going
 pub mod Chunks
 pub mod Handing
 pub mod Scanning
+pub mod Spaced
 pub mod Waving
 pub mod Listed
 pub mod Readied

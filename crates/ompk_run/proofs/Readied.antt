@@ -23,6 +23,7 @@ use Rattle.outline.specs.declared.shape.OutlineItem.{OutlineItem}
 use Rattle.outline.specs.Fit.{AllFit, WithLocals}
 use Rattle.outline.specs.Handed.{AreOfText}
 use Rattle.outline.specs.Given.{ArePrivateLocals}
+use Rattle.outline.specs.Made.{KnownBy}
 use Rattle.outline.specs.View.{items_performed}
 use Rattle.flow.specs.Roles.{LineData, ItemsHaveBy}
 use Rattle.flow_doacross.specs.Listed.{NestPart, nest_at}
@@ -32,9 +33,12 @@ use Rattle.law_apart.specs.Apart.{apart_items}
 use Rattle.flow.specs.declared.environment.ParallelLoop.{ParallelLoop}
 use Rattle.law_independence.specs.Said.{LinesInside}
 use Rattle.law_independence.specs.OrderLaws.{SharesBy}
+use Rattle.law_ranges.specs.Spaces.{RunsFewAtTurns}
+use Rattle.law_ranges.proofs.Running.{right_nests_run_few}
 use Rattle.ktree.specs.declared.statement.Item.{Item}
 use Rattle.deptest.specs.Accepted.{Program, tree_of, data_passed, inside_passed, IsAccepted}
 use Rattle.deptest.proofs.Locals.{private_locals}
+use Rattle.deptest.proofs.Phased.{items_both}
 use Rattle.ompk_run.specs.Ready.{IsPrepared}
 
 -- what is told inside loops, by the phases of scans and the sinks of doacross nests
@@ -70,10 +74,19 @@ locals_there a layout mark is shapes below =
 privates_there : (a : Program) (layout : List Laid) (is : IsAccepted a) → shapes_of layout ≡ shapes_in (tree_of a).variables → ArePrivateLocals (length layout) (data_passed is.passed)
 privates_there a layout is shapes line x h = subst (λ n. n ≤ x) (sym (as_many layout (tree_of a).variables shapes)) (private_locals a.text (kernel_of a.kernel) is.passed line x h)
 
--- their code fits, since its parallel loops may be shared out
+-- its parallel loops may be shared out, and run few iterations wherever they are reached
+loops_known : (a : Program) (is : IsAccepted a) → ItemsHaveBy a.text (KnownBy (kernel_of a.kernel).variables (data_passed is.passed) (inside_passed is.passed)) [] (items_of a.kernel.body.items)
+loops_known a is =
+    let ds = (kernel_of a.kernel).variables in
+    let R = data_passed is.passed in
+    let P = inside_passed is.passed in
+    items_both a.text (SharesBy ds R P) (λ line. RunsFewAtTurns) (KnownBy ds R P) (λ line serial n s shares runs. record { shares = shares; runs = runs }) [] (items_of a.kernel.body.items) is.ordered.share
+    (right_nests_run_few a.text (kernel_of a.kernel) is.passed.reads is.passed.nested)
+
+-- their code fits
 pub fitted : (a : Program) (items : List OutlineItem) (layout : List Laid) (mark : ℕ) (is : IsAccepted a) (body : List Item) (loops : List ParallelLoop) (said : LinesInside) → body ≡ a.kernel.body.items → shapes_of layout ≡ shapes_in (tree_of a).variables
     → AreOfText a.text (data_passed is.passed) loops → inside_passed is.passed ≡ said
-    → ((text : List ℕ) (ds : List Declaration) (R : LineData) (P : LinesInside) → ArePrivateLocals (length layout) R → AreOfText text R loops → P ≡ said → ItemsHaveBy text (SharesBy ds R P) [] (items_of body)
+    → ((text : List ℕ) (ds : List Declaration) (R : LineData) (P : LinesInside) → ArePrivateLocals (length layout) R → AreOfText text R loops → P ≡ said → ItemsHaveBy text (KnownBy ds R P) [] (items_of body)
     → WithLocals layout mark (declared_among (items_of body)) (AllFit layout mark R [] items))
     → AreLocals layout mark (declared_among (items_of a.kernel.body.items)) → AllFit layout mark (data_passed is.passed) [] items
 fitted a items layout mark is body loops said same shapes listed told fits =
@@ -81,7 +94,7 @@ fitted a items layout mark is body loops said same shapes listed told fits =
     let R = data_passed is.passed in
     let P = inside_passed is.passed in
     subst (λ is. AreLocals layout mark (declared_among (items_of is)) → AllFit layout mark R [] items) same
-    (fits a.text ds R P (privates_there a layout is shapes) listed told (subst (λ is. ItemsHaveBy a.text (SharesBy ds R P) [] (items_of is)) (sym same) is.ordered.share))
+    (fits a.text ds R P (privates_there a layout is shapes) listed told (subst (λ is. ItemsHaveBy a.text (KnownBy ds R P) [] (items_of is)) (sym same) (loops_known a is)))
 
 pub prepared : (a : Program) (items : List OutlineItem) (registers : List ℕ) (ks : List Kept) (layout : List Laid) (mark : ℕ) (is : IsAccepted a)
     → items_performed (data_passed is.passed) [] items ≡ apart_items (data_passed is.passed) [] (items_of a.kernel.body.items) → IsLaid layout → shapes_of layout ≡ shapes_in (tree_of a).variables → HasLengths (tree_of a).variables ks

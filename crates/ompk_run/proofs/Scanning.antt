@@ -49,6 +49,7 @@ use Rattle.lower.specs.declared.lowered.LoweredLoop.{LoweredLoop}
 use Rattle.lower_run.specs.Walk.{StandFor, Arrives}
 use Rattle.flow.specs.Roles.{LineData}
 use Rattle.ktree.specs.View.{stmt_of}
+use Rattle.affine_expr.specs.Forms.{is_counter}
 use Rattle.outline.specs.declared.shape.TeamLoop.{TeamLoop}
 use Rattle.outline.specs.declared.shape.Way.TheVariants.{Scan}
 use Rattle.outline.specs.Fit.{ScanFits, WayFits, TeamFits}
@@ -60,6 +61,7 @@ use Rattle.ompk_run.proofs.Behind.{arrives}
 use Rattle.ompk_run.proofs.Chunks.{cover}
 use Rattle.ompk_run.proofs.Leaving.{none_told, last_first, first_role, reduced, in_two, IsTold, holds, stays, empty, keep_numbers}
 use Rattle.ompk_run.proofs.Numbered.{declares}
+use Rattle.ompk_run.proofs.Spaced.{may_be_reached}
 
 -- ---- a nest of these loops
 
@@ -156,7 +158,9 @@ module _ (layout : List Laid) (mark : ℕ) (s : State) (rs : List ℕ) (ks : Lis
   reached : is_at_turn serial s ≡ true → (us : List Vector) → iterations its.loops s ≡ Some us → AreHeld roles.reductions s → (body : Stmt) (low : LoweredLoop) → IsLoweredFrom layout mark fits.box roles its.loops body low
       → IsReached layout mark roles its.loops body s us low rs ks
   reached here us are numbers body low lowered =
-      record { box = fits.box; lowered = lowered; stand = stand; counters = λ y counter. at_turn s serial here y (fits.known y counter); are = are; different = different; apart = lasts_plain; held = numbers }
+      let counters : (y : Variable) → is_counter fits.box y ≡ true → (n : ℕ) × (s.locals y ≡ Holds n) = λ y counter. at_turn s serial here y (fits.known y counter) in
+      let few = fits.runs its.loops whole s its.nest (at_turns serial s here) in
+      record { box = fits.box; lowered = lowered; stand = stand; counters = counters; fits = may_be_reached layout mark fits.box roles serial its.loops body s low rs ks lowered stand fits.known counters few; are = are; different = different; apart = lasts_plain; held = numbers }
 
   -- where such a loop is reached, its chunks have a run each in both passes
   record IsScanned (workers : ℕ) (e : Effect) : Type 0 where

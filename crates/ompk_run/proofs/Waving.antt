@@ -53,6 +53,7 @@ use Rattle.ompk_run.proofs.Behind.{arrives}
 use Rattle.ompk_run.proofs.Chunks.{cover}
 use Rattle.ompk_run.proofs.Leaving.{role_told}
 use Rattle.ompk_run.proofs.Numbered.{declares, no_cell}
+use Rattle.ompk_run.proofs.Spaced.{may_be_reached}
 
 -- a loop that may be run in waves has their sinks
 pub waved_so : (layout : List Laid) (mark : ℕ) (R : LineData) (serial : List Loop) (l : TeamLoop) (fits : TeamFits layout mark R serial l) (sinks : SinkList) → l.way ≡ Waves sinks → fits.said.sinks ≡ Some sinks.distances
@@ -141,6 +142,9 @@ module _ (layout : List Laid) (mark : ℕ) (s : State) (rs : List ℕ) (ks : Lis
         lowered = fits.lowered;
         stand = stands_over kept is;
         counters = λ x counter. at_turn s serial here x (fits.known x counter);
+        fits =
+            may_be_reached layout mark fits.box roles serial fits.loops fits.body s l.lowered rs ks fits.lowered stand fits.known (λ x counter. at_turn s serial here x (fits.known x counter))
+            (fits.runs fits.loops fits.body s fits.nest (at_turns serial s here));
         are = same;
         different = ap (λ (rs : List (Variable × ReduceOp)). are_different (map (λ r. r.0) rs)) its.no_reductions;
         apart = ap (λ (xs : List Variable). list_all (is_plain roles.reductions) xs) its.no_lasts;

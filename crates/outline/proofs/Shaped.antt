@@ -42,7 +42,8 @@ use Rattle.law_commute.specs.Targets.{targets_outside}
 use Rattle.law_scans.specs.Phases.{input_of}
 use Rattle.law_scans.specs.Scanning.{whole_of, first_of}
 use Rattle.law_independence.specs.Said.{SaidInside, LinesInside}
-use Rattle.law_independence.specs.OrderLaws.{AreStepsRead, HasStepsRead, SharesAsNest, SharesBy, used_roles}
+use Rattle.law_independence.specs.OrderLaws.{AreStepsRead, HasStepsRead, SharesAsNest, used_roles}
+use Rattle.law_ranges.specs.Spaces.{RunsFewAtTurns}
 use Rattle.law_apart.specs.Apart.{apart_items, apart_behind, handed}
 use Rattle.lower_code.specs.declared.term.Laid.{Laid}
 use Rattle.lower_code.specs.declared.term.Test.{Test}
@@ -64,7 +65,7 @@ use Rattle.outline.specs.Fit.{AllFit, HeadFits, ScanFits, WayFits, TeamFits}
 use Rattle.outline.specs.Given.{IsRound, ArePrivateLocals, IsGiven}
 use Rattle.outline.specs.Handed.{IsOfText, AreOfText, inside_told, IsBodyCode, IsLowered, IsFirstHanded, IsWay, IsHanded, roles_of}
 use Rattle.pragma.specs.Plain.{has_line}
-use Rattle.outline.specs.Made.{line_of, loop_with, IsInside, run_behind, items_behind, SharesBehind, ItemShares, IsMade, IsMadeItem, AreMade}
+use Rattle.outline.specs.Made.{line_of, loop_with, IsInside, run_behind, items_behind, KnownBy, KnownBehind, ItemKnown, IsMade, IsMadeItem, AreMade}
 use Rattle.outline.specs.View.{roles_in, performed, item_performed, items_performed}
 use Rattle.outline.proofs.Assigned.{among_left}
 use Rattle.outline.proofs.Blocks.{block_performed, block_fits}
@@ -162,7 +163,8 @@ module _ (layout : List Laid) (mark : ℕ) (loops : Loops) where
   lowered_from : (box : List Side) (serial : List Loop) (roles : Roles) (n : ℕ) (s : Stmt) (kept : LoopRoles) (l : LoweredLoop) → IsLowered layout mark box n s kept l → IsRound mark serial box → HasStepsRead n s → AreLocals layout mark (declared_in s)
       → AreRolesAt layout mark roles l.roles → (loops : List Loop) (body statement : Stmt) → nest_of n s ≡ Some (loops, body) → Performs layout mark (run statement) l.body → IsLoweredFrom layout mark box roles loops statement l
   lowered_from box serial roles n s kept l h round steps all at loops body statement nest performs = record {
-    around = λ x is. h.around x (round x is).0 is;
+    around = λ x. (λ is. h.around.each x (round x is).0 is, λ among. h.around.only x among);
+    few = h.few;
     heads = heads_of box loops l.loops.items (subst (λ (p : List Loop × Stmt). AreRectangular box p.0 l.loops.items) (same_nest n s (h.loops, h.body) (loops, body) h.nest nest) h.heads) (steps loops body nest);
     own = locals_left layout mark (map (λ q. q.variable) loops) (declared_in body) (body_locals n s loops body nest all);
     body = performs;
@@ -208,16 +210,16 @@ module _ (layout : List Laid) (mark : ℕ) (loops : Loops) where
     fits = λ text ds R P serial given shares all. team_fits text ds R P serial given shares all;
   }
     where
-      team_fits : (text : List ℕ) (ds : List Tree.Declaration) (R : LineData) (P : LinesInside) (serial : List Loop) → IsGiven (length layout) mark text R P loops serial box → SharesBehind text ds R P serial (Some line) s → AreLocals layout mark (declared_in s)
+      team_fits : (text : List ℕ) (ds : List Tree.Declaration) (R : LineData) (P : LinesInside) (serial : List Loop) → IsGiven (length layout) mark text R P loops serial box → KnownBehind text ds R P serial (Some line) s → AreLocals layout mark (declared_in s)
           → TeamFits layout mark R serial l
-      team_fits text ds R P serial given (k, c, reads, share) all =
+      team_fits text ds R P serial given (k, c, reads, known) all =
           let own = of_all (IsOfText text R) loops.parallel.now h.parallel given.table h.stands.0 in
           let here = subst (λ (m : ℕ). ReadsLoop (line_at text m) (scheduled h.parallel.directive) h.parallel.directive.collapse) h.stands.1 own.reads in
           let kept = subst (λ (m : ℕ). AreRolesOf (R m) h.parallel.roles) h.stands.1 own.roles in
           let same = (read_once (line_at text line.line) (scheduled h.parallel.directive) h.parallel.directive.collapse k c here reads).1 in
           let depth : associated c ≡ l.depth = ap associated (sym same) ∙ sym h.depth in
           let roles : used_roles s (left_roles (R line.line)) ≡ roles_in R l = sym (ap (λ a. used_roles a (left_roles (R l.line))) h.statement ∙ ap (λ m. used_roles s (left_roles (R m))) h.at) in
-          let deep : SharesAsNest ds (R line.line) (P line.line) serial l.depth s = subst (λ d. SharesAsNest ds (R line.line) (P line.line) serial d s) depth share in
+          let deep : SharesAsNest ds (R line.line) (P line.line) serial l.depth s = subst (λ d. SharesAsNest ds (R line.line) (P line.line) serial d s) depth known.shares in
           let nested : SharesAsNest ds (R l.line) (P line.line) serial l.depth s = subst (λ m. SharesAsNest ds (R m) (P line.line) serial l.depth s) (sym h.at) deep in
           let n = h.lowered in
           let now : SharesAsNest ds (R l.line) (P line.line) serial l.depth (stmt_of l.statement.now) = subst (λ a. SharesAsNest ds (R l.line) (P line.line) serial l.depth a) (sym h.statement) nested in
@@ -239,6 +241,7 @@ module _ (layout : List Laid) (mark : ℕ) (loops : Loops) where
             declarations = ds;
             said = P line.line;
             nested = now;
+            runs = subst (λ a. RunsFewAtTurns serial l.depth a) (sym h.statement) (subst (λ d. RunsFewAtTurns serial d s) depth known.runs);
             way = way_fits box serial (roles_in R l) ds (R l.line) (P line.line) l.depth (stmt_of l.statement.now) h.parallel.roles now (inside_told loops) line.line l.way l.lowered (λ i. given.inside i line.line)
                 (kept.carried ∙ ap (λ m. (R m).carried) (sym h.at)) given.round (subst (λ a. AreLocals layout mark (declared_in a)) (sym h.statement) all)
                 (subst (λ a. (ls : LoweredRoles) → AreRolesAt layout mark (used_roles a (roles_of h.parallel.roles)) ls → AreRolesAt layout mark (roles_in R l) ls) (sym h.statement) at)
@@ -370,11 +373,11 @@ module _ (layout : List Laid) (mark : ℕ) (loops : Loops) where
 
   -- what may be shared of some items, also of the first where it stands behind a line
   abbrev ShareFrom : List ℕ → List Tree.Declaration → LineData → LinesInside → List Loop → Option Place → Tree.Items → Type 0
-  ShareFrom text ds R P serial None items = ItemsHaveBy text (SharesBy ds R P) serial items
-  ShareFrom text ds R P serial (Some line) items = LineHas text (SharesBy ds R P line.line) serial line.line items × ItemsHaveBy text (SharesBy ds R P) serial items
+  ShareFrom text ds R P serial None items = ItemsHaveBy text (KnownBy ds R P) serial items
+  ShareFrom text ds R P serial (Some line) items = LineHas text (KnownBy ds R P line.line) serial line.line items × ItemsHaveBy text (KnownBy ds R P) serial items
 
   split : (text : List ℕ) (ds : List Tree.Declaration) (R : LineData) (P : LinesInside) (serial : List Loop) (d : Option Place) (i : Item) (rest : Tree.Items)
-      → ShareFrom text ds R P serial d (with_item i rest) → ItemShares text ds R P serial d i × ShareFrom text ds R P serial (line_of i) rest
+      → ShareFrom text ds R P serial d (with_item i rest) → ItemKnown text ds R P serial d i × ShareFrom text ds R P serial (line_of i) rest
   split text ds R P serial None (Directive place) rest h = (tt, h)
   split text ds R P serial None (Local l) rest h = (tt, h)
   split text ds R P serial None (Statement' p s) rest h = (h.0, h.1)
@@ -409,5 +412,5 @@ module _ (layout : List Laid) (mark : ℕ) (loops : Loops) where
   -- ---- a body
 
   pub body_fits : (items : List Item) (os : List OutlineItem) → AreMade layout mark loops [] None items os → (text : List ℕ) (ds : List Tree.Declaration) (R : LineData) (P : LinesInside) → ArePrivateLocals (length layout) R → AreOfText text R loops.parallel.now → P ≡ inside_told loops
-      → ItemsHaveBy text (SharesBy ds R P) [] (items_of items) → AreLocals layout mark (declared_among (items_of items)) → AllFit layout mark R [] os
+      → ItemsHaveBy text (KnownBy ds R P) [] (items_of items) → AreLocals layout mark (declared_among (items_of items)) → AllFit layout mark R [] os
   body_fits items os h text ds R P privates table inside share all = items_fitted [] None items os h text ds R P [] (record { round = λ x is. absurd cc; table = table; inside = inside; privates = privates }) share all

@@ -26,6 +26,12 @@ pub record HasPlace (layout : List Laid) (registers : ℕ) (x : Variable) : Type
 abbrev pub HavePlaces : List Laid → ℕ → Stmt → Type 0
 HavePlaces layout registers s = (x : Variable) → is_among (targets_outside s) x ≡ true → HasPlace layout registers x
 
+-- a statement is a right nest of so many loops, at most four, and each scalar that it assigns from outside has its place
+pub record IsPlacedNest (layout : List Laid) (registers : ℕ) (box : List Side) (n : ℕ) (s : Stmt) : Type 0 where
+  pub nest : IsRightNest box n s
+  pub few : n ≤ 4
+  pub places : HavePlaces layout registers s
+
 -- one of these loops, which stands behind the directive line of this number
 abbrev pub StandsAt : List ParallelLoop → ℕ → ParallelLoop → Type 0
 StandsAt loops line l = Contains loops l × (l.line.line ≡ line)

@@ -17,6 +17,7 @@ use Rattle.law_commute.specs.Targets.{targets_outside}
 use Rattle.law_scans.specs.Scanning.{whole_of, first_of}
 use Rattle.law_independence.specs.Said.{SaidInside}
 use Rattle.law_independence.specs.OrderLaws.{SharesAsNest}
+use Rattle.law_ranges.specs.Spaces.{RunsFewAtTurns}
 use Rattle.lower_code.specs.declared.term.Laid.{Laid}
 use Rattle.lower_code.specs.Meaning.{MeansTest, AreLocals}
 use Rattle.lower_block.specs.declared.tree.Compiled.{Compiled}
@@ -60,7 +61,7 @@ WayFits layout mark box roles ds d said serial n s nested second (Scan first) = 
 WayFits layout mark box roles ds d said serial n s nested second (Waves sinks) = said.sinks ≡ Some sinks.distances
 WayFits layout mark box roles ds d said serial n s nested second Alone = Unit {0}
 
--- a loop for a team is lowered from a nest inside serial loops with what its line says of the scalars that it assigns, it may be run in the way that is said of it, and its code does what the loop does
+-- a loop for a team is lowered from a nest inside serial loops with what its line says of the scalars that it assigns, it runs few iterations wherever it is reached, it may be run in the way that is said of it, and its code does what the loop does
 pub record TeamFits (layout : List Laid) (mark : ℕ) (R : LineData) (serial : List Loop) (l : TeamLoop) : Type 0 where
   pub loops : List Loop
   pub body : Stmt
@@ -74,6 +75,7 @@ pub record TeamFits (layout : List Laid) (mark : ℕ) (R : LineData) (serial : L
   pub declarations : List Declaration
   pub said : SaidInside
   pub nested : SharesAsNest declarations (R l.line) said serial l.depth (stmt_of l.statement.now)
+  pub runs : RunsFewAtTurns serial l.depth (stmt_of l.statement.now)
   pub way : WayFits layout mark box (roles_in R l) declarations (R l.line) said serial l.depth (stmt_of l.statement.now) nested l.lowered l.way
 
 abbrev mutual

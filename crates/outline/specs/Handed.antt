@@ -1,5 +1,5 @@
 -- Which statements are handed to a team, and as what. (OpenMP 5.2, 4.4.3 and 11.5)
-use Rattle.std.specs.Prelude.{ℕ, Bool, ◌≡◌, ◌<◌, true, List, [], ◌∷◌, ◌++◌, map, All, Contains, Some, None}
+use Rattle.std.specs.Prelude.{ℕ, Bool, ◌≡◌, ◌<◌, ◌≤◌, true, List, [], ◌∷◌, ◌++◌, length, map, All, Contains, Some, None}
 use Rattle.semantics.specs.Tree.{Variable, Stmt, Items}
 use Rattle.semantics.specs.Source.Text.{line_at}
 use Rattle.semantics.specs.Meaning.Runs.{run, run_items}
@@ -56,9 +56,10 @@ AreOfText text R loops = All (IsOfText text R) loops
 abbrev pub inside_told : Loops → LinesInside
 inside_told loops line = record { phases = phases_at (map scan_part loops.scans.now) line; sinks = nest_at (map nest_part loops.nests.now) line }
 
--- the locals among the variables of a box stand in a list
-abbrev pub ListsLocals : ℕ → List Side → List VarId → Type 0
-ListsLocals mark box variables = (x : Variable) → x < mark → is_counter box x ≡ true → Contains (map (λ v. v.0) variables) x
+-- the locals among the variables of a box stand in a list, and nothing else does
+pub record ListsLocals (mark : ℕ) (box : List Side) (variables : List VarId) : Type 0 where
+  pub each : (x : Variable) → x < mark → is_counter box x ≡ true → Contains (map (λ v. v.0) variables) x
+  pub only : (x : Variable) → Contains (map (λ v. v.0) variables) x → is_counter box x ≡ true
 
 -- a statement is so many loops, one directly in the other, with this body
 abbrev pub IsBodyOf : ℕ → Stmt → Stmt → Type 0
@@ -100,13 +101,14 @@ pub record CarriesOne (carried : List (Variable × ReduceOp)) (s : Stmt) : Type 
   pub sole : carried ≡ (variable, operator) ∷ []
   pub assigned : is_among (targets_outside s) variable ≡ true
 
--- a lowered loop is this nest inside the loops of a box: its loops in their canonical form, and where those of its variables stand that it assigns from outside and that leave something behind it
+-- a lowered loop is this nest inside the loops of a box: its loops, at most four, in their canonical form, and where those of its variables stand that it assigns from outside and that leave something behind it
 pub record IsLowered (layout : List Laid) (mark : ℕ) (box : List Side) (n : ℕ) (s : Stmt) (kept : LoopRoles) (l : LoweredLoop) : Type 0 where
   pub loops : List Loop
   pub body : Stmt
   pub nest : nest_of n s ≡ Some (loops, body)
   pub around : ListsLocals mark box l.around.items
   pub heads : AreRectangular box loops l.loops.items
+  pub few : length l.loops.items ≤ 4
   pub roles : AreRolesAt layout mark (used_roles s (roles_of kept)) l.roles
 
 -- what the first pass of a scan runs is lowered from the same nest, with its input phase in place of its body (OpenMP 5.2, 5.6)

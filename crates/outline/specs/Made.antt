@@ -17,9 +17,10 @@ use Rattle.affine.specs.declared.interval.Side.{Side}
 use Rattle.nest_loop.specs.Loops.{inside}
 use Rattle.pragma.specs.Clauses.{ReadsLoop}
 use Rattle.pragma.specs.Parallel.{associated}
-use Rattle.flow.specs.Roles.{left_roles, LineData, LoopsHaveBy}
+use Rattle.flow.specs.Roles.{left_roles, LineData, AskedByLine, LoopsHaveBy}
 use Rattle.law_independence.specs.Said.{LinesInside}
 use Rattle.law_independence.specs.OrderLaws.{SharesBy, used_roles}
+use Rattle.law_ranges.specs.Spaces.{RunsFewAtTurns}
 use Rattle.law_apart.specs.Apart.{handed, apart, apart_items, apart_behind}
 use Rattle.lower_code.specs.declared.term.Laid.{Laid}
 use Rattle.lower_code.specs.Meaning.{AreLocals}
@@ -53,25 +54,34 @@ abbrev pub items_behind : LineData → Option Place → List Loop → Tree.Items
 items_behind R None serial items = apart_items R serial items
 items_behind R (Some line) serial items = apart_behind R line.line serial items
 
--- the parallel loops of a statement may be run in chunks or in waves, and behind a line that statement itself may, as many loops of it as the line associates
-abbrev pub SharesBehind : List ℕ → List Tree.Declaration → LineData → LinesInside → List Loop → Option Place → Stmt → Type 0
-SharesBehind text ds R P serial None a = LoopsHaveBy text (SharesBy ds R P) serial a
-SharesBehind text ds R P serial (Some line) a = (k : Option Schedule) × (c : Option ℕ) × ReadsLoop (line_at text line.line) k c × SharesBy ds R P line.line serial (associated c) a
+-- what is known of a loop by the number of its line: it may be run in chunks or in waves, and runs few iterations wherever it is reached
+pub record IsKnown (ds : List Tree.Declaration) (R : LineData) (P : LinesInside) (line : ℕ) (serial : List Loop) (n : ℕ) (s : Stmt) : Type 0 where
+  pub shares : SharesBy ds R P line serial n s
+  pub runs : RunsFewAtTurns serial n s
 
-abbrev pub ItemShares : List ℕ → List Tree.Declaration → LineData → LinesInside → List Loop → Option Place → Item → Type 0
-ItemShares text ds R P serial d (Directive place) = Unit {0}
-ItemShares text ds R P serial d (Local l) = Unit {0}
-ItemShares text ds R P serial d (Statement' p s) = SharesBehind text ds R P serial d (stmt_of s)
+-- of each loop behind a line
+abbrev pub KnownBy : List Tree.Declaration → LineData → LinesInside → AskedByLine
+KnownBy ds R P line serial n s = IsKnown ds R P line serial n s
+
+-- so much is known of the parallel loops of a statement, and behind a line of that statement itself, as many loops of it as the line associates
+abbrev pub KnownBehind : List ℕ → List Tree.Declaration → LineData → LinesInside → List Loop → Option Place → Stmt → Type 0
+KnownBehind text ds R P serial None a = LoopsHaveBy text (KnownBy ds R P) serial a
+KnownBehind text ds R P serial (Some line) a = (k : Option Schedule) × (c : Option ℕ) × ReadsLoop (line_at text line.line) k c × KnownBy ds R P line.line serial (associated c) a
+
+abbrev pub ItemKnown : List ℕ → List Tree.Declaration → LineData → LinesInside → List Loop → Option Place → Item → Type 0
+ItemKnown text ds R P serial d (Directive place) = Unit {0}
+ItemKnown text ds R P serial d (Local l) = Unit {0}
+ItemKnown text ds R P serial d (Statement' p s) = KnownBehind text ds R P serial d (stmt_of s)
 
 -- an outline does what its statement does behind such a line or behind none, and its code fits where the statement is one of an accepted kernel
 pub record IsMade (layout : List Laid) (mark : ℕ) (loops : Loops) (box : List Side) (d : Option Place) (a : Stmt) (o : Outline) : Type 0 where
   pub performs : (R : LineData) (serial : List Loop) → performed R serial o ≡ run_behind R d serial a
-  pub fits : (text : List ℕ) (ds : List Tree.Declaration) (R : LineData) (P : LinesInside) (serial : List Loop) → IsGiven (length layout) mark text R P loops serial box → SharesBehind text ds R P serial d a → AreLocals layout mark (declared_in a) → Fits layout mark R serial o
+  pub fits : (text : List ℕ) (ds : List Tree.Declaration) (R : LineData) (P : LinesInside) (serial : List Loop) → IsGiven (length layout) mark text R P loops serial box → KnownBehind text ds R P serial d a → AreLocals layout mark (declared_in a) → Fits layout mark R serial o
 
 -- one of an item does what the item does before others
 pub record IsMadeItem (layout : List Laid) (mark : ℕ) (loops : Loops) (box : List Side) (d : Option Place) (item : Item) (o : OutlineItem) : Type 0 where
   pub performs : (R : LineData) (serial : List Loop) (rest : Tree.Items) → items_behind R d serial (with_item item rest) ≡ (λ s. then_from s (item_performed R serial o s) (items_behind R (line_of item) serial rest))
-  pub fits : (text : List ℕ) (ds : List Tree.Declaration) (R : LineData) (P : LinesInside) (serial : List Loop) → IsGiven (length layout) mark text R P loops serial box → ItemShares text ds R P serial d item → AreLocals layout mark (declared_among (with_item item Tree.no_items)) → ItemFits layout mark R serial o
+  pub fits : (text : List ℕ) (ds : List Tree.Declaration) (R : LineData) (P : LinesInside) (serial : List Loop) → IsGiven (length layout) mark text R P loops serial box → ItemKnown text ds R P serial d item → AreLocals layout mark (declared_among (with_item item Tree.no_items)) → ItemFits layout mark R serial o
 
 -- those of items, the first of which stands behind such a line or behind none
 abbrev pub AreMade : List Laid → ℕ → Loops → List Side → Option Place → List Item → List OutlineItem → Type 0

@@ -1,10 +1,11 @@
 //! Which statements are handed to a team.
 
 ghost use Rattle.flow_reduction.specs.Reduced.{reduced};
-ghost use Rattle.std.specs.Prelude.{◌≡◌, false, [], IfOk, IfErr, IfSome};
+ghost use Rattle.std.specs.Prelude.{◌≡◌, ◌≤◌, false, [], length, IfOk, IfErr, IfSome};
 ghost use Rattle.nest.specs.Perfect.{NestHas, AreRectangular, IsRightNest};
 ghost use Rattle.flow.specs.declared.environment.ParallelLoop.{ParallelLoop as ParallelLoops};
-ghost use Rattle.outline.specs.Accepted.{HavePlaces, StandsAt, HasNest, IsLoopOf};
+ghost use Rattle.pragma.specs.Parallel.{associated};
+ghost use Rattle.outline.specs.Accepted.{IsPlacedNest, StandsAt, HasNest, IsLoopOf};
 ghost use Rattle.ktree.specs.View.{stmt_of, items_of};
 ghost use Rattle.ktree.specs.declared.refusal.Refusal.TheVariants.{OutOfMemory};
 ghost use Rattle.outline.specs.Handed.{ListsLocals, IsBodyOf, IsBodyCode, AreItemsCode, IsLowered, IsInputIn, IsWay, IsHanded, inside_told};
@@ -25,6 +26,7 @@ use lower::LoweredLoop;
 use lower_block::Compiled;
 use nest::{Nest, as_loop};
 use nest_loop::Canonical;
+use pragma::ParallelFor;
 use std::alloc::{AllocError, Global};
 
 /// What is kept of a text's directive lines: its parallel loops, those of its scans, and its doacross nests.
@@ -46,6 +48,17 @@ fn loop_at(loops: &[ParallelLoop], line: u32) -> &ParallelLoop
         }
     }
     unreachable!()
+}
+
+// How many loops a directive associates (OpenMP 5.2, 4.4.3 and 4.4.4).
+fn depth_of(directive: ParallelFor) -> u64
+    ensures value { result ≡ associated directive.collapse }
+    ensures few { result ≤ 4 }
+{
+    match directive.collapse {
+        None => 1,
+        Some(collapse) => collapse.get(),
+    }
 }
 
 // The body of so many loops, one directly in the other.
@@ -70,9 +83,11 @@ fn canonical_loops(
     bounds: &VarBox,
     directive: Place,
 ) -> Result<Vec<Canonical>, Refusal>
-    requires { IsRightNest bounds.now depth (stmt_of stmt.now) }
+    requires nest { IsRightNest bounds.now depth (stmt_of stmt.now) }
+    requires few { depth ≤ 4 }
     ensures ok { IfOk result (λ loops. NestHas
         (λ hs. AreRectangular bounds.now hs loops.items) depth (stmt_of stmt.now)) }
+    ensures few { IfOk result (λ loops. length loops.items ≤ 4) }
     ensures refusal { IfErr result (λ refusal. refusal ≡ OutOfMemory) }
 {
     let nest = Nest::new(alloc, depth, stmt, bounds, directive)?;
@@ -117,8 +132,8 @@ fn lower(
     target: Target<'_>,
     bounds: &VarBox,
 ) -> Result<LoweredLoop, Refusal>
-    requires { IsRightNest bounds.now depth (stmt_of stmt.now)
-        × HavePlaces target.layout.now target.registers (stmt_of stmt.now) }
+    requires { IsPlacedNest target.layout.now target.registers bounds.now depth
+        (stmt_of stmt.now) }
     ensures lowered { IfOk result
         (IsLowered target.entry.layout.now target.entry.registers bounds.now depth
         (stmt_of stmt.now) parallel.now.roles) }
@@ -148,8 +163,8 @@ fn lower_whole(
     target: Target<'_>,
     bounds: &VarBox,
 ) -> Result<LoweredLoop, Refusal>
-    requires { IsRightNest bounds.now depth (stmt_of stmt.now)
-        × HavePlaces target.layout.now target.registers (stmt_of stmt.now) }
+    requires { IsPlacedNest target.layout.now target.registers bounds.now depth
+        (stmt_of stmt.now) }
     ensures lowered { IfOk result
         (IsLowered target.entry.layout.now target.entry.registers bounds.now depth
         (stmt_of stmt.now) parallel.now.roles) }
@@ -172,8 +187,8 @@ fn lower_part(
     target: Target<'_>,
     bounds: &VarBox,
 ) -> Result<LoweredLoop, Refusal>
-    requires { IsRightNest bounds.now depth (stmt_of stmt.now)
-        × HavePlaces target.layout.now target.registers (stmt_of stmt.now) }
+    requires { IsPlacedNest target.layout.now target.registers bounds.now depth
+        (stmt_of stmt.now) }
     ensures lowered { IfOk result
         (IsLowered target.entry.layout.now target.entry.registers bounds.now depth
         (stmt_of stmt.now) parallel.now.roles) }
@@ -216,8 +231,8 @@ fn way_of(
     bounds: &VarBox,
     lowered: &LoweredLoop,
 ) -> Result<Way, Refusal>
-    requires { IsRightNest bounds.now depth (stmt_of stmt.now)
-        × HavePlaces target.layout.now target.registers (stmt_of stmt.now) }
+    requires { IsPlacedNest target.layout.now target.registers bounds.now depth
+        (stmt_of stmt.now) }
     ensures way { IfOk result
         (IsWay target.entry.layout.now target.entry.registers bounds.now (inside_told loops.entry)
         parallel.now.line.line depth (stmt_of stmt.now) parallel.now.roles) }
@@ -267,7 +282,7 @@ pub(crate) fn loop_for_team<'k>(
     ensures refusal { IfErr result (λ refusal. refusal ≡ OutOfMemory) }
 {
     let parallel = loop_at(loops.parallel, directive.line);
-    let depth = parallel.directive.associated_loops();
+    let depth = depth_of(parallel.directive);
     let code = compile_statement(alloc, stmt, target)?;
     let lowered = lower_whole(alloc, depth, stmt, parallel, target, bounds)?;
     let way = way_of(

@@ -12,13 +12,12 @@ ghost use Rattle.outline.specs.declared.handing.Loops.{Loops};
 ghost use Rattle.semantics.specs.Tree.{Declaration};
 ghost use Rattle.flow.specs.Roles.{LineData, ItemsHaveBy};
 ghost use Rattle.law_independence.specs.Said.{LinesInside};
-ghost use Rattle.law_independence.specs.OrderLaws.{SharesBy};
 ghost use Rattle.law_apart.specs.Apart.{apart_items};
 ghost use Rattle.outline.specs.Accepted.{HasRightLoops, HaveRightLoops, IsRightBehind, ItemIsRight};
 ghost use Rattle.outline.specs.Given.{ArePrivateLocals};
 ghost use Rattle.outline.specs.Handed.{AreOfText, inside_told};
 ghost use Rattle.pragma.specs.Plain.{has_line};
-ghost use Rattle.outline.specs.Made.{line_of, loop_with, IsInside, IsMade, IsMadeItem, AreMade};
+ghost use Rattle.outline.specs.Made.{line_of, loop_with, IsInside, KnownBy, IsMade, IsMadeItem, AreMade};
 ghost use Rattle.outline.specs.Fit.{AllFit, WithLocals};
 ghost use Rattle.outline.specs.View.{items_performed};
 
@@ -278,7 +277,7 @@ pub fn outline<'k>(
         → ArePrivateLocals (length target.entry.layout.now) R
         → AreOfText text R loops.entry.parallel.now
         → P ≡ inside_told loops.entry
-        → ItemsHaveBy text (SharesBy ds R P) [] (items_of items.now)
+        → ItemsHaveBy text (KnownBy ds R P) [] (items_of items.now)
         → WithLocals target.entry.layout.now target.entry.registers
         (declared_among (items_of items.now))
         (AllFit target.entry.layout.now target.entry.registers R [] os.items)) }

@@ -1,8 +1,11 @@
 //! Chunks of nests over the arrays `A` of 8 and `B` of 2 times 3 elements and the scalar `s`, and what they leave; the values are C's, or counted by hand.
 
+ghost use Rattle.std.specs.Prelude.{◌≤◌, length};
+
 use crate::stores::two_arrays_and_a_scalar;
 use affine::VarBox;
 use cparse::parse;
+use ktree::limits::ASSOCIATED_LOOPS;
 use ktree::{ChunkNo, Item, Kernel, Stmt, VarId};
 use lower::{LoweredLoop, LoweredRoles};
 use lower_block::{Compiled, compile};
@@ -98,7 +101,9 @@ fn body_of(alloc: Global, kernel: &Kernel, part: Part, nest: &mut Nest) -> Optio
 }
 
 /// A nest with its body, of whose variables none has a role.
-fn loop_of(alloc: Global, nest: Nest, body: Compiled) -> LoweredLoop {
+fn loop_of(alloc: Global, nest: Nest, body: Compiled) -> LoweredLoop
+    requires { length nest.loops.items ≤ 4 }
+{
     let Nest {
         bounds: _,
         around,
@@ -123,7 +128,11 @@ fn lowered_of(alloc: Global, kernel: &Kernel, part: Part) -> Option<LoweredLoop>
         around: Vec::new(alloc),
         loops: Vec::new(alloc),
     };
-    match body_of(alloc, kernel, part, &mut nest) {
+    let body = body_of(alloc, kernel, part, &mut nest);
+    if nest.loops.len() > ASSOCIATED_LOOPS {
+        return None;
+    }
+    match body {
         Some(body) => Some(loop_of(alloc, nest, body)),
         None => None,
     }

@@ -3,6 +3,7 @@
 use crate::stores::shape;
 use affine::VarBox;
 use cparse::parse;
+use ktree::limits::ASSOCIATED_LOOPS;
 use ktree::{Item, Kernel, Place, Schedule, Stmt, Workers};
 use lower::{LoweredLoop, LoweredRoles};
 use lower_block::{Compiled, compile};
@@ -65,7 +66,7 @@ fn nest_of(
 ) -> Option<LoweredLoop> {
     let body = code_of(alloc, kernel, body_of(depth, stmt)?)?;
     match Nest::new(alloc, depth, stmt, bounds, Place { line: 1, column: 1 }) {
-        Ok(nest) => Some(LoweredLoop {
+        Ok(nest) if nest.loops.len() <= ASSOCIATED_LOOPS => Some(LoweredLoop {
             around: Vec::new(alloc),
             loops: nest.loops,
             body,
@@ -75,7 +76,7 @@ fn nest_of(
                 lasts: Vec::new(alloc),
             },
         }),
-        Err(_fault) => None,
+        Ok(_) | Err(_) => None,
     }
 }
 

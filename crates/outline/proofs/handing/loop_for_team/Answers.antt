@@ -6,12 +6,18 @@ use Rattle.outline.specs.Handed.{IsWay, inside_told}
 use Rattle.outline.proofs.handing.loop_for_team.Goals as goal
 
 pub lower_whole-requires : goal.lower_whole-requires
-lower_whole-requires c =
-    (subst (λ (n : ℕ). IsRightNest c.args.bounds.now n (stmt_of c.args.stmt.now)) (sym c.associated_loops-depth.ensures) (c.requires.nest c.loop_at-parallel.result.now c.loop_at-parallel.ensures), c.requires.places)
+lower_whole-requires c = record {
+  nest = subst (λ (n : ℕ). IsRightNest c.args.bounds.now n (stmt_of c.args.stmt.now)) (sym c.depth_of-depth.ensures.value) (c.requires.nest c.loop_at-parallel.result.now c.loop_at-parallel.ensures);
+  few = c.depth_of-depth.ensures.few;
+  places = c.requires.places;
+}
 
 pub way_of-requires : goal.way_of-requires
-way_of-requires c =
-    (subst (λ (n : ℕ). IsRightNest c.args.bounds.now n (stmt_of c.args.stmt.now)) (sym c.associated_loops-depth.ensures) (c.requires.nest c.loop_at-parallel.result.now c.loop_at-parallel.ensures), c.requires.places)
+way_of-requires c = record {
+  nest = subst (λ (n : ℕ). IsRightNest c.args.bounds.now n (stmt_of c.args.stmt.now)) (sym c.depth_of-depth.ensures.value) (c.requires.nest c.loop_at-parallel.result.now c.loop_at-parallel.ensures);
+  few = c.depth_of-depth.ensures.few;
+  places = c.requires.places;
+}
 
 pub returns-clause-handed : goal.returns-clause-handed
 returns-clause-handed c = record {
@@ -19,10 +25,10 @@ returns-clause-handed c = record {
   stands = c.loop_at-parallel.ensures;
   statement = refl;
   at = refl;
-  depth = c.associated_loops-depth.ensures;
+  depth = c.depth_of-depth.ensures.value;
   schedule = c.in_ok-lowered.ensures.schedule;
   way =
-      subst (λ (line : ℕ). IsWay c.args.target.layout.now c.args.target.registers c.args.bounds.now (inside_told c.args.loops) line c.associated_loops-depth.result (stmt_of c.args.stmt.now) c.loop_at-parallel.result.now.roles c.in_ok-way.way)
+      subst (λ (line : ℕ). IsWay c.args.target.layout.now c.args.target.registers c.args.bounds.now (inside_told c.args.loops) line c.depth_of-depth.result (stmt_of c.args.stmt.now) c.loop_at-parallel.result.now.roles c.in_ok-way.way)
       c.loop_at-parallel.ensures.1 c.in_ok-way.ensures.way;
   lowered = c.in_ok-lowered.ensures.lowered;
   body = c.in_ok-lowered.ensures.body;

@@ -6,12 +6,11 @@ use Rattle.ktree.specs.View.{items_of}
 use Rattle.semantics.specs.Tree.{Declaration}
 use Rattle.flow.specs.Roles.{LineData, ItemsHaveBy}
 use Rattle.law_independence.specs.Said.{LinesInside}
-use Rattle.law_independence.specs.OrderLaws.{SharesBy}
 use Rattle.law_apart.specs.Apart.{apart_items}
 use Rattle.outline.specs.Given.{ArePrivateLocals}
 use Rattle.outline.specs.Handed.{AreOfText, inside_told}
 use Rattle.outline.specs.Fit.{AllFit, WithLocals}
-use Rattle.outline.specs.Made.{AreMade}
+use Rattle.outline.specs.Made.{KnownBy, AreMade}
 use Rattle.outline.specs.View.{items_performed}
 use Rattle.outline.proofs.Shaped.{items_perform, body_fits}
 use Rattle.outline.proofs.making.outline.Goals as goal
@@ -33,6 +32,6 @@ returns-clause-fits c =
     let items = c.args.items.now in
     let made = subst (λ b. IfOk c.outline_items.result (λ os. AreMade layout mark loops b None items os.items)) c.new-bounds.ensures c.outline_items.ensures.made in
     IfOk-weaker c.outline_items.result (λ os. AreMade layout mark loops [] None items os.items)
-    (λ os. (text : List ℕ) (ds : List Declaration) (R : LineData) (P : LinesInside) → ArePrivateLocals (length layout) R → AreOfText text R loops.parallel.now → P ≡ inside_told loops → ItemsHaveBy text (SharesBy ds R P) [] (items_of items)
+    (λ os. (text : List ℕ) (ds : List Declaration) (R : LineData) (P : LinesInside) → ArePrivateLocals (length layout) R → AreOfText text R loops.parallel.now → P ≡ inside_told loops → ItemsHaveBy text (KnownBy ds R P) [] (items_of items)
     → WithLocals layout mark (declared_among (items_of items)) (AllFit layout mark R [] os.items))
     (λ os h. body_fits layout mark loops items os.items h) made
