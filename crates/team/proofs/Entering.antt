@@ -1,9 +1,9 @@
 -- What all chunks of a loop tell, each by its number.
-use Rattle.std.specs.Prelude.{ℕ, ◌≡◌, ◌<◌, List, length, replicate, slice_get, All, Some}
+use Rattle.std.specs.Prelude.{ℕ, ◌≡◌, ◌<◌, List, length, replicate, slice_get, Some}
 use Rattle.std.proofs.Common.{sym, ◌∙◌, subst, inr, arith}
 use Rattle.std.proofs.lemmas.List.{length-replicate}
 use Rattle.std.proofs.lemmas.List.Elements.{All-weaker}
-use Rattle.semantics.specs.Loops.Arrangement.{times, once, once_below}
+use Rattle.semantics.specs.Loops.Arrangement.{times, once_below}
 use Rattle.semantics.specs.Loops.Chunk.{Chunk}
 use Rattle.store.specs.Kept.{Kept}
 use Rattle.lower.specs.declared.lowered.LoweredLoop.{LoweredLoop}

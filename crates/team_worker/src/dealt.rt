@@ -1,12 +1,12 @@
 //! Chunks that are dealt to workers, of the schedules that fix the worker of each (OpenMP 5.2, 11.5.3).
 
 ghost use Rattle.std.specs.Prelude.{◌≡◌, true, ℕ, ◌<◌, ◌≤◌, ◌^◌, [], length, map, vec_len, flat_map, Option, IfOk, IfErr, IfSome, OnOk};
+ghost use Rattle.std.specs.Global.{Box};
 ghost use Rattle.semantics.specs.Loops.Chunk.{cut};
 ghost use Rattle.semantics.specs.Meaning.Places.{below};
 ghost use Rattle.nest_space.specs.Space.{vectors};
 ghost use Rattle.schedule.specs.Part.{static_kind};
 ghost use Rattle.store.specs.Flat.{values_of};
-ghost use Rattle.std.specs.Global.{Box};
 ghost use Rattle.team_worker.specs.declared.place.End.TheVariants.{Share};
 ghost use Rattle.team_worker.specs.declared.way.Way.TheVariants.{Dealt};
 ghost use Rattle.team_worker.specs.Ends.{IsReady, IsAccount, IsAccountOf};

@@ -1,11 +1,11 @@
 //! Chunks that workers draw, of the schedules that fix no worker for a chunk (OpenMP 5.2, 11.5.3).
 
-ghost use Rattle.std.specs.Prelude.{◌≡◌, ◌<◌, All, ◌++◌, ◌∷◌, [], ℕ, List, length, vec_len, IfOk, IfErr, OnOk};
+ghost use Rattle.std.specs.Prelude.{◌≡◌, ◌<◌, ◌++◌, ◌∷◌, [], ℕ, List, length, vec_len, All, IfOk, IfErr, OnOk};
 ghost use Rattle.std.specs.Global.{Box};
 ghost use Rattle.semantics.specs.Loops.Chunk.{Chunk};
+ghost use Rattle.draw.specs.Tickets.{fresh};
 ghost use Rattle.store.specs.Kept.{Kept};
 ghost use Rattle.lower.specs.declared.lowered.LoweredLoop.{LoweredLoop};
-ghost use Rattle.draw.specs.Tickets.{fresh};
 ghost use Rattle.team_worker.specs.declared.pass.Pass.{Pass};
 ghost use Rattle.team_worker.specs.declared.place.End.TheVariants.{Draws};
 ghost use Rattle.team_worker.specs.declared.way.Draw.{Draw};
