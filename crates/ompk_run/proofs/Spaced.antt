@@ -1,5 +1,5 @@
 -- A lowered loop has its space where an accepted kernel reaches it.
-use Rattle.std.specs.Prelude.{ℕ, suc, true, ◌≡◌, ◌<◌, ◌≤◌, ◌^◌, List, [], ◌∷◌, length, map, Contains, slice_index}
+use Rattle.std.specs.Prelude.{ℕ, suc, true, ◌≡◌, ◌≤◌, ◌^◌, List, [], ◌∷◌, map, Contains, slice_index}
 use Rattle.std.proofs.Common.{refl, sym, subst, arith}
 use Rattle.semantics.specs.Tree.{Variable, Stmt}
 use Rattle.semantics.specs.Meaning.State.{State, Holds}
