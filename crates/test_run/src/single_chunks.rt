@@ -22,6 +22,18 @@ const SECOND: Spot = Spot::Register(VarId(4));
 /// A loop's lines, what is summed up, what is lastprivate, and what it leaves in `A`, `B` and `s` and in eight registers.
 type Row<'t> = (&'t str, &'t [Spot], Spot, [u64; 15], [u64; 8]);
 
+/// Adds a sum at each of these places.
+fn add_sums(reductions: &mut Vec<LoweredReduction>, sums: &[Spot]) -> Option<()> {
+    for spot in sums {
+        let sum = LoweredReduction {
+            operator: ReductionOperator::Sum,
+            spot: *spot,
+        };
+        reductions.push(sum).ok()?;
+    }
+    Some(())
+}
+
 /// The loop of a row.
 fn loop_of(alloc: Global, row: &Row) -> Option<LoweredLoop> {
     let (lines, sums, last, _cells, _registers) = row;
@@ -32,13 +44,7 @@ fn loop_of(alloc: Global, row: &Row) -> Option<LoweredLoop> {
         turn: None,
     };
     let mut lowered = lower_nest(alloc, site, None)?;
-    for spot in *sums {
-        let sum = LoweredReduction {
-            operator: ReductionOperator::Sum,
-            spot: *spot,
-        };
-        lowered.roles.reductions.push(sum).ok()?;
-    }
+    add_sums(&mut lowered.roles.reductions, *sums)?;
     lowered.roles.lasts.push(*last).ok()?;
     Some(lowered)
 }
