@@ -16,7 +16,6 @@ is refused.
 Whether an edit is refused depends on the sources of its crate, on what it rests on of the crates below (tests/promises.py) and on the
 toolchain alone. Where all edits of a crate were refused, the sum of these is noted in tests/edits.tried, and they are tried anew once it differs.
 """
-import dataclasses
 import glob
 import hashlib
 import os
@@ -32,121 +31,14 @@ sys.path.insert(0, os.path.join(TOP, "tools"))
 sys.dont_write_bytecode = True
 
 import kit
-from promises import HEAD, IMPL, as_laid_out, read, rested_on
+from edit import asked_of, placed, read
+from promises import as_laid_out, rested_on
 
 JOBS = ["--jobs", "1"]
-CONST = re.compile(r"\s*(?:pub(?:\([^)]*\))? )?const (\w+):")
 TRIED = os.path.join(TOP, "tests", "edits.tried")
 SWITCHES = ("--read", "--all", "--proved")
 PARTS = ("src", "specs", "proofs", "edits")
 NAMES_ALONE = "only because a proof file names what the edit took away"
-NAMES = re.compile(r"has no field|is not in scope|has no `|was not admitted")
-
-
-@dataclasses.dataclass(frozen=True)
-class Function:
-    """A function of a source file: its lines are first to last, counted from 0, with the attributes above it."""
-
-    path: str
-    name: str
-    owner: str
-    cycle: str
-    first: int
-    last: int
-
-    @property
-    def key(self):
-        return self.path, self.cycle or self.first
-
-    @property
-    def module(self):
-        inside = self.path[len("src/") : -len(".rt")]
-        return "" if inside == "lib" else inside.replace("/", "::")
-
-    @property
-    def asked(self):
-        """The function by its path, or its module where it is a method of a trait, whose name the prover makes up."""
-        if "+" in self.owner:
-            return self.module
-        return "::".join(it for it in (self.module, self.owner, self.name) if it)
-
-
-@dataclasses.dataclass
-class Edit:
-    """An edit, the functions that it changes, or that name the constant that it changes, and the lines that it puts in place of others."""
-
-    file: str
-    functions: list
-    rows: list
-    is_constant: bool = False
-
-    @property
-    def name(self):
-        return os.path.basename(self.file)
-
-    def is_shown(self, crate, lines):
-        """Whether these lines refuse a goal of each function that it changes, or of one that names its constant."""
-        return (any if self.is_constant else all)(own_goal(crate, it, lines) for it in self.functions)
-
-
-def function_at(path, rows, at):
-    """The function round a line, or None."""
-    for top in range(at, -1, -1):
-        head = HEAD.match(rows[top])
-        if not head or (top != at and rows[top].rstrip().endswith(";")):
-            continue
-        last = next((i for i in range(top, len(rows)) if rows[i] == head[1] + "}"), top)
-        if last < at:
-            continue
-        first, cycle = top, ""
-        while first > 0 and rows[first - 1].strip().startswith(("#[", "//")):
-            first -= 1
-            named = re.search(r"#\[cycle\((\w+)\)\]", rows[first])
-            cycle = cycle or (named[1] if named else "")
-        return Function(path, head[2], owner_of(rows, top) if head[1] else "", cycle, first, last)
-    return None
-
-
-def owner_of(rows, top):
-    """The type whose method stands at a line, with `+` and the trait where it is a trait's."""
-    impl = IMPL.match(next((rows[i] for i in range(top, -1, -1) if rows[i].startswith("impl")), ""))
-    if not impl:
-        return ""
-    if not impl["trait"]:
-        return impl["type"]
-    return impl["type"] + "+" + re.sub(r"<.*", "", impl["trait"]).rpartition("::")[2]
-
-
-def functions_naming(path, rows, name):
-    """The functions of a file that name a constant."""
-    found = (function_at(path, rows, at) for at, row in enumerate(rows) if re.search(rf"\b{name}\b", row))
-    return list(dict.fromkeys(it for it in found if it))
-
-
-def placed(rt, crate, file):
-    """The edit of a file with the functions that it changes, none where it changes other text than theirs and a constant's; or
-    why it cannot be read."""
-    texts, why = rt.read_edit(file, crate.folder)
-    if why:
-        return None, why
-    functions, constants, changed = [], [], []
-    for path, text in texts.items():
-        old, new = read(f"{crate.folder}/{path}").split("\n"), text.split("\n")
-        if len(old) != len(new) or not path.endswith(".rt"):
-            return Edit(file, [], []), None
-        for at, (before, after) in enumerate(zip(old, new)):
-            if before != after:
-                function, constant = function_at(path, old, at), CONST.match(before)
-                if not function and not constant:
-                    return Edit(file, [], []), None
-                if function:
-                    functions.append(function)
-                else:
-                    constants += functions_naming(path, old, constant[1])
-                changed.append((path, at, after))
-    if functions and constants:
-        return Edit(file, [], []), None
-    return Edit(file, functions or constants, changed, bool(constants)), None
 
 
 def in_batches(edits):
@@ -164,31 +56,6 @@ def in_batches(edits):
     return [batch for _, batch in batches]
 
 
-def own_goal(crate, function, lines):
-    """A line that refuses a goal of this function, if there is one."""
-    owner = re.escape(function.owner).replace(r"\+", "") + (r"\w*" if "+" in function.owner else "")
-    tail = f"{owner}::{re.escape(function.name)}" if function.owner else re.escape(function.name)
-    group = re.escape(function.cycle or function.name)
-    folder = function.module.replace("::", "/")
-    folder = re.escape(folder) + "/" if folder else ""
-    inner = f"(?:{folder})?(?:\\w+/)*"
-    own = re.compile(rf"(?:\./)?proofs/{inner}(?:\+{group}|\+?{tail.replace('::', '/')})/\S*:\d+:\d+: error")
-    note = re.compile(rf"(?:note: )?{re.escape(function.path)}:(\d+):\d+: (.*)")
-    for line in lines:
-        if own.match(line) and not NAMES.search(line):
-            return line
-        said = note.match(line)
-        if said and function.first < int(said[1]) <= function.last + 1 and "not proved that" in said[2]:
-            return line
-    return None
-
-
-def asked_of(edits):
-    """The words that have a check prove no more than the functions of these edits, and what they call."""
-    names = {it.asked for edit in edits for it in edit.functions}
-    return [] if "" in names else [word for name in sorted(names) for word in ("--only", name)]
-
-
 def try_batch(rt, crate, batch, kept):
     """The edits of a batch that are refused, each at its own functions."""
     texts = {}
@@ -204,7 +71,7 @@ def try_batch(rt, crate, batch, kept):
     judged = ran.returncode == 1 and lines[-1].startswith(("only=", "logic=not-proved"))
     if not judged or any(rt.unread(it, texts) for it in lines):
         return []
-    return [edit for edit in batch if edit.is_shown(crate, lines)]
+    return [edit for edit in batch if edit.is_shown(lines)]
 
 
 def is_proved(rt, crate, edits, kept):

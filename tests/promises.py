@@ -10,10 +10,10 @@ import glob
 import os
 import re
 
-HEAD = re.compile(r"(\s*)(?:pub(?:\([^)]*\))? )?(?:const )?(?:unsafe )?fn (\w+)")
+from edit import HEAD, IMPL, read
+
 UNSEEN = re.compile(r"\s*(//|#!?\[(inline|cold|cycle|tactic)\b)")
 IMPORT = re.compile(r"(?m)^(?P<head>\s*(?:ghost )?use )(?P<path>[^;]*);\n?")
-IMPL = re.compile(r"impl(?:<.*?>)? (?:(?P<trait>.*) for )?(?:\w+::)*(?P<type>\w+)")
 NAMED = re.compile(r"(?:pub(?:\([^)]*\))? )?(?:const |unsafe )*(?:fn|struct|enum|trait|type|const|static) (\w+)")
 REEXPORT = re.compile(r"(pub(\([^)]*\))? )?(use|mod) ")
 COMMENT = re.compile(r"(?m)^\s*(//|--).*\n?")
@@ -76,11 +76,6 @@ class Promise:
         is_whole = self.path in names.paths and not self.words.isdisjoint(names.words)
         is_beside = not self.words.isdisjoint(names.inside.get(self.path, ()))
         return is_whole or is_beside or any(f"{self.path}.{it}" in names.paths for it in self.words)
-
-
-def read(path):
-    with open(path, encoding="utf-8") as it:
-        return it.read()
 
 
 def promises(text):
