@@ -32,8 +32,21 @@ def state_of_sources():
     return newest, count
 
 
+def list_once(rtlib):
+    """Lets the crates below each crate be listed once, and not once for each way down to them."""
+    kept, make = {}, rtlib.Crate.below
+
+    def below(crate):
+        if crate.folder not in kept:
+            kept[crate.folder] = make(crate)
+        return list(kept[crate.folder])
+
+    rtlib.Crate.below = below
+
+
 def sum_once(rtlib):
     """Lets each crate's sum of sources be made once as long as no file changes, and not once for each way down to it."""
+    list_once(rtlib)
     kept, make, lock = {}, rtlib.Crate.stamp, threading.RLock()
     state, depth = None, 0
 
