@@ -1,9 +1,9 @@
 -- What stays inside its array over a box does so at a turn of the loops round it.
-use Rattle.std.specs.Prelude.{ℕ, zero, suc, ◌^◌, true, ◌≡◌, ◌<◌, ◌&&◌, nat_lt, ℤ, pos, List, [], ◌∷◌, Option, Some, None, slice_get}
+use Rattle.std.specs.Prelude.{ℕ, ◌^◌, true, ◌≡◌, ◌<◌, ◌&&◌, nat_lt, ℤ, pos, List, [], ◌∷◌, Option, Some, None, slice_get}
 use Rattle.std.proofs.Common.{refl, ap, ◌∙◌, arith}
 use Rattle.std.proofs.lemmas.Bool.{lt-ltb}
 use Rattle.std.proofs.lemmas.Int.{ints}
-use Rattle.semantics.specs.Tree.{Variable, Expr, Exprs, no_exprs, more_exprs, Declaration}
+use Rattle.semantics.specs.Tree.{Variable, Expr, Exprs, no_exprs, more_exprs}
 use Rattle.semantics.specs.Meaning.State.{State}
 use Rattle.semantics.specs.Meaning.Value.{values, both}
 use Rattle.semantics.specs.Meaning.Value as meaning
