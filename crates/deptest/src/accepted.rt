@@ -7,6 +7,7 @@ ghost use Rattle.deptest.specs.Accepted.{tree_of, HasPassed, HasLoops, KeepsLoop
 ghost use Rattle.deptest.specs.Refused.{RefusesLoops};
 
 use crate::ordered::check;
+use crate::source::SourceText;
 use flow::ParallelLoop;
 use flow_doacross::DoacrossLoop;
 use flow_scan::ScanLoop;
@@ -31,7 +32,7 @@ pub struct Parallel {
 /// and these loops.
 #[derive(Drop)]
 pub struct Checked {
-    text: Vec<u8>,
+    source: SourceText,
     kernel: Kernel,
     parallel: Parallel,
 }
@@ -45,9 +46,9 @@ impl Model for Checked {
 
     ghost coded = { Prim.hlevel (codes, item.the_row.coded) };
 
-    ghost view = { λ c. record { text = c.text.items; kernel = c.kernel } };
+    ghost view = { λ c. record { text = c.source.bytes; kernel = c.kernel } };
 
-    ghost invariant = { λ c. IsKept (record { text = c.text.items; kernel = c.kernel })
+    ghost invariant = { λ c. IsKept (record { text = c.source.bytes; kernel = c.kernel })
         c.parallel.loops.items
         c.parallel.scans.items
         c.parallel.doacross.items
@@ -91,13 +92,6 @@ impl Checked {
     {
         self.parallel.regions.as_slice()
     }
-
-    /// The text that it was read from.
-    pub fn text(&self) -> &[u8]
-        ensures { result.now ≡ self.now.text }
-    {
-        self.text.as_slice()
-    }
 }
 
 /// Accepts the kernel of a text that has passed all else, with these parallel loops and their regions, where the loops are independent, or
@@ -124,9 +118,8 @@ pub fn accept(
 {
     let nests = parallel.doacross.as_slice();
     check(alloc, &kernel, directives, table, nests)?;
-    let text = Vec::from_slice(alloc, text)?;
     Ok(Checked {
-        text,
+        source: SourceText::of(text),
         kernel,
         parallel,
     })

@@ -3,6 +3,7 @@
 
 mod accepted;
 mod ordered;
+mod source;
 
 pub use accepted::{Checked, Parallel, accept};
 pub use ordered::check;

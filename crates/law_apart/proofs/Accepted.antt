@@ -55,7 +55,7 @@ use Rattle.law_independence.proofs.Naming.{IsNamed, NamesCounters, counters_insi
 use Rattle.law_independence.proofs.Starts.{AreBelow, below_later, below_with, next_unknown, all_start}
 use Rattle.law_apart.specs.Apart.{apart_items}
 use Rattle.law_apart.specs.Laws.{LeavesTheSame, AcceptedKernelsRunApart}
-use Rattle.law_scopes.proofs.Associated.{at_least_one}
+use Rattle.law_independence.proofs.Associated.{at_least_one}
 use Rattle.law_scopes.proofs.Spots.{some_of, no_spot, Spot, spot_turn}
 use Rattle.law_scopes.proofs.Staying.{loop_is_known, loop_knows, stays}
 use Rattle.law_apart.proofs.Phased.{known_before_scan}

@@ -1,5 +1,5 @@
 -- The parallel loops of a kernel in order of place, up to the one that is refused: those before it are independent, or ordered by their sinks.
-use Rattle.std.specs.Prelude.{ℕ, List, [], ◌∷◌, ◌++◌, Option}
+use Rattle.std.specs.Prelude.{ℕ, ◌≤◌, List, [], ◌∷◌, ◌++◌, Option}
 use Rattle.std.proofs.Common.{refl, sym, inl, inr, subst}
 use Rattle.semantics.specs.Tree.{Stmt, Assign, Update, If, IfElse, For, Block, Print, Items, no_items, mark, local, stmt, Declaration}
 use Rattle.semantics.specs.Source.Text.{line_at}
@@ -22,6 +22,7 @@ use Rattle.flow.specs.Roles.{LoopsHaveBy, ItemsHaveBy}
 use Rattle.law_independence.specs.Inside.{LoopsAreRead, ItemsAreRead, HaveShort}
 use Rattle.law_independence.specs.Said.{LinesInside, sinks_in}
 use Rattle.law_independence.proofs.Links.{one_entered}
+use Rattle.law_independence.proofs.Associated.{at_most_four}
 use Rattle.law_independence.proofs.IndependentNests.{body_there}
 use Rattle.law_independence.proofs.Grammar.{decls_small, decls_short, items_read}
 use Rattle.law_independence.specs.Parallel.{FirstLoopHasBy, FirstItemHasBy}
@@ -31,19 +32,19 @@ use Rattle.law_doacross.specs.Telling.{ToldBy, RefusalsAreTold}
 use Rattle.law_doacross.proofs.CoveredKernels.{line_ordered, loops_ordered}
 
 module _ (text : List ℕ) (ds : List Declaration) (P : LinesInside) (r : Refusal) (short : HaveShort ds) where
-  first_told : (round : Nesting) (serial : List Loop) (line n : ℕ) (items : Items) → AreEntered no_loops serial round → ItemsAreRead round.box items → Have (StaysInside ds) round.box items
+  first_told : (round : Nesting) (serial : List Loop) (line n : ℕ) (items : Items) → n ≤ 4 → AreEntered no_loops serial round → ItemsAreRead round.box items → Have (StaysInside ds) round.box items
       → RightNestFirst round.box n items → RefusedFirst ds round (sinks_in P line) n items r → FirstHas (ToldBy ds P r line) serial n items
-  first_told round serial line n no_items entered read has right refused = right
-  first_told round serial line n (mark m rest) entered read has right refused = right
-  first_told round serial line n (local x name start rest) entered read has right refused = right
-  first_told round serial line n (stmt s rest) entered read has right refused = loop_is_told ds r (sinks_in P line) serial round n s entered read.0 has.0 right refused
+  first_told round serial line n no_items four entered read has right refused = right
+  first_told round serial line n (mark m rest) four entered read has right refused = right
+  first_told round serial line n (local x name start rest) four entered read has right refused = right
+  first_told round serial line n (stmt s rest) four entered read has right refused = loop_is_told ds short r (sinks_in P line) serial round n s four entered read.0 has.0 right refused
 
   line_told : (round : Nesting) (serial : List Loop) (line : ℕ) (items : Items) → AreEntered no_loops serial round → ItemsAreRead round.box items → Have (StaysInside ds) round.box items
       → LineNests text round.box line items → LineRefused text (sinks_in P) ds round line items r → LineHas text (ToldBy ds P r line) serial line items
   line_told round serial line items entered read has (m, d, reads', right) (inl (names, none)) = absurd (none m d reads')
   line_told round serial line items entered read has (m, d, reads', right) (inr (k, e, reads, refused)) =
       let same = (read_once (line_at text line) m d k e reads' reads).1 in
-      (k, e, reads, first_told round serial line (associated e) items entered read has (subst (λ (o : Option ℕ). RightNestFirst round.box (associated o) items) same right) refused)
+      (k, e, reads, first_told round serial line (associated e) items (at_most_four (line_at text line) k e reads) entered read has (subst (λ (o : Option ℕ). RightNestFirst round.box (associated o) items) same right) refused)
 
   mutual
     loops_told : (s : Stmt) (round : Nesting) (serial : List Loop) → AreEntered no_loops serial round → LoopsAreRead round.box s → Has (StaysInside ds) round.box s → Nests text round.box s

@@ -1,8 +1,9 @@
 -- What is told of the first pair of a body that is not shown: a conflict is one.
-use Rattle.std.specs.Prelude.{ℕ, ◌≡◌, ◌<◌, ◌⊎◌, IsTrue, List, [], length, map, Option, Some, slice_get, string_bytes}
-use Rattle.std.proofs.Common.{refl, sym, inl, inr, ap, ◌∙◌, subst, ⊎_elim}
+use Rattle.std.specs.Prelude.{ℕ, suc, ◌≡◌, ◌<◌, ◌≤◌, ◌^◌, ◌⊎◌, IsTrue, List, [], ◌∷◌, length, map, Option, Some, slice_get, string_bytes}
+use Rattle.std.proofs.Common.{refl, sym, inl, inr, ap, ◌∙◌, subst, ⊎_elim, arith}
+use Rattle.std.proofs.lemmas.Option.{same_Some}
 use Rattle.semantics.specs.Tree.{Stmt, Declaration}
-use Rattle.semantics.specs.Loops.Nest.{Loop, nest_of}
+use Rattle.semantics.specs.Loops.Nest.{Loop, Vector, nest_of, iterations}
 use Rattle.semantics.specs.Meaning.State.{State}
 use Rattle.semantics.specs.Loops.Access.{Conflict, accesses}
 use Rattle.semantics.specs.Loops.Access as meant
@@ -12,11 +13,15 @@ use Rattle.ktree.specs.declared.refusal.NotShown as not_shown
 use Rattle.ktree.specs.declared.refusal.Refusal.TheVariants as refusals
 use Rattle.nest_loop.specs.declared.head.Canonical.{Canonical}
 use Rattle.pairtest_counter.specs.Levels.{Nesting}
-use Rattle.nest.specs.Perfect.{AreRectangular}
+use Rattle.affine.specs.declared.interval.Side.{Side}
+use Rattle.nest.specs.Perfect.{AreRectangular, HasProduct}
 use Rattle.pairtest.specs.declared.access.Access.{Access}
 use Rattle.pairtest.specs.declared.access.Mode.TheVariants as found
-use Rattle.nest_space.specs.Space.{vectors}
-use Rattle.deptest_witness.specs.Touching.{NestAt, IsEntered, TouchesAt}
+use Rattle.nest_space.specs.Space.{vectors, IsSpace}
+use Rattle.nest_space.specs.Nests.{given, AreRunsOf}
+use Rattle.nest_space.specs.Heads.{AreHeadsOf}
+use Rattle.nest_space.proofs.Reached.{reached_law, length-reached}
+use Rattle.deptest_witness.specs.Touching.{FirstTurns, NestAt, IsEntered, TouchesAt}
 use Rattle.deptest_witness.specs.Pairs.{Share, Meet}
 use Rattle.pairtest_access.specs.Sites.{Site, Sites}
 use Rattle.pairtest_access.specs.Found.{AreMet, IsFound, IsTouched, IsTold, inner_loops}
@@ -25,12 +30,26 @@ use Rattle.deptest_verdict.specs.Shown.{no_loops}
 use Rattle.deptest_verdict.specs.Pairs.{IsPair}
 use Rattle.deptest_verdict.specs.Refused.{IsNameOf, touch_of, serial_loops, nest_loops, IsFirstOf, IsVerdict}
 use Rattle.law_turns.specs.Turns.{AreEntered}
-use Rattle.law_independence.specs.ConflictLaws.{TouchesFirst, IsBetween, IsToldPair, IsConflictFrom, IsConflict, IsNotFound}
+use Rattle.law_turns.proofs.Standing.{nothing_inside}
+use Rattle.law_independence.specs.Inside.{HaveShort}
+use Rattle.law_independence.specs.ConflictLaws.{first_turns, TouchesFirst, IsBetween, IsToldPair, IsConflictFrom, IsConflict, IsNotFound}
+use Rattle.law_independence.proofs.Entered.{entered_loops, serial_are, nest_are, first_are}
+use Rattle.law_independence.proofs.Values.{outside_at}
+use Rattle.law_independence.proofs.Rectangular.{heads_of}
+use Rattle.law_independence.proofs.Few.{run_within_most}
+use Rattle.law_independence.proofs.Backward.{first_back, runs_reached}
 use Rattle.law_independence.proofs.IndependentNests.{IsBodyThere}
 use Rattle.law_independence.proofs.Links.{Link, linked_at, linked}
 use Rattle.law_independence.proofs.Outer.{contains_at, Begins}
 use Rattle.law_independence.proofs.Pairs.{first_is_pair, site_of}
-use Rattle.law_independence.proofs.ConflictBodies.{begun, iterations_known, numbers_differ, touches_first, touches_there}
+use Rattle.law_independence.proofs.ConflictBodies.{begun, iterations_known, numbers_differ, touches_back, touches_first, touches_there}
+
+-- as many loops of the text as canonical ones
+length-heads : (box : List Side) (hs : List Loop) (ls : List Canonical) → AreHeadsOf box hs ls → length hs ≡ length ls
+length-heads box [] [] heads = refl
+length-heads box [] (l ∷ ls) heads = absurd heads
+length-heads box (h ∷ hs) [] heads = absurd heads
+length-heads box (h ∷ hs) (l ∷ ls) heads = ap suc (length-heads box hs ls heads.1)
 
 -- an access of a body that was found, and the definitions' access of its number
 record IsMade (ds : List Declaration) (now : Nesting) (body : Stmt) (k : ℕ) (f : Access) (touched : Touched) : Type 0 where
@@ -179,15 +198,67 @@ module _ (ds : List Declaration) (c : told.Conflict) (serial loops : List Loop) 
 -- and where none is found
 module _ (ds : List Declaration) (sinks : List Distance) (told : not_shown.NotShown) (serial loops : List Loop) (round now : Nesting) (body : Stmt) (outside : AreEntered no_loops serial round)
     (entered : AreEntered round loops now) (ls : List Canonical) (rectangular : AreRectangular round.box loops ls) (there : IsBodyThere ds now body) (n : ℕ) (s : Stmt)
-    (nest : nest_of n s ≡ Some (loops, body)) where
+    (nest : nest_of n s ≡ Some (loops, body)) (short : HaveShort ds) (most : ℕ) (product : HasProduct round.box loops most) (few : most ≤ 2 ^ 24) (four : length loops ≤ 4) where
+  -- the nest at the first turns of the serial loops
+  record IsReached : Type 0 where
+    region : NestAt
+    known : IsEntered (serial_loops (length round.levels) now) (nest_loops (length round.levels) now) region
+    space : IsSpace region.turns
+
+  -- where it has an iteration there
+  reached : (from outer : State) (us : List Vector) (number : ℕ) (vector : Vector) → first_turns serial from ≡ Some outer → iterations loops outer ≡ Some us → slice_get us number ≡ Some vector
+      → IsReached
+  reached from outer us number vector begins are found =
+      let cs = entered_loops loops round now entered in
+      let heads = heads_of loops round now entered ls rectangular in
+      let back = first_back serial no_loops round outside [] from outer (outside_at from) (λ x. nothing_inside x) begins in
+      let ran = run_within_most round.box (given back.there) loops cs round.box (given back.there) most heads product back.inside (λ x c. c) (λ x c. refl) in
+      let same : us ≡ vectors ran.turns =
+      same_Some us (vectors ran.turns) (sym are ∙ reached_law cs (given back.there) ran.turns ran.runs round.box loops outer back.at.counters heads) in
+      let runs = runs_reached cs (given back.there) ran.turns number vector ran.runs (subst (λ (ws : List Vector). slice_get ws number ≡ Some vector) same found) in
+      let long : length ran.turns ≡ length loops = length-reached cs (given back.there) ran.turns ran.runs ∙ sym (length-heads round.box loops cs heads) in
+      let less = ran.few in
+      record {
+        region = record { outer = back.there; loops = nest_loops (length round.levels) now; turns = ran.turns };
+        known = record {
+          loops = refl;
+          first = subst (λ (gs : List Canonical). FirstTurns gs [] back.there) (sym (serial_are loops round now entered ∙ first_are serial no_loops round outside refl)) back.first;
+          runs = subst (λ (gs : List Canonical). AreRunsOf gs (given back.there) ran.turns) (sym (nest_are loops round now entered)) runs;
+        };
+        space = record { loops = subst (λ k. k ≤ 4) (sym long) four; few = omega arith };
+      }
+
+  -- of an access that was found, what it touches in the words of the definitions, by its forms
+  by_forms : (region : NestAt) (known : IsEntered (serial_loops (length round.levels) now) (nest_loops (length round.levels) now) region) (from outer : State) (us : List Vector)
+      → first_turns serial from ≡ Some outer → iterations loops outer ≡ Some us → (k : ℕ) (f : Access) (t : Touched) (x : IsMade ds now body k f t) (number : ℕ) (indexes : List ℕ)
+      → TouchesFirst loops outer us x.access number indexes → TouchesAt region (touch_of t) number indexes
+  by_forms region known from outer us begins are k f t x number indexes touches =
+      let here = begun serial loops round now body outside entered ls rectangular region known from in
+      let same : outer ≡ here.outer = same_Some outer here.outer (sym begins ∙ here.begins) in
+      let all = iterations_known serial loops round now body outside entered ls rectangular region known from in
+      let vs : us ≡ vectors region.turns = same_Some us (vectors region.turns) (sym are ∙ ap (iterations loops) same ∙ all) in
+      touches_back serial loops round now body outside entered ls rectangular region known from ds x.site x.access x.link t x.is short number indexes
+      (subst (λ (o : State). TouchesFirst loops o (vectors region.turns) x.access number indexes) same (subst (λ (ws : List Vector). TouchesFirst loops outer ws x.access number indexes) vs touches))
+
   pub verdict_is_not_found : IsVerdict ds now (length round.levels) (map (λ v. v.most) (inner_loops 0 round.levels)) sinks body (refusals.NotShown told) → IsNotFound ds sinks told serial n s
   verdict_is_not_found (p, never) =
+      let x = one_made ds serial loops round now body outside entered there sinks told p in
+      let y = other_made ds serial loops round now body outside entered there sinks told p in
       record {
         loops = loops;
         body = body;
         nest = nest;
-        one = (one_made ds serial loops round now body outside entered there sinks told p).access;
-        other = (other_made ds serial loops round now body outside entered there sinks told p).access;
+        one = x.access;
+        other = y.access;
         pair = told_pair ds serial loops round now body outside entered there sinks told p;
-        never = never;
+        never = λ none from outer us begins are u v indexes order searched meet. ⊎_elim
+            (λ (h : Share (TouchesFirst loops outer us x.access) (TouchesFirst loops outer us y.access) u v indexes).
+            let r = reached from outer us u h.0.vector begins are h.0.is in
+            never none r.region r.known r.space u v indexes order searched
+            (inl (by_forms r.region r.known from outer us begins are p.first p.one p.one_touched x u indexes h.0, by_forms r.region r.known from outer us begins are p.second p.other p.other_touched y v indexes h.1)))
+            (λ (h : Share (TouchesFirst loops outer us y.access) (TouchesFirst loops outer us x.access) u v indexes).
+            let r = reached from outer us u h.0.vector begins are h.0.is in
+            never none r.region r.known r.space u v indexes order searched
+            (inr (by_forms r.region r.known from outer us begins are p.second p.other p.other_touched y u indexes h.0, by_forms r.region r.known from outer us begins are p.first p.one p.one_touched x v indexes h.1)))
+            meet;
       }

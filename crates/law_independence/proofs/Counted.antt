@@ -93,19 +93,19 @@ AreWorth turn (t ∷ ts) (i ∷ is) = (value_at t turn ≡ pos i) × AreWorth tu
 abbrev pub HasCounters : Turn → ℕ → (ℕ → ℤ) → Type 0
 HasCounters turn n f = turn.serial ++ (turn.nest ++ turn.inner) ≡ stretch 0 n (counts_of f)
 
-record IsBoth (o : Option ℕ) (p : Option (List ℕ)) (is : List ℕ) : Type 0 where
-  first : ℕ
-  rest : List ℕ
-  first_is : o ≡ Some first
-  rest_is : p ≡ Some rest
-  is_both : first ∷ rest ≡ is
+pub record IsBoth (o : Option ℕ) (p : Option (List ℕ)) (is : List ℕ) : Type 0 where
+  pub first : ℕ
+  pub rest : List ℕ
+  pub first_is : o ≡ Some first
+  pub rest_is : p ≡ Some rest
+  pub is_both : first ∷ rest ≡ is
 
-both_parts : (o : Option ℕ) (p : Option (List ℕ)) (is : List ℕ) → both (λ k ks. k ∷ ks) o p ≡ Some is → IsBoth o p is
+pub both_parts : (o : Option ℕ) (p : Option (List ℕ)) (is : List ℕ) → both (λ k ks. k ∷ ks) o p ≡ Some is → IsBoth o p is
 both_parts None p is e = absurd (none-some is e)
 both_parts (Some k) None is e = absurd (none-some is e)
 both_parts (Some k) (Some ks) is e = record { first = k; rest = ks; first_is = refl; rest_is = refl; is_both = same_Some (k ∷ ks) is e }
 
-further_below : (z : ℤ) (n m : ℕ) → z <ℤ pos n → n < m → z <ℤ pos m
+pub further_below : (z : ℤ) (n m : ℕ) → z <ℤ pos n → n < m → z <ℤ pos m
 further_below z n m lt le = omega (arith, ints)
 
 module _ (round : Nesting) (steps : ℕ → ℤ) (s : State) (turn : Turn) (are : AreLevels round.box round.levels) (few : AreCounters 0 round.levels steps)

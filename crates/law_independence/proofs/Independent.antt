@@ -77,7 +77,7 @@ refuted nest fs x y shown in_x in_y same writes =
 
 -- ---- lengths
 
-lengths_short : (ds : List Declaration) (x : ℕ) → HaveShort ds → AreShort (lengths_of (slice_get ds x))
+pub lengths_short : (ds : List Declaration) (x : ℕ) → HaveShort ds → AreShort (lengths_of (slice_get ds x))
 lengths_short [] x h = tt
 lengths_short (d ∷ ds) zero h = h.0
 lengths_short (d ∷ ds) (suc x) h = lengths_short ds x h.1

@@ -15,11 +15,15 @@ pub mod ReorderedNests
 pub mod Entered
 pub mod Values
 pub mod Rectangular
+pub mod Agreeing
+pub mod Few
+pub mod Backward
 pub mod Outer
 pub mod Pairs
 pub mod ConflictBodies
 pub mod Conflicts
 pub mod Affinity
+pub mod Associated
 pub mod RefusedNests
 pub mod PrivateNests
 pub mod RoleNests

@@ -12,6 +12,7 @@ use Rattle.semantics.specs.Loops.Nest.{Loop, Vector, at_value, at_vector, iterat
 use Rattle.semantics.proofs.NestLaw.{local_same}
 use Rattle.affine.specs.declared.interval.Side.{Side}
 use Rattle.affine.specs.Affine.{value}
+use Rattle.affine.specs.Box.{interval_at, IsInside, Holds as IsHeld}
 use Rattle.affine_expr.specs.Forms.{is_counter}
 use Rattle.nest_loop.specs.declared.stride.Stride.{Stride}
 use Rattle.nest_loop.specs.Turn.{HoldsValue, HoldCounters}
@@ -102,6 +103,20 @@ module _ (box : List Side) (levels : List EnclosingLoop) (values : List Value) (
 
   pub one_more : IsAt (s ∷ box) (values ++ (one ∷ [])) here
   one_more = record { counters = more_counters; fresh = more_fresh }
+
+  -- where the values are in the box, and the one more is one of the loop's numbers
+  pub more_inside : IsInside box (given values) → IsHeld level.numbers (pos x) → IsInside (s ∷ box) (given (values ++ (one ∷ [])))
+  more_inside inside held y = by (s.variable.0 == y) refl
+    where
+      by : (b : Bool) → (s.variable.0 == y) ≡ b → IsHeld (cond b s.interval (interval_at box y)) (given (values ++ (one ∷ [])) y)
+      by true e =
+          let same : h.variable ≡ y = sym named ∙ eqb-true s.variable.0 y e in
+          let worth : given (values ++ (one ∷ [])) h.variable ≡ pos x = at.fresh h.variable is.other (one ∷ []) ∙ ap (λ b. cond b (pos x) (pos 0)) (eq-eqb v.canonical.variable.0 h.variable (sym own)) in
+          let numbers : level.numbers ≡ s.interval = ap (λ (t : Side). t.interval) (sym level.is) in
+          subst (λ z. IsHeld s.interval (given (values ++ (one ∷ [])) z)) same (subst (IsHeld s.interval) (sym worth) (subst (λ i. IsHeld i (pos x)) numbers held))
+      by false e =
+          let other : (v.canonical.variable.0 == y) ≡ false = ap (λ z. z == y) (sym (named ∙ own)) ∙ e in
+          subst (IsHeld (interval_at box y)) (sym (given_last values one y other)) (inside y)
 
 -- ---- an iteration of a nest
 

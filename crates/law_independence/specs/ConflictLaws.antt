@@ -12,15 +12,13 @@ use Rattle.ktree.specs.declared.place.Place.{Place}
 use Rattle.ktree.specs.declared.refusal.Refusal.{Refusal}
 use Rattle.ktree.specs.declared.refusal.Refusal.TheVariants as refusals
 use Rattle.pairtest_counter.specs.Levels.{Nesting}
-use Rattle.nest_space.specs.Space.{IsSpace}
 use Rattle.pairtest.specs.declared.access.Access as pairs
 use Rattle.pairtest.specs.declared.access.Nest.{Nest}
 use Rattle.pairtest_access.specs.Sites.{Site}
 use Rattle.pairtest_access.specs.Found.{inner_loops}
-use Rattle.deptest_witness.specs.Touching.{NestAt, IsEntered, TouchesAt}
 use Rattle.deptest_witness.specs.Pairs.{Meet, NeverMeet}
 use Rattle.deptest_verdict.specs.Shown.{no_loops}
-use Rattle.deptest_verdict.specs.Refused.{IsNameOf, AreTested, touch_of, serial_loops, nest_loops, IsFirstOf, IsTooLarge}
+use Rattle.deptest_verdict.specs.Refused.{IsNameOf, AreTested, IsFirstOf, IsTooLarge}
 use Rattle.law_turns.specs.Turns.{AreEntered}
 
 -- the first of some values
@@ -86,7 +84,7 @@ pub record IsConflict (ds : List Declaration) (c : told.Conflict) (serial : List
   pub pair : IsToldPair ds [] serial loops body c.accesses one other
   pub each : (outside : State) → IsConflictFrom c serial loops body one other outside
 
--- of the pair that is told, where the loop has no sinks, no two of the first iterations are found that touch one element, by the forms of the two accesses, or a serial loop has no turn there
+-- of the pair that is told, where the loop has no sinks: whatever the state round the serial loops, inside their first turns no two iterations below 64 touch one element by the two accesses, each at the first turns of the body's own loops round it; or a serial loop has no turn there
 pub record IsNotFound (ds : List Declaration) (sinks : List Distance) (told : not_shown.NotShown) (serial : List Loop) (n : ℕ) (s : Stmt) : Type 0 where
   pub loops : List Loop
   pub body : Stmt
@@ -94,8 +92,8 @@ pub record IsNotFound (ds : List Declaration) (sinks : List Distance) (told : no
   pub one : Access
   pub other : Access
   pub pair : IsToldPair ds sinks serial loops body told one other
-  pub never : sinks ≡ [] → (at : NestAt) → IsEntered (serial_loops (length pair.round.levels) pair.now) (nest_loops (length pair.round.levels) pair.now) at → IsSpace at.turns
-      → NeverMeet (TouchesAt at (touch_of pair.first.one_touched)) (TouchesAt at (touch_of pair.first.other_touched))
+  pub never : sinks ≡ [] → (outside outer : State) (us : List Vector) → first_turns serial outside ≡ Some outer → iterations loops outer ≡ Some us
+      → NeverMeet (TouchesFirst loops outer us one) (TouchesFirst loops outer us other)
 
 -- an access of the body has a number above 2^62, or a pair of it has; all pairs before are shown to be independent, or ordered by one of the loop's sinks
 pub record PassesLimits (sinks : List Distance) (place : Place) (serial : List Loop) (n : ℕ) (s : Stmt) : Type 0 where

@@ -30,11 +30,12 @@ use Rattle.law_turns.proofs.OneLoop.{run_within, run_value}
 use Rattle.law_turns.proofs.Joining.{contains_none, contains_cases, member}
 use Rattle.law_turns.proofs.Iterating.{iterations_by}
 use Rattle.law_independence.specs.Inside.{LoopsAreRead, ItemsAreRead}
+use Rattle.law_independence.proofs.Backward.{same_number}
 use Rattle.law_independence.proofs.Grammar.{decls_small, items_read}
 use Rattle.law_ranges.specs.Spaces.{RunsFewAtTurns, RightNestsRunFew}
 use Rattle.law_ranges.proofs.Round.{AreRound, round_join}
 use Rattle.law_ranges.proofs.Turning.{at_start, run, values_are_these, turn_at}
-use Rattle.law_ranges.proofs.Few.{run_within_most, counted_more}
+use Rattle.law_independence.proofs.Few.{run_within_most, counted_more}
 
 -- ---- the numbers of the loops' variables
 
@@ -97,12 +98,6 @@ counted_round (h ∷ hs) before after (l, i, is, stays, numbers, rest) x among =
     (λ c. counted_round hs (inside before h.variable i) after rest x c) among
 
 -- ---- a nest
-
-same_number : (slot : Slot) (a b : ℤ) → HoldsValue slot a → HoldsValue slot b → a ≡ b
-same_number slot a b p q =
-    let same : Holds p.number ≡ Holds q.number = sym p.held ∙ q.held in
-    let numbers : p.number ≡ q.number = cc in
-    p.is ∙ ap pos numbers ∙ sym q.is
 
 small_number : (slot : Slot) (z : ℤ) (n : ℕ) → HoldsValue slot z → slot ≡ Holds n → z ≤ℤ pos (2 ^ 33) → n ≤ 2 ^ 33
 small_number slot z n h e le =

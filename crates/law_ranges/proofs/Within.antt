@@ -1,9 +1,9 @@
 -- What stays inside its array over a box does so at a turn of the loops round it.
-use Rattle.std.specs.Prelude.{ℕ, zero, suc, ◌^◌, true, ◌≡◌, ◌<◌, ◌&&◌, nat_lt, ℤ, pos, List, [], ◌∷◌, Option, Some, None, slice_get}
+use Rattle.std.specs.Prelude.{ℕ, ◌^◌, true, ◌≡◌, ◌<◌, ◌&&◌, nat_lt, ℤ, pos, List, [], ◌∷◌, Option, Some, None, slice_get}
 use Rattle.std.proofs.Common.{refl, ap, ◌∙◌, arith}
 use Rattle.std.proofs.lemmas.Bool.{lt-ltb}
 use Rattle.std.proofs.lemmas.Int.{ints}
-use Rattle.semantics.specs.Tree.{Variable, Expr, Exprs, no_exprs, more_exprs, Declaration}
+use Rattle.semantics.specs.Tree.{Variable, Expr, Exprs, no_exprs, more_exprs}
 use Rattle.semantics.specs.Meaning.State.{State}
 use Rattle.semantics.specs.Meaning.Value.{values, both}
 use Rattle.semantics.specs.Meaning.Value as meaning
@@ -16,16 +16,12 @@ use Rattle.affine_expr.specs.Forms.{form_of}
 use Rattle.nest_loop.specs.Turn.{AtTurn}
 use Rattle.nest_loop.proofs.FormValues.{form_number}
 use Rattle.nest.specs.Nests.{StaysBelow, AllStay, lengths_of}
-use Rattle.law_independence.specs.Inside.{AreShort, HaveShort}
+use Rattle.law_independence.specs.Inside.{AreShort}
+use Rattle.law_independence.proofs.Independent.{lengths_short}
 use Rattle.law_independence.proofs.Grammar.{decls_short, decls_small, items_read}
 use Rattle.law_ranges.specs.Laws.{RangesHoldAtTurns}
 use Rattle.law_ranges.proofs.Round.{items_round}
 use Rattle.law_ranges.proofs.Turning.{at_start, turn_of}
-
-short_lengths : (ds : List Declaration) (x : ℕ) → HaveShort ds → AreShort (lengths_of (slice_get ds x))
-short_lengths [] x h = tt
-short_lengths (d ∷ ds) zero h = h.0
-short_lengths (d ∷ ds) (suc x) h = short_lengths ds x h.1
 
 module _ (s : State) (box : List Side) (turn_values : Variable → ℤ) (turn : AtTurn box turn_values s) where
   -- a subscript is below its length
@@ -57,5 +53,5 @@ ranges_hold_at_turns text k access s turns u reads in_range there e among =
     let round = items_round k.variables [] [] k.body refl (items_read [] read.items (decls_small read.declared tt) (λ y c. absurd cc)) in_range access there in
     let turn = turn_of access.inner [] round.box (λ x. pos 0) s turns u round.round (at_start s) e among in
     let indexes = subscripts_there (at_vector access.inner u s) round.box turn.0 turn.1 (lengths_of (slice_get k.variables access.array)) access.subscripts
-    (short_lengths k.variables access.array (decls_short read.declared tt)) round.stays in
+    (lengths_short k.variables access.array (decls_short read.declared tt)) round.stays in
     record { indexes = indexes.0; are = indexes.1; inside = indexes.2 }

@@ -2,5 +2,4 @@ pub mod Turning
 pub mod Shared
 pub mod Staying
 pub mod Named
-pub mod Associated
 pub mod Spots

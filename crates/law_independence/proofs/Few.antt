@@ -26,7 +26,7 @@ use Rattle.nest_space.specs.Reached.{AreRunsReached}
 use Rattle.nest_space.proofs.Reached.{length-reached}
 use Rattle.law_turns.proofs.OneLoop.{run_there, run_within, side_there}
 use Rattle.law_independence.proofs.Rectangular.{wider_loop}
-use Rattle.law_ranges.proofs.Agreeing.{run_agrees}
+use Rattle.law_independence.proofs.Agreeing.{run_agrees}
 
 -- one variable more
 inside_more : (box : List Side) (v : Variable → ℤ) (x : Variable) (i : Interval) (z : ℤ) → IsInside box v → Holds i z → IsInside (inside box x i) (with_value v x z)
