@@ -105,6 +105,7 @@ def function_of(crate, module):
 def functions(names):
     """Checks each crate from nothing by one job, and tells from the times at which its modules are kept what each function took."""
     rt = kit.load()
+    kit.list_once(rt.rtlib)
     os.chdir(TOP)
     rt.rtlib.Crate = rt.Crate
     crates = {it.name: it for it in rt.rtlib.crates_below(TOP)}
