@@ -1,6 +1,6 @@
 -- What the workers' ends are together.
 use Rattle.std.specs.Prelude.{ℕ, true, ◌≡◌, List, [], ◌∷◌, ◌++◌, length, slice_get, All}
-use Rattle.std.proofs.Common.{refl, sym, ap, ◌∙◌, subst, arith}
+use Rattle.std.proofs.Common.{refl, sym, ap, ◌∙◌, subst, length-append, arith}
 use Rattle.std.proofs.lemmas.Bool.Decides.{nat_tests}
 use Rattle.std.proofs.lemmas.List.Elements.{All-head, All-tail, All-same, All-push}
 use Rattle.schedule.proofs.Sized.{get-append_seam}
@@ -47,3 +47,9 @@ member P (y ∷ ys) rest x h = member P ys rest x (All-tail P y (ys ++ x ∷ res
 -- the place that comes next is the one of its number
 pub place_of : (aim : Aim) (ys rest all : List Aim) (p : Aim) → ys ++ p ∷ rest ≡ all → AreFor aim all → p ≡ record aim { number = length ys }
 place_of aim ys rest all p whole are = are (length ys) p (sym (ap (λ (k : List Aim). slice_get k (length ys)) whole) ∙ get-append_seam ys p rest (length ys) refl)
+
+-- where none is left, as many have been yielded as there are
+pub all_yielded : (ys rest all : List Aim) (left count : ℕ) → ys ++ rest ≡ all → left ≡ length rest → left ≡ 0 → count ≡ length all → length ys ≡ count
+all_yielded ys rest all left count whole rest_is none all_is =
+    let same : length (ys ++ rest) ≡ length all = ap (λ (k : List Aim). length k) whole in
+    omega (arith, length-append ys rest)

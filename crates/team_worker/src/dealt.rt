@@ -154,7 +154,7 @@ pub(crate) fn gather(alloc: Global, places: Vec<Place>) -> Result<Vec<ChunkLog>,
         let Some(log) = place.share() else {
             return Err(Refusal::OutOfMemory);
         };
-        logs.push(Box::into_inner(log))?;
+        logs.push_reserved(Box::into_inner(log));
     }
     Ok(logs)
 }

@@ -1,6 +1,6 @@
 //! Chunks that workers draw, of the schedules that fix no worker for a chunk (OpenMP 5.2, 11.5.3).
 
-ghost use Rattle.std.specs.Prelude.{◌≡◌, ◌<◌, ◌++◌, ◌∷◌, [], ℕ, List, length, vec_len, All, IfOk, IfErr, OnOk};
+ghost use Rattle.std.specs.Prelude.{◌≡◌, ◌<◌, ◌++◌, ◌∷◌, [], ℕ, List, length, vec_len, vec_capacity, All, IfOk, IfErr, OnOk};
 ghost use Rattle.std.specs.Global.{Box};
 ghost use Rattle.semantics.specs.Loops.Chunk.{Chunk};
 ghost use Rattle.draw.specs.Tickets.{fresh};
@@ -52,15 +52,17 @@ pub fn leave_draws<G: Gate>(
     }
 }
 
-// One seat more, if nobody has taken it before.
+// One seat more, for which there is room, if nobody has taken it before.
 fn seat_back(seats: &mut Vec<DrawSeat>, seat: RestingSeat) -> Result<(), Refusal>
+    requires { vec_len seats.old < vec_capacity seats.old }
     ensures back { OnOk result (seats.new.items ≡ seats.old.items ++ seat ∷ []) }
+    ensures room { vec_capacity seats.new ≡ vec_capacity seats.old }
     ensures refusal { IfErr result (λ refusal. refusal ≡ Refusal.OutOfMemory) }
 {
     let Some(seat) = seat.take() else {
         return Err(Refusal::OutOfMemory);
     };
-    seats.push(seat)?;
+    seats.push_reserved(seat);
     Ok(())
 }
 
@@ -82,8 +84,8 @@ pub(crate) fn collect(
         let Some(Finished { seat, log }) = place.draws() else {
             return Err(Refusal::OutOfMemory);
         };
+        logs.push_reserved(Box::into_inner(log));
         seat_back(&mut seats, seat)?;
-        logs.push(Box::into_inner(log))?;
     }
     Ok((seats, logs))
 }

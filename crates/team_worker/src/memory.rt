@@ -15,6 +15,13 @@ pub struct EmptyLog {
     pub ghost empty: { log.value ≡ no_account },
 }
 
+// A log of no chunk, in memory of its own.
+fn new_log(alloc: Global) -> Result<Box<ChunkLog>, AllocError>
+    ensures { IfOk result (λ log. log.value ≡ no_account) }
+{
+    Ok(Box::new(alloc, ChunkLog::new(alloc))?)
+}
+
 /// What a thread keeps from loop to loop: what a worker left there, the memory of a log that it took in exchange for its own, whatever that
 /// holds, and a log of no chunk.
 #[derive(Drop)]
@@ -51,7 +58,7 @@ impl ThreadMemory {
         self.make_ready(alloc);
         match self.empty.take() {
             Some(EmptyLog { log }) => Ok(log),
-            None => Ok(Box::new(alloc, ChunkLog::new(alloc))?),
+            None => new_log(alloc),
         }
     }
 }
@@ -80,7 +87,7 @@ impl Spare {
     {
         match self.logs.pop() {
             Some(log) => Ok(log),
-            None => Ok(Box::new(alloc, ChunkLog::new(alloc))?),
+            None => new_log(alloc),
         }
     }
 }

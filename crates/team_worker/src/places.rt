@@ -44,6 +44,7 @@ fn places_for(
     places.clear();
     places.reserve(workers.get() as usize)?;
     for number in 0..workers.get() {
+        let memory = spare.log(alloc)?;
         let plan = Plan::new(
             lowered,
             &grounds.registers,
@@ -54,7 +55,7 @@ fn places_for(
             workers,
             number,
         );
-        places.push_reserved(Place::new(&plan, spare.log(alloc)?));
+        places.push_reserved(Place::new(&plan, memory));
     }
     Ok(places)
 }

@@ -34,7 +34,7 @@ fn free(alloc: Global, drawing: &Drawing, seats: Vec<DrawSeat>) -> Result<Vec<Re
 {
     let mut free = Vec::with_capacity(alloc, seats.len())?;
     for seat in seats {
-        free.push(RestingSeat::new(seat))?;
+        free.push_reserved(RestingSeat::new(seat));
     }
     Ok(free)
 }
