@@ -4,3 +4,4 @@ pub mod Texts
 pub mod Merging
 pub mod TwoPasses
 pub mod InWaves
+pub mod Lending

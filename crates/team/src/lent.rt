@@ -47,13 +47,14 @@ fn run_worker<G: Gate>(lent: &LentLoop<'_>, number: u64, gate: &G, memory: &mut 
     let Some(place) = lent.places.get(number as usize) else {
         return;
     };
+    let grounds: &Grounds = &lent.grounds;
     let job = Job {
         lowered: lent.lowered,
-        registers: lent.grounds.registers.as_slice(),
-        space: &lent.grounds.space,
+        registers: grounds.registers.as_slice(),
+        space: &grounds.space,
         store: &lent.store,
-        chunks: &lent.grounds.chunks,
-        pass: &lent.grounds.pass,
+        chunks: &grounds.chunks,
+        pass: &grounds.pass,
     };
     match &lent.way {
         Way::Dealt(size) => leave_share(
@@ -152,8 +153,8 @@ pub(crate) fn lent_whole<'l, R: Wait, G: Gate>(
     ensures store { store.new ≡ store.old }
     ensures refusal { IfErr result (λ refusal. refusal ≡ Refusal.OutOfMemory) }
 {
-    let (way, places) = way_and_places(alloc, lowered, &grounds, store, workers, sched, spare)?;
     let nothing = Store::zeros(alloc, Vec::new(alloc))?;
+    let (way, places) = way_and_places(alloc, lowered, &grounds, store, workers, sched, spare)?;
     let lent = LentLoop {
         alloc,
         lowered,
