@@ -34,21 +34,22 @@ fn gcds(rt: HostRuntime) {
     assert_eq!(rt; first_other_divisor(ROWS), None);
 }
 
-/// A constant, which is within the limit.
-fn number(alloc: Global, n: i128) -> Result<Form, Refusal> {
-    Form::constant(alloc, n, HERE)
-}
+/// Multiples of variables.
+type Terms = &'static [(i64, VarId)];
 
-/// A form and a number.
-fn and_number(alloc: Global, form: &Form, n: i128) -> Result<Form, Refusal> {
-    let number = number(alloc, n)?;
-    form.add(&number, HERE)
-}
-
-/// The variable times a number, and another number.
-fn line(alloc: Global, factor: i64, variable: VarId, n: i128) -> Result<Form, Refusal> {
+/// A form and a multiple of a variable.
+fn and_multiple(alloc: Global, form: &Form, factor: i64, variable: VarId) -> Result<Form, Refusal> {
     let multiple = Form::variable(alloc, variable).scale(factor, HERE)?;
-    and_number(alloc, &multiple, n)
+    form.add(&multiple, HERE)
+}
+
+/// The sum of some multiples and a constant.
+fn sum(alloc: Global, terms: Terms, constant: i128) -> Result<Form, Refusal> {
+    let mut form = Form::constant(alloc, constant, HERE)?;
+    for (factor, variable) in terms {
+        form = and_multiple(alloc, &form, *factor, *variable)?;
+    }
+    Ok(form)
 }
 
 /// Variables with the values that each has, the first as the outermost.
@@ -63,54 +64,35 @@ fn box_of(alloc: Global, sides: Sides<'_>) -> Result<VarBox, Refusal> {
     Ok(bounds)
 }
 
-/// The range of a form over the box of these variables, where there are both.
-fn range_of(alloc: Global, form: &Form, sides: Sides<'_>) -> Option<(i128, i128)> {
-    match box_of(alloc, sides) {
-        Ok(bounds) => form.range(&bounds),
-        Err(_) => None,
+/// A sum, the values of its variables, and its range over their box.
+#[derive(Clone, Copy)]
+struct Ranged {
+    terms: Terms,
+    constant: i128,
+    sides: Sides<'static>,
+    range: Option<(i128, i128)>,
+}
+
+/// Whether a form has the range of a row over the box of its variables.
+fn is_in_range(alloc: Global, form: &Form, row: Ranged) -> bool {
+    match box_of(alloc, row.sides) {
+        Ok(bounds) => form.range(&bounds) == row.range,
+        Err(_refusal) => false,
     }
 }
 
-/// A form and a variable.
-fn and_variable(alloc: Global, form: &Form, variable: VarId) -> Result<Form, Refusal> {
-    form.add(&Form::variable(alloc, variable), HERE)
-}
-
-/// A variable and another with a number.
-fn two_variables(alloc: Global) -> Result<Form, Refusal> {
-    let first = line(alloc, 1, I, -1)?;
-    and_variable(alloc, &first, J)
-}
-
-/// The range of a form that there may be.
-fn range_if(alloc: Global, form: Result<Form, Refusal>, sides: Sides<'_>) -> Option<(i128, i128)> {
-    match form {
-        Ok(form) => range_of(alloc, &form, sides),
-        Err(_) => None,
+/// Whether the sum of a row has its range.
+fn has_range(alloc: Global, row: Ranged) -> bool {
+    match sum(alloc, row.terms, row.constant) {
+        Ok(form) => is_in_range(alloc, &form, row),
+        Err(_refusal) => false,
     }
 }
 
-/// The range of 5 - 3 * i where i has these values, whatever another i round it has.
-fn falling_form_range(alloc: Global, least: i128, greatest: i128) -> Option<(i128, i128)> {
-    range_if(
-        alloc,
-        line(alloc, -3, I, 5),
-        &[(I, 9, 8), (I, least, greatest)],
-    )
-}
-
-/// The range of a variable and another with a number.
-fn of_two(alloc: Global) -> Option<(i128, i128)> {
-    range_if(alloc, two_variables(alloc), &[(I, 0, 7), (J, 2, 3)])
-}
-
-/// Values of `i`, the least and the greatest, and the range of 5 - 3 * i for them.
-type Falling = (i128, i128, Option<(i128, i128)>);
-
-/// The number of the first row that has another range.
-fn first_other_falling(alloc: Global, rows: &[Falling]) -> Option<usize> {
-    for (number, (least, greatest, range)) in rows.iter().enumerate() {
-        if falling_form_range(alloc, *least, *greatest) != *range {
+/// The number of the first row, from 0, that has another range.
+fn first_other_range(alloc: Global, rows: &[Ranged]) -> Option<usize> {
+    for (number, row) in rows.iter().enumerate() {
+        if !has_range(alloc, *row) {
             return Some(number);
         }
     }
@@ -124,23 +106,49 @@ fn has_box(alloc: Global, least: i128, greatest: i128) -> bool {
 
 #[test]
 fn ranges(rt: HostRuntime) {
-    let alloc = rt.alloc();
-    assert!(rt; of_two(alloc) == Some((1, 9)));
-    const ROWS: &[Falling] = &[(0, 4, Some((-7, 5))), (2, 2, Some((-1, -1))), (1, 0, None)];
-    assert!(rt; first_other_falling(alloc, ROWS).is_none());
-    assert!(rt; has_box(alloc, 1, 0));
-}
-
-/// A form at j = 2 * k + 1.
-fn at_line(alloc: Global, form: &Form) -> Result<Form, Refusal> {
-    let value = line(alloc, 2, K, 1)?;
-    form.substitute(J, &value, HERE)
+    const ROWS: &[Ranged] = &[
+        Ranged {
+            terms: &[(1, I), (1, J)],
+            constant: -1,
+            sides: &[(I, 0, 7), (J, 2, 3)],
+            range: Some((1, 9)),
+        },
+        // 5 - 3 * i where the inner i has some values, whatever another i round it has.
+        Ranged {
+            terms: &[(-3, I)],
+            constant: 5,
+            sides: &[(I, 9, 8), (I, 0, 4)],
+            range: Some((-7, 5)),
+        },
+        Ranged {
+            terms: &[(-3, I)],
+            constant: 5,
+            sides: &[(I, 9, 8), (I, 2, 2)],
+            range: Some((-1, -1)),
+        },
+        Ranged {
+            terms: &[(-3, I)],
+            constant: 5,
+            sides: &[(I, 9, 8), (I, 1, 0)],
+            range: None,
+        },
+    ];
+    assert!(rt; first_other_range(rt.alloc(), ROWS).is_none());
+    assert!(rt; has_box(rt.alloc(), 1, 0));
 }
 
 /// 3 * j + 4 at j = 2 * k + 1.
-fn substituted_form(alloc: Global) -> Result<Form, Refusal> {
-    let form = line(alloc, 3, J, 4)?;
-    at_line(alloc, &form)
+fn substituted(alloc: Global) -> Result<Form, Refusal> {
+    let form = sum(alloc, &[(3, J)], 4)?;
+    let value = sum(alloc, &[(2, K)], 1)?;
+    form.substitute(J, &value, HERE)
+}
+
+/// 5 * i + 1 without 2 * i - 3.
+fn difference(alloc: Global) -> Result<Form, Refusal> {
+    let form = sum(alloc, &[(5, I)], 1)?;
+    let less = sum(alloc, &[(2, I)], -3)?;
+    form.subtract(&less, HERE)
 }
 
 /// A form's constant, and its coefficients of `i`, `j` and `k`.
@@ -162,7 +170,10 @@ fn is_limit(refusal: &Refusal) -> bool {
 }
 
 /// How many terms a form has, or whether its refusal is the limit here.
-fn length_of(form: Result<Form, Refusal>) -> Result<usize, bool> {
+type Length = Result<usize, bool>;
+
+/// That of a form that there may be.
+fn length_of(form: Result<Form, Refusal>) -> Length {
     match form {
         Ok(form) => Ok(form.terms().len()),
         Err(refusal) => Err(is_limit(&refusal)),
@@ -171,80 +182,8 @@ fn length_of(form: Result<Form, Refusal>) -> Result<usize, bool> {
 
 #[test]
 fn substitutions(rt: HostRuntime) {
-    assert!(rt; numbers_of(substituted_form(rt.alloc())) == Some((7, 0, 0, 6)));
-    assert!(rt; length_of(substituted_form(rt.alloc())) == Ok(1));
-}
-
-const GREATEST: i128 = 1 << 62;
-
-/// A form and a multiple of a variable.
-fn and_multiple(alloc: Global, form: &Form, factor: i64) -> Result<Form, Refusal> {
-    let multiple = line(alloc, factor, I, 0)?;
-    form.add(&multiple, HERE)
-}
-
-/// The sum of two multiples of a variable.
-fn sum(alloc: Global, first: i64, second: i64) -> Result<Form, Refusal> {
-    let multiple = line(alloc, first, I, 0)?;
-    and_multiple(alloc, &multiple, second)
-}
-
-/// Whether a form there may be is within a limit.
-fn is_within(form: Result<Form, Refusal>, limit: u64) -> Option<bool> {
-    match form {
-        Ok(form) => Some(form.is_within(limit)),
-        Err(_) => None,
-    }
-}
-
-/// The first of some constants of whose form something else is told.
-fn first_other_number(alloc: Global, rows: &[(i128, Result<usize, bool>)]) -> Option<i128> {
-    for (n, told) in rows {
-        if length_of(number(alloc, *n)) != *told {
-            return Some(*n);
-        }
-    }
-    None
-}
-
-/// The number of the first of some sums of whose form something else is told.
-fn first_other_sum(alloc: Global, rows: &[(i64, i64, Result<usize, bool>)]) -> Option<usize> {
-    for (number, (first, second, told)) in rows.iter().enumerate() {
-        if length_of(sum(alloc, *first, *second)) != *told {
-            return Some(number);
-        }
-    }
-    None
-}
-
-#[test]
-fn limits(rt: HostRuntime) {
-    let alloc = rt.alloc();
-    const NUMBERS: &[(i128, Result<usize, bool>)] = &[
-        (GREATEST, Ok(0)),
-        (-GREATEST, Ok(0)),
-        (GREATEST + 1, Err(true)),
-        (-GREATEST - 1, Err(true)),
-    ];
-    const SUMS: &[(i64, i64, Result<usize, bool>)] = &[
-        (1 << 61, 1 << 61, Ok(1)),
-        (1 << 62, 1, Err(true)),
-    ];
-    assert!(rt; first_other_number(alloc, NUMBERS).is_none());
-    assert!(rt; first_other_sum(alloc, SUMS).is_none());
-    assert!(rt; is_within(sum(alloc, 1 << 62, -1), 1 << 61) == Some(false));
-}
-
-/// A form without 2 * i - 3.
-fn without_line(alloc: Global, form: &Form) -> Result<Form, Refusal> {
-    let line = line(alloc, 2, I, -3)?;
-    form.subtract(&line, HERE)
-}
-
-/// 5 * i + 1 without 2 * i - 3.
-fn difference(alloc: Global) -> Result<Form, Refusal> {
-    let form = line(alloc, 5, I, 1)?;
-    without_line(alloc, &form)
+    assert!(rt; numbers_of(substituted(rt.alloc())) == Some((7, 0, 0, 6)));
+    assert!(rt; length_of(substituted(rt.alloc())) == Ok(1));
 }
 
 #[test]
@@ -252,11 +191,45 @@ fn differences(rt: HostRuntime) {
     assert!(rt; numbers_of(difference(rt.alloc())) == Some((4, 3, 0, 0)));
 }
 
+const GREATEST: i128 = 1 << 62;
+
+/// The number of the first row, from 0, of whose sum something else is told.
+fn first_other_length(alloc: Global, rows: &[(Terms, i128, Length)]) -> Option<usize> {
+    for (number, (terms, constant, told)) in rows.iter().enumerate() {
+        if length_of(sum(alloc, *terms, *constant)) != *told {
+            return Some(number);
+        }
+    }
+    None
+}
+
+/// Whether a sum that there may be is within a limit.
+fn is_within(alloc: Global, terms: Terms, limit: u64) -> Option<bool> {
+    match sum(alloc, terms, 0) {
+        Ok(form) => Some(form.is_within(limit)),
+        Err(_) => None,
+    }
+}
+
+#[test]
+fn limits(rt: HostRuntime) {
+    const ROWS: &[(Terms, i128, Length)] = &[
+        (&[], GREATEST, Ok(0)),
+        (&[], -GREATEST, Ok(0)),
+        (&[], GREATEST + 1, Err(true)),
+        (&[], -GREATEST - 1, Err(true)),
+        (&[(1 << 61, I), (1 << 61, I)], 0, Ok(1)),
+        (&[(1 << 62, I), (1, I)], 0, Err(true)),
+    ];
+    assert!(rt; first_other_length(rt.alloc(), ROWS).is_none());
+    assert!(rt; is_within(rt.alloc(), &[(1 << 62, I), (-1, I)], 1 << 61) == Some(false));
+}
+
 /// The sum of so many variables.
 fn variables(alloc: Global, count: u32) -> Result<Form, Refusal> {
-    let mut form = number(alloc, 0)?;
+    let mut form = Form::constant(alloc, 0, HERE)?;
     for at in 0..count {
-        form = and_variable(alloc, &form, VarId(at))?;
+        form = and_multiple(alloc, &form, 1, VarId(at))?;
     }
     Ok(form)
 }

@@ -88,15 +88,29 @@ fn are_chunks(part: &StaticPart, wanted: &[Chunk]) -> bool {
     part.chunk(wanted.len() as u64).is_none() && part.chunk(u64::MAX).is_none()
 }
 
-/// Whether these are the chunks of one of two workers, in a loop of ten iterations with chunks of this size.
-fn are_dealt(worker: u64, size: u64, wanted: &[Chunk]) -> bool
-    requires worker { worker < 2 }
-    requires size { (1 ≤ size) × (size ≤ 2 ^ 24) }
-{
+/// One of two workers, the size of the chunks of a loop of ten iterations, and the worker's chunks.
+type Dealt = (u64, u64, &'static [Chunk]);
+
+/// Whether a worker's chunks are those of a row.
+fn are_dealt(row: Dealt) -> bool {
+    let (worker, size, wanted) = row;
+    if worker >= 2 || size == 0 || size > 16777216 {
+        return false;
+    }
     match Workers::new(2) {
         Some(two) => are_chunks(&static_init(10, two, worker, Some(size)), wanted),
         None => false,
     }
+}
+
+/// The number of the first row, from 0, whose worker has other chunks.
+fn first_other_worker(rows: &[Dealt]) -> Option<usize> {
+    for (number, row) in rows.iter().enumerate() {
+        if !are_dealt(*row) {
+            return Some(number);
+        }
+    }
+    None
 }
 
 /// The number of the second chunk of the second of two workers, in a loop of ten iterations with chunks of three.
@@ -105,18 +119,28 @@ fn second_number() -> Option<u64> {
     static_init(10, two, 1, Some(3)).number(1)
 }
 
-/// A chunk.
-fn chunk(first: u64, count: u64) -> Chunk {
-    Chunk { first, count }
-}
-
 #[test]
 fn deals_chunks_in_turn(rt: HostRuntime) {
-    assert!(rt; are_dealt(0, 3, &[chunk(0, 3), chunk(6, 3)]));
-    assert!(rt; are_dealt(1, 3, &[chunk(3, 3), chunk(9, 1)]));
+    const ROWS: &[Dealt] = &[
+        (
+            0,
+            3,
+            &[Chunk { first: 0, count: 3 }, Chunk { first: 6, count: 3 }],
+        ),
+        (
+            1,
+            3,
+            &[Chunk { first: 3, count: 3 }, Chunk { first: 9, count: 1 }],
+        ),
+        (
+            0,
+            4,
+            &[Chunk { first: 0, count: 4 }, Chunk { first: 8, count: 2 }],
+        ),
+        (1, 4, &[Chunk { first: 4, count: 4 }]),
+    ];
+    assert!(rt; first_other_worker(ROWS).is_none());
     assert!(rt; second_number() == Some(3));
-    assert!(rt; are_dealt(0, 4, &[chunk(0, 4), chunk(8, 2)]));
-    assert!(rt; are_dealt(1, 4, &[chunk(4, 4)]));
 }
 
 /// Whether one of 64 workers has its own iteration alone in a loop of so many, if it has one, where chunks have this size, if any.
@@ -130,7 +154,13 @@ fn has_own(worker: u64, iterations: u64, size: Option<u64>) -> bool
     };
     let part = static_init(iterations, team, worker, size);
     if worker < iterations {
-        are_chunks(&part, &[chunk(worker, 1)])
+        are_chunks(
+            &part,
+            &[Chunk {
+                first: worker,
+                count: 1,
+            }],
+        )
     } else {
         are_chunks(&part, &[])
     }
