@@ -1,6 +1,7 @@
 //! Branches in loops whose turns may be run in lanes.
 
-use crate::lane_digests::first_wrong;
+use crate::lane_digests::first_other;
+use crate::outcome::no_other;
 
 /// Branches that set a local alone: with and without an `else`, one inside another, a greatest element, and an edit distance.
 #[test]
@@ -31,7 +32,7 @@ fn branches_that_set_a_local_run(rt: HostRuntime) {
             3956342425010841404,
         ),
     ];
-    assert_eq!(rt; first_wrong(rt.alloc(), ROWS), 0);
+    no_other(&rt, first_other(rt.alloc(), ROWS));
 }
 
 /// Branches that save one cell alone: with and without an `else`, one inside another, a chain of them, and arms that save cells at other places.
@@ -87,7 +88,7 @@ fn branches_that_save_a_cell_run(rt: HostRuntime) {
             3841863802016452456,
         ),
     ];
-    assert_eq!(rt; first_wrong(rt.alloc(), ROWS), 0);
+    no_other(&rt, first_other(rt.alloc(), ROWS));
 }
 
 /// Branches of several statements, one in another, in loops that may run in lanes and in others: arms that change what the test reads, sums in scalars
@@ -124,5 +125,5 @@ fn branches_of_several_statements_run(rt: HostRuntime) {
             13077199303135136203,
         ),
     ];
-    assert_eq!(rt; first_wrong(rt.alloc(), ROWS), 0);
+    no_other(&rt, first_other(rt.alloc(), ROWS));
 }

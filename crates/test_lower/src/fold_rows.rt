@@ -1,6 +1,7 @@
 //! Sums, least and greatest numbers in locals, in lanes or turn by turn.
 
-use crate::lane_digests::first_wrong;
+use crate::lane_digests::first_other;
+use crate::outcome::no_other;
 
 /// Sums, products and the like in a local, of all lengths, over rows, steps and what the turn wrote before; several folds into scalars; folds that
 /// are none, since another instruction reads what they leave; and loops up to a number and with it.
@@ -40,7 +41,7 @@ fn folds_run(rt: HostRuntime) {
             14926460467254808150,
         ),
     ];
-    assert_eq!(rt; first_wrong(rt.alloc(), ROWS), 0);
+    no_other(&rt, first_other(rt.alloc(), ROWS));
 }
 
 /// The least and the greatest number in a local, of elements and of what is made of them, in short loops and up to computed ends, and two of them in one body.
@@ -64,7 +65,7 @@ fn least_and_greatest_numbers_run(rt: HostRuntime) {
             16163195677632239624,
         ),
     ];
-    assert_eq!(rt; first_wrong(rt.alloc(), ROWS), 0);
+    no_other(&rt, first_other(rt.alloc(), ROWS));
 }
 
 /// Sums in a local of products of two elements, of rows and of columns, short ones, and of an element that no turn changes.
@@ -84,7 +85,7 @@ fn sums_of_products_run(rt: HostRuntime) {
             10054347520307449637,
         ),
     ];
-    assert_eq!(rt; first_wrong(rt.alloc(), ROWS), 0);
+    no_other(&rt, first_other(rt.alloc(), ROWS));
 }
 
 /// Rows that are made of themselves alone, tests as numbers, locals that only the last turn leaves, and sums that no turn changes.
@@ -108,5 +109,5 @@ fn what_the_last_turn_leaves_runs(rt: HostRuntime) {
             11391125278254545920,
         ),
     ];
-    assert_eq!(rt; first_wrong(rt.alloc(), ROWS), 0);
+    no_other(&rt, first_other(rt.alloc(), ROWS));
 }

@@ -1,60 +1,33 @@
 //! Branches after which a cell holds the greatest or the least of it and of a term, over the arrays `A` of 8 and `B` of 2 times 3 elements and the
 //! scalar `s`: by which instructions, and what they print, as C prints it.
 
-use crate::codes::code_of;
-use crate::lower_block_rows::{kernel_text, prints};
-use cparse::parse;
+use crate::codes::{SMALL_WITH_LOCAL, code};
+use crate::lower_block_rows::block_prints;
+use crate::outcome::no_other;
 use lower_block::Block;
 use lower_op::{Op, Update};
 use std::alloc::Global;
 
-/// How many instructions there are that give a cell the greatest number, and the least.
-#[derive(Clone, Copy, PartialEq, Eq)]
-struct Count {
-    greatest: u64,
-    least: u64,
-}
-
-const NONE: Count = Count {
-    greatest: 0,
-    least: 0,
-};
-
-/// Those of either.
-fn plus(a: Count, b: Count) -> Count {
-    Count {
-        greatest: a.greatest.wrapping_add(b.greatest),
-        least: a.least.wrapping_add(b.least),
-    }
-}
+/// How many instructions there are that give a cell the greatest number, and how many that give it the least.
+type Count = (u64, u64);
 
 /// Those among some.
 fn in_ops(ops: &[Op]) -> Count {
-    let mut count = NONE;
+    let mut greatest = 0u64;
+    let mut least = 0u64;
     for op in ops {
         match op {
-            Op::UpdateForm(Update::Greatest, _, _) => {
-                count = plus(
-                    count,
-                    Count {
-                        greatest: 1,
-                        least: 0,
-                    },
-                );
-            }
-            Op::UpdateForm(Update::Least, _, _) => {
-                count = plus(
-                    count,
-                    Count {
-                        greatest: 0,
-                        least: 1,
-                    },
-                );
-            }
+            Op::UpdateForm(Update::Greatest, _, _) => greatest = greatest.wrapping_add(1),
+            Op::UpdateForm(Update::Least, _, _) => least = least.wrapping_add(1),
             _ => {}
         }
     }
-    count
+    (greatest, least)
+}
+
+/// Those of either.
+fn plus(a: Count, b: Count) -> Count {
+    (a.0.wrapping_add(b.0), a.1.wrapping_add(b.1))
 }
 
 /// Those of a block, of its loops that rise where they are run in lanes alone.
@@ -64,56 +37,40 @@ fn in_block(block: &Block) -> Count {
         Block::Then(a, b) => plus(in_block(a), in_block(b)),
         Block::If(_, a, b) => plus(in_block(a), in_block(b)),
         Block::Loop(_, body) => in_block(body),
-        Block::Rises(rising) => {
-            if rising.limit == 0 {
-                NONE
-            } else {
-                in_ops(&rising.ops)
-            }
-        }
-        _ => NONE,
+        Block::Rises(rising) if rising.limit != 0 => in_ops(&rising.ops),
+        _ => (0, 0),
     }
 }
 
-/// Whether the kernel of a text has so many.
-fn text_has(alloc: Global, text: &[u8], expected: Count) -> bool {
-    let Ok(kernel) = parse(alloc, text) else {
-        return false;
-    };
-    match code_of(alloc, &kernel) {
-        Some(compiled) => in_block(&compiled.block) == expected,
+/// A kernel's lines, how many such instructions it has, and what it prints.
+type Row = (&'static str, u64, u64, &'static str);
+
+/// Whether the kernel of a row has so many, and prints that.
+fn is_right(alloc: Global, row: &Row) -> bool {
+    let (lines, greatest, least, expected) = *row;
+    match code(alloc, SMALL_WITH_LOCAL, lines) {
+        Some(compiled) => {
+            in_block(&compiled.block) == (greatest, least)
+                && block_prints(alloc, &compiled, expected)
+        }
         None => false,
     }
 }
 
-/// Whether the kernel with these lines has so many.
-fn has(alloc: Global, lines: &str, expected: Count) -> bool {
-    match kernel_text(alloc, lines) {
-        Ok(text) => text_has(alloc, text.as_bytes(), expected),
-        Err(_error) => false,
-    }
-}
-
-/// The number of the first row, from 1, that has others or prints something else; 0 where there is none.
-fn first_wrong(alloc: Global, rows: &[(&str, u64, u64, &str)]) -> u64 {
-    let mut number = 1u64;
-    for (lines, greatest, least, expected) in rows {
-        let count = Count {
-            greatest: *greatest,
-            least: *least,
-        };
-        if !has(alloc, lines, count) || !prints(alloc, lines, expected) {
-            return number;
+/// The number of the first row, from 0, that has others or prints something else.
+fn first_other(alloc: Global, rows: &[Row]) -> Option<usize> {
+    for (number, row) in rows.iter().enumerate() {
+        if !is_right(alloc, row) {
+            return Some(number);
         }
-        number = number.saturating_add(1);
     }
-    0
+    None
 }
 
 /// The greatest, by each order of each comparison.
 #[test]
 fn greatest_is_one_instruction(rt: HostRuntime) {
-    const ROWS: &[(&str, u64, u64, &str)] = &[
+    const ROWS: &[Row] = &[
         (
             "for (uint64_t i = 0; i < 8; i++) A[i] = i * 7 % 5; for (uint64_t i = 0; i < 8; i++) { if (A[i] > s) s = A[i]; } printf(\"%\" PRIu64 \"\", s);",
             1,
@@ -163,13 +120,13 @@ fn greatest_is_one_instruction(rt: HostRuntime) {
             "6",
         ),
     ];
-    assert_eq!(rt; first_wrong(rt.alloc(), ROWS), 0);
+    no_other(&rt, first_other(rt.alloc(), ROWS));
 }
 
 /// The least.
 #[test]
 fn least_is_one_instruction(rt: HostRuntime) {
-    const ROWS: &[(&str, u64, u64, &str)] = &[
+    const ROWS: &[Row] = &[
         (
             "s = 100; for (uint64_t i = 0; i < 8; i++) A[i] = i * 7 % 5 + 1; for (uint64_t i = 0; i < 8; i++) { if (A[i] < s) s = A[i]; } printf(\"%\" PRIu64 \"\", s);",
             0,
@@ -207,13 +164,13 @@ fn least_is_one_instruction(rt: HostRuntime) {
             "36",
         ),
     ];
-    assert_eq!(rt; first_wrong(rt.alloc(), ROWS), 0);
+    no_other(&rt, first_other(rt.alloc(), ROWS));
 }
 
 /// Branches that leave neither, and ones over a local.
 #[test]
 fn other_branches_are_not(rt: HostRuntime) {
-    const ROWS: &[(&str, u64, u64, &str)] = &[
+    const ROWS: &[Row] = &[
         (
             "for (uint64_t i = 0; i < 8; i++) A[i] = i * 7 % 5; for (uint64_t i = 0; i < 8; i++) { if (A[i] > s) s = A[7 - i]; } printf(\"%\" PRIu64 \"\", s);",
             0,
@@ -251,5 +208,5 @@ fn other_branches_are_not(rt: HostRuntime) {
             "4",
         ),
     ];
-    assert_eq!(rt; first_wrong(rt.alloc(), ROWS), 0);
+    no_other(&rt, first_other(rt.alloc(), ROWS));
 }

@@ -6,6 +6,8 @@ mod branch_rows;
 #[cfg(test)]
 mod codes;
 #[cfg(test)]
+mod flat_cells;
+#[cfg(test)]
 mod fold_rows;
 #[cfg(test)]
 mod greatest_rows;
@@ -19,6 +21,10 @@ mod lower_block_rows;
 mod lower_code_rows;
 #[cfg(test)]
 mod lower_lanes_rows;
+#[cfg(test)]
+mod lowering;
+#[cfg(test)]
+mod outcome;
 #[cfg(test)]
 mod overlay_pages_rows;
 #[cfg(test)]

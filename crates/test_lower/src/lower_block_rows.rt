@@ -1,85 +1,35 @@
 //! Kernels of the arrays `A` of 8 and `B` of 2 times 3 elements and the scalar `s`, run as blocks, and what they print, as C prints it.
 
-use crate::codes::code_of;
-use cparse::parse;
-use ktree::Kernel;
+use crate::codes::{SMALL_WITH_LOCAL, code};
+use crate::flat_cells::{LANES, prints_over, zeros};
+use crate::outcome::no_other;
 use lower_block::{Block, Compiled};
-use lower_lanes::new_bench;
-use lower_op::{Cells, FlatCells};
-use lower_runner::run;
-use seqrun_io::Memory;
-use std::alloc::{AllocError, Global};
-
-/// Whether a block over cells prints this.
-fn prints_over(alloc: Global, compiled: &Compiled, cells: &mut FlatCells, expected: &str) -> bool {
-    let Ok(mut registers) = Vec::from_elem(alloc, 0u64, compiled.registers as usize) else {
-        return false;
-    };
-    let Ok(mut bench) = new_bench(alloc) else {
-        return false;
-    };
-    let mut sink = Memory::new(alloc);
-    run(
-        compiled,
-        registers.as_mut_slice(),
-        cells,
-        &mut bench,
-        &mut sink,
-    )
-    .is_ok()
-        && sink.bytes() == expected.as_bytes()
-}
+use std::alloc::Global;
 
 /// Whether a block prints this from cells that are 0.
-fn block_prints(alloc: Global, compiled: &Compiled, expected: &str) -> bool {
-    let Ok(numbers) = Vec::from_elem(alloc, 0u64, 15) else {
-        return false;
-    };
-    let mut cells = FlatCells { numbers };
-    prints_over(alloc, compiled, &mut cells, expected)
+pub(crate) fn block_prints(alloc: Global, compiled: &Compiled, expected: &str) -> bool {
+    match zeros(alloc, 15) {
+        Some(mut cells) => prints_over(alloc, compiled, LANES, &mut cells, expected),
+        None => false,
+    }
 }
 
-/// Whether a kernel prints this.
-fn kernel_prints(alloc: Global, kernel: &Kernel, expected: &str) -> bool {
-    match code_of(alloc, kernel) {
+/// Whether the kernel with these lines prints this.
+fn prints(alloc: Global, lines: &str, expected: &str) -> bool {
+    match code(alloc, SMALL_WITH_LOCAL, lines) {
         Some(compiled) => block_prints(alloc, &compiled, expected),
         None => false,
     }
 }
 
-/// Whether the kernel of a text prints this.
-fn text_prints(alloc: Global, text: &[u8], expected: &str) -> bool {
-    match parse(alloc, text) {
-        Ok(kernel) => kernel_prints(alloc, &kernel, expected),
-        Err(_refusal) => false,
-    }
-}
-
-/// The text of the kernel with these lines.
-pub(crate) fn kernel_text(alloc: Global, lines: &str) -> Result<String, AllocError> {
-    format!(in alloc;
-        "#include <inttypes.h>\n#include <stdint.h>\n#include <stdio.h>\nuint64_t A[8]; uint64_t B[2][3]; uint64_t s; void kernel(void) {{ uint64_t x;\n{lines}\n}}\n"
-    )
-}
-
-/// Whether the kernel with these lines prints this.
-pub(crate) fn prints(alloc: Global, lines: &str, expected: &str) -> bool {
-    match kernel_text(alloc, lines) {
-        Ok(text) => text_prints(alloc, text.as_bytes(), expected),
-        Err(_error) => false,
-    }
-}
-
-/// The number of the first row, from 1, that prints something else; 0 where none does.
-fn first_wrong(alloc: Global, rows: &[(&str, &str)]) -> u64 {
-    let mut number = 1u64;
-    for (lines, expected) in rows {
-        if !prints(alloc, lines, expected) {
-            return number;
+/// The number of the first row, from 0, that prints something else.
+fn first_other(alloc: Global, rows: &[(&str, &str)]) -> Option<usize> {
+    for (number, (lines, expected)) in rows.iter().enumerate() {
+        if !prints(alloc, *lines, *expected) {
+            return Some(number);
         }
-        number = number.saturating_add(1);
     }
-    0
+    None
 }
 
 #[test]
@@ -166,7 +116,7 @@ fn blocks_print_what_c_prints(rt: HostRuntime) {
             "27",
         ),
     ];
-    assert_eq!(rt; first_wrong(rt.alloc(), ROWS), 0);
+    no_other(&rt, first_other(rt.alloc(), ROWS));
 }
 
 #[test]
@@ -201,7 +151,7 @@ fn instructions_in_place_of_two_print_what_c_prints(rt: HostRuntime) {
             "95 32",
         ),
     ];
-    assert_eq!(rt; first_wrong(rt.alloc(), ROWS), 0);
+    no_other(&rt, first_other(rt.alloc(), ROWS));
 }
 
 /// How many branches are left in a block.
@@ -214,31 +164,22 @@ fn branches(block: &Block) -> u64 {
     }
 }
 
-/// Whether so many branches are left of the kernel of a text.
-fn text_keeps(alloc: Global, text: &[u8], expected: u64) -> bool {
-    let Ok(kernel) = parse(alloc, text) else {
-        return false;
-    };
-    match code_of(alloc, &kernel) {
+/// Whether so many branches are left of the kernel with these lines.
+fn keeps(alloc: Global, lines: &str, expected: u64) -> bool {
+    match code(alloc, SMALL_WITH_LOCAL, lines) {
         Some(compiled) => branches(&compiled.block) == expected,
         None => false,
     }
 }
 
-/// The number of the first row, from 1, of which other branches are left; 0 where there is none.
-fn first_branching(alloc: Global, rows: &[(&str, u64)]) -> u64 {
-    let mut number = 1u64;
-    for (lines, expected) in rows {
-        let keeps = match kernel_text(alloc, lines) {
-            Ok(text) => text_keeps(alloc, text.as_bytes(), *expected),
-            Err(_error) => false,
-        };
-        if !keeps {
-            return number;
+/// The number of the first row, from 0, of which other branches are left.
+fn first_branching(alloc: Global, rows: &[(&str, u64)]) -> Option<usize> {
+    for (number, (lines, expected)) in rows.iter().enumerate() {
+        if !keeps(alloc, *lines, *expected) {
+            return Some(number);
         }
-        number = number.saturating_add(1);
     }
-    0
+    None
 }
 
 /// Branches that set one local or save one cell, and nothing else, are none as instructions; nor are those of a few statements where there is no loop, or
@@ -278,5 +219,5 @@ fn branches_are_left(rt: HostRuntime) {
         ),
         ("if (x > 3) { if (s > 1) { A[1] = x; } printf(\"a\"); }", 1),
     ];
-    assert_eq!(rt; first_branching(rt.alloc(), ROWS), 0);
+    no_other(&rt, first_branching(rt.alloc(), ROWS));
 }

@@ -1,9 +1,10 @@
 //! Kernels of the arrays `A` of 8 and `B` of 2 times 3 elements and the scalar `s`, and what they print, as C prints it.
 
+use crate::codes::{SMALL_WITH_LOCAL, kernel_of};
+use crate::outcome::no_other;
 use crate::stores::two_arrays_and_a_scalar;
-use cparse::parse;
 use ktree::Kernel;
-use lower_code::*;
+use lower_code::{Lowered, are_behind, lower_items, run};
 use seqrun_io::Memory;
 use std::alloc::Global;
 
@@ -12,11 +13,14 @@ fn code_prints(alloc: Global, lowered: &Lowered, expected: &str) -> bool {
     let Ok(mut store) = two_arrays_and_a_scalar(alloc) else {
         return false;
     };
+    if store.len() != 3 {
+        return false;
+    }
     let mut sink = Memory::new(alloc);
     run(alloc, lowered, &mut store, &mut sink).is_ok() && sink.bytes() == expected.as_bytes()
 }
 
-/// Whether a kernel prints this.
+/// Whether a kernel prints this, and declares each local behind its variables.
 fn kernel_prints(alloc: Global, kernel: &Kernel, expected: &str) -> bool {
     match lower_items(alloc, &kernel.variables, &kernel.body) {
         Ok(lowered) => {
@@ -27,34 +31,22 @@ fn kernel_prints(alloc: Global, kernel: &Kernel, expected: &str) -> bool {
     }
 }
 
-/// Whether the kernel of a text prints this.
-fn text_prints(alloc: Global, text: &[u8], expected: &str) -> bool {
-    match parse(alloc, text) {
-        Ok(kernel) => kernel_prints(alloc, &kernel, expected),
-        Err(_refusal) => false,
-    }
-}
-
-/// Whether the kernel with these lines prints this.
+/// Whether the kernel with these lines does.
 fn prints(alloc: Global, lines: &str, expected: &str) -> bool {
-    match format!(in alloc;
-        "#include <inttypes.h>\n#include <stdint.h>\n#include <stdio.h>\nuint64_t A[8]; uint64_t B[2][3]; uint64_t s; void kernel(void) {{ uint64_t x;\n{lines}\n}}\n"
-    ) {
-        Ok(text) => text_prints(alloc, text.as_bytes(), expected),
-        Err(_error) => false,
+    match kernel_of(alloc, SMALL_WITH_LOCAL, lines) {
+        Some(kernel) => kernel_prints(alloc, &kernel, expected),
+        None => false,
     }
 }
 
-/// The number of the first row, from 1, that prints something else; 0 where none does.
-fn first_wrong(alloc: Global, rows: &[(&str, &str)]) -> u64 {
-    let mut number = 1u64;
-    for (lines, expected) in rows {
-        if !prints(alloc, lines, expected) {
-            return number;
+/// The number of the first row, from 0, that prints something else.
+fn first_other(alloc: Global, rows: &[(&str, &str)]) -> Option<usize> {
+    for (number, (lines, expected)) in rows.iter().enumerate() {
+        if !prints(alloc, *lines, *expected) {
+            return Some(number);
         }
-        number = number.saturating_add(1);
     }
-    0
+    None
 }
 
 #[test]
@@ -105,5 +97,5 @@ fn kernels_print_what_c_prints(rt: HostRuntime) {
             "13 14",
         ),
     ];
-    assert_eq!(rt; first_wrong(rt.alloc(), ROWS), 0);
+    no_other(&rt, first_other(rt.alloc(), ROWS));
 }

@@ -1,6 +1,7 @@
 //! Loops whose turns are run in lanes, or one after another where they may not be.
 
-use crate::lane_digests::first_wrong;
+use crate::lane_digests::first_other;
+use crate::outcome::no_other;
 
 /// Loops of every length about those of blocks, steps, and turns apart by less than a block, by one, and by more.
 #[test]
@@ -67,7 +68,7 @@ fn loops_of_one_array_after_another_run(rt: HostRuntime) {
             6170032852764525312,
         ),
     ];
-    assert_eq!(rt; first_wrong(rt.alloc(), ROWS), 0);
+    no_other(&rt, first_other(rt.alloc(), ROWS));
 }
 
 /// Sums into one cell, products in both orders, stencils and recurrences.
@@ -111,7 +112,7 @@ fn sums_and_nests_run(rt: HostRuntime) {
             12729724970987144020,
         ),
     ];
-    assert_eq!(rt; first_wrong(rt.alloc(), ROWS), 0);
+    no_other(&rt, first_other(rt.alloc(), ROWS));
 }
 
 /// Choices, locals of a turn, loops that do not turn or fall, and a scalar that turns hand on.
@@ -143,7 +144,7 @@ fn choices_and_locals_run(rt: HostRuntime) {
             7464904809137133280,
         ),
     ];
-    assert_eq!(rt; first_wrong(rt.alloc(), ROWS), 0);
+    no_other(&rt, first_other(rt.alloc(), ROWS));
 }
 
 /// Inner loops that turn a known number of times and set locals alone: rounds of a hash, one whose variable counts and whose last step is cut short, a
@@ -176,7 +177,7 @@ fn short_loops_over_locals_run(rt: HostRuntime) {
             13303294541020918861,
         ),
     ];
-    assert_eq!(rt; first_wrong(rt.alloc(), ROWS), 0);
+    no_other(&rt, first_other(rt.alloc(), ROWS));
 }
 
 /// Loops whose end is computed: from outer variables, constants and locals, below it and up to it, with the variable on either side; ends at the
@@ -209,7 +210,7 @@ fn ends_that_are_computed_run(rt: HostRuntime) {
             4674745385985168080,
         ),
     ];
-    assert_eq!(rt; first_wrong(rt.alloc(), ROWS), 0);
+    no_other(&rt, first_other(rt.alloc(), ROWS));
 }
 
 /// Turns that all read one element which one of them writes: shortest paths, and elements in the middle and at both ends.
@@ -229,7 +230,7 @@ fn turns_that_read_what_one_of_them_writes_run(rt: HostRuntime) {
             17634958214004173245,
         ),
     ];
-    assert_eq!(rt; first_wrong(rt.alloc(), ROWS), 0);
+    no_other(&rt, first_other(rt.alloc(), ROWS));
 }
 
 /// An operator on a number and a cell, side by side and apart, turns that read their variable and turns that do not, and what the last one leaves.
@@ -261,5 +262,5 @@ fn numbers_and_variables_run(rt: HostRuntime) {
             10272973489289058537,
         ),
     ];
-    assert_eq!(rt; first_wrong(rt.alloc(), ROWS), 0);
+    no_other(&rt, first_other(rt.alloc(), ROWS));
 }

@@ -1,10 +1,11 @@
 //! Chunks of loops with a reduction or lastprivate variable, and what they tell of it; the values are counted by hand, by OpenMP 5.2, 5.4.5 and 5.5.
 
-use crate::overlay_rows::{chunk, lower_nest, one_loop};
+use crate::lowering::{chunk, loop_with_roles, work};
+use crate::outcome::no_other;
 use crate::stores::two_arrays_and_a_scalar;
-use ktree::{ChunkNo, ReductionOperator, VarId};
+use ktree::{ReductionOperator, VarId};
 use lower::{LoweredLoop, LoweredReduction, Spot};
-use overlay::{Piece, Work, Worker};
+use overlay::{Piece, Worker};
 use reduce::Partial;
 use std::alloc::Global;
 use store::Store;
@@ -14,104 +15,100 @@ const SCALAR: Spot = Spot::Cell(14);
 
 const LOCAL: Spot = Spot::Register(VarId(3));
 
-/// What a chunk of so many iterations from a first one on leaves, where the scalar and all registers hold this before.
-fn piece_by(
-    alloc: Global,
-    lowered: &LoweredLoop,
-    registers: &[u64],
-    store: &Store,
-    range: (u64, u64),
-) -> Option<Piece> {
-    let (first, count) = range;
-    let mut worker = Worker::new(alloc, store).ok()?;
-    let work = Work {
-        chunk: ChunkNo(0),
-        first,
-        count,
-    };
-    chunk(alloc, lowered, registers, &mut worker, work)
+/// The lines of a loop, what is reduced and what is lastprivate, what the scalar and all registers hold before, and of a chunk the first iteration and
+/// their count, how many places it changes, and the partials and last values that it tells.
+struct Row {
+    lines: &'static str,
+    reductions: &'static [LoweredReduction],
+    lasts: &'static [Spot],
+    before: u64,
+    first: u64,
+    count: u64,
+    changes: u64,
+    partials: &'static [Partial],
+    values: &'static [u64],
 }
 
-/// The same over a store.
-fn piece_over(
-    alloc: Global,
-    lowered: &LoweredLoop,
-    before: u64,
-    store: &Store,
-    range: (u64, u64),
-) -> Option<Piece> {
-    match Vec::from_elem(alloc, before, 8) {
-        Ok(registers) => piece_by(alloc, lowered, registers.as_slice(), store, range),
-        Err(_error) => None,
-    }
+/// What the chunk of a row leaves over a store.
+fn piece_over(alloc: Global, lowered: &LoweredLoop, row: &Row, store: &Store) -> Option<Piece> {
+    let mut worker = Worker::new(alloc, store).ok()?;
+    let work = work(row.first, row.count);
+    chunk(alloc, lowered, &[row.before; 8], &mut worker, work)
 }
 
 /// The same over the arrays and the scalar.
-fn piece_of(alloc: Global, lowered: &LoweredLoop, before: u64, range: (u64, u64)) -> Option<Piece> {
-    match two_arrays_and_a_scalar(alloc) {
-        Ok(mut store) => {
-            store.put(14, before);
-            piece_over(alloc, lowered, before, &store, range)
+fn piece_of(alloc: Global, lowered: &LoweredLoop, row: &Row) -> Option<Piece> {
+    let mut store = two_arrays_and_a_scalar(alloc).ok()?;
+    store.put(14, row.before);
+    piece_over(alloc, lowered, row, &store)
+}
+
+/// Whether the chunk of a row tells what the row says.
+fn tells(alloc: Global, lowered: &LoweredLoop, row: &Row) -> bool {
+    match piece_of(alloc, lowered, row) {
+        Some(piece) => {
+            piece.changes.len() == row.changes
+                && piece.partials.as_slice() == row.partials
+                && piece.lasts.as_slice() == row.values
         }
-        Err(_error) => None,
-    }
-}
-
-/// The lines of a loop, what is reduced by which operator, what it holds before, the first iteration and their count, and the partial.
-type Reduced = (
-    &'static str,
-    (ReductionOperator, Spot),
-    u64,
-    (u64, u64),
-    Partial,
-);
-
-/// The loop of such a row.
-fn reduction_loop(alloc: Global, row: &Reduced) -> Option<LoweredLoop> {
-    let (lines, (operator, spot), _before, _range, _partial) = *row;
-    let mut lowered = lower_nest(alloc, lines, one_loop(0, 0, 1))?;
-    lowered
-        .roles
-        .reductions
-        .push(LoweredReduction { operator, spot })
-        .ok()?;
-    Some(lowered)
-}
-
-/// Whether a chunk has this partial alone, and changes nothing.
-fn tells_partial(piece: &Piece, partial: Partial) -> bool {
-    piece.changes.len() == 0
-        && piece.partials.len() == 1
-        && piece.partials[0] == partial
-        && piece.lasts.is_empty()
-}
-
-/// Whether the partial is the row's.
-fn has_partial(alloc: Global, lowered: &LoweredLoop, row: &Reduced) -> bool {
-    let (_lines, _reduced, before, range, partial) = *row;
-    match piece_of(alloc, lowered, before, range) {
-        Some(piece) => tells_partial(&piece, partial),
         None => false,
     }
 }
 
-/// The same of the row alone.
-fn is_reduced(alloc: Global, row: &Reduced) -> bool {
-    match reduction_loop(alloc, row) {
-        Some(lowered) => has_partial(alloc, &lowered, row),
+/// Whether that of its loop does.
+fn is_right(alloc: Global, row: &Row) -> bool {
+    match loop_with_roles(alloc, row.lines, row.reductions, row.lasts) {
+        Some(lowered) => tells(alloc, &lowered, row),
         None => false,
     }
 }
 
-/// The number of the first row, from 0, with another partial.
-fn first_other(alloc: Global, rows: &[Reduced]) -> Option<usize> {
+/// The number of the first row, from 0, whose chunk tells something else.
+fn first_other(alloc: Global, rows: &[Row]) -> Option<usize> {
     for (number, row) in rows.iter().enumerate() {
-        if !is_reduced(alloc, row) {
+        if !is_right(alloc, row) {
             return Some(number);
         }
     }
     None
 }
+
+/// The scalar as a reduction variable.
+const SUM: LoweredReduction = LoweredReduction {
+    operator: ReductionOperator::Sum,
+    spot: SCALAR,
+};
+
+const PRODUCT: LoweredReduction = LoweredReduction {
+    operator: ReductionOperator::Product,
+    spot: SCALAR,
+};
+
+const MIN: LoweredReduction = LoweredReduction {
+    operator: ReductionOperator::Min,
+    spot: SCALAR,
+};
+
+const MAX: LoweredReduction = LoweredReduction {
+    operator: ReductionOperator::Max,
+    spot: SCALAR,
+};
+
+const AND: LoweredReduction = LoweredReduction {
+    operator: ReductionOperator::LogicalAnd,
+    spot: SCALAR,
+};
+
+const OR: LoweredReduction = LoweredReduction {
+    operator: ReductionOperator::LogicalOr,
+    spot: SCALAR,
+};
+
+/// The local as one.
+const SUM_INSIDE: LoweredReduction = LoweredReduction {
+    operator: ReductionOperator::Sum,
+    spot: LOCAL,
+};
 
 const ADD: &str = "for (uint64_t i = 0; i < 6; i++) s += i + 1;";
 
@@ -135,173 +132,223 @@ const INSIDE: &str = "uint64_t t = 0; for (uint64_t i = 0; i < 6; i++) t += i + 
 
 #[test]
 fn chunks_tell_partials(rt: HostRuntime) {
-    const ROWS: &[Reduced] = &[
-        (
-            ADD,
-            (ReductionOperator::Sum, SCALAR),
-            7,
-            (2, 3),
-            Partial::Updated(12),
-        ),
-        (
-            MULTIPLY,
-            (ReductionOperator::Product, SCALAR),
-            7,
-            (1, 3),
-            Partial::Updated(24),
-        ),
-        (
-            LEAST,
-            (ReductionOperator::Min, SCALAR),
-            1,
-            (2, 4),
-            Partial::Updated(2),
-        ),
-        (
-            GREATEST_OF_MANY,
-            (ReductionOperator::Max, SCALAR),
-            1000,
-            (0, 200),
-            Partial::Updated(255),
-        ),
-        (
-            GREATEST_OF_MANY,
-            (ReductionOperator::Max, SCALAR),
-            1000,
-            (0, 99),
-            Partial::Updated(127),
-        ),
-        (
-            LEAST_OF_MANY,
-            (ReductionOperator::Min, SCALAR),
-            0,
-            (100, 100),
-            Partial::Updated(4),
-        ),
-        (
-            LEAST_OF_MANY,
-            (ReductionOperator::Min, SCALAR),
-            0,
-            (90, 80),
-            Partial::Updated(0),
-        ),
+    const ROWS: &[Row] = &[
+        Row {
+            lines: ADD,
+            reductions: &[SUM],
+            lasts: &[],
+            before: 7,
+            first: 2,
+            count: 3,
+            changes: 0,
+            partials: &[Partial::Updated(12)],
+            values: &[],
+        },
+        Row {
+            lines: MULTIPLY,
+            reductions: &[PRODUCT],
+            lasts: &[],
+            before: 7,
+            first: 1,
+            count: 3,
+            changes: 0,
+            partials: &[Partial::Updated(24)],
+            values: &[],
+        },
+        Row {
+            lines: LEAST,
+            reductions: &[MIN],
+            lasts: &[],
+            before: 1,
+            first: 2,
+            count: 4,
+            changes: 0,
+            partials: &[Partial::Updated(2)],
+            values: &[],
+        },
+        Row {
+            lines: GREATEST_OF_MANY,
+            reductions: &[MAX],
+            lasts: &[],
+            before: 1000,
+            first: 0,
+            count: 200,
+            changes: 0,
+            partials: &[Partial::Updated(255)],
+            values: &[],
+        },
+        Row {
+            lines: GREATEST_OF_MANY,
+            reductions: &[MAX],
+            lasts: &[],
+            before: 1000,
+            first: 0,
+            count: 99,
+            changes: 0,
+            partials: &[Partial::Updated(127)],
+            values: &[],
+        },
+        Row {
+            lines: LEAST_OF_MANY,
+            reductions: &[MIN],
+            lasts: &[],
+            before: 0,
+            first: 100,
+            count: 100,
+            changes: 0,
+            partials: &[Partial::Updated(4)],
+            values: &[],
+        },
+        Row {
+            lines: LEAST_OF_MANY,
+            reductions: &[MIN],
+            lasts: &[],
+            before: 0,
+            first: 90,
+            count: 80,
+            changes: 0,
+            partials: &[Partial::Updated(0)],
+            values: &[],
+        },
         // Of && and || a variable begins with what it held.
-        (
-            ALL,
-            (ReductionOperator::LogicalAnd, SCALAR),
-            5,
-            (0, 2),
-            Partial::Updated(1),
-        ),
-        (
-            ALL,
-            (ReductionOperator::LogicalAnd, SCALAR),
-            1,
-            (0, 2),
-            Partial::Untouched,
-        ),
-        (
-            ALL,
-            (ReductionOperator::LogicalAnd, SCALAR),
-            5,
-            (3, 2),
-            Partial::Updated(0),
-        ),
-        (
-            ANY,
-            (ReductionOperator::LogicalOr, SCALAR),
-            0,
-            (0, 5),
-            Partial::Untouched,
-        ),
-        (
-            ANY,
-            (ReductionOperator::LogicalOr, SCALAR),
-            0,
-            (4, 2),
-            Partial::Updated(1),
-        ),
+        Row {
+            lines: ALL,
+            reductions: &[AND],
+            lasts: &[],
+            before: 5,
+            first: 0,
+            count: 2,
+            changes: 0,
+            partials: &[Partial::Updated(1)],
+            values: &[],
+        },
+        Row {
+            lines: ALL,
+            reductions: &[AND],
+            lasts: &[],
+            before: 1,
+            first: 0,
+            count: 2,
+            changes: 0,
+            partials: &[Partial::Untouched],
+            values: &[],
+        },
+        Row {
+            lines: ALL,
+            reductions: &[AND],
+            lasts: &[],
+            before: 5,
+            first: 3,
+            count: 2,
+            changes: 0,
+            partials: &[Partial::Updated(0)],
+            values: &[],
+        },
+        Row {
+            lines: ANY,
+            reductions: &[OR],
+            lasts: &[],
+            before: 0,
+            first: 0,
+            count: 5,
+            changes: 0,
+            partials: &[Partial::Untouched],
+            values: &[],
+        },
+        Row {
+            lines: ANY,
+            reductions: &[OR],
+            lasts: &[],
+            before: 0,
+            first: 4,
+            count: 2,
+            changes: 0,
+            partials: &[Partial::Updated(1)],
+            values: &[],
+        },
         // What leaves the variable as it begins leaves no partial.
-        (
-            NOTHING,
-            (ReductionOperator::Sum, SCALAR),
-            7,
-            (0, 6),
-            Partial::Untouched,
-        ),
-        (
-            ADD,
-            (ReductionOperator::Sum, SCALAR),
-            7,
-            (3, 0),
-            Partial::Untouched,
-        ),
-        (
-            INSIDE,
-            (ReductionOperator::Sum, LOCAL),
-            7,
-            (0, 6),
-            Partial::Updated(21),
-        ),
+        Row {
+            lines: NOTHING,
+            reductions: &[SUM],
+            lasts: &[],
+            before: 7,
+            first: 0,
+            count: 6,
+            changes: 0,
+            partials: &[Partial::Untouched],
+            values: &[],
+        },
+        Row {
+            lines: ADD,
+            reductions: &[SUM],
+            lasts: &[],
+            before: 7,
+            first: 3,
+            count: 0,
+            changes: 0,
+            partials: &[Partial::Untouched],
+            values: &[],
+        },
+        Row {
+            lines: INSIDE,
+            reductions: &[SUM_INSIDE],
+            lasts: &[],
+            before: 7,
+            first: 0,
+            count: 6,
+            changes: 0,
+            partials: &[Partial::Updated(21)],
+            values: &[],
+        },
     ];
-    let other = first_other(rt.alloc(), ROWS);
-    assert!(rt; other.is_none());
+    no_other(&rt, first_other(rt.alloc(), ROWS));
 }
 
 const SQUARES: &str = "for (uint64_t i = 0; i < 6; i++) { s = i * i; A[i] = 1; }";
 
-/// The loop with its lastprivate scalar.
-fn lastprivate_loop(alloc: Global) -> Option<LoweredLoop> {
-    let mut lowered = lower_nest(alloc, SQUARES, one_loop(0, 0, 1))?;
-    lowered.roles.lasts.push(SCALAR).ok()?;
-    Some(lowered)
-}
-
-/// Whether a chunk tells these last values, and so many changes.
-fn tells(piece: Option<Piece>, changes: u64, lasts: &[u64]) -> bool {
-    match piece {
-        Some(piece) => piece.changes.len() == changes && piece.lasts.as_slice() == lasts,
-        None => false,
-    }
-}
-
-/// Whether the chunk with the last iteration tells what it holds there, and no other does.
-fn are_last(alloc: Global) -> bool {
-    match lastprivate_loop(alloc) {
-        Some(lowered) => {
-            tells(piece_of(alloc, &lowered, 7, (2, 4)), 4, &[25])
-                && tells(piece_of(alloc, &lowered, 7, (0, 5)), 5, &[])
-        }
-        None => false,
-    }
-}
-
 #[test]
 fn last_chunks_tell_last_values(rt: HostRuntime) {
-    assert!(rt; are_last(rt.alloc()));
+    const ROWS: &[Row] = &[
+        Row {
+            lines: SQUARES,
+            reductions: &[],
+            lasts: &[SCALAR],
+            before: 7,
+            first: 2,
+            count: 4,
+            changes: 4,
+            partials: &[],
+            values: &[25],
+        },
+        Row {
+            lines: SQUARES,
+            reductions: &[],
+            lasts: &[SCALAR],
+            before: 7,
+            first: 0,
+            count: 5,
+            changes: 5,
+            partials: &[],
+            values: &[],
+        },
+    ];
+    no_other(&rt, first_other(rt.alloc(), ROWS));
 }
 
 const SUMMING: &str = "for (uint64_t i = 0; i < 6; i++) { s += i + 1; A[i] = i; }";
 
-/// Whether a chunk of a loop that sums up and writes tells its changes and its partial, and no last values.
-fn tells_both(alloc: Global, row: &Reduced, changes: u64) -> bool {
-    let (_lines, _reduced, before, range, partial) = *row;
-    let Some(lowered) = reduction_loop(alloc, row) else {
-        return false;
-    };
-    match piece_of(alloc, &lowered, before, range) {
-        Some(piece) => {
-            piece.partials.as_slice() == [partial].as_slice()
-                && piece.changes.len() == changes
-                && piece.lasts.is_empty()
-        }
-        None => false,
-    }
-}
-
 #[test]
 fn chunks_tell_changes_and_partials(rt: HostRuntime) {
-    let sum = (ReductionOperator::Sum, SCALAR);
-    let row = (SUMMING, sum, 7, (2, 3), Partial::Updated(12));
-    assert!(rt; tells_both(rt.alloc(), &row, 3));
+    const ROWS: &[Row] = &[Row {
+        lines: SUMMING,
+        reductions: &[SUM],
+        lasts: &[],
+        before: 7,
+        first: 2,
+        count: 3,
+        changes: 3,
+        partials: &[Partial::Updated(12)],
+        values: &[],
+    }];
+    no_other(&rt, first_other(rt.alloc(), ROWS));
 }

@@ -1,25 +1,21 @@
 //! Chunks of scans in two passes over `A` = 1 2 3 4 5 and `s` = 10, and what they leave; the values are counted by hand, by OpenMP 5.2, 5.6.
 
-use crate::overlay_rows::{lower_nest, one_loop};
+use crate::lowering::{loop_with_roles, work};
+use crate::outcome::no_other;
 use crate::stores::two_arrays_and_a_scalar;
 use inscan::{first_pass, second_pass, starts};
-use ktree::{ChunkNo, ReductionOperator};
+use ktree::ReductionOperator;
 use lower::{LoweredLoop, LoweredReduction, Spot};
 use overlay::{Piece, Work, Worker};
 use reduce::Partial;
 use std::alloc::Global;
 use store::Store;
 
-/// The loop of these lines, in which `s` is summed up.
-fn sum_loop(alloc: Global, lines: &str) -> Option<LoweredLoop> {
-    let mut lowered = lower_nest(alloc, lines, one_loop(0, 0, 1))?;
-    let reduction = LoweredReduction {
-        operator: ReductionOperator::Sum,
-        spot: Spot::Cell(14),
-    };
-    lowered.roles.reductions.push(reduction).ok()?;
-    Some(lowered)
-}
+/// The scan variable `s`, which is summed up.
+const SUM: LoweredReduction = LoweredReduction {
+    operator: ReductionOperator::Sum,
+    spot: Spot::Cell(14),
+};
 
 /// The store before the loop.
 fn before(alloc: Global) -> Option<Store> {
@@ -29,15 +25,6 @@ fn before(alloc: Global) -> Option<Store> {
     }
     store.put(14, 10);
     Some(store)
-}
-
-/// A chunk of so many iterations from a first one on.
-fn work(range: (u64, u64)) -> Work {
-    Work {
-        chunk: ChunkNo(0),
-        first: range.0,
-        count: range.1,
-    }
 }
 
 /// What a chunk of the input phase adds, if the space has its iterations.
@@ -84,67 +71,59 @@ fn chunk_partials(
 ) -> Option<Vec<Partial>> {
     let mut worker = Worker::new(alloc, store).ok()?;
     let mut partials = Vec::new(alloc);
-    for range in chunks {
-        partials
-            .push(chunk_partial(alloc, first, &mut worker, work(*range))?)
-            .ok()?;
+    for (start, count) in chunks {
+        let partial = chunk_partial(alloc, first, &mut worker, work(*start, *count))?;
+        partials.push(partial).ok()?;
     }
     Some(partials)
 }
 
-/// Puts what a chunk of the whole leaves from this start into a store.
+/// Makes what a chunk of the whole changes from this start in a store.
 fn put_chunk(
     alloc: Global,
     second: &LoweredLoop,
     store: &Store,
-    range: (u64, u64),
+    work: Work,
     start: u64,
     after: &mut Store,
 ) -> Option<()> {
     let mut worker = Worker::new(alloc, store).ok()?;
-    let piece = chunk_piece(alloc, second, &mut worker, work(range), start)?;
+    let piece = chunk_piece(alloc, second, &mut worker, work, start)?;
     piece.changes.apply(after);
     Some(())
 }
 
-/// Whether these chunks, each from its start, leave these cells behind `A`.
-fn leave(
-    alloc: Global,
-    second: &LoweredLoop,
-    store: &Store,
-    chunks: &[(u64, u64)],
-    starts: &[u64],
-    cells: &[u64],
-) -> Option<bool> {
-    let mut after = before(alloc)?;
-    for (range, start) in chunks.iter().zip(starts.iter()) {
-        put_chunk(alloc, second, store, *range, *start, &mut after)?;
-    }
-    Some(after.cells().get(8..)? == cells)
+/// The lines of the input phase and those of the whole, the chunks by their first iterations and their counts, their starts with that of one more, and
+/// the cells behind `A`.
+struct Row {
+    lines: (&'static str, &'static str),
+    chunks: &'static [(u64, u64)],
+    starts: &'static [u64],
+    cells: [u64; 7],
 }
 
-/// The lines of the input phase and those of the whole, the chunks, their starts with that of one more, and the cells behind `A`.
-type Row = (
-    (&'static str, &'static str),
-    &'static [(u64, u64)],
-    &'static [u64],
-    [u64; 7],
-);
+/// Whether the chunks of a row, each from its start, leave its cells.
+fn leave(alloc: Global, second: &LoweredLoop, store: &Store, row: &Row) -> Option<bool> {
+    let mut after = before(alloc)?;
+    for ((first, count), start) in row.chunks.iter().zip(row.starts.iter()) {
+        let work = work(*first, *count);
+        put_chunk(alloc, second, store, work, *start, &mut after)?;
+    }
+    Some(after.cells().get(8..)? == row.cells.as_slice())
+}
 
 /// Whether the starts are the row's.
 fn starts_so(alloc: Global, store: &Store, row: &Row) -> Option<bool> {
-    let (lines, chunks, wanted, _cells) = *row;
-    let first = sum_loop(alloc, lines.0)?;
-    let partials = chunk_partials(alloc, &first, store, chunks)?;
+    let first = loop_with_roles(alloc, row.lines.0, &[SUM], &[])?;
+    let partials = chunk_partials(alloc, &first, store, row.chunks)?;
     let told = starts(alloc, ReductionOperator::Sum, 10, partials.as_slice()).ok()?;
-    Some(told.as_slice() == wanted)
+    Some(told.as_slice() == row.starts)
 }
 
 /// Whether the cells are.
 fn leaves_so(alloc: Global, store: &Store, row: &Row) -> Option<bool> {
-    let (lines, chunks, starts, cells) = *row;
-    let second = sum_loop(alloc, lines.1)?;
-    leave(alloc, &second, store, chunks, starts, &cells)
+    let second = loop_with_roles(alloc, row.lines.1, &[SUM], &[])?;
+    leave(alloc, &second, store, row)
 }
 
 /// The number of the first row, from 0, with other starts or cells.
@@ -181,34 +160,43 @@ const NEVER: (&str, &str) = (
 fn chunks_of_scans_pass_twice(rt: HostRuntime) {
     const ROWS: &[Row] = &[
         // By one worker, two and four; the scan variable itself is told of no chunk.
-        (INCLUSIVE, &[(0, 5)], &[10, 25], [11, 13, 16, 20, 25, 0, 10]),
-        (
-            INCLUSIVE,
-            &[(0, 3), (3, 2)],
-            &[10, 16, 25],
-            [11, 13, 16, 20, 25, 0, 10],
-        ),
-        (
-            INCLUSIVE,
-            &[(0, 2), (2, 1), (3, 1), (4, 1)],
-            &[10, 13, 16, 20, 25],
-            [11, 13, 16, 20, 25, 0, 10],
-        ),
-        (
-            EXCLUSIVE,
-            &[(0, 3), (3, 2)],
-            &[10, 16, 25],
-            [10, 11, 13, 16, 20, 0, 10],
-        ),
+        Row {
+            lines: INCLUSIVE,
+            chunks: &[(0, 5)],
+            starts: &[10, 25],
+            cells: [11, 13, 16, 20, 25, 0, 10],
+        },
+        Row {
+            lines: INCLUSIVE,
+            chunks: &[(0, 3), (3, 2)],
+            starts: &[10, 16, 25],
+            cells: [11, 13, 16, 20, 25, 0, 10],
+        },
+        Row {
+            lines: INCLUSIVE,
+            chunks: &[(0, 2), (2, 1), (3, 1), (4, 1)],
+            starts: &[10, 13, 16, 20, 25],
+            cells: [11, 13, 16, 20, 25, 0, 10],
+        },
+        Row {
+            lines: EXCLUSIVE,
+            chunks: &[(0, 3), (3, 2)],
+            starts: &[10, 16, 25],
+            cells: [10, 11, 13, 16, 20, 0, 10],
+        },
         // What is not updated keeps its value.
-        (
-            NEVER,
-            &[(0, 3), (3, 2)],
-            &[10, 10, 10],
-            [10, 10, 10, 10, 10, 0, 10],
-        ),
-        (INCLUSIVE, &[], &[10], [0, 0, 0, 0, 0, 0, 10]),
+        Row {
+            lines: NEVER,
+            chunks: &[(0, 3), (3, 2)],
+            starts: &[10, 10, 10],
+            cells: [10, 10, 10, 10, 10, 0, 10],
+        },
+        Row {
+            lines: INCLUSIVE,
+            chunks: &[],
+            starts: &[10],
+            cells: [0, 0, 0, 0, 0, 0, 10],
+        },
     ];
-    let other = first_other(rt.alloc(), ROWS);
-    assert!(rt; other.is_none());
+    no_other(&rt, first_other(rt.alloc(), ROWS));
 }

@@ -1,10 +1,9 @@
 //! Chunks that print, and the text that is kept of each.
 
-use crate::overlay_rows::{chunk, lower_nest, one_loop};
+use crate::lowering::{chunk, lower_nest, work};
 use crate::stores::two_arrays_and_a_scalar;
-use ktree::ChunkNo;
 use lower::LoweredLoop;
-use overlay::{Piece, Work, Worker};
+use overlay::{Piece, Worker};
 use std::alloc::Global;
 use store::Store;
 
@@ -14,15 +13,6 @@ const NUMBERS: &str =
 
 /// Prints of some iterations alone.
 const SOME: &str = "for (uint64_t i = 0; i < 6; i++) if (i > 3) printf(\"%\" PRIu64 \".\", i);";
-
-/// A chunk of so many iterations from a first one on.
-fn work(first: u64, count: u64) -> Work {
-    Work {
-        chunk: ChunkNo(0),
-        first,
-        count,
-    }
-}
 
 /// Whether a chunk keeps this text.
 fn keeps(piece: Option<Piece>, text: &[u8]) -> bool {
@@ -53,7 +43,7 @@ fn keeps_both(
 
 /// Whether the first two iterations of these lines print the one text, and the three behind them the other.
 fn is_kept(alloc: Global, lines: &str, first: &[u8], next: &[u8]) -> bool {
-    let Some(lowered) = lower_nest(alloc, lines, one_loop(0, 0, 1)) else {
+    let Some(lowered) = lower_nest(alloc, lines, false, 1) else {
         return false;
     };
     match two_arrays_and_a_scalar(alloc) {

@@ -1,6 +1,7 @@
 //! Cells that change by what a turn makes, in lanes or turn by turn.
 
-use crate::lane_digests::first_wrong;
+use crate::lane_digests::first_other;
+use crate::outcome::no_other;
 
 /// Cells that take what an operator makes of them: one cell in all turns by each operator that a reduction may have, cells side by side, and cells apart.
 #[test]
@@ -39,7 +40,7 @@ fn updates_of_cells_run(rt: HostRuntime) {
             17819161992100403074,
         ),
     ];
-    assert_eq!(rt; first_wrong(rt.alloc(), ROWS), 0);
+    no_other(&rt, first_other(rt.alloc(), ROWS));
 }
 
 /// Cells that take the greater or the less of them and of a number: one cell in all turns, by each order of each comparison, and cells side by side,
@@ -96,7 +97,7 @@ fn greatest_and_least_cells_run(rt: HostRuntime) {
             4905658070902269419,
         ),
     ];
-    assert_eq!(rt; first_wrong(rt.alloc(), ROWS), 0);
+    no_other(&rt, first_other(rt.alloc(), ROWS));
 }
 
 /// Cells that take what an operator makes of a cell that a turn before wrote: sums of a table along its rows and its columns, each operator with the
@@ -133,7 +134,7 @@ fn recurrences_run(rt: HostRuntime) {
             5087463742173571202,
         ),
     ];
-    assert_eq!(rt; first_wrong(rt.alloc(), ROWS), 0);
+    no_other(&rt, first_other(rt.alloc(), ROWS));
 }
 
 /// Others that divide, turns some apart, steps, loops that fall, and bodies of two assignments.
@@ -169,7 +170,7 @@ fn recurrences_of_other_turns_run(rt: HostRuntime) {
             3017447107652755297,
         ),
     ];
-    assert_eq!(rt; first_wrong(rt.alloc(), ROWS), 0);
+    no_other(&rt, first_other(rt.alloc(), ROWS));
 }
 
 /// Cells that take what an operator makes of a cell behind them, of another array or row, and of one that is written later.
@@ -205,7 +206,7 @@ fn cells_of_other_places_run(rt: HostRuntime) {
             12501460836654309160,
         ),
     ];
-    assert_eq!(rt; first_wrong(rt.alloc(), ROWS), 0);
+    no_other(&rt, first_other(rt.alloc(), ROWS));
 }
 
 /// Locals that take the less or the greater of themselves and of the cell of a turn before, with a number more or without, and are then saved and
@@ -234,7 +235,7 @@ fn cells_are_handed_on_by_a_local(rt: HostRuntime) {
             15727836407511947446,
         ),
     ];
-    assert_eq!(rt; first_wrong(rt.alloc(), ROWS), 0);
+    no_other(&rt, first_other(rt.alloc(), ROWS));
 }
 
 /// Elements that change by products of two others: rows by multiples of other rows, one by all products, and others by operators that take rows.
@@ -262,5 +263,5 @@ fn cells_changed_by_products_run(rt: HostRuntime) {
             8333274998537750450,
         ),
     ];
-    assert_eq!(rt; first_wrong(rt.alloc(), ROWS), 0);
+    no_other(&rt, first_other(rt.alloc(), ROWS));
 }
