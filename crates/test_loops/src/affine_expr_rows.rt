@@ -1,24 +1,26 @@
 //! Forms of expressions, and the faults of others.
 
-use crate::texts::{I, J, at, kernel, last_statement, no_other};
+use crate::texts::{I, J, last_statement};
+use crate::told::{Expected, all_told};
 use affine::VarBox;
 use affine_expr::*;
 use ktree::{BinaryOp, Expr, Kernel, Place, Refusal, Source, Stmt, Suffix, Target};
+use pragma::Directives;
 use std::alloc::{AllocError, Global};
 
 const HERE: Place = Place { line: 3, column: 5 };
 
-/// The number and the coefficients of i and j of a form.
-type Parts = Result<(i64, i64, i64), Fault>;
-
-/// The box of i from 0 to 7 and j from 0 to 3.
-fn bound_both(bounds: &mut VarBox) -> Result<(), Refusal> {
+/// Binds i from 0 to 7 and j from 0 to 3.
+fn bind_both(bounds: &mut VarBox) -> Result<(), Refusal> {
     bounds.bind(I, 0, 7, HERE)?;
     bounds.bind(J, 0, 3, HERE)
 }
 
-/// The number and the coefficients of i and j of a form in a box.
-fn parts_in(alloc: Global, expr: &Expr, bounds: &VarBox) -> Parts {
+/// The number and the coefficients of i and j of the form that the last statement of a kernel assigns.
+type Parts = Result<(i64, i64, i64), Fault>;
+
+/// Those of an expression in a box.
+fn parts_of(alloc: Global, expr: &Expr, bounds: &VarBox) -> Parts {
     let form = form_of(alloc, expr, bounds, HERE)?;
     Ok((
         form.constant_term(),
@@ -27,64 +29,55 @@ fn parts_in(alloc: Global, expr: &Expr, bounds: &VarBox) -> Parts {
     ))
 }
 
-/// Those in the box of i from 0 to 7 and j from 0 to 3.
-fn parts_of(alloc: Global, expr: &Expr) -> Parts {
-    let mut bounds = VarBox::new(alloc);
-    if bound_both(&mut bounds).is_err() {
-        return Err(Fault::OutOfMemory);
+impl Expected for Parts {
+    fn is_told(self, alloc: Global, kernel: &Kernel, _directives: &Directives) -> bool {
+        let Some(Stmt::Assign(_, Source::Number(expr))) = last_statement(kernel) else {
+            return false;
+        };
+        let mut bounds = VarBox::new(alloc);
+        bind_both(&mut bounds).is_ok() && parts_of(alloc, expr, &bounds) == self
     }
-    parts_in(alloc, expr, &bounds)
-}
-
-/// Those of what a kernel's last statement assigns.
-fn assigned_parts(alloc: Global, kernel: &Kernel) -> Parts {
-    match last_statement(kernel) {
-        Some(Stmt::Assign(_, Source::Number(expr))) => parts_of(alloc, expr),
-        _ => Err(Fault::OutOfMemory),
-    }
-}
-
-/// Those of the text with these lines; `OutOfMemory` stands for its refusal too.
-fn parts_behind(alloc: Global, lines: &str) -> Parts {
-    match kernel(alloc, lines) {
-        Ok(kernel) => assigned_parts(alloc, &kernel),
-        Err(_number) => Err(Fault::OutOfMemory),
-    }
-}
-
-/// Those of an expression.
-fn parts(alloc: Global, expr: &str) -> Parts {
-    match format!(in alloc; "uint64_t i; uint64_t j; s = {expr};") {
-        Ok(lines) => parts_behind(alloc, lines.as_str()),
-        Err(_error) => Err(Fault::OutOfMemory),
-    }
-}
-
-/// The first of some rows of expressions of which something else is told.
-fn first_other<'r>(alloc: Global, rows: &[(&'r str, Parts)]) -> Option<&'r str> {
-    for (text, expected) in rows {
-        if parts(alloc, text) != *expected {
-            return Some(*text);
-        }
-    }
-    None
 }
 
 #[test]
 fn forms_of_expressions(rt: HostRuntime) {
     const ROWS: &[(&str, Parts)] = &[
-        ("3ull * i - (j - 5ull)", Ok((5, 3, -1))),
-        ("-i * 2ull + j", Ok((0, -2, 1))),
-        ("4294967296ull", Ok((1 << 32, 0, 0))),
-        ("4294967297ull", Err(Fault::Limit(HERE))),
-        ("i + j", Ok((0, 1, 1))),
-        ("i + x", Err(Fault::NotAffine(HERE))),
-        ("i * j", Err(Fault::NotAffine(HERE))),
-        ("i ^ j", Err(Fault::NotAffine(HERE))),
-        ("4294967297ull + (i + j)", Err(Fault::Limit(HERE))),
-        ("4294967297ull + i * j", Err(Fault::NotAffine(HERE))),
+        (
+            "uint64_t i; uint64_t j; s = 3ull * i - (j - 5ull);",
+            Ok((5, 3, -1)),
+        ),
+        ("uint64_t i; uint64_t j; s = -i * 2ull + j;", Ok((0, -2, 1))),
+        (
+            "uint64_t i; uint64_t j; s = 4294967296ull;",
+            Ok((1 << 32, 0, 0)),
+        ),
+        (
+            "uint64_t i; uint64_t j; s = 4294967297ull;",
+            Err(Fault::Limit(HERE)),
+        ),
+        ("uint64_t i; uint64_t j; s = i + j;", Ok((0, 1, 1))),
+        (
+            "uint64_t i; uint64_t j; s = i + x;",
+            Err(Fault::NotAffine(HERE)),
+        ),
+        (
+            "uint64_t i; uint64_t j; s = i * j;",
+            Err(Fault::NotAffine(HERE)),
+        ),
+        (
+            "uint64_t i; uint64_t j; s = i ^ j;",
+            Err(Fault::NotAffine(HERE)),
+        ),
+        (
+            "uint64_t i; uint64_t j; s = 4294967297ull + (i + j);",
+            Err(Fault::Limit(HERE)),
+        ),
+        (
+            "uint64_t i; uint64_t j; s = 4294967297ull + i * j;",
+            Err(Fault::NotAffine(HERE)),
+        ),
     ];
-    no_other(&rt, first_other(rt.alloc(), ROWS));
+    all_told(&rt, rt.alloc(), ROWS);
 }
 
 /// A literal without `ull`.
@@ -118,49 +111,27 @@ fn constants_of_expressions(rt: HostRuntime) {
     assert!(rt; constant_of_long(1).is_none());
 }
 
-/// Whether the subscripts of a target are affine.
-fn target_is_affine(alloc: Global, target: &Target) -> Result<(), Fault> {
-    let mut bounds = VarBox::new(alloc);
-    if bound_both(&mut bounds).is_err() {
-        return Err(Fault::OutOfMemory);
-    }
-    are_affine(
-        alloc,
-        target.subscripts.as_slice(),
-        &target.mention,
-        &bounds,
-    )
+/// Whether the subscripts of what the last statement of a kernel assigns are affine.
+type Subscripts = Result<(), Fault>;
+
+/// Whether those of a target in a box are.
+fn subscripts_of(alloc: Global, target: &Target, bounds: &VarBox) -> Subscripts {
+    are_affine(alloc, target.subscripts.as_slice(), &target.mention, bounds)
 }
 
-/// Whether those of what a kernel's last statement assigns are so.
-fn assigned_is_affine(alloc: Global, kernel: &Kernel) -> Result<(), Fault> {
-    match last_statement(kernel) {
-        Some(Stmt::Assign(target, _)) => target_is_affine(alloc, target),
-        _ => Err(Fault::OutOfMemory),
+impl Expected for Subscripts {
+    fn is_told(self, alloc: Global, kernel: &Kernel, _directives: &Directives) -> bool {
+        let Some(Stmt::Assign(target, _)) = last_statement(kernel) else {
+            return false;
+        };
+        let mut bounds = VarBox::new(alloc);
+        bind_both(&mut bounds).is_ok() && subscripts_of(alloc, target, &bounds) == self
     }
-}
-
-/// The same of the text with these lines; `OutOfMemory` stands for its refusal too.
-fn row(alloc: Global, lines: &str) -> Result<(), Fault> {
-    match kernel(alloc, lines) {
-        Ok(kernel) => assigned_is_affine(alloc, &kernel),
-        Err(_number) => Err(Fault::OutOfMemory),
-    }
-}
-
-/// The first of some rows of lines of which something else is told.
-fn first_other_row<'r>(alloc: Global, rows: &[(&'r str, Result<(), Fault>)]) -> Option<&'r str> {
-    for (text, expected) in rows {
-        if row(alloc, text) != *expected {
-            return Some(*text);
-        }
-    }
-    None
 }
 
 #[test]
 fn subscripts_have_places(rt: HostRuntime) {
-    const ROWS: &[(&str, Result<(), Fault>)] = &[
+    const ROWS: &[(&str, Subscripts)] = &[
         ("uint64_t i; uint64_t j; B[i][i + j] = 1;", Ok(())),
         (
             "uint64_t i; uint64_t j; B[i][i * j] = 1;",
@@ -170,7 +141,7 @@ fn subscripts_have_places(rt: HostRuntime) {
             })),
         ),
     ];
-    no_other(&rt, first_other_row(rt.alloc(), ROWS));
+    all_told(&rt, rt.alloc(), ROWS);
 }
 
 /// The first of some faults whose refusal has another number.

@@ -1,48 +1,21 @@
 //! Where ordered regions may stand, and where a parallel loop may print.
 
-use crate::texts::{OUT_OF_MEMORY, at, no_other, parse_text, text};
+use crate::told::{Expected, all_told};
 use flow_ordered::{Disorder, first_disorder};
-use ktree::Kernel;
+use ktree::{Kernel, Place};
 use pragma::Directives;
 use std::alloc::Global;
 
-/// What is out of order in a kernel of this text.
-fn disorder_of(alloc: Global, kernel: &Kernel, text: &str) -> Result<Option<Disorder>, u8> {
-    match Directives::read(alloc, text.as_bytes()) {
-        Ok(directives) => Ok(first_disorder(kernel, &directives)),
-        Err(refusal) => Err(refusal.number()),
+/// What is out of order in a kernel.
+impl Expected for Option<Disorder> {
+    fn is_told(self, _alloc: Global, kernel: &Kernel, directives: &Directives) -> bool {
+        first_disorder(kernel, directives) == self
     }
-}
-
-/// What is out of order in a text, or the number of its refusal.
-fn disorder_in(alloc: Global, text: &str) -> Result<Option<Disorder>, u8> {
-    match parse_text(alloc, text) {
-        Ok(kernel) => disorder_of(alloc, &kernel, text),
-        Err(number) => Err(number),
-    }
-}
-
-/// The same of the text with these lines.
-fn disorder(alloc: Global, lines: &str) -> Result<Option<Disorder>, u8> {
-    match text(alloc, lines) {
-        Ok(text) => disorder_in(alloc, text.as_str()),
-        Err(_error) => Err(OUT_OF_MEMORY),
-    }
-}
-
-/// The first of some rows of lines of which something else is told.
-fn first_other<'r>(alloc: Global, rows: &[(&'r str, Option<Disorder>)]) -> Option<&'r str> {
-    for (lines, expected) in rows {
-        if disorder(alloc, lines) != Ok(*expected) {
-            return Some(*lines);
-        }
-    }
-    None
 }
 
 #[test]
 fn regions_stand_in_loops_that_order_their_iterations(rt: HostRuntime) {
-    let rows = [
+    const ROWS: &[(&str, Option<Disorder>)] = &[
         // Serial code prints where it will.
         (
             "printf(\"1\"); for (uint64_t i = 0; i < 3; i++) printf(\"2\");",
@@ -81,72 +54,87 @@ fn regions_stand_in_loops_that_order_their_iterations(rt: HostRuntime) {
         // No clause.
         (
             "#pragma omp parallel for\nfor (uint64_t i = 0; i < 3; i++) {\n#pragma omp ordered\nprintf(\"1\"); }",
-            Some(Disorder::Region(at(4, 1))),
+            Some(Disorder::Region(Place { line: 4, column: 1 })),
         ),
         // No parallel loop.
         (
             "for (uint64_t i = 0; i < 3; i++) {\n#pragma omp ordered\nprintf(\"1\"); }",
-            Some(Disorder::Region(at(3, 1))),
+            Some(Disorder::Region(Place { line: 3, column: 1 })),
         ),
         // In an inner loop.
         (
             "#pragma omp parallel for ordered\nfor (uint64_t i = 0; i < 3; i++) for (uint64_t j = 0; j < 3; j++) {\n#pragma omp ordered\nprintf(\"1\"); }",
-            Some(Disorder::Region(at(4, 1))),
+            Some(Disorder::Region(Place { line: 4, column: 1 })),
         ),
         // A second one, also where no iteration comes to both.
         (
             "#pragma omp parallel for ordered\nfor (uint64_t i = 0; i < 3; i++) { if (i > 1) {\n#pragma omp ordered\nprintf(\"1\"); } else {\n#pragma omp ordered\nprintf(\"2\"); } }",
-            Some(Disorder::Region(at(6, 1))),
+            Some(Disorder::Region(Place { line: 6, column: 1 })),
         ),
         // What else stands behind the line.
         (
             "#pragma omp parallel for ordered\nfor (uint64_t i = 0; i < 3; i++) {\n#pragma omp ordered\nA[i] = 1; }",
-            Some(Disorder::Region(at(4, 1))),
+            Some(Disorder::Region(Place { line: 4, column: 1 })),
         ),
         (
             "#pragma omp parallel for ordered\nfor (uint64_t i = 0; i < 3; i++) {\n#pragma omp ordered\n{ { printf(\"1\"); } } }",
-            Some(Disorder::Region(at(4, 1))),
+            Some(Disorder::Region(Place { line: 4, column: 1 })),
         ),
         (
             "#pragma omp parallel for ordered\nfor (uint64_t i = 0; i < 3; i++) {\n#pragma omp ordered\nuint64_t t; }",
-            Some(Disorder::Region(at(4, 1))),
+            Some(Disorder::Region(Place { line: 4, column: 1 })),
         ),
         (
             "#pragma omp parallel for ordered\nfor (uint64_t i = 0; i < 3; i++) { A[i] = 1;\n#pragma omp ordered\n}",
-            Some(Disorder::Region(at(4, 1))),
+            Some(Disorder::Region(Place { line: 4, column: 1 })),
         ),
         (
             "#pragma omp parallel for ordered collapse(2)\nfor (uint64_t i = 0; i < 3; i++) {\n#pragma omp ordered\nfor (uint64_t j = 0; j < 3; j++) printf(\"1\"); }",
-            Some(Disorder::Region(at(4, 1))),
+            Some(Disorder::Region(Place { line: 4, column: 1 })),
         ),
     ];
-    no_other(&rt, first_other(rt.alloc(), &rows));
+    all_told(&rt, rt.alloc(), ROWS);
 }
 
 #[test]
 fn parallel_loops_print_in_regions_alone(rt: HostRuntime) {
-    let rows = [
+    const ROWS: &[(&str, Option<Disorder>)] = &[
         (
             "#pragma omp parallel for\nfor (uint64_t i = 0; i < 3; i++) printf(\"1\");",
-            Some(Disorder::Printed(at(3, 34))),
+            Some(Disorder::Printed(Place {
+                line: 3,
+                column: 34,
+            })),
         ),
         (
             "#pragma omp parallel for ordered\nfor (uint64_t i = 0; i < 3; i++) { printf(\"1\");\n#pragma omp ordered\nprintf(\"2\"); }",
-            Some(Disorder::Printed(at(3, 36))),
+            Some(Disorder::Printed(Place {
+                line: 3,
+                column: 36,
+            })),
         ),
         (
             "#pragma omp parallel for ordered\nfor (uint64_t i = 0; i < 3; i++) {\n#pragma omp ordered\nprintf(\"1\"); printf(\"2\"); }",
-            Some(Disorder::Printed(at(5, 14))),
+            Some(Disorder::Printed(Place {
+                line: 5,
+                column: 14,
+            })),
         ),
         (
             "#pragma omp parallel for ordered\nfor (uint64_t i = 0; i < 3; i++) for (uint64_t j = 0; j < 3; j++) printf(\"1\");",
-            Some(Disorder::Printed(at(3, 67))),
+            Some(Disorder::Printed(Place {
+                line: 3,
+                column: 67,
+            })),
         ),
         // In the second of two loops, behind serial code that prints.
         (
             "printf(\"1\");\n#pragma omp parallel for\nfor (uint64_t i = 0; i < 3; i++) A[i] = 1;\n#pragma omp parallel for\nfor (uint64_t i = 0; i < 3; i++) if (i > 1) printf(\"2\");",
-            Some(Disorder::Printed(at(6, 45))),
+            Some(Disorder::Printed(Place {
+                line: 6,
+                column: 45,
+            })),
         ),
     ];
-    no_other(&rt, first_other(rt.alloc(), &rows));
+    all_told(&rt, rt.alloc(), ROWS);
 }

@@ -1,8 +1,8 @@
 //! Whether locals are assigned before they are read, and the data of parallel loops.
 
-use crate::texts::{
-    I, J, OUT_OF_MEMORY, S, X, add_last, at, kernel, name, no_other, parse_text, text,
-};
+use crate::texts::{I, J, S, X, add_last, name};
+use crate::told::{Expected, all_told, is_told_under};
+use cparse::parse;
 use flow::*;
 use flow_definite::definite;
 use flow_reduction::Reduction;
@@ -16,80 +16,28 @@ use pragma_named::{Clauses, LineClauses, Named};
 use std::alloc::{AllocError, Global};
 use std::collections::HashMap;
 
-/// What a refusal tells of a kernel's locals.
-fn unassigned_place(refusal: &Refusal) -> Result<Option<Place>, u8> {
-    match refusal {
-        Refusal::MayBeUnassigned(place) => Ok(Some(*place)),
-        _ => Err(refusal.number()),
-    }
-}
-
-/// What is told of a kernel's locals: the place of the first that may be read unassigned, or the number of another refusal.
-fn unassigned_by(alloc: Global, kernel: &Kernel, lines: &LineClauses) -> Result<Option<Place>, u8> {
-    match definite(alloc, kernel, lines) {
-        Ok(()) => Ok(None),
-        Err(refusal) => unassigned_place(&refusal),
-    }
-}
-
-/// The same of a kernel whose directive lines have no clauses.
-fn unassigned_in(alloc: Global, kernel: &Kernel) -> Result<Option<Place>, u8> {
-    let none = HashMap::new(alloc);
-    unassigned_by(alloc, kernel, &none)
-}
-
-/// The clauses of a kernel's directive lines.
-fn attach_clauses(
+/// Whether this is the first place where a local of a kernel may be read unassigned.
+fn is_first_unassigned(
     alloc: Global,
     kernel: &Kernel,
-    directives: &Directives,
-) -> Result<LineClauses, u8> {
-    match attach(alloc, kernel, directives) {
-        Ok(lines) => Ok(lines),
-        Err(refusal) => Err(refusal.number()),
+    lines: &LineClauses,
+    place: Option<Place>,
+) -> bool {
+    match definite(alloc, kernel, lines) {
+        Ok(()) => place.is_none(),
+        Err(Refusal::MayBeUnassigned(found)) => place == Some(found),
+        Err(_other) => false,
     }
 }
 
-/// The clauses of the directive lines of a text with this kernel.
-fn clauses_of(alloc: Global, kernel: &Kernel, text: &str) -> Result<LineClauses, u8> {
-    match Directives::read(alloc, text.as_bytes()) {
-        Ok(directives) => attach_clauses(alloc, kernel, &directives),
-        Err(_error) => Err(OUT_OF_MEMORY),
-    }
-}
-
-/// What is told of the locals of a kernel with the directive lines of its text.
-fn unassigned_under(alloc: Global, kernel: &Kernel, text: &str) -> Result<Option<Place>, u8> {
-    match clauses_of(alloc, kernel, text) {
-        Ok(lines) => unassigned_by(alloc, kernel, &lines),
-        Err(number) => Err(number),
-    }
-}
-
-/// The same of a text.
-fn unassigned_text(alloc: Global, text: &str) -> Result<Option<Place>, u8> {
-    match parse_text(alloc, text) {
-        Ok(kernel) => unassigned_under(alloc, &kernel, text),
-        Err(number) => Err(number),
-    }
-}
-
-/// The same of the text with these lines.
-fn first_unassigned(alloc: Global, lines: &str) -> Result<Option<Place>, u8> {
-    match text(alloc, lines) {
-        Ok(text) => unassigned_text(alloc, text.as_str()),
-        Err(_error) => Err(OUT_OF_MEMORY),
-    }
-}
-
-/// The first of some rows of lines of which something else is told.
-fn first_other<'r>(alloc: Global, rows: &[(&'r str, Option<Place>)]) -> Option<&'r str> {
-    for (text, expected) in rows {
-        if first_unassigned(alloc, text) != Ok(*expected) {
-            return Some(*text);
+/// The first place where a local of a kernel may be read unassigned.
+impl Expected for Option<Place> {
+    fn is_told(self, alloc: Global, kernel: &Kernel, directives: &Directives) -> bool {
+        match attach(alloc, kernel, directives) {
+            Ok(lines) => is_first_unassigned(alloc, kernel, &lines, self),
+            Err(_refusal) => false,
         }
     }
-    None
 }
 
 #[test]
@@ -191,184 +139,61 @@ fn locals_are_assigned_before_they_are_read(rt: HostRuntime) {
             None,
         ),
     ];
-    no_other(&rt, first_other(rt.alloc(), ROWS));
+    all_told(&rt, rt.alloc(), ROWS);
 }
+
+/// A kernel that ends with a loop of `i`.
+const LOOP_OF_I: &str =
+    "uint64_t A[8]; uint64_t B[2][3]; uint64_t s; void kernel(void) { uint64_t x;
+for (uint64_t i = 0; i < 8; i++) x = 1;
+}
+";
 
 /// `s = i;` on line 3, where `i` is the variable of a loop before it, which no text can name there.
 fn assignment_of_i(alloc: Global) -> Stmt {
     let target = Target {
         variable: S,
         subscripts: Vec::new(alloc),
-        mention: name(alloc, at(3, 1)),
+        mention: name(alloc, 1),
     };
-    let value = Expr::Object(I, Vec::new(alloc), name(alloc, at(3, 5)));
+    let value = Expr::Object(I, Vec::new(alloc), name(alloc, 5));
     Stmt::Assign(target, Source::Number(value))
 }
 
-/// What is told of the locals of a kernel once that statement stands behind its own.
-fn unassigned_once_added(alloc: Global, kernel: &mut Kernel) -> Result<Option<Place>, u8> {
-    match add_last(alloc, kernel, assignment_of_i(alloc)) {
-        Ok(()) => unassigned_in(alloc, kernel),
-        Err(_error) => Err(OUT_OF_MEMORY),
-    }
-}
-
-/// The same of the kernel of the text with these lines.
-fn unassigned_behind(alloc: Global, lines: &str) -> Result<Option<Place>, u8> {
-    match kernel(alloc, lines) {
-        Ok(mut kernel) => unassigned_once_added(alloc, &mut kernel),
-        Err(number) => Err(number),
+/// Whether `i` is told to be unassigned behind its loop once that statement stands there.
+fn is_left(alloc: Global) -> bool {
+    const PLACE: Option<Place> = Some(Place { line: 3, column: 5 });
+    match parse(alloc, LOOP_OF_I.as_bytes()) {
+        Ok(mut kernel) => {
+            add_last(alloc, &mut kernel, assignment_of_i(alloc)).is_ok()
+                && is_told_under(alloc, &kernel, LOOP_OF_I, PLACE)
+        }
+        Err(_refusal) => false,
     }
 }
 
 #[test]
 fn loops_leave_what_was_known(rt: HostRuntime) {
-    let lines = "for (uint64_t i = 0; i < 8; i++) x = 1;";
-    assert!(rt; unassigned_behind(rt.alloc(), lines) == Ok(Some(at(3, 5))));
+    assert!(rt; is_left(rt.alloc()));
 }
 
-/// What is told of a parallel loop with four private variables.
-#[derive(Clone, Copy, PartialEq, Eq)]
-struct Seen {
-    line: Place,
-    is_in_fours_and_twos: bool,
-    private: [VarId; 4],
+/// What is wrong with the data of a kernel's parallel loops.
+fn fault_of(
+    alloc: Global,
+    kernel: &Kernel,
+    directives: &Directives,
+    lines: &LineClauses,
+) -> Option<DataFault> {
+    classify(alloc, kernel, directives, lines).err()
 }
 
-/// What is told of a parallel loop with one reduction and one lastprivate variable.
-#[derive(Clone, Copy, PartialEq, Eq)]
-struct Leaving {
-    line: Place,
-    reduction: Reduction,
-    last: VarId,
-}
-
-/// What is told of the parallel loops of a text: what is wrong with their data, or else the only one, or the lines of two.
-#[derive(Clone, Copy, PartialEq, Eq)]
-struct Loops {
-    fault: Option<DataFault>,
-    only: Option<Seen>,
-    leaving: Option<Leaving>,
-    lines: Option<[u32; 2]>,
-}
-
-/// Whether a directive has chunks of 4 iterations and 2 collapsed loops.
-fn is_in_fours_and_twos(directive: ParallelFor) -> bool {
-    match &directive.schedule {
-        Some(Schedule::Dynamic(size)) => {
-            size.get() == 4 && directive.collapse == AssociatedLoops::new(2)
-        }
-        _ => false,
-    }
-}
-
-/// The only one of some parallel loops, where it has four private variables.
-fn only(loops: &[ParallelLoop]) -> Option<Seen> {
-    let [found] = loops else {
-        return None;
-    };
-    let [first, second, third, fourth] = found.private.as_slice() else {
-        return None;
-    };
-    Some(Seen {
-        line: found.line,
-        is_in_fours_and_twos: is_in_fours_and_twos(found.directive),
-        private: [*first, *second, *third, *fourth],
-    })
-}
-
-/// The only one of some parallel loops, where it has one reduction and one lastprivate variable.
-fn only_leaving(loops: &[ParallelLoop]) -> Option<Leaving> {
-    let [found] = loops else {
-        return None;
-    };
-    let [reduction] = found.roles.reductions.as_slice() else {
-        return None;
-    };
-    let [last] = found.roles.lasts.as_slice() else {
-        return None;
-    };
-    Some(Leaving {
-        line: found.line,
-        reduction: *reduction,
-        last: *last,
-    })
-}
-
-/// The lines of two parallel loops.
-fn two_lines(loops: &[ParallelLoop]) -> Option<[u32; 2]> {
-    match loops {
-        [first, second] => Some([first.line.line, second.line.line]),
-        _ => None,
-    }
-}
-
-/// What is told of the parallel loops of a kernel.
-fn data_of(alloc: Global, kernel: &Kernel, directives: &Directives, lines: &LineClauses) -> Loops {
-    match classify(alloc, kernel, directives, lines) {
-        Ok(loops) => Loops {
-            fault: None,
-            only: only(loops.as_slice()),
-            leaving: only_leaving(loops.as_slice()),
-            lines: two_lines(loops.as_slice()),
-        },
-        Err(fault) => Loops {
-            fault: Some(fault),
-            only: None,
-            leaving: None,
-            lines: None,
-        },
-    }
-}
-
-/// The same with the clauses of its directive lines.
-fn data_by(alloc: Global, kernel: &Kernel, directives: &Directives) -> Result<Loops, u8> {
-    match attach_clauses(alloc, kernel, directives) {
-        Ok(lines) => Ok(data_of(alloc, kernel, directives, &lines)),
-        Err(number) => Err(number),
-    }
-}
-
-/// The same with the directive lines of its text.
-fn data_under(alloc: Global, kernel: &Kernel, text: &str) -> Result<Loops, u8> {
-    match Directives::read(alloc, text.as_bytes()) {
-        Ok(directives) => data_by(alloc, kernel, &directives),
-        Err(_error) => Err(OUT_OF_MEMORY),
-    }
-}
-
-/// The same of a text, or the number of its refusal.
-fn data_in(alloc: Global, text: &str) -> Result<Loops, u8> {
-    match parse_text(alloc, text) {
-        Ok(kernel) => data_under(alloc, &kernel, text),
-        Err(number) => Err(number),
-    }
-}
-
-/// The same of the text with these lines.
-fn data(alloc: Global, lines: &str) -> Result<Loops, u8> {
-    match text(alloc, lines) {
-        Ok(text) => data_in(alloc, text.as_str()),
-        Err(_error) => Err(OUT_OF_MEMORY),
-    }
-}
-
-/// What is wrong with the data of the parallel loops of the text with these lines.
-fn data_fault(alloc: Global, lines: &str) -> Result<Option<DataFault>, u8> {
-    match data(alloc, lines) {
-        Ok(data) => Ok(data.fault),
-        Err(number) => Err(number),
-    }
-}
-
-/// The first of some rows of lines of which something else is told.
-fn first_other_data<'r>(alloc: Global, rows: &[(&'r str, Option<DataFault>)]) -> Option<&'r str> {
-    for (text, expected) in rows {
-        if data_fault(alloc, text) != Ok(*expected) {
-            return Some(*text);
+impl Expected for Option<DataFault> {
+    fn is_told(self, alloc: Global, kernel: &Kernel, directives: &Directives) -> bool {
+        match attach(alloc, kernel, directives) {
+            Ok(lines) => fault_of(alloc, kernel, directives, &lines) == self,
+            Err(_refusal) => false,
         }
     }
-    None
 }
 
 #[test]
@@ -529,73 +354,122 @@ fn data_of_parallel_loops(rt: HostRuntime) {
             })),
         ),
     ];
-    no_other(&rt, first_other_data(rt.alloc(), ROWS));
+    all_told(&rt, rt.alloc(), ROWS);
 }
 
-/// The only parallel loop of the text with these lines.
-fn only_loop(alloc: Global, lines: &str) -> Result<Option<Seen>, u8> {
-    match data(alloc, lines) {
-        Ok(data) => Ok(data.only),
-        Err(number) => Err(number),
+/// The parallel loops of a kernel.
+#[derive(Clone, Copy)]
+enum Loops {
+    /// One on line 4 with chunks of 4 iterations, 2 collapsed loops and these private variables.
+    Private(&'static [VarId]),
+    /// One on line 4 with one variable that is reduced and one that is lastprivate.
+    Leaving(Reduction, VarId),
+    /// Two, on these lines.
+    Lines([u32; 2]),
+}
+
+/// Whether a directive has chunks of 4 iterations and 2 collapsed loops.
+fn is_in_fours_and_twos(directive: ParallelFor) -> bool {
+    match &directive.schedule {
+        Some(Schedule::Dynamic(size)) => {
+            size.get() == 4 && directive.collapse == AssociatedLoops::new(2)
+        }
+        _ => false,
     }
 }
 
-/// Collapsed loops on the line 4 with a chunk size, and a local and a loop in them.
-const COLLAPSED: &str = "
+/// Whether variables that leave something behind a loop are these.
+fn are_leaving(roles: &LoopRoles, reduction: Reduction, last: VarId) -> bool {
+    match (roles.reductions.as_slice(), roles.lasts.as_slice()) {
+        ([found], [variable]) => *found == reduction && *variable == last,
+        _ => false,
+    }
+}
 
-#pragma omp parallel for schedule(dynamic, 4) collapse(2)
-for (uint64_t i = 0; i < 8; i++)
-for (uint64_t j = 0; j < 8; j++) {
-uint64_t y;
-for (uint64_t k = 0; k < 8; k++) A[i] = 1;
-}";
+/// Whether parallel loops are these.
+fn are_loops(found: &[ParallelLoop], loops: Loops) -> bool {
+    const LINE: Place = Place { line: 4, column: 1 };
+    match (found, loops) {
+        ([only], Loops::Private(variables)) => {
+            only.line == LINE
+                && is_in_fours_and_twos(only.directive)
+                && only.private.as_slice() == variables
+        }
+        ([only], Loops::Leaving(reduction, last)) => {
+            only.line == LINE && are_leaving(&only.roles, reduction, last)
+        }
+        ([first, second], Loops::Lines(lines)) => [first.line.line, second.line.line] == lines,
+        _ => false,
+    }
+}
+
+/// Whether those of a kernel are.
+fn are_classified(
+    alloc: Global,
+    kernel: &Kernel,
+    directives: &Directives,
+    lines: &LineClauses,
+    loops: Loops,
+) -> bool {
+    match classify(alloc, kernel, directives, lines) {
+        Ok(found) => are_loops(found.as_slice(), loops),
+        Err(_fault) => false,
+    }
+}
+
+impl Expected for Loops {
+    fn is_told(self, alloc: Global, kernel: &Kernel, directives: &Directives) -> bool {
+        match attach(alloc, kernel, directives) {
+            Ok(lines) => are_classified(alloc, kernel, directives, &lines, self),
+            Err(_refusal) => false,
+        }
+    }
+}
 
 #[test]
 fn loops_and_locals_are_private(rt: HostRuntime) {
-    let expected = Seen {
-        line: at(4, 1),
-        is_in_fours_and_twos: true,
-        private: [I, J, VarId(6), VarId(7)],
-    };
-    assert!(rt; only_loop(rt.alloc(), COLLAPSED) == Ok(Some(expected)));
+    const ROWS: &[(&str, Loops)] = &[(
+        "\n\n#pragma omp parallel for schedule(dynamic, 4) collapse(2)\nfor (uint64_t i = 0; i < 8; i++)\nfor (uint64_t j = 0; j < 8; j++) {\nuint64_t y;\nfor (uint64_t k = 0; k < 8; k++) A[i] = 1;\n}",
+        Loops::Private(&[I, J, VarId(6), VarId(7)]),
+    )];
+    all_told(&rt, rt.alloc(), ROWS);
 }
-
-/// The only parallel loop of the text with these lines, where it has one reduction and one lastprivate variable.
-fn only_with_roles(alloc: Global, lines: &str) -> Result<Option<Leaving>, u8> {
-    match data(alloc, lines) {
-        Ok(data) => Ok(data.leaving),
-        Err(number) => Err(number),
-    }
-}
-
-/// A loop on the line 4 with a scalar of each role.
-const ROLES: &str = "uint64_t y;
-
-#pragma omp parallel for reduction(+: s) lastprivate(x) private(y)
-for (uint64_t i = 0; i < 8; i++) { y = i; x = y; s += x; }";
 
 #[test]
 fn loops_are_listed_with_their_roles(rt: HostRuntime) {
-    let expected = Leaving {
-        line: at(4, 1),
-        reduction: Reduction {
-            variable: S,
-            operator: ReductionOperator::Sum,
-        },
-        last: X,
+    const SUM: Reduction = Reduction {
+        variable: S,
+        operator: ReductionOperator::Sum,
     };
-    assert!(rt; only_with_roles(rt.alloc(), ROLES) == Ok(Some(expected)));
+    const ROWS: &[(&str, Loops)] = &[(
+        "uint64_t y;\n\n#pragma omp parallel for reduction(+: s) lastprivate(x) private(y)\nfor (uint64_t i = 0; i < 8; i++) { y = i; x = y; s += x; }",
+        Loops::Leaving(SUM, X),
+    )];
+    all_told(&rt, rt.alloc(), ROWS);
 }
+
+#[test]
+fn parallel_loops_come_in_the_order_of_the_text(rt: HostRuntime) {
+    const ROWS: &[(&str, Loops)] = &[(
+        "#pragma omp parallel for\nfor (uint64_t i = 0; i < 8; i++) A[i] = 1;\n#pragma omp parallel for schedule(dynamic, 4) collapse(2)\nfor (uint64_t i = 0; i < 8; i++)\nfor (uint64_t j = 0; j < 8; j++) {\nuint64_t y;\nfor (uint64_t k = 0; k < 8; k++) A[i] = 1;\n}",
+        Loops::Lines([2, 4]),
+    )];
+    all_told(&rt, rt.alloc(), ROWS);
+}
+
+/// What is wrong with a kernel's data where its line 2 has the clauses `reduction(+: s) lastprivate(s)`, which no text can have.
+#[derive(Clone, Copy)]
+struct SecondRole(DataFault);
 
 /// `s`, named on line 2.
 fn named_s(column: u32) -> Named {
     Named {
         variable: S,
-        place: at(2, column),
+        place: Place { line: 2, column },
     }
 }
 
-/// The clauses `reduction(+: s) lastprivate(s)` of the line 2, where `s` stands at the columns 39 and 54: no text has them.
+/// These clauses, where `s` stands at the columns 39 and 54.
 fn two_roles(alloc: Global) -> Result<LineClauses, AllocError> {
     let reduced = vec![in alloc; named_s(39)]?;
     let lasts = vec![in alloc; named_s(54)]?;
@@ -607,60 +481,28 @@ fn two_roles(alloc: Global) -> Result<LineClauses, AllocError> {
     Ok(lines)
 }
 
-/// What is wrong with the data of a kernel's parallel loops, with these clauses.
-fn fault_of_two_roles(alloc: Global, kernel: &Kernel) -> Result<Option<DataFault>, u8> {
-    let Ok(directives) = Directives::read(alloc, PLAIN_LOOP.as_bytes()) else {
-        return Err(OUT_OF_MEMORY);
-    };
-    match two_roles(alloc) {
-        Ok(lines) => Ok(data_of(alloc, kernel, &directives, &lines).fault),
-        Err(_error) => Err(OUT_OF_MEMORY),
-    }
-}
-
-/// A parallel loop on the line 2.
-const PLAIN_LOOP: &str =
-    "uint64_t A[8]; uint64_t B[2][3]; uint64_t s; void kernel(void) { uint64_t x;
-#pragma omp parallel for
-for (uint64_t i = 0; i < 8; i++) A[i] = 1;
-}
-";
-
-/// The same of the kernel of that text.
-fn fault_of_two(alloc: Global) -> Result<Option<DataFault>, u8> {
-    match parse_text(alloc, PLAIN_LOOP) {
-        Ok(kernel) => fault_of_two_roles(alloc, &kernel),
-        Err(number) => Err(number),
+impl Expected for SecondRole {
+    fn is_told(self, alloc: Global, kernel: &Kernel, directives: &Directives) -> bool {
+        match two_roles(alloc) {
+            Ok(lines) => fault_of(alloc, kernel, directives, &lines) == Some(self.0),
+            Err(_error) => false,
+        }
     }
 }
 
 #[test]
 fn a_reduction_variable_has_no_second_role(rt: HostRuntime) {
-    assert!(rt; fault_of_two(rt.alloc()) == Ok(Some(DataFault::Reduced(at(2, 39)))));
+    const ROWS: &[(&str, SecondRole)] = &[(
+        "#pragma omp parallel for\nfor (uint64_t i = 0; i < 8; i++) A[i] = 1;",
+        SecondRole(DataFault::Reduced(Place {
+            line: 2,
+            column: 39,
+        })),
+    )];
+    all_told(&rt, rt.alloc(), ROWS);
 }
 
-/// The lines of the two parallel loops of the text with these lines.
-fn lines_of_two(alloc: Global, lines: &str) -> Result<Option<[u32; 2]>, u8> {
-    match data(alloc, lines) {
-        Ok(data) => Ok(data.lines),
-        Err(number) => Err(number),
-    }
-}
-
-/// Two parallel loops, on the lines 2 and 4.
-const TWO_LOOPS: &str = "#pragma omp parallel for
-for (uint64_t i = 0; i < 8; i++) A[i] = 1;
-#pragma omp parallel for schedule(dynamic, 4) collapse(2)
-for (uint64_t i = 0; i < 8; i++)
-for (uint64_t j = 0; j < 8; j++) {
-uint64_t y;
-for (uint64_t k = 0; k < 8; k++) A[i] = 1;
-}";
-
-#[test]
-fn parallel_loops_come_in_the_order_of_the_text(rt: HostRuntime) {
-    assert!(rt; lines_of_two(rt.alloc(), TWO_LOOPS) == Ok(Some([2, 4])));
-}
+const HERE: Place = Place { line: 1, column: 9 };
 
 /// The number of the refusal that tells a fault.
 fn number(fault: DataFault) -> u8 {
@@ -669,10 +511,10 @@ fn number(fault: DataFault) -> u8 {
 
 #[test]
 fn faults_have_their_refusals(rt: HostRuntime) {
-    assert!(rt; number(DataFault::Written(at(1, 9))) == 14);
-    assert!(rt; number(DataFault::Copied(at(1, 9))) == 15);
-    assert!(rt; number(DataFault::Unassigned(at(1, 9))) == 15);
-    assert!(rt; number(DataFault::LastUnassigned(at(1, 9))) == 15);
-    assert!(rt; number(DataFault::Reduced(at(1, 9))) == 16);
+    assert!(rt; number(DataFault::Written(HERE)) == 14);
+    assert!(rt; number(DataFault::Copied(HERE)) == 15);
+    assert!(rt; number(DataFault::Unassigned(HERE)) == 15);
+    assert!(rt; number(DataFault::LastUnassigned(HERE)) == 15);
+    assert!(rt; number(DataFault::Reduced(HERE)) == 16);
     assert!(rt; number(DataFault::OutOfMemory) == 23);
 }

@@ -22,4 +22,6 @@ mod nest_space_rows;
 #[cfg(test)]
 mod texts;
 #[cfg(test)]
+mod told;
+#[cfg(test)]
 mod waves_rows;

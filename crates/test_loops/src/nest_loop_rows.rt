@@ -1,13 +1,15 @@
 //! Loops that are entered, and the first faults of others.
 
-use crate::texts::{I, J, at, kernel, last_statement, nest_of, no_other};
+use crate::texts::{EIGHT_LOOPS, I, J, NINE_LOOPS, last_statement};
+use crate::told::{Expected, all_told};
 use affine::VarBox;
 use affine_expr::Fault;
 use ktree::{Kernel, Place, Stmt, VarId};
 use nest_loop::*;
+use pragma::Directives;
 use std::alloc::Global;
 
-/// How many loops are one directly in the other, and the numbers that the innermost's variable has.
+/// How many loops the last statement of a kernel is, one directly in the other, and the numbers that the innermost's variable has.
 type Entered = Result<(usize, i64, i64), Fault>;
 
 /// The variable of a loop, which is entered, or else of the innermost of those that stand one directly in the other.
@@ -22,33 +24,21 @@ fn innermost(alloc: Global, statement: &Stmt, bounds: &mut VarBox) -> Result<Var
     }
 }
 
-/// How many loops a kernel's last statement is, one directly in the other, and the numbers that the innermost's variable has.
-fn enter_innermost(alloc: Global, kernel: &Kernel) -> Entered {
-    let Some(statement) = last_statement(kernel) else {
-        return Err(Fault::OutOfMemory);
-    };
+/// How many loops a statement is, and those numbers.
+fn enter_innermost(alloc: Global, statement: &Stmt) -> Entered {
     let mut bounds = VarBox::new(alloc);
     let variable = innermost(alloc, statement, &mut bounds)?;
     let interval = bounds.interval(variable);
     Ok((bounds.len(), interval.least, interval.greatest))
 }
 
-/// The same of the text with these lines; `OutOfMemory` stands for the refusal of the text too.
-fn inside(alloc: Global, lines: &str) -> Entered {
-    match kernel(alloc, lines) {
-        Ok(kernel) => enter_innermost(alloc, &kernel),
-        Err(_number) => Err(Fault::OutOfMemory),
-    }
-}
-
-/// The first of some rows of lines of which something else is told.
-fn first_other<'r>(alloc: Global, rows: &[(&'r str, Entered)]) -> Option<&'r str> {
-    for (text, expected) in rows {
-        if inside(alloc, text) != *expected {
-            return Some(*text);
+impl Expected for Entered {
+    fn is_told(self, alloc: Global, kernel: &Kernel, _directives: &Directives) -> bool {
+        match last_statement(kernel) {
+            Some(statement) => enter_innermost(alloc, statement) == self,
+            None => false,
         }
     }
-    None
 }
 
 #[test]
@@ -109,80 +99,71 @@ fn loops(rt: HostRuntime) {
             Err(Fault::NotCanonical(Place { line: 2, column: 1 })),
         ),
     ];
-    no_other(&rt, first_other(rt.alloc(), ROWS));
-}
-
-/// Whether the loop that a kernel's last statement is assigns its variable in its body.
-fn assigns_own(kernel: &Kernel) -> Option<bool> {
-    match last_statement(kernel) {
-        Some(Stmt::For(head, body)) => Some(assigns(head.variable, body)),
-        _ => None,
-    }
-}
-
-/// The same of the text with these lines.
-fn body_assigns(alloc: Global, lines: &str) -> Option<bool> {
-    match kernel(alloc, lines) {
-        Ok(kernel) => assigns_own(&kernel),
-        Err(_number) => None,
-    }
-}
-
-/// The first of some rows of lines whose loop's body assigns its variable, or does not, against what is said there.
-fn first_other_body<'r>(alloc: Global, rows: &[(&'r str, bool)]) -> Option<&'r str> {
-    for (text, expected) in rows {
-        if body_assigns(alloc, text) != Some(*expected) {
-            return Some(*text);
-        }
-    }
-    None
-}
-
-#[test]
-fn bodies(rt: HostRuntime) {
-    const OTHER: &str = "for (uint64_t i = 0; i < 8; i++) { x = 0; }";
-    const OWN: &str = "for (uint64_t i = 0; i < 8; i++) { i = 0; }";
-    const BODIES: &[(&str, bool)] = &[(OTHER, false), (OWN, true)];
-    no_other(&rt, first_other_body(rt.alloc(), BODIES));
-}
-
-/// What is known inside of so many loops, one in the other.
-fn inside_nest(alloc: Global, count: u32) -> Entered {
-    match nest_of(alloc, count) {
-        Ok(lines) => inside(alloc, lines.as_str()),
-        Err(_error) => Err(Fault::OutOfMemory),
-    }
+    all_told(&rt, rt.alloc(), ROWS);
 }
 
 #[test]
 fn depths(rt: HostRuntime) {
-    let ninth = Err(Fault::Limit(at(10, 1)));
-    assert!(rt; inside_nest(rt.alloc(), 8) == Ok((8, 0, 1)));
-    assert!(rt; inside_nest(rt.alloc(), 9) == ninth);
+    const ROWS: &[(&str, Entered)] = &[
+        (EIGHT_LOOPS, Ok((8, 0, 1))),
+        (
+            NINE_LOOPS,
+            Err(Fault::Limit(Place {
+                line: 10,
+                column: 1,
+            })),
+        ),
+    ];
+    all_told(&rt, rt.alloc(), ROWS);
 }
 
-/// What the loop that a kernel's last statement is does behind each turn, as a step of `i` and as one of `j`.
-fn strides(kernel: &Kernel) -> Option<[Option<Stride>; 2]> {
-    match last_statement(kernel) {
-        Some(Stmt::For(head, _)) => Some([stride_of(I, &head.step), stride_of(J, &head.step)]),
-        _ => None,
-    }
+/// What is told of the loop that the last statement of a kernel is.
+#[derive(Clone, Copy)]
+enum LoopFact {
+    /// Whether it assigns its variable in its body.
+    AssignsOwn(bool),
+    /// What it does behind each turn, as a step of `i` and as one of `j`.
+    Steps(Option<Stride>, Option<Stride>),
 }
 
-/// The same of the text with these lines.
-fn steps_of(alloc: Global, lines: &str) -> Option<[Option<Stride>; 2]> {
-    match kernel(alloc, lines) {
-        Ok(kernel) => strides(&kernel),
-        Err(_number) => None,
+impl Expected for LoopFact {
+    fn is_told(self, _alloc: Global, kernel: &Kernel, _directives: &Directives) -> bool {
+        let Some(Stmt::For(head, body)) = last_statement(kernel) else {
+            return false;
+        };
+        match self {
+            LoopFact::AssignsOwn(assigned) => assigns(head.variable, body) == assigned,
+            LoopFact::Steps(i, j) => {
+                stride_of(I, &head.step) == i && stride_of(J, &head.step) == j
+            }
+        }
     }
 }
 
 #[test]
+fn bodies(rt: HostRuntime) {
+    const ROWS: &[(&str, LoopFact)] = &[
+        (
+            "for (uint64_t i = 0; i < 8; i++) { x = 0; }",
+            LoopFact::AssignsOwn(false),
+        ),
+        (
+            "for (uint64_t i = 0; i < 8; i++) { i = 0; }",
+            LoopFact::AssignsOwn(true),
+        ),
+    ];
+    all_told(&rt, rt.alloc(), ROWS);
+}
+
+#[test]
 fn steps(rt: HostRuntime) {
-    let rising = Stride {
+    const RISING: Stride = Stride {
         direction: Direction::Rising,
         by: 3,
     };
-    let lines = "for (uint64_t i = 0; i < 8; i = i + 3) { }";
-    assert!(rt; steps_of(rt.alloc(), lines) == Some([Some(rising), None]));
+    const ROWS: &[(&str, LoopFact)] = &[(
+        "for (uint64_t i = 0; i < 8; i = i + 3) { }",
+        LoopFact::Steps(Some(RISING), None),
+    )];
+    all_told(&rt, rt.alloc(), ROWS);
 }

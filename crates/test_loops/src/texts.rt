@@ -1,10 +1,8 @@
 //! Texts with arrays `A` of 8 and `B` of 2 times 3 elements and a scalar `s` at file scope, which are the variables 0 to 2,
 //! and a local `x`, the variable 3. The variables that the given lines declare have the numbers from 4 on.
 
-use cparse::parse;
 use ktree::{Item, Kernel, NamePlaces, Place, Stmt, VarId};
 use std::alloc::{AllocError, Global};
-use std::process::Abort;
 
 /// The array `A`.
 pub(crate) const A: VarId = VarId(0);
@@ -20,50 +18,11 @@ pub(crate) const I: VarId = VarId(4);
 /// The second.
 pub(crate) const J: VarId = VarId(5);
 
-/// The number of the refusal by want of memory.
-pub(crate) const OUT_OF_MEMORY: u8 = 23;
-
-/// A place in a text; the given lines begin at line 2.
-pub(crate) fn at(line: u32, column: u32) -> Place {
-    Place { line, column }
-}
-
-/// The text with these lines.
+/// The text with these lines, which begin at line 2.
 pub(crate) fn text(alloc: Global, lines: &str) -> Result<String, AllocError> {
     format!(in alloc;
         "uint64_t A[8]; uint64_t B[2][3]; uint64_t s; void kernel(void) {{ uint64_t x;\n{lines}\n}}\n"
     )
-}
-
-/// The kernel of a text, or the number of its refusal.
-pub(crate) fn parse_text(alloc: Global, text: &str) -> Result<Kernel, u8> {
-    match parse(alloc, text.as_bytes()) {
-        Ok(kernel) => Ok(kernel),
-        Err(refusal) => Err(refusal.number()),
-    }
-}
-
-/// That of the text with these lines.
-pub(crate) fn kernel(alloc: Global, lines: &str) -> Result<Kernel, u8> {
-    match text(alloc, lines) {
-        Ok(text) => parse_text(alloc, text.as_str()),
-        Err(_error) => Err(OUT_OF_MEMORY),
-    }
-}
-
-/// Puts one more statement behind those of a kernel.
-pub(crate) fn add_last(alloc: Global, kernel: &mut Kernel, last: Stmt) -> Result<(), AllocError> {
-    let last = Box::new(alloc, last)?;
-    kernel.body.push(Item::Statement(last))?;
-    Ok(())
-}
-
-/// A name at a place, without subscripts.
-pub(crate) fn name(alloc: Global, place: Place) -> NamePlaces {
-    NamePlaces {
-        name: place,
-        subscripts: Vec::new(alloc),
-    }
 }
 
 /// The last statement of a kernel.
@@ -74,17 +33,40 @@ pub(crate) fn last_statement(kernel: &Kernel) -> Option<&Stmt> {
     }
 }
 
-/// So many loops, one in the other, each on a line of its own.
-pub(crate) fn nest_of(alloc: Global, count: u32) -> Result<String, AllocError> {
-    let mut lines = String::new(alloc);
-    for at in 0..count {
-        writeln!(lines, "for (uint64_t i{at} = 0; i{at} < 2; i{at}++)")?;
-    }
-    lines.push_str("{ }")?;
-    Ok(lines)
+/// Puts one more statement behind those of a kernel.
+pub(crate) fn add_last(alloc: Global, kernel: &mut Kernel, last: Stmt) -> Result<(), AllocError> {
+    let last = Box::new(alloc, last)?;
+    kernel.body.push(Item::Statement(last))?;
+    Ok(())
 }
 
-/// Ends a test where there is a row of which something else is told, and names it.
-pub(crate) fn no_other(rt: &impl Abort, other: Option<&str>) {
-    assert_eq!(rt; other, None);
+/// A name on line 3, without subscripts.
+pub(crate) fn name(alloc: Global, column: u32) -> NamePlaces {
+    NamePlaces {
+        name: Place { line: 3, column },
+        subscripts: Vec::new(alloc),
+    }
 }
+
+/// Eight loops, one in the other, each on a line of its own.
+pub(crate) const EIGHT_LOOPS: &str = "for (uint64_t i0 = 0; i0 < 2; i0++)
+for (uint64_t i1 = 0; i1 < 2; i1++)
+for (uint64_t i2 = 0; i2 < 2; i2++)
+for (uint64_t i3 = 0; i3 < 2; i3++)
+for (uint64_t i4 = 0; i4 < 2; i4++)
+for (uint64_t i5 = 0; i5 < 2; i5++)
+for (uint64_t i6 = 0; i6 < 2; i6++)
+for (uint64_t i7 = 0; i7 < 2; i7++)
+{ }";
+
+/// Nine of them.
+pub(crate) const NINE_LOOPS: &str = "for (uint64_t i0 = 0; i0 < 2; i0++)
+for (uint64_t i1 = 0; i1 < 2; i1++)
+for (uint64_t i2 = 0; i2 < 2; i2++)
+for (uint64_t i3 = 0; i3 < 2; i3++)
+for (uint64_t i4 = 0; i4 < 2; i4++)
+for (uint64_t i5 = 0; i5 < 2; i5++)
+for (uint64_t i6 = 0; i6 < 2; i6++)
+for (uint64_t i7 = 0; i7 < 2; i7++)
+for (uint64_t i8 = 0; i8 < 2; i8++)
+{ }";
