@@ -37,7 +37,7 @@ fn in_block(block: &Block) -> Count {
         Block::Then(a, b) => plus(in_block(a), in_block(b)),
         Block::If(_, a, b) => plus(in_block(a), in_block(b)),
         Block::Loop(_, body) => in_block(body),
-        Block::Rises(rising) if rising.limit != 0 => in_ops(&rising.ops),
+        Block::Counts(counted) if counted.limit != 0 => in_ops(&counted.ops),
         _ => (0, 0),
     }
 }

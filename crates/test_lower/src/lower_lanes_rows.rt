@@ -115,7 +115,7 @@ fn sums_and_nests_run(rt: HostRuntime) {
     no_other(&rt, first_other(rt.alloc(), ROWS));
 }
 
-/// Choices, locals of a turn, loops that do not turn or fall, and a scalar that turns hand on.
+/// Choices, locals of a turn, loops that do not turn, and a scalar that turns hand on.
 #[test]
 fn choices_and_locals_run(rt: HostRuntime) {
     const ROWS: &[(&str, u64)] = &[
@@ -260,6 +260,64 @@ fn numbers_and_variables_run(rt: HostRuntime) {
         (
             "for (uint64_t i = 7; i < 20000; i++) { A[i - 7] = B[i]; } s = A[500];",
             10272973489289058537,
+        ),
+    ];
+    no_other(&rt, first_other(rt.alloc(), ROWS));
+}
+
+/// Loops that fall, to above an end and to the end itself, by one and by more: of every length about those of blocks, with turns apart by one, by less
+/// than a block and by more, inside one another, into sums and least numbers, and ones that never turn, begin at the greatest number, or change their
+/// end, their step or their variable.
+#[test]
+fn loops_that_fall_run(rt: HostRuntime) {
+    const ROWS: &[(&str, u64)] = &[
+        (
+            "for (uint64_t i = 19999; i > 0; i--) { A[i] = A[i] * 3 + i; }",
+            615590796928213936,
+        ),
+        (
+            "for (uint64_t i = 19999; i > 0; i--) { A[i] = A[i - 1] + B[i]; } for (uint64_t i = 19998; i >= 1; i--) { B[i] = B[i + 1] + A[i]; }",
+            6422927947842773469,
+        ),
+        (
+            "for (uint64_t i = 15; i > 0; i--) { A[i] += B[i]; } for (uint64_t i = 16; i > 0; i--) { A[i] ^= B[i]; } for (uint64_t i = 17; i >= 1; i--) { A[i] -= B[i]; } for (uint64_t i = 273; i >= 17; i--) { A[i] *= B[i]; } for (uint64_t i = 16385; i > 0; i--) { B[i] |= A[i]; }",
+            7901497004486314628,
+        ),
+        (
+            "for (uint64_t i = 19999; i > 4; i -= 3) { A[i] = B[i / 2] + i; B[i] = A[19999 - i]; } for (uint64_t i = 18000; i >= 3; i -= 4) { A[i] ^= B[i - 3] << 2; }",
+            15128225296444751145,
+        ),
+        (
+            "for (uint64_t i = 19000; i > 300; i--) { A[i] = A[i - 255] + 7; } for (uint64_t i = 19000; i > 300; i--) { B[i] = B[i + 255] + 7; } for (uint64_t i = 19000; i > 300; i--) { A[i] = A[i + 256] + 7; }",
+            7445957915392939160,
+        ),
+        (
+            "for (uint64_t i = 10000; i > 0; i--) { A[2 * i - 1] = A[i] + 1; B[20000 - 2 * i] = B[i] + i; }",
+            543223525957843010,
+        ),
+        (
+            "for (uint64_t i = 19999; i > 0; i--) { s += A[i] * B[i]; } for (uint64_t i = 300; i > 0; i--) { s = s * 31 + A[i]; } for (uint64_t i = 299; i >= 1; i--) { s ^= B[i] / 3; }",
+            9107197816447915582,
+        ),
+        (
+            "for (uint64_t i = 59; i > 0; i--) { for (uint64_t j = 69; j > i; j--) { M[i][j] += N[i][j] * 3; N[i][j - 1] = M[i - 1][j]; } for (uint64_t j = 60; j >= i; j--) { M[j - 1][i] = N[i][j] + M[i][j]; } }",
+            9610582215699748092,
+        ),
+        (
+            "for (uint64_t i = 19999; i > 0; i--) { A[i] = A[i] % 7 < 3 ? B[i] / 3 : ~A[i] % 1000; if (B[i] > 5000) { B[i] = 5000; } }",
+            3837482047892115359,
+        ),
+        (
+            "for (uint64_t i = 3; i > 3; i--) { A[i] = 1; } for (uint64_t i = 2; i >= 3; i--) { A[i] = 2; } for (uint64_t i = 40; i >= 40; i--) { A[i] = 3; } for (uint64_t i = 18446744073709551615ull; i > 18446744073709551515ull; i--) { A[18446744073709551615ull - i] = i; } for (uint64_t i = 18446744073709551615ull; i >= 18446744073709551515ull; i -= 2) { B[18446744073709551615ull - i] ^= i; }",
+            5043956021836922789,
+        ),
+        (
+            "uint64_t m = 9; for (uint64_t i = 500; i > m; i--) { m = m + (i > 400 ? 1 : 0); A[i] = m; } for (uint64_t i = 500; i >= m; i -= m) { B[i] = i; } for (uint64_t i = 90; i > i / 2 + 20; i--) { A[i] = i + 5; } for (uint64_t i = 600; i > 0; i--) { i = i - A[i] % 2 * (i > 1 ? 1 : 0); B[i] = 7; }",
+            2153300029020954083,
+        ),
+        (
+            "uint64_t t = 5; for (uint64_t i = 19999; i > 0; i--) { t = t + A[i]; } s = t; t = ~0ull; for (uint64_t i = 19999; i >= 1; i--) { if (B[i] < t) { t = B[i]; } } A[0] = t; for (uint64_t i = 19999; i > 9; i--) { A[i] = A[i] + A[9000]; }",
+            17210325353239476871,
         ),
     ];
     no_other(&rt, first_other(rt.alloc(), ROWS));
