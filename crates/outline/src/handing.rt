@@ -12,7 +12,7 @@ ghost use Rattle.outline.specs.Handed.{ListsLocals, IsBodyOf, IsBodyCode, AreIte
 ghost use Rattle.outline.specs.Waved.{IsFixedInWaves};
 
 use crate::compiling::{Target, compile_items, compile_statement};
-use crate::grain::{is_run_alone, is_written_alone};
+use crate::grain::is_run_alone;
 use crate::scanning::{carries_one, input_among, scan_at};
 use crate::shape::{TeamLoop, Way};
 use crate::spots::lower_roles;
@@ -246,9 +246,6 @@ fn way_of(
         return waves_of(alloc, depth, &nest.distances, lowered);
     }
     if !carries(&parallel.roles) {
-        if is_written_alone(alloc, lowered) {
-            return Ok(Way::Alone);
-        }
         return Ok(Way::Chunks);
     }
     if !carries_one(&parallel.roles, stmt) {
