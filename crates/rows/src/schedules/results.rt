@@ -192,4 +192,52 @@ pub(super) const ROWS: &[Row] = &[
         loops: "for (uint64_t i = 0; i < 3; i++) for (uint64_t j = 1; j < 3; j++) { y *= j + r; z = z && A[i] != r; x = i * j + r; }\ns += y; t = t * 2 + z;\n}",
         output: "A = 3 10 6 2 9 5 1 8\ns = 2986357464\nt = 6\nx = 7\n",
     },
+    Row {
+        before: "uint64_t r = 5;",
+        clause: "reduction(+: r)",
+        loops: "for (uint64_t i = 0; i < 400; i++) { r += i * i; }\ns = r;",
+        output: "A = 0 0 0 0 0 0 0 0\ns = 21253405\nt = 0\nx = 0\n",
+    },
+    Row {
+        before: "uint64_t r = 3;",
+        clause: "reduction(*: r)",
+        loops: "for (uint64_t i = 400; i > 0; i--) { r = r * (i | 1); }\ns = r;",
+        output: "A = 0 0 0 0 0 0 0 0\ns = 17030765408817820435\nt = 0\nx = 0\n",
+    },
+    Row {
+        before: "uint64_t r = 77;",
+        clause: "reduction(^: r)",
+        loops: "for (uint64_t i = 1; i < 1000; i += 3) { r ^= i << 3; }\ns = r;",
+        output: "A = 0 0 0 0 0 0 0 0\ns = 2597\nt = 0\nx = 0\n",
+    },
+    Row {
+        before: "uint64_t r = 9;",
+        clause: "reduction(max: r)",
+        loops: "for (uint64_t i = 0; i < 700; i++) { if (i * 7919 % 1009 > r) r = i * 7919 % 1009; }\ns = r;",
+        output: "A = 0 0 0 0 0 0 0 0\ns = 1007\nt = 0\nx = 0\n",
+    },
+    Row {
+        before: "uint64_t r = 600;",
+        clause: "reduction(min: r)",
+        loops: "for (uint64_t i = 699; i >= 100; i--) { if ((i ^ 341) < r) { r = i ^ 341; } }\ns = r;",
+        output: "A = 0 0 0 0 0 0 0 0\ns = 0\nt = 0\nx = 0\n",
+    },
+    Row {
+        before: "uint64_t r = 1;\nuint64_t q = 2;",
+        clause: "reduction(+: r) reduction(|: q)",
+        loops: "for (uint64_t i = 0; i < 30; i++) { for (uint64_t j = 0; j < 100; j++) { r += i * j; q |= j << i; } }\ns = r;\nt = q;",
+        output: "A = 0 0 0 0 0 0 0 0\ns = 2153251\nt = 68719476735\nx = 0\n",
+    },
+    Row {
+        before: "uint64_t r = 8;",
+        clause: "collapse(2) reduction(+: r)",
+        loops: "for (uint64_t i = 0; i < 9; i++) { for (uint64_t j = 200; j > 50; j -= 2) { r += i * 1000 + j; } }\ns = r;",
+        output: "A = 0 0 0 0 0 0 0 0\ns = 2785058\nt = 0\nx = 0\n",
+    },
+    Row {
+        before: "uint64_t r = 0;",
+        clause: "reduction(+: r) lastprivate(x)",
+        loops: "for (uint64_t i = 0; i < 500; i++) { x = i * 3; r += x ^ 5; }\ns = r;",
+        output: "A = 0 0 0 0 0 0 0 0\ns = 374258\nt = 0\nx = 1497\n",
+    },
 ];
