@@ -122,6 +122,19 @@ void kernel(void)
     }
 }
 """
+LOCAL = """uint64_t A[1000000];
+uint64_t r;
+
+void kernel(void)
+{
+    uint64_t s = 0;
+    #pragma omp parallel for reduction(+: s)
+    for (uint64_t i = 0; i < 1000000; i++) {
+        s += A[i] * (i + 1);
+    }
+    r += s;
+}
+"""
 PREFIX = """uint64_t A[16000000];
 uint64_t s;
 
@@ -239,6 +252,7 @@ KERNELS = {
     "sum": reduced("+", "s += A[i] + i;"),
     "max": reduced("max", "if ((A[i] ^ i) > s) s = (A[i] ^ i);"),
     "xor": reduced("^", "s ^= A[i] + i;"),
+    "local": LOCAL,
     "prefix": PREFIX,
     "distance": DISTANCE,
     "sweep": SWEEP,
@@ -248,7 +262,7 @@ COMPUTED = ("hash", "product")
 LIGHT = ("distance", "sweep")
 
 # how often the body of a kernel runs where its loops are timed alone
-OFTEN = {"hash": 3, "product": 9, "map": 17, "sum": 9, "max": 9, "xor": 9, "prefix": 5, "distance": 9, "sweep": 9, "relax": 5}
+OFTEN = {"hash": 3, "product": 9, "map": 17, "sum": 9, "max": 9, "xor": 9, "local": 65, "prefix": 5, "distance": 9, "sweep": 9, "relax": 5}
 
 
 class Runner:
