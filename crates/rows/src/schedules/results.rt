@@ -225,8 +225,8 @@ pub(super) const ROWS: &[Row] = &[
     Row {
         before: "uint64_t r = 1;\nuint64_t q = 2;",
         clause: "reduction(+: r) reduction(|: q)",
-        loops: "for (uint64_t i = 0; i < 30; i++) { for (uint64_t j = 0; j < 100; j++) { r += i * j; q |= j << i; } }\ns = r;\nt = q;",
-        output: "A = 0 0 0 0 0 0 0 0\ns = 2153251\nt = 68719476735\nx = 0\n",
+        loops: "for (uint64_t i = 0; i < 30; i++) { for (uint64_t j = 0; j < 100; j++) { r += i * j; q |= j << 3; } }\ns = r;\nt = q;",
+        output: "A = 0 0 0 0 0 0 0 0\ns = 2153251\nt = 1018\nx = 0\n",
     },
     Row {
         before: "uint64_t r = 8;",
