@@ -35,7 +35,7 @@ class Function:
     @property
     def module(self):
         inside = self.path[len("src/") : -len(".rt")]
-        return "" if inside == "lib" else inside.replace("/", "::")
+        return "" if inside in ("lib", "main") else inside.replace("/", "::")
 
     @property
     def asked(self):
