@@ -1,7 +1,7 @@
 #!/usr/bin/env python3
 """Tries the edits that must fail, crates/NAME/edits/*.edit: wrong bodies of functions, in the form of `rt must-fail`.
 
-    python3 tests/edits.py                 of all crates but those whose edits were refused as they stand
+    python3 tests/edits.py                 of all crates but those that were refused as they stand
     python3 tests/edits.py --all           of all crates
     python3 tests/edits.py NAME..          of these crates
     python3 tests/edits.py --read          says in a second which edits, of edits/ and of must-fail/, cannot be applied, and tries none
@@ -13,8 +13,9 @@ that is not shown, it is tried alone. Unless --proved says that it was, the crat
 kept work. It prints a line for each crate, the edits that are not refused, and their number; the status is 0 where each edit
 is refused.
 
-Whether an edit is refused depends on the sources of its crate, on what it rests on of the crates below (tests/promises.py) and on the
-toolchain alone. Where all edits of a crate were refused, the sum of these is noted in tests/edits.tried, and they are tried anew once it differs.
+Whether an edit is refused depends on the sources of its crate, on what these and the crate's edits rest on of the crates below
+(tests/promises.py), on the toolchain and on itself. Where those of a crate that were tried were refused, tests/edits.tried notes the sum of the
+first three, and of each edit; it is tried anew once one of these differs.
 """
 import glob
 import hashlib
@@ -37,7 +38,8 @@ from promises import as_laid_out, rested_on
 JOBS = ["--jobs", "1"]
 TRIED = os.path.join(TOP, "tests", "edits.tried")
 SWITCHES = ("--read", "--all", "--proved")
-PARTS = ("src", "specs", "proofs", "edits")
+PARTS = ("src", "specs", "proofs", "edits", "must-fail")
+EDITS = PARTS[3:]
 NAMES_ALONE = "only because a proof file names what the edit took away"
 
 
@@ -142,7 +144,7 @@ def libraries_are_there(rt, crates):
 
 
 class Tried:
-    """The crates whose edits were all refused, each with the sum of what that rests on, as the file of this name has them."""
+    """The edits that were refused, as the file of this name has them: for each crate the sum of what that rests on, and sums of the edits."""
 
     def __init__(self, rt):
         self.lock, self.rt = threading.Lock(), rt
@@ -152,30 +154,36 @@ class Tried:
     def noted():
         """The lines of the file."""
         rows = read(TRIED).splitlines() if os.path.isfile(TRIED) else []
-        return dict(row.split() for row in rows)
+        return {name: (sum, set(edits)) for name, sum, *edits in map(str.split, rows)}
 
     def sum_of(self, crate):
-        """The sum of a crate's sources with its edits, of what it rests on of the crates below, and of the toolchain's logic, which its kits share."""
+        """The sum of a crate's sources, of what it rests on with its edits of the crates below, and of the toolchain's logic, which its kits share."""
         found = hashlib.sha256(read(f"{self.rt.KIT}/KIT-ID").partition(" ")[2].strip().encode())
         files = [it for part in PARTS for it in sorted(glob.glob(f"{crate.folder}/{part}/**/*.*", recursive=True))]
         own = {os.path.relpath(it, crate.folder): read(it) for it in files}
         below = rested_on(own, [(it.name, it.folder) for it in crate.below()])
-        laid_out = {file: as_laid_out(text) if file.endswith(".rt") else text for file, text in own.items()}
+        laid_out = {file: as_laid_out(text) if file.endswith(".rt") else text for file, text in own.items() if file.split("/")[0] not in EDITS}
         for text in [*(f"{file}\n{text}\n" for file, text in laid_out.items()), *below]:
             found.update(text.encode())
         return found.hexdigest()[:32]
 
-    def has(self, crate):
-        return self.sums.get(crate.name) == self.sum_of(crate)
+    @staticmethod
+    def sum_of_edit(file):
+        return hashlib.sha256(f"{os.path.basename(file)}\n{read(file)}".encode()).hexdigest()[:8]
 
-    def note(self, crate, known):
-        """Notes that all edits of a crate are refused, and gives its sum; crates that have none any more are dropped."""
+    def left(self, crate, files):
+        """Those of a crate's edits that were not refused as they stand."""
+        sum, edits = self.sums.get(crate.name, ("", set()))
+        return [it for it in files if self.sum_of_edit(it) not in edits] if sum == self.sum_of(crate) else files
+
+    def note(self, crate, files, known):
+        """Notes that these edits of a crate are refused, and gives the sum of what that rests on; crates that have none any more are dropped."""
         with self.lock:
-            self.sums = {**self.noted(), crate.name: self.sum_of(crate)}
-            rows = [f"{name} {sum}\n" for name, sum in sorted(self.sums.items()) if name in known]
+            self.sums = {**self.noted(), crate.name: (self.sum_of(crate), {self.sum_of_edit(it) for it in files})}
+            rows = [" ".join([name, sum, *sorted(edits)]) + "\n" for name, (sum, edits) in sorted(self.sums.items()) if name in known]
             with open(TRIED, "w", encoding="utf-8") as it:
                 it.writelines(rows)
-            return self.sums[crate.name]
+            return self.sums[crate.name][0]
 
 
 def read_all(rt):
@@ -209,17 +217,17 @@ def main(words):
         files.setdefault(file.split("/")[-3], []).append(file)
     with_edits = [it for it in rt.rtlib.crates_below(TOP) if it.name in files and (not names or it.name in names)]
     tried = Tried(rt)
-    as_noted = [] if names or is_anew else [it for it in with_edits if tried.has(it)]
-    chosen = [it for it in with_edits if it not in as_noted]
+    left = {it.name: files[it.name] if names or is_anew else tried.left(it, files[it.name]) for it in with_edits}
+    chosen = [it for it in with_edits if left[it.name]]
     if not libraries_are_there(rt, chosen):
         sys.exit("edits: a library is not proved, so no edit was tried")
 
     def task(crate):
         begun = time.time()
-        failed, shown, checks = try_crate(rt, crate, files[crate.name], was_proved)
-        count = len(files[crate.name])
+        failed, shown, checks = try_crate(rt, crate, left[crate.name], was_proved)
+        count = len(left[crate.name])
         took = time.time() - begun
-        noted = "" if failed else f", noted as {tried.note(crate, files)}"
+        noted = "" if failed else f", noted as {tried.note(crate, files[crate.name], files)}"
         print(f"edits of {crate.name}: {count - len(failed)} of {count} refused, {shown} together, {checks} checks, {took:.0f} s{noted}", flush=True)
         return failed, count
 
@@ -229,7 +237,7 @@ def main(words):
         work[crate.name, "edits"] = ([], lines, rt.need(crate), lambda given, jobs, it=crate: task(it))
     done = rt.in_lanes(work).values()
     failed = [text for texts, _ in done for text in texts]
-    now, noted = sum(count for _, count in done), sum(len(files[it.name]) for it in as_noted)
+    now, noted = sum(count for _, count in done), sum(len(files[it.name]) - len(left[it.name]) for it in with_edits)
     wanted = len(every) if not names else sum(len(files.get(it, [])) for it in names)
     for text in failed:
         print(text)
