@@ -1,21 +1,25 @@
 -- How far a text is cut: any cut of it goes through here, and any cut of what is left makes one.
-use Rattle.std.specs.Prelude.{ℕ, suc, Bool, true, false, not, ◌==◌, ◌&&◌, ◌≡◌, ◌+◌, ◌-◌, ◌<◌, ◌≤◌, min, List, [], ◌∷◌, ◌++◌, Option, Some, None, length, take, drop}
+use Rattle.std.specs.Prelude.{ℕ, suc, Bool, true, false, not, ◌==◌, ◌&&◌, ◌≡◌, ◌+◌, ◌-◌, ◌<◌, ◌≤◌, min, List, [], ◌∷◌, ◌++◌, Option, Some, None, length, take, drop, All, IsAscii}
+use Rattle.std.specs.List.{list_all, AllByRecursion}
 use Rattle.std.proofs.Common.{cond, refl, sym, ap, ◌∙◌, subst, arith, add-one}
-use Rattle.std.proofs.lemmas.List.{drop-drop, append_assoc, append-nil, length-drop, drop_all, take_rest, map_push}
+use Rattle.std.proofs.lemmas.List.{drop-drop, append_assoc, append-nil, length-drop, length-take, length_push, drop_all, take_rest, map_push}
+use Rattle.std.proofs.lemmas.List.Elements.{All-from_recursion, All-take}
+use Rattle.std.proofs.lemmas.Str.Ascii.{IsAscii-nil, IsAscii-cons}
 use Rattle.std.proofs.Math.Seq.{take-add}
 use Rattle.semantics.specs.Source.Text.{starts_with, is_directive_line}
 use Rattle.semantics.specs.Source.Token as meant
-use Rattle.semantics.specs.Source.Cuts.{Stands, stops, is_line, header_of, Cuts, end}
-use Rattle.semantics.specs.Source.Spans.{Span, IsWholeLine, line_ends, IsAt, AreAt}
+use Rattle.semantics.specs.Source.Cuts.{Stands, word, is_letter, is_word_byte, is_name, stops, is_line, header_of, Cuts, end}
+use Rattle.semantics.specs.Source.Spans.{Span, spanned, IsWholeLine, line_ends, IsAt, AreAt}
 use Rattle.semantics.proofs.EraseTokenLaw.{first_of, second_of, true-is_not-false}
 use Rattle.ktree.specs.declared.place.Place.{Place}
 use Rattle.ctoken.specs.declared.piece.Piece as code
 use Rattle.ctoken.specs.declared.piece.Piece.TheVariants as found
 use Rattle.ctoken.specs.Pieces.{IsFront}
 use Rattle.ctoken.specs.declared.token.TokenKind.{TokenKind}
+use Rattle.ctoken.specs.declared.token.TokenKind.TheVariants as kinds
 use Rattle.ctoken.specs.declared.token.Token.{Token}
 use Rattle.ctoken.specs.Front.{Piece, Gap, Turn, Took, front}
-use Rattle.ctoken.specs.Meant.{IsKind, IsLineOf, StandsFor, StandFor, span_of, spans_of, CutSo}
+use Rattle.ctoken.specs.Meant.{IsKind, IsLineOf, StandsFor, StandFor, span_of, spans_of, CutSo, LiesIn, LieIn}
 use Rattle.ctoken.proofs.FrontLaw.{not_true, Next, next_at, into_next}
 use Rattle.ctoken.proofs.FrontSound.{IsRestOfLine, Placed, Gaps, Turns, Takes, Says, says}
 
@@ -24,11 +28,19 @@ pub record Reached (text : List ℕ) (tokens : List Token) (position line start 
   pub within : position ≤ length text
   pub from : start ≤ position
   pub few : line ≤ position + 1
+  pub count : length tokens ≤ position
   pub lines : line ≡ suc (line_ends (take position text))
   pub stand : StandFor tokens done
   pub sound : (ts : List meant.Token) → Cuts fresh line (drop position text) ts → Cuts true 1 text (done ++ ts)
   pub complete : (us : List meant.Token) → Cuts true 1 text us → (ts : List meant.Token) × (us ≡ done ++ ts) × Cuts fresh line (drop position text) ts
   pub placed : (ss : List Span) (ts : List meant.Token) → AreAt text position ss ts → AreAt text 0 (spans_of tokens ++ ss) (done ++ ts)
+
+-- bytes of words
+letter_ascii : (b : ℕ) → is_letter b ≡ true → b < 128
+letter_ascii b h = grind arith
+
+word_byte_ascii : (b : ℕ) → is_word_byte b ≡ true → b < 128
+word_byte_ascii b h = grind arith
 
 -- line ends
 line_ends-append : (a b : List ℕ) → line_ends (a ++ b) ≡ line_ends a + line_ends b
@@ -75,6 +87,7 @@ reached_gap {text} {tokens} {position} {line} {start} {fresh} k r e =
       within = let w = gap.within in let l = length-drop position text in let o = r.within in omega arith;
       from = let f = r.from in omega arith;
       few = let f = r.few in omega arith;
+      count = let c = r.count in omega arith;
       lines = same_line text position line k r.lines gap.line;
       stand = r.stand;
       sound = λ ts q. r.sound ts (gap.cuts ts (subst (λ v. Cuts false line v ts) (sym (drop-drop k position text)) q));
@@ -91,6 +104,7 @@ reached_turn {text} {tokens} {position} {line} {start} {fresh} r e =
       within = let w = ap length turn.begins in let l = length-drop position text in let o = r.within in omega arith;
       from = omega arith;
       few = let f = r.few in omega arith;
+      count = let c = r.count in omega arith;
       lines =
           let whole : line_ends (take (position + 1) text) ≡ line_ends (take position text ++ take 1 (drop position text)) = ap line_ends (take-add position 1 text) in
           let parts : line_ends (take position text ++ take 1 (drop position text)) ≡ line_ends (take position text) + line_ends (take 1 (drop position text)) = line_ends-append (take position text) (take 1 (drop position text)) in
@@ -186,6 +200,7 @@ pub reached_token : {text : List ℕ} {tokens : List Token} {position line start
 reached_token {text} {tokens} {position} {line} {start} {fresh} kind place lead k t r e is d =
     let took : Takes fresh line lead k (drop position text) t = says_at fresh line (drop position text) (Some (Took lead k t)) e in
     let behind_is : drop k (drop lead (drop position text)) ≡ drop (position + lead + k) text = ap (drop k) (drop-drop lead position text) ∙ drop-drop k (position + lead) text in
+    let some = (token_within text position line lead k t fresh r.within e).0 in
     let within : position + lead + k ≤ length text = (token_within text position line lead k t fresh r.within e).1 in
     let line_here : line ≡ suc (line_ends (take (position + lead) text)) =
     same_line text position line lead r.lines (line_before (take lead (drop position text)) (take k (drop lead (drop position text))) (ap is_line (sym (take-add lead k (drop position text))) ∙ took.line)) in
@@ -195,6 +210,7 @@ reached_token {text} {tokens} {position} {line} {start} {fresh} kind place lead 
       within = within;
       from = let f = r.from in omega arith;
       few = let f = r.few in omega arith;
+      count = let c = r.count in let l = length_push tokens (token_at kind (position + lead) k place) in omega arith;
       lines = same_line text position line (lead + k) r.lines took.line ∙ ap (λ m. suc (line_ends (take m text))) (let a : position + (lead + k) ≡ position + lead + k = omega arith in a);
       stand = stand_push tokens r.done (token_at kind (position + lead) k place) t r.stand (is, line_of_token line lead k place.line (drop position text) t took.placed d);
       sound = λ ts q. subst (Cuts true 1 text) (sym (append_assoc r.done (t ∷ []) ts)) (r.sound (t ∷ ts) (took.cuts ts (subst (λ v. Cuts false line v ts) (sym behind_is) q)));
@@ -223,6 +239,44 @@ reached_end {text} {tokens} {position} {line} r h = (
 pub reached_inside : {text : List ℕ} {tokens : List Token} {position line start : ℕ} → Reached text tokens position line start false → length text ≤ position → CutSo text tokens (Some (length text))
 reached_inside {text} {tokens} {position} {line} r h =
     (omega arith, λ us q. let w = r.complete us q in true-is_not-false (sym (into_next (subst (λ v. Cuts false line v w.0) (no_rest text position h) w.2)).0))
+
+-- what is cut so far lies in the text
+name_ascii : (w : List ℕ) → list_all is_word_byte w ≡ true → IsAscii w
+name_ascii [] h = IsAscii-nil
+name_ascii (b ∷ w) h = IsAscii-cons b w (word_byte_ascii b (first_of (is_word_byte b) _ h)) (name_ascii w (second_of (is_word_byte b) _ h))
+
+whole_name : (w : List ℕ) → is_name w ≡ true → IsAscii w
+whole_name [] h = IsAscii-nil
+whole_name (b ∷ w) h = IsAscii-cons b w (letter_ascii b (first_of (is_letter b) _ h)) (name_ascii w (second_of (is_letter b) _ h))
+
+stands_ascii : {w rest v : List ℕ} → Stands w rest (meant.Word v) → IsAscii w
+stands_ascii (word {w = w} h k) = whole_name w h
+
+word_ascii : (text : List ℕ) (t : Token) (m : meant.Token) → IsKind t.kind m → IsAt text (span_of t) m → t.kind ≡ kinds.Word → IsAscii (spanned text (span_of t))
+word_ascii text t (meant.Word w) k p e = stands_ascii p
+word_ascii text t (meant.IntegerConstant n s) k p e = absurd (subst (λ x. IsKind x (meant.IntegerConstant n s)) e k)
+word_ascii text t (meant.StringLiteral cs o) k p e = absurd (subst (λ x. IsKind x (meant.StringLiteral cs o)) e k)
+word_ascii text t (meant.Punctuator s) k p e = absurd (subst (λ x. IsKind x (meant.Punctuator s)) e k)
+word_ascii text t (meant.Header h) k p e = absurd (subst (λ x. IsKind x (meant.Header h)) e k)
+word_ascii text t (meant.Line n) k p e = absurd (subst (λ x. IsKind x (meant.Line n)) e k)
+
+each_lies : (text : List ℕ) (from : ℕ) (ts : List Token) (ms : List meant.Token) → StandFor ts ms → AreAt text from (spans_of ts) ms → AllByRecursion (LiesIn text) ts
+each_lies text from [] ms h p = tt
+each_lies text from (t ∷ ts) [] h p = absurd h
+each_lies text from (t ∷ ts) (m ∷ ms) h p =
+    (record { within = p.1; ascii = word_ascii text t m h.0.0 p.2 }, each_lies text (t.start + t.length) ts ms h.1 p.3)
+
+pub reached_lie : {text : List ℕ} {tokens : List Token} {position line start : ℕ} {fresh : Bool} → Reached text tokens position line start fresh → LieIn text tokens
+reached_lie {text} {tokens} {position} r =
+    record {
+      each = All-from_recursion (LiesIn text) tokens (each_lies text 0 tokens r.done r.stand
+          (subst (λ v. AreAt text 0 v r.done) (append-nil (spans_of tokens)) (subst (AreAt text 0 (spans_of tokens ++ [])) (append-nil r.done) (r.placed [] [] tt))));
+      count = let c = r.count in let w = r.within in omega arith;
+    }
+
+-- and so does a part of it from the front
+pub taken_lie : (text : List ℕ) (tokens : List Token) (n : ℕ) → LieIn text tokens → LieIn text (take n tokens)
+taken_lie text tokens n h = record { each = All-take (LiesIn text) n tokens h.each; count = let c = h.count in let l = length-take n tokens in omega arith }
 
 -- no token begins here
 pub reached_fault : {text : List ℕ} {tokens : List Token} {position line start : ℕ} {fresh : Bool} (at : ℕ) → Reached text tokens position line start fresh → position < length text

@@ -1,8 +1,8 @@
 -- What the code's tokens stand for.
-use Rattle.std.specs.Prelude.{ℕ, true, ◌≡◌, ◌<◌, ◌≤◌, ◌^◌, min, List, [], ◌∷◌, Option, Some, None, map, length}
+use Rattle.std.specs.Prelude.{ℕ, true, ◌≡◌, ◌<◌, ◌≤◌, ◌+◌, ◌^◌, min, List, [], ◌∷◌, Option, Some, None, map, length, All, IsAscii}
 use Rattle.std.specs.Option.{SomeIff}
 use Rattle.semantics.specs.Source.Token as meant
-use Rattle.semantics.specs.Source.Spans.{Span, AreAt}
+use Rattle.semantics.specs.Source.Spans.{Span, spanned, AreAt}
 use Rattle.semantics.specs.Source.Cuts.{Cuts, Tokens}
 use Rattle.ktree.specs.declared.refusal.Refusal.{Refusal}
 use Rattle.ktree.specs.declared.refusal.Refusal.TheVariants.{OutOfMemory, Syntax}
@@ -105,6 +105,16 @@ pub record AreTokensOf (text : List ℕ) (tokens : List Token) : Type 0 where
   pub cut : Tokens text meant
   pub stand : StandFor tokens meant
   pub placed : AreAt text 0 (spans_of tokens) meant
+
+-- a token lies in its text, and a word is ASCII
+pub record LiesIn (text : List ℕ) (t : Token) : Type 0 where
+  pub within : t.start + t.length ≤ length text
+  pub ascii : t.kind ≡ Word → IsAscii (spanned text (span_of t))
+
+-- tokens lie in their text, and are no more than its bytes
+pub record LieIn (text : List ℕ) (tokens : List Token) : Type 0 where
+  pub each : All (LiesIn text) tokens
+  pub count : length tokens ≤ length text
 
 -- no tokens make the text
 abbrev pub HasNoTokens : List ℕ → Type 0

@@ -1,7 +1,7 @@
 //! The cut of a text into tokens.
 
 ghost use Rattle.std.specs.Prelude.{◌≡◌, min, IfOk};
-ghost use Rattle.ctoken.specs.Meant.{CutSo};
+ghost use Rattle.ctoken.specs.Meant.{CutSo, LieIn};
 
 use crate::front::front;
 use crate::piece::Piece;
@@ -35,7 +35,8 @@ pub fn place(line: usize, column: usize) -> Place
 
 /// Cuts a text from its beginning.
 pub fn cut_text(alloc: Global, text: &[u8]) -> Result<Cut, AllocError>
-    ensures { IfOk result (λ cut. CutSo text.now cut.tokens.items cut.fault) }
+    ensures cut { IfOk result (λ cut. CutSo text.now cut.tokens.items cut.fault) }
+    ensures lie { IfOk result (λ cut. LieIn text.now cut.tokens.items) }
 {
     let mut tokens = Vec::new(alloc);
     let mut position = 0;

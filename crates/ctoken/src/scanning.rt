@@ -1,7 +1,7 @@
 //! A text's tokens, and where it is at fault.
 
 ghost use Rattle.std.specs.Prelude.{◌≡◌, ◌&&◌, IfOk, IfErr, MatchOption, is_none};
-ghost use Rattle.ctoken.specs.Meant.{AreTokensOf, HasNoTokens, RefusesText};
+ghost use Rattle.ctoken.specs.Meant.{AreTokensOf, LieIn, HasNoTokens, RefusesText};
 ghost use Rattle.ctoken.specs.Checks.{passes};
 
 use crate::check::{misplaced_include, missing_place, trigraph, unfit_byte};
@@ -60,8 +60,9 @@ fn count_before(tokens: &[Token], at: usize) -> usize {
 
 /// The tokens of a text by C11 5.1.1.2 and 6.4, up to its first fault.
 pub fn scan(alloc: Global, text: &[u8]) -> Result<Scanned, AllocError>
-    ensures { IfOk result (λ scanned. MatchOption scanned.fault
+    ensures cut { IfOk result (λ scanned. MatchOption scanned.fault
         (AreTokensOf text.now scanned.tokens) (λ place. HasNoTokens text.now)) }
+    ensures lie { IfOk result (λ scanned. LieIn text.now scanned.tokens) }
 {
     let Cut { mut tokens, fault } = cut_text(alloc, text)?;
     match earlier(fault, first_failure(text, tokens.as_slice())) {

@@ -1,5 +1,5 @@
 use Rattle.std.proofs.Common.{subst, arith}
-use Rattle.ctoken.proofs.CutSteps.{Reached, gap_step, turn_step, token_step, fault_step, reached_end, reached_inside}
+use Rattle.ctoken.proofs.CutSteps.{Reached, gap_step, turn_step, token_step, fault_step, reached_end, reached_inside, reached_lie}
 use Rattle.ctoken.proofs.cut.cut_text.Goals as goal
 use Rattle.ctoken.proofs.cut.cut_text.Goals.{then-fresh, else-fresh}
 
@@ -50,11 +50,17 @@ overflow_add-result c =
     let step = fault_step c.in-Err.at c.loop-position.invariant c.loop-position-test.true c.in-Err.ensures in
     omega (arith, step.0)
 
-pub returns-in-Err : goal.returns-in-Err
-returns-in-Err c = (fault_step c.in-Err.at c.loop-position.invariant c.loop-position-test.true c.in-Err.ensures).1
+pub returns-in-Err-clause-lie : goal.returns-in-Err-clause-lie
+returns-in-Err-clause-lie c = reached_lie c.loop-position.invariant
 
-pub returns : goal.returns
-returns c =
+pub returns-clause-lie : goal.returns-clause-lie
+returns-clause-lie c = reached_lie c.loop-position.invariant
+
+pub returns-in-Err-clause-cut : goal.returns-in-Err-clause-cut
+returns-in-Err-clause-cut c = (fault_step c.in-Err.at c.loop-position.invariant c.loop-position-test.true c.in-Err.ensures).1
+
+pub returns-clause-cut : goal.returns-clause-cut
+returns-clause-cut c =
     elim c.if-fresh.branch [
       | then-fresh w ↦ rw w.fault-is (reached_end (subst (Reached c.args.text.now c.loop-position.tokens.items c.loop-position.position c.loop-position.line c.loop-position.line_start) w.if-fresh.true c.loop-position.invariant) c.loop-position-test.false)
       | else-fresh w ↦ rw w.fault-is (reached_inside (subst (Reached c.args.text.now c.loop-position.tokens.items c.loop-position.position c.loop-position.line c.loop-position.line_start) w.if-fresh.false c.loop-position.invariant) c.loop-position-test.false)
