@@ -1,4 +1,5 @@
 pub mod WordLaw
+pub mod NameLemmas
 pub mod PunctuatorLemmas
 pub mod Loops
 pub mod Counts

@@ -1,6 +1,6 @@
 //! Names (OpenMP 5.2, 3.2.1; C11 6.4.2.1).
 
-ghost use Rattle.std.specs.Prelude.{◌≡◌, ◌&&◌, ℕ};
+ghost use Rattle.std.specs.Prelude.{◌≡◌, ◌&&◌, ℕ, true};
 ghost use Rattle.std.specs.List.{list_all};
 ghost use Rattle.semantics.specs.Source.Cuts.{is_word_byte, is_name};
 ghost use Rattle.semantics.specs.Directives.DirectiveGrammar.{words};
@@ -56,6 +56,17 @@ fn column_behind(place: Place, bytes: usize) -> Place {
     }
 }
 
+/// A name as a text, which it is since it is ASCII.
+fn spelled(word: &[u8]) -> &str
+    requires { is_name word.now ≡ true }
+    ensures { result.now ≡ word.now }
+{
+    let Ok(text) = str::from_utf8(word) else {
+        unreachable!();
+    };
+    text
+}
+
 /// The name that a word is, which stands at this place.
 pub fn name_in(alloc: Global, word: &[u8], place: Place) -> Result<Written, Unread>
     ensures { Gives name_of result (name_in word.now) }
@@ -63,10 +74,7 @@ pub fn name_in(alloc: Global, word: &[u8], place: Place) -> Result<Written, Unre
     if !is_name(word) {
         return Err(Unread::Malformed);
     }
-    // A name is ASCII, so that the error is never met.
-    let Ok(text) = str::from_utf8(word) else {
-        return Err(Unread::OutOfMemory);
-    };
+    let text = spelled(word);
     if is_reserved(text) {
         return Err(Unread::Malformed);
     }
