@@ -1,6 +1,6 @@
 //! Which texts are accepted.
 
-ghost use Rattle.std.specs.Prelude.{◌≡◌, ◌⊎◌, [], true, None, map, length, MatchOption, OnOk, IfOk, IfErr};
+ghost use Rattle.std.specs.Prelude.{◌≡◌, ◌≤◌, ◌^◌, ◌⊎◌, [], true, None, map, length, MatchOption, OnOk, IfOk, IfErr};
 ghost use Rattle.flow_clauses.specs.Fitting.{fit_clauses};
 ghost use Rattle.flow.specs.Roles.{data_known, privates_by, ItemsKeepRoles};
 ghost use Rattle.pragma_named.specs.Known.{kept, lines_known};
@@ -48,6 +48,7 @@ fn judge_lines(
     kernel: &Kernel,
     directives: &Directives,
 ) -> Result<LineClauses, Refusal>
+    requires few { length kernel.now.variables.items ≤ 2 ^ 20 }
     ensures attached { IfOk result (λ _. IsAttached directives.now (kernel_of kernel.now)
         (directives_of directives.now (kernel_of kernel.now))) }
     ensures clauses { IfOk result (λ lines. clauses_counted directives.now (kernel_of kernel.now)
@@ -405,6 +406,7 @@ fn accept_directed(
     directives: &Directives,
 ) -> Result<Checked, Refusal>
     requires reads { ReadsText text.now (kernel_of kernel) }
+    requires few { length kernel.variables.items ≤ 2 ^ 20 }
     requires lines { directives.now ≡ text.now }
     ensures is { IfOk result (IsOfKernel text.now (kernel_of kernel)) }
     ensures refusal { IfErr result (RefusesKernel text.now (kernel_of kernel)) }
@@ -422,7 +424,8 @@ fn accept_directed(
 
 // Accepts the kernel of a text, or refuses it.
 fn accept_kernel(alloc: Global, kernel: Kernel, text: &[u8]) -> Result<Checked, Refusal>
-    requires { ReadsText text.now (kernel_of kernel) }
+    requires reads { ReadsText text.now (kernel_of kernel) }
+    requires few { length kernel.variables.items ≤ 2 ^ 20 }
     ensures is { IfOk result (IsOfKernel text.now (kernel_of kernel)) }
     ensures refusal { IfErr result (RefusesKernel text.now (kernel_of kernel)) }
 {

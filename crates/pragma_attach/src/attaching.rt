@@ -1,6 +1,6 @@
 //! A kernel's directives, each at its place.
 
-ghost use Rattle.std.specs.Prelude.{◌≡◌, ◌⊎◌, ◌&&◌, ℕ, Some, is_none, IfOk, IfErr};
+ghost use Rattle.std.specs.Prelude.{◌≡◌, ◌≤◌, ◌^◌, ◌⊎◌, ◌&&◌, ℕ, length, Some, is_none, IfOk, IfErr};
 ghost use Rattle.semantics.specs.Directives.Annotated.{Directives as Those, clauses_at};
 ghost use Rattle.semantics.specs.Directives.Naming.{IsAttached};
 ghost use Rattle.ktree.specs.View.{kernel_of};
@@ -58,7 +58,8 @@ fn first_fault(placing: Option<Fault>, naming: Option<Place>) -> Option<Fault>
 
 /// Attaches the directives of a text to its kernel, and gives the clauses of each line over variables, exactly where that can be: each line is read, each construct stands where it may, each name in a
 /// clause is that of a visible variable, none stands twice in a directive's clauses, a `for` inside a `parallel` names only what is shared there, and under
-/// `default(none)` each variable from outside stands in a clause (OpenMP 5.2, 3.1, 5.1, 5.4, 10.1, 11.5 and 17; C11 6.2.1).
+/// `default(none)` each variable from outside stands in a clause (OpenMP 5.2, 3.1, 5.1, 5.4, 10.1, 11.5 and 17; C11 6.2.1). The kernel
+/// has at most 1,048,576 variables at file scope, as every text's has.
 ///
 /// # Errors
 ///
@@ -69,6 +70,7 @@ pub fn attach(
     kernel: &Kernel,
     directives: &Directives,
 ) -> Result<LineClauses, Refusal>
+    requires few { length kernel.now.variables.items ≤ 2 ^ 20 }
     ensures attached { IfOk result (λ _. IsAttached directives.now (kernel_of kernel.now)
         (directives_of directives.now (kernel_of kernel.now))) }
     ensures clauses { IfOk result (λ lines. (n : ℕ) → clauses_at (kernel_of kernel.now)

@@ -1,6 +1,6 @@
 //! The names in the clauses of a kernel's directive lines, each resolved by what is visible there (C11 6.2.1).
 
-ghost use Rattle.std.specs.Prelude.{◌≡◌, ◌∷◌, ◌++◌, ℕ, nat_eq, List, length, take, map, cond, string_bytes, Some, None, IsTrue, IfErr, OnOk};
+ghost use Rattle.std.specs.Prelude.{◌≡◌, ◌≤◌, ◌^◌, ◌∷◌, ◌++◌, ℕ, nat_eq, List, length, take, map, cond, string_bytes, Some, None, IsTrue, IfErr, OnOk};
 ghost use Rattle.semantics.specs.Tree.{Items};
 ghost use Rattle.semantics.specs.Source.Scope.{AVariable, Scope as Visible};
 ghost use Rattle.semantics.specs.Directives.Annotated.{clauses_of, clauses_there, lines_in, lines_among, lines_of};
@@ -263,7 +263,8 @@ pub(crate) fn kernel_names(
     directives: &Directives,
     table: &mut LineClauses,
 ) -> Result<(), Stop>
-    requires { (n : ℕ) → kept table.old n ≡ None }
+    requires empty { (n : ℕ) → kept table.old n ≡ None }
+    requires few { length kernel.now.variables.items ≤ 2 ^ 20 }
     ensures ok { OnOk result ((n : ℕ) → kept table.new n
         ≡ told directives.now (lines_of (kernel_of kernel.now)) n) }
     ensures err { IfErr result (λ stop. Blames stop ((n : ℕ)

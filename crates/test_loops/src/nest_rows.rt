@@ -1,5 +1,7 @@
 //! Kernels whose loops, nests and subscripts are looked at, and the first faults of others.
 
+ghost use Rattle.std.specs.Prelude.{◌≡◌};
+
 use crate::texts::{A, EIGHT_LOOPS, I, NINE_LOOPS, X, add_last, last_statement, name};
 use crate::told::{Expected, all_told, is_told_under};
 use affine::VarBox;
@@ -181,7 +183,9 @@ fn element_of_i(alloc: Global) -> Result<Target, AllocError> {
 }
 
 /// Puts `A[i] = 1;` on line 3 behind the statements of a kernel, where `i` is the variable of a loop before it, which no text can name there.
-fn add_assignment_at_i(alloc: Global, kernel: &mut Kernel) -> Result<(), AllocError> {
+fn add_assignment_at_i(alloc: Global, kernel: &mut Kernel) -> Result<(), AllocError>
+    ensures { kernel.new.variables ≡ kernel.old.variables }
+{
     let target = element_of_i(alloc)?;
     let value = Expr::Literal(1, Suffix::Bare);
     add_last(alloc, kernel, Stmt::Assign(target, Source::Number(value)))

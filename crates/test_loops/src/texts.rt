@@ -1,6 +1,8 @@
 //! Texts with arrays `A` of 8 and `B` of 2 times 3 elements and a scalar `s` at file scope, which are the variables 0 to 2,
 //! and a local `x`, the variable 3. The variables that the given lines declare have the numbers from 4 on.
 
+ghost use Rattle.std.specs.Prelude.{◌≡◌};
+
 use ktree::{Item, Kernel, NamePlaces, Place, Stmt, VarId};
 use std::alloc::{AllocError, Global};
 
@@ -34,7 +36,9 @@ pub(crate) fn last_statement(kernel: &Kernel) -> Option<&Stmt> {
 }
 
 /// Puts one more statement behind those of a kernel.
-pub(crate) fn add_last(alloc: Global, kernel: &mut Kernel, last: Stmt) -> Result<(), AllocError> {
+pub(crate) fn add_last(alloc: Global, kernel: &mut Kernel, last: Stmt) -> Result<(), AllocError>
+    ensures { kernel.new.variables ≡ kernel.old.variables }
+{
     let last = Box::new(alloc, last)?;
     kernel.body.push(Item::Statement(last))?;
     Ok(())

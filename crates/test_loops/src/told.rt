@@ -1,5 +1,7 @@
 //! Rows of lines and of what is to be told of the text with them.
 
+ghost use Rattle.std.specs.Prelude.{◌≤◌, ◌^◌, length};
+
 use crate::texts::text;
 use cparse::parse;
 use ktree::Kernel;
@@ -13,7 +15,8 @@ use std::process::Abort;
 /// What is to be told of a kernel with its directive lines.
 pub(crate) trait Expected: Copy {
     /// Whether it is told.
-    fn is_told(self, alloc: Global, kernel: &Kernel, directives: &Directives) -> bool;
+    fn is_told(self, alloc: Global, kernel: &Kernel, directives: &Directives) -> bool
+        requires few { length kernel.now.variables.items ≤ 2 ^ 20 };
 }
 
 /// Whether it is told of a kernel with the directive lines of its text.
@@ -22,7 +25,9 @@ pub(crate) fn is_told_under<E: Expected>(
     kernel: &Kernel,
     text: &str,
     expected: E,
-) -> bool {
+) -> bool
+    requires few { length kernel.now.variables.items ≤ 2 ^ 20 }
+{
     match Directives::read(alloc, text.as_bytes()) {
         Ok(directives) => expected.is_told(alloc, kernel, &directives),
         Err(_refusal) => false,
@@ -65,7 +70,9 @@ pub(crate) fn clauses_of(
     alloc: Global,
     kernel: &Kernel,
     directives: &Directives,
-) -> Option<LineClauses> {
+) -> Option<LineClauses>
+    requires few { length kernel.now.variables.items ≤ 2 ^ 20 }
+{
     let mut lines = attach(alloc, kernel, directives).ok()?;
     match count_clauses(alloc, directives, kernel, &mut lines) {
         Ok(()) => Some(lines),

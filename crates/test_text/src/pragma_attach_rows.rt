@@ -1,5 +1,7 @@
 //! Directives that are attached to their kernel, and what is told of those that are not.
 
+ghost use Rattle.std.specs.Prelude.{◌≤◌, ◌^◌, length};
+
 use crate::outcome::no_other;
 use cparse::parse;
 use ktree::{Kernel, Place, Refusal};
@@ -16,7 +18,9 @@ fn number_with_place(refusal: &Refusal) -> Option<(u8, Place)> {
 }
 
 /// What is told of a kernel with these directive lines; none where they are attached.
-fn told_of(alloc: Global, kernel: &Kernel, directives: &Directives) -> Option<(u8, Place)> {
+fn told_of(alloc: Global, kernel: &Kernel, directives: &Directives) -> Option<(u8, Place)>
+    requires few { length kernel.now.variables.items ≤ 2 ^ 20 }
+{
     match attach(alloc, kernel, directives) {
         Ok(_) => None,
         Err(refusal) => number_with_place(&refusal),
@@ -24,7 +28,9 @@ fn told_of(alloc: Global, kernel: &Kernel, directives: &Directives) -> Option<(u
 }
 
 /// What is told of the directives of a kernel in a text.
-fn told_among(alloc: Global, kernel: &Kernel, text: &[u8]) -> Option<(u8, Place)> {
+fn told_among(alloc: Global, kernel: &Kernel, text: &[u8]) -> Option<(u8, Place)>
+    requires few { length kernel.now.variables.items ≤ 2 ^ 20 }
+{
     match Directives::read(alloc, text) {
         Ok(directives) => told_of(alloc, kernel, &directives),
         Err(refusal) => number_with_place(&refusal),

@@ -14,7 +14,7 @@ returns-clause-ok c =
     let scope = names_of c.in-Ok.scope in
     let items = items_of c.as_slice.result.now in
     let lines : lines_among scope items ≡ lines_of tree = ap (λ s. lines_among s items) c.in-Ok.ensures ∙ ap (λ is. lines_among (file_scope tree) (items_of is)) c.as_slice.ensures.value in
-    on_ok_weaker c.items_names.result (λ h. all_told c.args.directives.now (kept c.args.table.now) (kept c.items_names.new.table) (lines_among scope items) (lines_of tree) c.requires lines (h [])) c.items_names.ensures.ok
+    on_ok_weaker c.items_names.result (λ h. all_told c.args.directives.now (kept c.args.table.now) (kept c.items_names.new.table) (lines_among scope items) (lines_of tree) c.requires.empty lines (h [])) c.items_names.ensures.ok
 
 pub returns-clause-err : goal.returns-clause-err
 returns-clause-err c =
@@ -22,4 +22,4 @@ returns-clause-err c =
     let scope = names_of c.in-Ok.scope in
     let items = items_of c.as_slice.result.now in
     let lines : lines_among scope items ≡ lines_of tree = ap (λ s. lines_among s items) c.in-Ok.ensures ∙ ap (λ is. lines_among (file_scope tree) (items_of is)) c.as_slice.ensures.value in
-    err_weaker c.items_names.result (one_missed c.args.directives.now (kept c.args.table.now) (lines_among scope items) (lines_of tree) c.requires lines) c.items_names.ensures.err
+    err_weaker c.items_names.result (one_missed c.args.directives.now (kept c.args.table.now) (lines_among scope items) (lines_of tree) c.requires.empty lines) c.items_names.ensures.err
