@@ -63,8 +63,8 @@ pub fn are_fixed(alloc: Global, loops: &[Canonical]) -> bool
 /// The space of these loops at these values, where they have one.
 fn space_at(alloc: Global, loops: &[Canonical], values: &[Value]) -> Space
     requires modest { AreModest values.now }
-    requires there { ((ts : List Turns) → AreRunsOf loops.now (given values.now) ts → IsSpace ts → ⊥)
-        → ⊥ }
+    requires there { ((ts : List Turns)
+        → AreRunsOf loops.now (given values.now) ts → IsSpace ts → ⊥) → ⊥ }
     ensures { AreRunsOf loops.now (given values.now) result }
 {
     match Space::at(alloc, loops, values) {
