@@ -4,3 +4,4 @@ pub mod ConstantLemmas
 pub mod ExtentLemmas
 pub mod ParseLaw
 pub mod KernelLemmas
+pub mod Leaving

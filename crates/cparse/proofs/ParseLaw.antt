@@ -1,9 +1,9 @@
 -- What reading a text's tokens says of the text.
-use Rattle.std.specs.Prelude.{ℕ, true, false, ◌≡◌, ◌<◌, ◌≤◌, ◌^◌, List, length, Some}
-use Rattle.std.proofs.Common.{sym, ap, ◌∙◌, subst, arith}
+use Rattle.std.specs.Prelude.{ℕ, suc, true, false, ◌≡◌, ◌<◌, ◌≤◌, ◌^◌, List, [], ◌∷◌, length, Some}
+use Rattle.std.proofs.Common.{refl, sym, ap, ◌∙◌, subst, arith}
 use Rattle.semantics.specs.Tree.{Kernel}
 use Rattle.semantics.specs.Source.Grammar.{Reads, ReadsText}
-use Rattle.ctoken.specs.Meant.{AreTokensOf, HasNoTokens}
+use Rattle.ctoken.specs.Meant.{AreTokensOf, LieIn, HasNoTokens}
 use Rattle.ctoken.specs.declared.token.Token.{Token}
 use Rattle.ctoken.proofs.FrontLaw.{one_cut}
 use Rattle.cparse_grammar.specs.TextReader.{Whole, kernel}
@@ -70,3 +70,17 @@ pub one_tree_each : (text : List ℕ) (a b : Kernel) → ReadsText text a → Re
 one_tree_each text a b r q =
     let same : r.tokens ≡ q.tokens = one_cut r.cut.cut q.cut.cut in
     one_tree q.tokens a b (subst (λ ts. Reads ts a) same r.reads) q.reads
+
+-- a text of so many bytes has no more tokens
+lexed_many : (text : List ℕ) (ts : List Token) (ls : List Lexeme) → AreLexed text ts ls → length ls ≡ length ts
+lexed_many text [] [] l = refl
+lexed_many text [] (x ∷ ls) l = absurd l
+lexed_many text (t ∷ ts) [] l = absurd l
+lexed_many text (t ∷ ts) (x ∷ ls) l = ap suc (lexed_many text ts ls l.1)
+
+pub few_lexed : (text : List ℕ) (ts : List Token) (ms : List Lexeme) {ls : List Lexeme} → ls ≡ ms → AreLexed text ts ms → LieIn text ts → length text ≤ 2 ^ 20 → length ls ≤ 2 ^ 20
+few_lexed text ts ms {ls} e l h small =
+    let many : length ms ≡ length ts = lexed_many text ts ms l in
+    let same : length ls ≡ length ms = ap (λ xs. length xs) e in
+    let few : length ts ≤ length text = h.count in
+    omega arith

@@ -1,9 +1,10 @@
 -- The tokens of a text with their bytes at hand.
-use Rattle.std.specs.Prelude.{ℕ, zero, suc, Bool, true, false, ◌==◌, ◌≡◌, ◌<◌, ◌≤◌, ◌+◌, ◌^◌, min, nat_le, List, [], ◌∷◌, ◌++◌, length, take, slice_index_or, Option, Some, None}
+use Rattle.std.specs.Prelude.{ℕ, zero, suc, Bool, true, false, ◌==◌, ◌≡◌, ◌<◌, ◌≤◌, ◌+◌, ◌^◌, min, nat_le, List, [], ◌∷◌, ◌++◌, length, take, slice_index_or, Option, Some, None, IsAscii, IsUtf8}
 use Rattle.std.specs.Option.{SomeIff}
 use Rattle.std.proofs.Common.{inl, inr, cond, rules, refl, sym, ap, ◌∙◌, subst, arith}
 use Rattle.std.proofs.lemmas.Bool.{leb-true, leb-false}
 use Rattle.std.proofs.lemmas.List.{length-take}
+use Rattle.std.proofs.lemmas.Str.{IsUtf8-from_ascii}
 use Rattle.semantics.specs.Source.Token as meant
 use Rattle.semantics.specs.Source.Spans.{spanned, line_ends, IsAt, AreAt}
 use Rattle.semantics.specs.Source.Cuts.{Stands, word}
@@ -22,6 +23,10 @@ use Rattle.cparse_cursor.specs.declared.lexeme.Lexeme.{Lexeme}
 use Rattle.cparse_cursor.specs.Lexemes.{value_of, kind_of, tokens_of}
 use Rattle.cparse_grammar.specs.SameTokens.{IsSame, AreSame}
 use Rattle.cparse.specs.LexedTokens.{IsKindOf, IsLexed, AreLexed}
+
+-- a word can be spelled
+pub ascii_is_utf8 : (bs : List ℕ) → IsAscii bs → IsUtf8 bs
+ascii_is_utf8 bs h = IsUtf8-from_ascii bs h
 
 -- one token more of a front
 front_more : (ts : List Token) (i : ℕ) (d : Token) → i < length ts → take (suc i) ts ≡ take i ts ++ slice_index_or ts i d ∷ []

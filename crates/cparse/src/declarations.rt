@@ -1,6 +1,6 @@
 //! File-scope declarations (C11 6.7).
 
-ghost use Rattle.std.specs.Prelude.{ℕ, ◌≡◌, length, Some, IfOk};
+ghost use Rattle.std.specs.Prelude.{ℕ, ◌≡◌, ◌+◌, ◌<◌, ◌≤◌, ◌^◌, length, Some, IfOk};
 ghost use Rattle.semantics.specs.Source.Scope.{with_constants};
 ghost use Rattle.ktree.specs.View.{declaration_of};
 ghost use Rattle.cparse_grammar.specs.TextReader.{enumeration, variable, declarations};
@@ -100,8 +100,11 @@ fn with_enumeration<'s, 't>(
     row: FileScope<'s, 't>,
     tokens: &'s [Lexeme<'t>],
 ) -> Result<FileScope<'s, 't>, Stop>
-    ensures { Gives (decls_of (names_of scope.new)) result
+    ensures step { Gives (decls_of (names_of scope.new)) result
         (enum_step (decls_of (names_of scope.old) row.entry) (tokens_of tokens.now)) }
+    ensures as_many { IfOk result (λ s. length s.variables.items
+        ≡ length row.entry.variables.items) }
+    ensures fewer { IfOk result (λ s. length s.rest.now ≤ length tokens.now) }
 {
     let FileScope {
         constants: mut all,
@@ -130,8 +133,12 @@ fn with_variable<'s, 't>(
     row: FileScope<'s, 't>,
     tokens: &'s [Lexeme<'t>],
 ) -> Result<FileScope<'s, 't>, Stop>
-    ensures { Gives (decls_of (names_of scope.new)) result
+    requires { length row.variables.items < 2 ^ 20 }
+    ensures step { Gives (decls_of (names_of scope.new)) result
         (variable_step (decls_of (names_of scope.old) row.entry) (tokens_of tokens.now)) }
+    ensures one_more { IfOk result (λ s. length s.variables.items
+        ≡ length row.entry.variables.items + 1) }
+    ensures fewer { IfOk result (λ s. length s.rest.now ≤ length tokens.now) }
 {
     let Setting { alloc, end } = setting;
     let FileScope {
@@ -146,11 +153,8 @@ fn with_variable<'s, 't>(
         lengths,
         place,
     } = tree;
-    // A text has fewer variables than numbers of them.
-    let Ok(number) = u32::try_from(variables.len()) else {
-        return Err(Stop::Memory);
-    };
-    add(scope, name, Entity::Variable(VarId(number), lengths.len()))?;
+    let number = VarId(variables.len() as u32);
+    add(scope, name, Entity::Variable(number, lengths.len()))?;
     variables.push(Declaration {
         name: String::from_str(alloc, name)?,
         lengths,
@@ -164,15 +168,18 @@ fn with_variable<'s, 't>(
     })
 }
 
-/// The declarations from the front on; what they declare is visible behind them.
+/// The declarations from the front of at most 2^20 tokens on; what they declare is visible behind them.
 pub fn declarations<'s, 't>(
     setting: Setting,
     scope: &mut Scope<'t>,
     tokens: &'s [Lexeme<'t>],
 ) -> Result<FileScope<'s, 't>, Stop>
-    ensures { Gives (decls_of (names_of scope.new)) result
+    requires { length tokens.now ≤ 2 ^ 20 }
+    ensures declared { Gives (decls_of (names_of scope.new)) result
         (declarations (length (tokens_of tokens.now)) (names_of scope.old) 0
         (tokens_of tokens.now)) }
+    ensures few { IfOk result (λ s. length s.variables.items ≤ 2 ^ 20) }
+    ensures fewer { IfOk result (λ s. length s.rest.now ≤ length tokens.now) }
 {
     let alloc = setting.alloc;
     let mut row = FileScope {

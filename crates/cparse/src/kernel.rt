@@ -1,7 +1,6 @@
 //! All tokens of a text (C11 6.9).
 
-ghost use Rattle.std.specs.Prelude.{◌≡◌, length, IfOk, IfErr};
-ghost use Rattle.cparse_cursor.specs.declared.stop.Stop.TheVariants.{Memory};
+ghost use Rattle.std.specs.Prelude.{◌≤◌, ◌^◌, length, IfOk};
 ghost use Rattle.cparse_grammar.specs.TextReader.{kernel};
 ghost use Rattle.cparse.specs.DeclarationViews.{whole_of};
 ghost use Rattle.cparse_cursor.specs.Lexemes.{tokens_of};
@@ -19,8 +18,8 @@ use cparse_phrase::tally::Tally;
 use cparse_phrase::told::Told;
 use cparse_stmt::statement::items;
 use ctoken::Symbol;
+use ktree::Kernel;
 use ktree::limits::{OPEN_AT_ONCE, STATEMENTS};
-use ktree::{Declaration, Kernel};
 
 /// A text's tree, and the first fault in it.
 #[derive(Drop)]
@@ -29,18 +28,12 @@ pub struct Whole {
     pub fault: Option<Fault>,
 }
 
-/// The number of the variable behind these. A text has fewer variables than numbers of them, so that the error is never met.
-fn next_number(variables: &[Declaration]) -> Result<u32, Stop>
-    ensures next { IfOk result (λ next. next ≡ length variables.now) }
-    ensures err { IfErr result (λ stop. stop ≡ Memory) }
-{
-    u32::try_from(variables.len()).map_err(|_| Stop::Memory)
-}
-
-/// All tokens of a text: include lines, declarations and the kernel's block.
+/// All tokens of a text, of which there are at most 2^20: include lines, declarations and the kernel's block.
 #[tactic(auto, unfolding(cparse_grammar::specs::TextReader::kernel))]
 pub fn kernel<'s, 't>(setting: Setting, tokens: &'s [Lexeme<'t>]) -> Result<Whole, Stop>
-    ensures { Gives whole_of result (kernel (tokens_of tokens.now)) }
+    requires { length tokens.now ≤ 2 ^ 20 }
+    ensures whole { Gives whole_of result (kernel (tokens_of tokens.now)) }
+    ensures few { IfOk result (λ w. length w.kernel.variables.items ≤ 2 ^ 20) }
 {
     let Setting { alloc, end } = setting;
     let mut scope = empty(alloc);
@@ -52,9 +45,8 @@ pub fn kernel<'s, 't>(setting: Setting, tokens: &'s [Lexeme<'t>]) -> Result<Whol
         rest,
     } = declared;
     let inner = kernel_opening(rest, end)?;
-    let next = next_number(&variables)?;
     let tally = Tally {
-        next,
+        next: variables.len() as u32,
         left: STATEMENTS,
     };
     let Told {

@@ -1,20 +1,25 @@
 //! The tokens of a text with their own bytes at hand.
 
-ghost use Rattle.std.specs.Prelude.{ℕ, ◌≡◌, List, [], ◌∷◌, ◌++◌, IfOk};
+ghost use Rattle.std.specs.Prelude.{ℕ, ◌≡◌, List, [], ◌∷◌, ◌++◌, All, IsAscii, IfOk};
+ghost use Rattle.ctoken.specs.Meant.{LiesIn};
 ghost use Rattle.cparse.specs.LexedTokens.{IsKindOf, IsLexed, AreLexed};
+ghost use Rattle.ctoken.specs.declared.token.TokenKind.TheVariants as kinds;
 
 use cparse_cursor::lexeme::{Kind, Lexeme};
-use cparse_cursor::stop::Stop;
 use ctoken::{Token, TokenKind};
-use std::alloc::Global;
+use std::alloc::{AllocError, Global};
 use std::str;
 
 /// A word of the text.
-fn word(bytes: &[u8]) -> Result<&str, Stop>
-    ensures { IfOk result (λ word. word.now ≡ bytes.now) }
+#[tactic(auto, using(crate::proofs::WithBytes::ascii_is_utf8))]
+fn word(bytes: &[u8]) -> &str
+    requires { IsAscii bytes.now }
+    ensures { result.now ≡ bytes.now }
 {
-    // A word is ASCII, so that the error is never met.
-    str::from_utf8(bytes).map_err(|_| Stop::Memory)
+    match str::from_utf8(bytes) {
+        Ok(word) => word,
+        Err(_) => unreachable!(),
+    }
 }
 
 /// A string's bytes without its quotes.
@@ -28,40 +33,43 @@ fn between_quotes(bytes: &[u8]) -> &[u8]
 }
 
 /// A kind of token with its bytes.
-fn kind(bytes: &[u8], kind: TokenKind) -> Result<Kind<'_>, Stop>
-    ensures { IfOk result (IsKindOf bytes.now kind) }
+fn kind(bytes: &[u8], kind: TokenKind) -> Kind<'_>
+    requires { kind ≡ kinds.Word → IsAscii bytes.now }
+    ensures { IsKindOf bytes.now kind result }
 {
     match kind {
-        TokenKind::Word => Ok(Kind::Word(word(bytes)?)),
-        TokenKind::IntegerConstant(value, suffix) => Ok(Kind::IntegerConstant(value, suffix)),
-        TokenKind::StringLiteral(single) => Ok(Kind::StringLiteral(between_quotes(bytes), single)),
-        TokenKind::Punctuator(symbol) => Ok(Kind::Punctuator(symbol)),
-        TokenKind::Include(header) => Ok(Kind::Include(header)),
-        TokenKind::Line => Ok(Kind::Line),
+        TokenKind::Word => Kind::Word(word(bytes)),
+        TokenKind::IntegerConstant(value, suffix) => Kind::IntegerConstant(value, suffix),
+        TokenKind::StringLiteral(single) => Kind::StringLiteral(between_quotes(bytes), single),
+        TokenKind::Punctuator(symbol) => Kind::Punctuator(symbol),
+        TokenKind::Include(header) => Kind::Include(header),
+        TokenKind::Line => Kind::Line,
     }
 }
 
-/// A token with its bytes. A token lies in its text, else reading stops as for want of memory.
-fn lexeme<'t>(text: &'t [u8], token: Token) -> Result<Lexeme<'t>, Stop>
-    ensures { IfOk result (IsLexed text.now token) }
+/// A token with its bytes.
+fn lexeme<'t>(text: &'t [u8], token: Token) -> Lexeme<'t>
+    requires { LiesIn text.now token }
+    ensures { IsLexed text.now token result }
 {
-    if token.start > text.len() || token.length > text.len() - token.start {
-        return Err(Stop::Memory);
-    }
-    let kind = kind(token.bytes(text), token.kind)?;
-    Ok(Lexeme {
-        kind,
+    Lexeme {
+        kind: kind(token.bytes(text), token.kind),
         place: token.place,
-    })
+    }
 }
 
 /// The tokens of a text.
-pub fn lexemes<'t>(alloc: Global, text: &'t [u8], tokens: &[Token]) -> Result<Vec<Lexeme<'t>>, Stop>
+pub fn lexemes<'t>(
+    alloc: Global,
+    text: &'t [u8],
+    tokens: &[Token],
+) -> Result<Vec<Lexeme<'t>>, AllocError>
+    requires { All (LiesIn text.now) tokens.now }
     ensures { IfOk result (λ lexemes. AreLexed text.now tokens.now lexemes.items) }
 {
     let mut lexemes = Vec::with_capacity(alloc, tokens.len())?;
     for token in tokens {
-        lexemes.push(lexeme(text, *token)?)?;
+        lexemes.push(lexeme(text, *token))?;
     }
     Ok(lexemes)
 }

@@ -1,6 +1,6 @@
 //! What stands around the declarations and the kernel.
 
-ghost use Rattle.std.specs.Prelude.{◌≡◌, option_map};
+ghost use Rattle.std.specs.Prelude.{◌≡◌, ◌≤◌, length, option_map, IfOk};
 ghost use Rattle.cparse_grammar.specs.TextReader.{opening, behind_headers, at_end};
 ghost use Rattle.cparse_cursor.specs.Lexemes.{tokens_of};
 ghost use Rattle.cparse_cursor.specs.Outcome.{Gives};
@@ -14,7 +14,8 @@ use ktree::Place;
 
 /// The tokens behind the include lines (C11 6.10.2).
 pub fn behind_headers<'s, 't>(tokens: &'s [Lexeme<'t>]) -> &'s [Lexeme<'t>]
-    ensures { tokens_of result.now ≡ behind_headers (tokens_of tokens.now) }
+    ensures rest { tokens_of result.now ≡ behind_headers (tokens_of tokens.now) }
+    ensures fewer { length result.now ≤ length tokens.now }
 {
     let mut count = 0;
     for token in tokens {
@@ -32,7 +33,8 @@ pub fn kernel_opening<'s, 't>(
     tokens: &'s [Lexeme<'t>],
     end: Place,
 ) -> Result<&'s [Lexeme<'t>], Stop>
-    ensures { Gives (λ rest. tokens_of rest.now) result (opening (tokens_of tokens.now)) }
+    ensures rest { Gives (λ rest. tokens_of rest.now) result (opening (tokens_of tokens.now)) }
+    ensures fewer { IfOk result (λ rest. length rest.now ≤ length tokens.now) }
 {
     let named = word("void", tokens, end)?;
     let opened = word("kernel", named, end)?;

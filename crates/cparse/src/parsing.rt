@@ -2,7 +2,7 @@
 
 ghost use Rattle.std.specs.Prelude.{ℕ, ◌≡◌, ◌≤◌, ◌^◌, List, length, IfOk, IfErr};
 ghost use Rattle.semantics.specs.Source.Grammar.{ReadsText};
-ghost use Rattle.ctoken.specs.Meant.{AreTokensOf};
+ghost use Rattle.ctoken.specs.Meant.{AreTokensOf, LieIn};
 ghost use Rattle.ktree.specs.View.{kernel_of};
 ghost use Rattle.cparse.specs.Parsed.{HasNoTree, StopsFor, RefusesTree};
 
@@ -42,14 +42,13 @@ fn refusal_by_fault(fault: Fault) -> Refusal
 /// The tree of a text whose tokens these are.
 fn tree(alloc: Global, text: &[u8], tokens: &[Token], end: Place) -> Result<Kernel, Refusal>
     requires tokens { AreTokensOf text.now tokens.now }
+    requires lie { LieIn text.now tokens.now }
     requires length { length text.now ≤ 2 ^ 20 }
     ensures ok { IfOk result (λ kernel. ReadsText text.now (kernel_of kernel)) }
+    ensures variables { IfOk result (λ kernel. length kernel.variables.items ≤ 2 ^ 20) }
     ensures err { IfErr result (RefusesTree text.now) }
 {
-    let lexemes = match lexemes(alloc, text, tokens) {
-        Ok(lexemes) => lexemes,
-        Err(_) => return Err(Refusal::OutOfMemory),
-    };
+    let lexemes = lexemes(alloc, text, tokens)?;
     match kernel(Setting { alloc, end }, &lexemes) {
         Ok(whole) => match whole.fault {
             None => Ok(whole.kernel),
@@ -60,10 +59,12 @@ fn tree(alloc: Global, text: &[u8], tokens: &[Token], end: Place) -> Result<Kern
 }
 
 /// What stops reading these first tokens of a text, behind which it is at fault at a place.
-fn first_stop(alloc: Global, text: &[u8], tokens: &[Token], end: Place) -> Stop {
-    let lexemes = match lexemes(alloc, text, tokens) {
-        Ok(lexemes) => lexemes,
-        Err(stop) => return stop,
+fn first_stop(alloc: Global, text: &[u8], tokens: &[Token], end: Place) -> Stop
+    requires lie { LieIn text.now tokens.now }
+    requires length { length text.now ≤ 2 ^ 20 }
+{
+    let Ok(lexemes) = lexemes(alloc, text, tokens) else {
+        return Stop::Memory;
     };
     match kernel(Setting { alloc, end }, &lexemes) {
         Ok(_) => Stop::Syntax(end),
@@ -96,7 +97,7 @@ fn too_long(alloc: Global, text: &[u8]) -> Refusal
     let Ok(Scanned { tokens, fault }) = scan(alloc, front) else {
         return Refusal::OutOfMemory;
     };
-    match first_stop(alloc, text, tokens.as_slice(), fault.unwrap_or(limit)) {
+    match first_stop(alloc, front, tokens.as_slice(), fault.unwrap_or(limit)) {
         Stop::Syntax(place) if place != limit => Refusal::Syntax(place),
         Stop::Memory => Refusal::OutOfMemory,
         Stop::Limit(place) => Refusal::Limit(place),
@@ -114,6 +115,7 @@ fn too_long(alloc: Global, text: &[u8]) -> Refusal
 #[tactic(auto, using(crate::proofs::ParseLaw::too_long_text))]
 pub fn parse(alloc: Global, text: &[u8]) -> Result<Kernel, Refusal>
     ensures ok { IfOk result (λ kernel. ReadsText text.now (kernel_of kernel)) }
+    ensures variables { IfOk result (λ kernel. length kernel.variables.items ≤ 2 ^ 20) }
     ensures err { IfErr result (RefusesTree text.now) }
 {
     if text.len() > TEXT_BYTES {
