@@ -1,6 +1,6 @@
 //! How many variables and statements there are.
 
-ghost use Rattle.std.specs.Prelude.{◌≡◌, Some, None};
+ghost use Rattle.std.specs.Prelude.{◌≡◌, ◌<◌, IfOk};
 ghost use Rattle.cparse_grammar.specs.StatementReader.{Tally, spend, declared};
 ghost use Rattle.cparse_phrase.specs.Tallies.{tally_of};
 ghost use Rattle.cparse_cursor.specs.Outcome.{Gives};
@@ -17,7 +17,8 @@ pub struct Tally {
 
 /// One statement more, which begins at a place.
 pub fn spend(tally: Tally, place: Place) -> Result<Tally, Stop>
-    ensures { Gives tally_of result (spend (tally_of tally)) }
+    ensures spend { Gives tally_of result (spend (tally_of tally)) }
+    ensures next { IfOk result (λ t. t.next ≡ tally.next) }
 {
     let Tally { next, left } = tally;
     match left.checked_sub(1) {
@@ -26,13 +27,14 @@ pub fn spend(tally: Tally, place: Place) -> Result<Tally, Stop>
     }
 }
 
-/// One variable more. Where no number is left for it, reading stops as for want of memory.
-pub fn declare(tally: Tally) -> Result<Tally, Stop>
-    ensures { Gives tally_of result (Some (declared (tally_of tally))) }
+/// One variable more, for which a number has to be left.
+pub fn declare(tally: Tally) -> Tally
+    requires { tally.next < 4294967295 }
+    ensures { tally_of result ≡ declared (tally_of tally) }
 {
     let Tally { next, left } = tally;
-    match next.checked_add(1) {
-        Some(next) => Ok(Tally { next, left }),
-        None => Err(Stop::Memory),
+    Tally {
+        next: next + 1,
+        left,
     }
 }

@@ -30,7 +30,7 @@ abbrev pub items_run : ℕ → StmtReader → ℕ → Row → Option (Told Items
 items_run room read n s = items n room read s.scope s.tally s.rest >>= λ more. told (append_items s.tree more.tree) (s.sound && more.sound) more.tally more.rest
 
 -- what follows an item
-abbrev after_item : ℕ → StmtReader → ℕ → Row → Option (Told Items)
+abbrev pub after_item : ℕ → StmtReader → ℕ → Row → Option (Told Items)
 after_item room read n t = items n room read t.scope t.tally t.rest >>= λ more. told (append_items t.tree more.tree) (t.sound && more.sound) more.tally more.rest
 
 stated_by : (room n : ℕ) (read : StmtReader) (scope : Scope) (tally : Tally) (ts : List Token)
@@ -70,7 +70,7 @@ located_by room n read scope tally ts = go (new_name ts)
     go (Some name) = first name (initial (expression room (with_local scope name.0 tally)) name.1)
 
 -- an item begins
-items_by : (room n : ℕ) (read : StmtReader) (scope : Scope) (tally : Tally) (ts : List Token) → begins_item ts ≡ true
+pub items_by : (room n : ℕ) (read : StmtReader) (scope : Scope) (tally : Tally) (ts : List Token) → begins_item ts ≡ true
     → items (suc n) room read scope tally ts ≡ item room read scope tally ts >>= after_item room read n
 items_by room n read scope tally [] e = absurd cc
 items_by room n read scope tally (Line line ∷ ts) e = go (items n room read scope tally ts)
@@ -92,7 +92,7 @@ items_by room n read scope tally (Word w ∷ ts) e = go (same_name w (codes "uin
 items_by room n read scope tally (t ∷ ts) e = absurd cc
 
 -- none does
-items_end : (room n : ℕ) (read : StmtReader) (scope : Scope) (tally : Tally) (ts : List Token) → begins_item ts ≡ false → items n room read scope tally ts ≡ told no_items true tally ts
+pub items_end : (room n : ℕ) (read : StmtReader) (scope : Scope) (tally : Tally) (ts : List Token) → begins_item ts ≡ false → items n room read scope tally ts ≡ told no_items true tally ts
 items_end room zero read scope tally ts e = refl
 items_end room (suc n) read scope tally [] e = refl
 items_end room (suc n) read scope tally (Line line ∷ ts) e = absurd cc

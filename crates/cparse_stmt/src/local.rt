@@ -6,7 +6,7 @@ ghost use Rattle.cparse_grammar.specs.ExpressionReader.{expression};
 ghost use Rattle.cparse_grammar.specs.StatementReader.{initial};
 ghost use Rattle.cparse_grammar.specs.StatementParts.{begins_item, located};
 ghost use Rattle.cparse_stmt.specs.Rows.{item_of};
-ghost use Rattle.cparse_phrase.specs.Tallies.{tally_of};
+ghost use Rattle.cparse_phrase.specs.Tallies.{HasNumbersBehind, tally_of};
 ghost use Rattle.cparse_cursor.specs.Names.{names_of};
 ghost use Rattle.cparse_cursor.specs.Lexemes.{tokens_of};
 ghost use Rattle.cparse_cursor.specs.Outcome.{Gives, got_of};
@@ -66,7 +66,8 @@ fn initial<'s, 't>(
     }
 }
 
-/// A local behind its type; it is visible from its name on (C11 6.2.1).
+/// A local behind its type; it is visible from its name on (C11 6.2.1). More numbers have to be left for variables than there are
+/// tokens.
 pub fn local_behind<'s, 't>(
     setting: Setting,
     scope: &mut Scope<'t>,
@@ -74,6 +75,7 @@ pub fn local_behind<'s, 't>(
     tally: Tally,
     tokens: &'s [Lexeme<'t>],
 ) -> Result<Told<'s, 't, Item>, Stop>
+    requires numbers { HasNumbersBehind tally tokens.now }
     ensures item { Gives (item_of (names_of scope.new)) result
         (located room (names_of scope.old) (tally_of tally) (tokens_of tokens.now)) }
     ensures front { OnOk result (take (length scope.old) scope.new ≡ scope.old) }
@@ -87,7 +89,7 @@ pub fn local_behind<'s, 't>(
     );
     let variable = VarId(tally.next);
     add(scope, name.name, Entity::Variable(variable, 0))?;
-    let tally = declare(tally)?;
+    let tally = declare(tally);
     let spelled = String::from_str(alloc, name.name)?;
     let start = initial(Context { alloc, scope, end }, room, name.rest)?;
     let local = Local {

@@ -5,7 +5,7 @@ ghost use Rattle.ktree.specs.View.{stmt_of, source_of};
 ghost use Rattle.cparse_grammar.specs.StatementReader.{statement, counted, block, items, selection, iteration};
 ghost use Rattle.cparse_grammar.specs.StatementParts.{once, twice, headed, item, stated, otherwise};
 ghost use Rattle.cparse_stmt.specs.Rows.{item_of, items_in, boxed_of};
-ghost use Rattle.cparse_phrase.specs.Tallies.{tally_of, told_of};
+ghost use Rattle.cparse_phrase.specs.Tallies.{HasNumbers, HasNumbersBehind, tally_of, told_of};
 ghost use Rattle.cparse_cursor.specs.Names.{names_of};
 ghost use Rattle.cparse_cursor.specs.Lexemes.{tokens_of};
 ghost use Rattle.cparse_cursor.specs.Outcome.{Gives, got_of};
@@ -37,6 +37,7 @@ fn statement<'s, 't>(
     tally: Tally,
     tokens: &'s [Lexeme<'t>],
 ) -> Result<Told<'s, 't, Stmt>, Stop>
+    requires numbers { HasNumbers tally tokens.now }
     ensures statement { Gives (told_of stmt_of) result
         (statement room (names_of scope.old) (tally_of tally) (tokens_of tokens.now)) }
     ensures names { OnOk result (scope.new ≡ scope.old) }
@@ -53,6 +54,7 @@ fn count_statement<'s, 't>(
     tally: Tally,
     tokens: &'s [Lexeme<'t>],
 ) -> Result<Told<'s, 't, Stmt>, Stop>
+    requires numbers { HasNumbers tally tokens.now }
     ensures statement { Gives (told_of stmt_of) result
         (counted room (once room) (twice room) (names_of scope.old) (tally_of tally)
         (tokens_of tokens.now)) }
@@ -81,6 +83,7 @@ fn statement_behind<'s, 't>(
     place: Place,
     tokens: &'s [Lexeme<'t>],
 ) -> Result<Told<'s, 't, Stmt>, Stop>
+    requires numbers { HasNumbersBehind tally tokens.now }
     ensures statement { Gives (told_of stmt_of) result
         (headed room (names_of scope.old) (tally_of tally) word.now (tokens_of tokens.now)) }
     ensures names { OnOk result (scope.new ≡ scope.old) }
@@ -113,6 +116,7 @@ fn block<'s, 't>(
     place: Place,
     tokens: &'s [Lexeme<'t>],
 ) -> Result<Told<'s, 't, Stmt>, Stop>
+    requires numbers { HasNumbers tally tokens.now }
     ensures statement { Gives (told_of stmt_of) result
         (block room (once room) (names_of scope.old) (tally_of tally) (tokens_of tokens.now)) }
     ensures names { OnOk result (scope.new ≡ scope.old) }
@@ -130,7 +134,8 @@ fn block<'s, 't>(
     })
 }
 
-/// The items of a block, up to what begins none; their names are visible behind them.
+/// The items of a block, up to what begins none; their names are visible behind them. The numbers that are left for variables
+/// have to suffice for the tokens, each of which might declare one.
 #[cycle(statement)]
 pub fn items<'s, 't>(
     setting: Setting,
@@ -139,6 +144,7 @@ pub fn items<'s, 't>(
     tally: Tally,
     tokens: &'s [Lexeme<'t>],
 ) -> Result<Told<'s, 't, Vec<Item>>, Stop>
+    requires numbers { HasNumbers tally tokens.now }
     ensures items { Gives (told_of items_in) result
         (items (length (tokens_of tokens.now)) room (statement room) (names_of scope.old)
         (tally_of tally) (tokens_of tokens.now)) }
@@ -169,6 +175,7 @@ fn item<'s, 't>(
     tally: Tally,
     tokens: &'s [Lexeme<'t>],
 ) -> Result<Told<'s, 't, Item>, Stop>
+    requires numbers { HasNumbers tally tokens.now }
     ensures item { Gives (item_of (names_of scope.new)) result
         (item room (statement room) (names_of scope.old) (tally_of tally) (tokens_of tokens.now)) }
     ensures front { OnOk result (take (length scope.old) scope.new ≡ scope.old) }
@@ -202,6 +209,7 @@ fn inner<'s, 't>(
     tally: Tally,
     tokens: &'s [Lexeme<'t>],
 ) -> Result<Told<'s, 't, Box<Stmt>>, Stop>
+    requires numbers { HasNumbers tally tokens.now }
     ensures statement { Gives (told_of boxed_of) result
         (statement room (names_of scope.old) (tally_of tally) (tokens_of tokens.now)) }
     ensures names { OnOk result (scope.new ≡ scope.old) }
@@ -230,6 +238,7 @@ fn statement_item<'s, 't>(
     tally: Tally,
     tokens: &'s [Lexeme<'t>],
 ) -> Result<Told<'s, 't, Item>, Stop>
+    requires numbers { HasNumbers tally tokens.now }
     ensures item { Gives (item_of (names_of scope.new)) result
         (stated (statement room) (names_of scope.old) (tally_of tally) (tokens_of tokens.now)) }
     ensures front { OnOk result (take (length scope.old) scope.new ≡ scope.old) }
@@ -254,6 +263,7 @@ fn selection<'s, 't>(
     place: Place,
     tokens: &'s [Lexeme<'t>],
 ) -> Result<Told<'s, 't, Stmt>, Stop>
+    requires numbers { HasNumbers tally tokens.now }
     ensures statement { Gives (told_of stmt_of) result
         (selection room (once room) (twice room) (names_of scope.old) (tally_of tally)
         (tokens_of tokens.now)) }
@@ -277,6 +287,7 @@ fn otherwise<'s, 't>(
     condition: Parsed<'s, 't, Source>,
     then: Told<'s, 't, Box<Stmt>>,
 ) -> Result<Told<'s, 't, Stmt>, Stop>
+    requires numbers { HasNumbers then.tally then.rest.now }
     ensures statement { Gives (told_of stmt_of) result
         (otherwise (statement room) (names_of scope.old) (got_of source_of condition.entry)
         (told_of boxed_of then.entry)) }
@@ -303,6 +314,7 @@ fn iteration<'s, 't>(
     place: Place,
     tokens: &'s [Lexeme<'t>],
 ) -> Result<Told<'s, 't, Stmt>, Stop>
+    requires numbers { HasNumbersBehind tally tokens.now }
     ensures statement { Gives (told_of stmt_of) result
         (iteration room (once room) (names_of scope.old) (tally_of tally) (tokens_of tokens.now)) }
     ensures names { OnOk result (scope.new ≡ scope.old) }
@@ -310,7 +322,7 @@ fn iteration<'s, 't>(
     let outer = enter_level(room, place)?;
     let room = enter_level(outer, place)?;
     let names = count(scope);
-    let behind = declare(tally)?;
+    let behind = declare(tally);
     let head = loop_head(setting, scope, room, tally, tokens)?;
     let body = inner(setting, scope, outer, behind, head.rest);
     let (head, body) = both(head, body)?;

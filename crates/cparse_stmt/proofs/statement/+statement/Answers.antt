@@ -1,21 +1,26 @@
-use Rattle.std.proofs.Common.{◌<◌, ◌≤◌, ◌≡◌, length, sym, ap, subst, ◌∙◌, arith}
+use Rattle.std.proofs.Common.{◌+◌, ◌<◌, ◌≤◌, ◌≡◌, suc, length, sym, ap, subst, ◌∙◌, arith, rules}
 use Rattle.std.proofs.lemmas.List.{length-map}
+use Rattle.std.proofs.lemmas.Option.{same_Some}
 use Rattle.std.proofs.lemmas.Result.{err_from_is_err_and}
 use Rattle.semantics.specs.Tree.{Source, Stmt}
 use Rattle.ktree.specs.View.{stmt_of, source_of}
 use Rattle.cparse_grammar.specs.Reading.{Got}
+use Rattle.cparse_grammar.specs.ExpressionReader.{expression}
 use Rattle.cparse_cursor.specs.Outcome.{Gives, got_of}
 use Rattle.cparse_cursor.specs.Names.{names_of}
 use Rattle.cparse_cursor.specs.Lexemes.{token_of, tokens_of}
-use Rattle.cparse_grammar.specs.StatementReader.{Told, statement, selection}
-use Rattle.cparse_grammar.specs.StatementParts.{once, twice, with_item, otherwise}
+use Rattle.cparse_grammar.specs.StatementReader.{Tally, Told, statement, selection}
+use Rattle.cparse_grammar.specs.StatementParts.{Row, once, twice, with_item, otherwise}
 use Rattle.cparse_stmt.specs.Rows.{row_of, item_of, boxed_of}
+use Rattle.cparse_phrase.specs.Headings.{heading_of}
 use Rattle.cparse_phrase.specs.Tallies.{tally_of, told_of}
 use Rattle.cparse_expr.proofs.LoopLemmas.{same_some, not_there}
 use Rattle.cparse_cursor.proofs.Turns.{goes, fails, ends, is_over}
+use Rattle.cparse_phrase.proofs.Leaving.{expression_leaves, in_parens_leaves, heading_leaves}
 use Rattle.cparse_stmt.proofs.ItemLemmas.{front_then}
 use Rattle.cparse_grammar.proofs.HeadingLemmas.{selected}
 use Rattle.cparse_stmt.proofs.ItemRun.{items_run, run_ends, run_out, run_fails, run_goes}
+use Rattle.cparse_stmt.proofs.Leaving.{item_counts, statement_counts, has_still}
 use Rattle.cparse_stmt.proofs.statement.+statement.Goals as goal
 
 pub items-returns-then-not-begins_item-clause-items : goal.items-returns-then-not-begins_item-clause-items
@@ -43,12 +48,17 @@ items-loop-turn-preserved t c =
     let inner = names_of c.item.new.scope in
     let h = sym c.begins_item.ensures ∙ c.if-not-begins_item.false in
     let lt : c.loop-turn._turn < length (tokens_of c.args.tokens.now) = omega (arith, length-map c.args.tokens.now token_of) in
+    let one = item_of inner c.in_ok-item.item in
+    let read = c.in_ok-row.ensures (names_of c.loop-turn.scope) inner in
+    let counts = item_counts c.args.room (statement c.args.room) (statement_counts c.args.room) (names_of c.loop-turn.scope) (tally_of c.loop-turn.row.tally) (tokens_of c.loop-turn.row.rest.now) one c.in_ok-item.ensures.item in
     record {
       same =
           ap (items_run c.args.room (statement c.args.room) _) (same_some _ _ (sym (c.in_ok-row.ensures (names_of c.loop-turn.scope) inner)))
           ∙ goes (items_run c.args.room (statement c.args.room)) _ _ row _ c.loop-turn.invariant.same (with_item row (item_of inner c.in_ok-item.item)) lt
           (λ n. run_goes c.args.room (statement c.args.room) n row (item_of inner c.in_ok-item.item) h c.in_ok-item.ensures.item);
       front = front_then c.args.scope.now c.loop-turn.scope c.item.new.scope c.loop-turn.invariant.front c.in_ok-item.ensures.front;
+      numbers = has_still c.loop-turn.row.tally c.in_ok-row.row.tally c.loop-turn.row.rest.now c.in_ok-row.row.rest.now c.loop-turn.invariant.numbers
+          (subst (λ (r : Row). r.tally.next + length r.rest ≤ c.loop-turn.row.tally.next + length (tokens_of c.loop-turn.row.rest.now)) (same_Some (with_item row one) (row_of inner c.in_ok-row.row) read) counts);
     }
 
 pub items-returns-clause-items : goal.items-returns-clause-items
@@ -70,3 +80,29 @@ selection-returns-clause-statement t c =
     let same : otherwise (statement c.in_ok-room.room) (names_of c.inner-then.new.scope) condition then ≡ otherwise (statement c.in_ok-room.room) (names_of c.args.scope.now) condition then =
     ap (λ scope. otherwise (statement c.in_ok-room.room) (names_of scope) condition then) names in
     subst (λ read. Gives (told_of stmt_of) c.otherwise.result read) (same ∙ sym e) c.otherwise.ensures.statement
+
+pub selection-inner-then-requires : goal.selection-inner-then-requires
+selection-inner-then-requires t c =
+    let scope = names_of c.args.scope.now in
+    let condition = c.in_ok-condition.condition in
+    let leaves = in_parens_leaves (expression c.in_ok-room.room scope) (expression_leaves c.in_ok-room.room scope) (tokens_of c.args.tokens.now) (got_of source_of condition) c.in_ok-condition.ensures in
+    (search rules, has_still c.args.tally c.args.tally c.args.tokens.now condition.rest.now c.requires.numbers (omega (arith, leaves)))
+
+pub selection-otherwise-requires : goal.selection-otherwise-requires
+selection-otherwise-requires t c =
+    let scope = names_of c.args.scope.now in
+    let condition = c.in_ok-condition.condition in
+    let then = c.in_ok-condition-2.then in
+    let leaves = in_parens_leaves (expression c.in_ok-room.room scope) (expression_leaves c.in_ok-room.room scope) (tokens_of c.args.tokens.now) (got_of source_of condition) c.in_ok-condition.ensures in
+    let read = rw c.in_ok-condition-2.ensures.body at c.inner-then.ensures.statement in
+    let counts = statement_counts c.in_ok-outer.outer scope (tally_of c.args.tally) (tokens_of condition.rest.now) (told_of boxed_of then) read in
+    (search rules, has_still c.args.tally then.tally c.args.tokens.now then.rest.now c.requires.numbers (omega (arith, leaves, counts)))
+
+pub iteration-inner-body-requires : goal.iteration-inner-body-requires
+iteration-inner-body-requires t c =
+    let leaves = heading_leaves c.in_ok-room.room (names_of c.args.scope.now) (tally_of c.args.tally) (tokens_of c.args.tokens.now) (heading_of c.in_ok-head.head) c.in_ok-head.ensures.heading in
+    let all : length (tokens_of c.args.tokens.now) ≡ length c.args.tokens.now = length-map c.args.tokens.now token_of in
+    let left : length (tokens_of c.in_ok-head.head.rest.now) ≡ length c.in_ok-head.head.rest.now = length-map c.in_ok-head.head.rest.now token_of in
+    let one : c.declare-behind.result.next ≡ suc c.args.tally.next = ap (λ (x : Tally). x.next) c.declare-behind.ensures in
+    let asked = c.requires in
+    (search rules, omega (arith, leaves, all, left, one, asked))

@@ -2,7 +2,7 @@ use Rattle.std.proofs.Common.{◌≡◌, ◌+◌, ◌-◌, ◌*◌, length, take
 use Rattle.cparse_cursor.specs.Names.{names_of}
 use Rattle.cparse_cursor.specs.Lexemes.{tokens_of}
 use Rattle.cparse_grammar.specs.StatementReader.{statement, items}
-use Rattle.cparse_phrase.specs.Tallies.{tally_of}
+use Rattle.cparse_phrase.specs.Tallies.{HasNumbers, tally_of}
 use Rattle.cparse_stmt.specs.Rows.{row_of}
 use Rattle.cparse_stmt.proofs.ItemRun.{items_run}
 use Rattle.cparse_stmt.proofs.statement.+statement.Given as goal
@@ -43,7 +43,7 @@ decreases-otherwise l = 9 * l.room + 6
 abbrev pub decreases-iteration : goal.decreases-iteration
 decreases-iteration l = 9 * l.room + 1
 
--- what is left is read as the whole is, and the names from before are still there
+-- what is left is read as the whole is, the names from before are still there, and the numbers that are left suffice
 abbrev pub invariant-items-loop-turn : goal.invariant-items-loop-turn
 invariant-items-loop-turn l =
     let read = statement l.room in
@@ -51,4 +51,5 @@ invariant-items-loop-turn l =
     record {
       same : items_run l.room read (count - l._turn) (row_of (names_of l.scope) l.row) ≡ items count l.room read (names_of l.fn.scope) (tally_of l.fn.tally) (tokens_of l.tokens);
       front : take (length l.fn.scope) l.scope ≡ l.fn.scope;
+      numbers : HasNumbers l.row.tally l.row.rest.now;
     }
