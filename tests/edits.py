@@ -177,13 +177,12 @@ class Tried:
         return [it for it in files if self.sum_of_edit(it) not in edits] if sum == self.sum_of(crate) else files
 
     def note(self, crate, files, known):
-        """Notes that these edits of a crate are refused, and gives the sum of what that rests on; crates that have none any more are dropped."""
+        """Notes that these edits of a crate are refused; crates that have none any more are dropped."""
         with self.lock:
             self.sums = {**self.noted(), crate.name: (self.sum_of(crate), {self.sum_of_edit(it) for it in files})}
             rows = [" ".join([name, sum, *sorted(edits)]) + "\n" for name, (sum, edits) in sorted(self.sums.items()) if name in known]
             with open(TRIED, "w", encoding="utf-8") as it:
                 it.writelines(rows)
-            return self.sums[crate.name][0]
 
 
 def read_all(rt):
@@ -227,8 +226,9 @@ def main(words):
         failed, shown, checks = try_crate(rt, crate, left[crate.name], was_proved)
         count = len(left[crate.name])
         took = time.time() - begun
-        noted = "" if failed else f", noted as {tried.note(crate, files[crate.name], files)}"
-        print(f"edits of {crate.name}: {count - len(failed)} of {count} refused, {shown} together, {checks} checks, {took:.0f} s{noted}", flush=True)
+        if not failed:
+            tried.note(crate, files[crate.name], files)
+        print(f"edits of {crate.name}: {count - len(failed)} of {count} refused, {shown} together, {checks} checks, {took:.0f} s", flush=True)
         return failed, count
 
     work = {}
