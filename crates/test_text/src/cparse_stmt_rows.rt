@@ -1,5 +1,7 @@
 //! Statements of tokens that are made by hand.
 
+ghost use Rattle.std.specs.Prelude.{◌≤◌, length};
+
 use cparse_cursor::context::Setting;
 use cparse_cursor::lexeme::{Kind, Lexeme};
 use cparse_cursor::scope::{Entity, Scope, add, empty};
@@ -82,7 +84,9 @@ fn read_among<'t>(
     scope: &mut Scope<'t>,
     left: u32,
     tokens: &[Lexeme<'t>],
-) -> Result<Reading, Stop> {
+) -> Result<Reading, Stop>
+    requires { length tokens.now ≤ 64 }
+{
     let end = Place { line: 9, column: 1 };
     let tally = Tally { next: 1, left };
     match items(Setting { alloc, end }, scope, 64, tally, tokens) {
@@ -92,7 +96,9 @@ fn read_among<'t>(
 }
 
 /// What is read of items behind the declaration of the variable `s`, where so many statements may follow.
-fn read(alloc: Global, left: u32, tokens: &[Lexeme<'static>]) -> Result<Reading, Stop> {
+fn read(alloc: Global, left: u32, tokens: &[Lexeme<'static>]) -> Result<Reading, Stop>
+    requires { length tokens.now ≤ 64 }
+{
     match visible(alloc) {
         Ok(mut scope) => read_among(alloc, &mut scope, left, tokens),
         Err(_) => Err(Stop::Memory),
@@ -100,7 +106,9 @@ fn read(alloc: Global, left: u32, tokens: &[Lexeme<'static>]) -> Result<Reading,
 }
 
 /// Whether tokens are an update by `^=` and one token more, where seven statements may follow.
-fn is_one_update(alloc: Global, tokens: &[Lexeme<'static>]) -> bool {
+fn is_one_update(alloc: Global, tokens: &[Lexeme<'static>]) -> bool
+    requires { length tokens.now ≤ 64 }
+{
     match read(alloc, 7, tokens) {
         Ok(reading) => {
             reading.fault.is_none()
@@ -126,7 +134,9 @@ fn update_ends_at_its_semicolon(rt: HostRuntime) {
 }
 
 /// The column of the name that tokens use unknown in two items with one local, where seven statements may follow.
-fn unknown_in_two(alloc: Global, tokens: &[Lexeme<'static>]) -> Option<u32> {
+fn unknown_in_two(alloc: Global, tokens: &[Lexeme<'static>]) -> Option<u32>
+    requires { length tokens.now ≤ 64 }
+{
     let reading = read(alloc, 7, tokens).ok()?;
     let fault = reading.fault?;
     if reading.count == 2 && reading.tally.next == 2 && fault.flaw == Flaw::UnknownName {
@@ -153,7 +163,9 @@ fn local_is_no_name_behind_its_block(rt: HostRuntime) {
 }
 
 /// The column at which tokens pass the limit, or 0, where so many statements may follow; none where they are refused otherwise.
-fn limit_column(alloc: Global, left: u32, tokens: &[Lexeme<'static>]) -> Option<u32> {
+fn limit_column(alloc: Global, left: u32, tokens: &[Lexeme<'static>]) -> Option<u32>
+    requires { length tokens.now ≤ 64 }
+{
     match read(alloc, left, tokens) {
         Ok(_) => Some(0),
         Err(Stop::Limit(place)) => Some(place.column),
