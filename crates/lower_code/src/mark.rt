@@ -1,5 +1,6 @@
 //! How many registers a block wants.
 
+ghost use Rattle.std.specs.Prelude.{◌≤◌, ◌^◌};
 ghost use Rattle.semantics.specs.Tree.{no_items};
 ghost use Rattle.semantics.specs.Meaning.Agrees.{declared_in, declared_among};
 ghost use Rattle.ktree.specs.View.{stmt_of, items_of, with_item};
@@ -7,10 +8,11 @@ ghost use Rattle.lower_code.specs.Meaning.{AreBelow};
 
 use ktree::{Item, Stmt};
 
-/// A number above those of all locals that a statement declares.
+/// A number above those of all locals that a statement declares, at most 2^32 as these have 32 bits.
 #[cycle(mark)]
 fn mark_in(stmt: &Stmt) -> u64
-    ensures { AreBelow result (declared_in (stmt_of stmt.now)) }
+    ensures below { AreBelow result (declared_in (stmt_of stmt.now)) }
+    ensures few { result ≤ 2 ^ 32 }
 {
     match stmt {
         Stmt::Assign(_target, _source) => 0,
@@ -34,10 +36,11 @@ fn mark_in(stmt: &Stmt) -> u64
     }
 }
 
-/// A number above those of all locals that a block's items declare.
+/// A number above those of all locals that a block's items declare, at most 2^32 as these have 32 bits.
 #[cycle(mark)]
 pub fn mark_among(items: &[Item]) -> u64
-    ensures { AreBelow result (declared_among (items_of items.now)) }
+    ensures below { AreBelow result (declared_among (items_of items.now)) }
+    ensures few { result ≤ 2 ^ 32 }
 {
     let mut mark = 0u64;
     for item in items {
@@ -50,7 +53,8 @@ pub fn mark_among(items: &[Item]) -> u64
 /// The same of one item.
 #[cycle(mark)]
 fn mark_at(item: &Item) -> u64
-    ensures { AreBelow result (declared_among (with_item item.now no_items)) }
+    ensures below { AreBelow result (declared_among (with_item item.now no_items)) }
+    ensures few { result ≤ 2 ^ 32 }
 {
     match item {
         Item::Directive(_place) => 0,

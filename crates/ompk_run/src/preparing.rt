@@ -21,8 +21,7 @@ pub(crate) struct Prepared<'k> {
     pub(crate) registers: Vec<u64>,
 }
 
-// The outline of an accepted kernel's body over the variables of a store, and registers. More locals than 32 bits can number count as
-// memory that is not there.
+// The outline of an accepted kernel's body over the variables of a store, and registers.
 pub(crate) fn prepare<'k>(
     alloc: Global,
     checked: &'k Checked,
@@ -35,11 +34,9 @@ pub(crate) fn prepare<'k>(
 {
     let body = checked.body();
     let declarations = checked.declarations();
-    let Ok(mark) = u32::try_from(mark_among(body)) else {
-        return Err(Refusal::OutOfMemory);
-    };
+    let mark = mark_among(body);
     let layout = layout_of(alloc, declarations)?;
-    let registers = zero_registers(alloc, u64::from(mark), store)?;
+    let registers = zero_registers(alloc, mark, store)?;
     let target = Target {
         layout: layout.as_slice(),
         registers: mark,

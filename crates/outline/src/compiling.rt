@@ -1,6 +1,6 @@
 //! Statements, tests and heads of loops as they are run by one thread.
 
-ghost use Rattle.std.specs.Prelude.{◌≡◌, ◌≤◌, [], ◌∷◌, IfOk, IfErr};
+ghost use Rattle.std.specs.Prelude.{◌≡◌, ◌≤◌, ◌^◌, [], ◌∷◌, IfOk, IfErr};
 ghost use Rattle.semantics.specs.Tree.{no_items};
 ghost use Rattle.semantics.specs.Meaning.Runs.{run, run_items};
 ghost use Rattle.semantics.specs.Meaning.Agrees.{declared_in, declared_among};
@@ -21,11 +21,12 @@ use lower_code::{
 use lower_unroll::unroll;
 use std::alloc::Global;
 
-/// What code is made for: where the file-scope variables lie among the cells, and how many registers the locals have.
+/// What code is made for: where the file-scope variables lie among the cells, and how many registers the locals have, which 32 bits number.
 #[derive(Clone, Copy)]
 pub struct Target<'l> {
     pub layout: &'l [Laid],
-    pub registers: u32,
+    pub registers: u64,
+    pub ghost few: { registers ≤ 2 ^ 32 },
 }
 
 // Code as a block over at least so many registers.
@@ -38,12 +39,11 @@ fn compile_as_it_is(alloc: Global, code: Code, registers: u64) -> Result<Compile
 }
 
 // Code as such a block, its short loops over locals written out.
-fn compile_code(alloc: Global, code: Code, registers: u32) -> Result<Compiled, Refusal>
+fn compile_code(alloc: Global, code: Code, registers: u64) -> Result<Compiled, Refusal>
     ensures ok { IfOk result
         (λ c. Compiles code registers c × registers ≤ c.registers) }
     ensures refusal { IfErr result (λ refusal. refusal ≡ OutOfMemory) }
 {
-    let registers = u64::from(registers);
     let unrolled = unroll(alloc, code, registers)?;
     compile_as_it_is(alloc, unrolled, registers)
 }

@@ -95,13 +95,15 @@ fn canonical_loops(
 }
 
 // The variables of a box that have registers.
-fn variables_of(alloc: Global, bounds: &VarBox, registers: u32) -> Result<Vec<VarId>, AllocError>
+fn variables_of(alloc: Global, bounds: &VarBox, registers: u64) -> Result<Vec<VarId>, AllocError>
+    requires { registers ≤ 2 ^ 32 }
     ensures { IfOk result (λ variables. ListsLocals registers bounds.now variables.items) }
 {
     let mut variables = Vec::new(alloc);
     for number in 0..registers {
-        if bounds.has(VarId(number)) {
-            variables.push(VarId(number))?;
+        let variable = VarId(number as u32);
+        if bounds.has(variable) {
+            variables.push(variable)?;
         }
     }
     Ok(variables)

@@ -16,5 +16,5 @@ returns c =
       layout = layout;
       laid = c.in_ok-layout.ensures.laid;
       shapes = c.in_ok-layout.ensures.shapes;
-      does = λ behind. means c.mark_among-registers.result (locals_between layout _ c.mark_among-registers.result (declared_among items) (as_many layout ds c.in_ok-layout.ensures.shapes) behind c.mark_among-registers.ensures);
+      does = λ behind. means c.mark_among-registers.result (locals_between layout _ c.mark_among-registers.result (declared_among items) (as_many layout ds c.in_ok-layout.ensures.shapes) behind c.mark_among-registers.ensures.below);
     }

@@ -22,13 +22,12 @@ outline-requires c =
     let a = c.args.checked.now in
     let k = kernel_of a.kernel in
     let layout = c.in_ok-layout.layout.items in
-    let mark = c.in-Ok.mark in
-    let same : c.mark_among.result ≡ mark = search rules in
+    let mark = c.mark_among-mark.result in
     let keeps = c.parallel-parallel.ensures.keeps in
     let passed = keeps.accepted.passed in
     let loops = c.parallel-parallel.result.now.loops.items in
     let shapes : shapes_of layout ≡ shapes_in (tree_of a).variables = c.in_ok-layout.ensures.shapes ∙ ap shapes_in c.declarations-declarations.ensures.variables in
-    let below = subst (λ is. AreBelow mark (declared_among (items_of is))) c.body-body.ensures (subst (λ n. AreBelow n (declared_among (items_of c.body-body.result.now))) same c.mark_among.ensures) in
+    let below = subst (λ is. AreBelow mark (declared_among (items_of is))) c.body-body.ensures c.mark_among-mark.ensures.below in
     let places = placed a.text k passed layout mark c.args.store.now c.in_ok-layout.ensures.laid shapes (shapes ∙ sym c.requires) c.in_ok-registers.ensures.filled c.in_ok-registers.ensures.room (as_many layout k.variables shapes)
     (λ x e. of_among (λ y. y < mark) (declared_among k.body) x below e) in
     let right = right_loops a.text (data_passed passed) k loops layout mark keeps.listed passed.nested places in
@@ -40,9 +39,7 @@ pub returns-clause-prepared : goal.returns-clause-prepared
 returns-clause-prepared c =
     let a = c.args.checked.now in
     let layout = c.in_ok-layout.layout.items in
-    let mark = c.in-Ok.mark in
-    let same : c.mark_among.result ≡ mark = search rules in
-    let wide : c.from.result ≡ mark = search rules in
+    let mark = c.mark_among-mark.result in
     let kept = c.parallel-parallel.ensures in
     let keeps = kept.keeps in
     let loops = c.as_slice-2.result.now in
@@ -54,6 +51,6 @@ returns-clause-prepared c =
     prepared a c.in_ok-outline.outline.items c.in_ok-registers.registers.items c.args.store.now layout mark keeps.accepted
     (c.in_ok-outline.ensures.is R ∙ ap (λ is. apart_items R [] (items_of is)) c.body-body.ensures)
     c.in_ok-layout.ensures.laid shapes c.requires
-    (subst (λ is. AreBelow mark (declared_among (items_of is))) c.body-body.ensures (subst (λ n. AreBelow n (declared_among (items_of c.body-body.result.now))) same c.mark_among.ensures))
+    (subst (λ is. AreBelow mark (declared_among (items_of is))) c.body-body.ensures c.mark_among-mark.ensures.below)
     (fitted a c.in_ok-outline.outline.items layout mark keeps.accepted c.body-body.result.now loops (said_by (map scan_part c.as_slice-3.result.now) (map nest_part c.as_slice-4.result.now)) c.body-body.ensures shapes listed told fits)
-    (subst (λ n. n ≤ length c.in_ok-registers.registers.items) wide c.in_ok-registers.ensures.wide) c.in_ok-registers.ensures.words c.in_ok-registers.ensures.room c.in_ok-registers.ensures.filled
+    c.in_ok-registers.ensures.wide c.in_ok-registers.ensures.words c.in_ok-registers.ensures.room c.in_ok-registers.ensures.filled
