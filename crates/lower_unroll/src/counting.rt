@@ -5,7 +5,7 @@ ghost use Rattle.lower_code.specs.Machine.{Machine, Running, worth, truth, after
 ghost use Rattle.lower_unroll.specs.Turns.{sets_others, with_register, turns};
 
 use ktree::{BinaryOp, CompareOp};
-use lower_code::{Code, Register, Term, Test};
+use lower_code::{Code, Register, Term, Test, is_local};
 
 /// How many turns are written out at most.
 const MOST_TURNS: u64 = 256;
@@ -30,17 +30,6 @@ fn number_of(term: &Term) -> Option<u64>
     match term {
         Term::Number(word) => Some(word.number),
         _ => None,
-    }
-}
-
-// Whether a term is a register.
-fn is_local(term: &Term, register: Register) -> bool
-    ensures { result ≡ true
-        → (m : Machine) → worth term.now m ≡ slice_index m.registers register.at }
-{
-    match term {
-        Term::Local(other) => other.at == register.at,
-        _ => false,
     }
 }
 
