@@ -166,13 +166,19 @@ fn judge_clauses(alloc: Global, kernel: &Kernel, lines: &LineClauses) -> Result<
     }
 }
 
-// Whether one refusal is told before another: by the order of the text, and want of memory before all else.
+// Whether one refusal is told before another: by the order of the text, at one place by their numbers, and want of memory before all else.
 fn comes_before(one: &Refusal, other: &Refusal) -> bool {
     match (one.place(), other.place()) {
         (None, _) => true,
         (_, None) => false,
-        (Some(one), Some(other)) => {
-            one.line < other.line || (one.line == other.line && one.column < other.column)
+        (Some(first), Some(second)) => {
+            if first.line != second.line {
+                return first.line < second.line;
+            }
+            if first.column != second.column {
+                return first.column < second.column;
+            }
+            one.number() < other.number()
         }
     }
 }

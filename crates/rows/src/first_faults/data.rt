@@ -29,6 +29,16 @@ s = i;
         },
         Row {
             text: "
+#pragma omp parallel for reduction(inscan, +: s) ordered(1)
+for (uint64_t i = 0; i < 8; i++) {
+A[i] = s;
+}",
+            number: 17,
+            line: 2,
+            column: 1,
+        },
+        Row {
+            text: "
 #pragma omp parallel for
 for (uint64_t i = 0; i < 8; i++) {
 #pragma omp ordered
