@@ -20,6 +20,6 @@ pub use making::{
     number, then, unary,
 };
 pub use mark::mark_among;
-pub use running::{compare, is_local, operate, truth};
+pub use running::{compare, is_local, obey, operate, truth, worth};
 pub use statements::{entry, increment, item, items, statement};
 pub use term::{Code, Laid, Lowered, Piece, Register, Term, Test, Word};
