@@ -39,6 +39,7 @@ TURN = 3
 WAVE = 2
 WAVES = 100000
 PARTS = ("whole", "alone", "ones", "turns", "waves")
+TIMED = "    /* timed from here on */\n"
 
 HASH = """uint64_t A[1000000];
 
@@ -111,11 +112,16 @@ void kernel(void)
     }
 }
 """
+# elements that nobody wrote lie in one page for all, which gcc's programs would read from the nearest cache
 REDUCED = """uint64_t A[16000000];
 uint64_t s;
 
 void kernel(void)
 {
+    for (uint64_t i = 0; i < 16000000; i++) {
+        A[i] = i * 7;
+    }
+    /* timed from here on */
     #pragma omp parallel for reduction(OPERATOR: s)
     for (uint64_t i = 0; i < 16000000; i++) {
         UPDATE
@@ -127,6 +133,10 @@ uint64_t r;
 
 void kernel(void)
 {
+    for (uint64_t i = 0; i < 1000000; i++) {
+        A[i] = i * 7;
+    }
+    /* timed from here on */
     uint64_t s = 0;
     #pragma omp parallel for reduction(+: s)
     for (uint64_t i = 0; i < 1000000; i++) {
@@ -336,9 +346,10 @@ def medians(runner, name, text):
 
 
 def repeated(text, often):
-    """A kernel with its body so often."""
-    head, body = text.split("{\n", 1)
-    return f"{head}{{\n    for (uint64_t t = 0; t < {often}; t++) {{\n{body.rstrip()[:-1]}    }}\n}}\n"
+    """A kernel with its body, or what of it is to be timed, so often."""
+    mark = TIMED if TIMED in text else "{\n"
+    head, body = text.split(mark, 1)
+    return f"{head}{mark}    for (uint64_t t = 0; t < {often}; t++) {{\n{body.rstrip()[:-1]}    }}\n}}\n"
 
 
 def alone(runner, name, text):
