@@ -422,6 +422,12 @@ class Judge:
                 (self.kept / f"{name}.in").write_text(given)
 
 
+def counted(judge):
+    """How many texts were told what, and how many differ."""
+    numbers = ", ".join(f"{what} {count}" for what, count in sorted(judge.counts.items()))
+    return f"{numbers}; {judge.differ} differ" + (f", kept in {judge.kept}" if judge.differ else "")
+
+
 def main():
     parser = argparse.ArgumentParser()
     parser.add_argument("--program", default=str(TOP / "crates/ompk_cli/out/ompk_cli"))
@@ -440,8 +446,7 @@ def main():
                 judge.run(str(seed), text, maker.input(), chance)
             for number in range(options.mutants):
                 judge.check(f"{seed}-{number}", mutant(text, chance))
-    numbers = ", ".join(f"{what} {count}" for what, count in sorted(judge.counts.items()))
-    print(f"{numbers}; {judge.differ} differ" + (f", kept in {kept}" if judge.differ else ""))
+    print(counted(judge))
     return 1 if judge.differ else 0
 
 
