@@ -1,7 +1,7 @@
 //! Which statements are handed to a team.
 
 ghost use Rattle.flow_reduction.specs.Reduced.{reduced};
-ghost use Rattle.std.specs.Prelude.{◌≡◌, ◌≤◌, false, [], length, IfOk, IfErr, IfSome};
+ghost use Rattle.std.specs.Prelude.{◌≡◌, ◌≤◌, ◌^◌, false, [], length, IfOk, IfErr, IfSome};
 ghost use Rattle.nest.specs.Perfect.{NestHas, AreRectangular, IsRightNest};
 ghost use Rattle.flow.specs.declared.environment.ParallelLoop.{ParallelLoop as ParallelLoops};
 ghost use Rattle.pragma.specs.Parallel.{associated};
