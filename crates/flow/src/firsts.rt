@@ -103,7 +103,9 @@ fn first_unknown(names: &[Named], known: &DefinitelyAssigned) -> Option<Place>
 #[cycle(surely)]
 fn assigns_surely(statement: &Stmt, variable: VarId) -> bool {
     match statement {
-        Stmt::Assign(target, _) => target.variable == variable && target.subscripts.is_empty(),
+        Stmt::Assign(target, _) | Stmt::Update(target, _, _) => {
+            target.variable == variable && target.subscripts.is_empty()
+        }
         Stmt::If(_, then, Some(other)) => {
             assigns_surely(then, variable) && assigns_surely(other, variable)
         }

@@ -9,7 +9,7 @@ ghost use Rattle.ktree.specs.View.{stmt_of, items_of, kernel_of};
 ghost use Rattle.pragma_named.specs.Views.{resolved_clause};
 ghost use Rattle.flow_reduction.specs.Reduced.{reduction_of};
 ghost use Rattle.flow_scan.specs.Lines.{is_called};
-ghost use Rattle.flow_scan.specs.Parts.{have_scan};
+ghost use Rattle.flow_scan.specs.Parts.{has_statement, have_scan};
 ghost use Rattle.flow_scan.specs.Scans.{has_phases, scans_loop};
 ghost use Rattle.flow_scan.specs.Views.{line_said, parts_cut};
 
@@ -46,6 +46,18 @@ fn scan_of<'k>(parts: &Parts<'_, 'k>) -> &'k [Item]
         parts.back
     } else {
         parts.front
+    }
+}
+
+/// The `scan` line, where no statement stands on one of its sides.
+fn side_fault(parts: &Parts) -> Option<ScanFault>
+    ensures { is_none result ≡ (has_statement (items_of parts.now.front.now)
+        && has_statement (items_of parts.now.back.now)) }
+{
+    if has_statement(parts.front) && has_statement(parts.back) {
+        None
+    } else {
+        Some(ScanFault::Scan(parts.said.place))
     }
 }
 
@@ -122,14 +134,12 @@ fn phases_fault(
     ensures { IfOk result (λ found. is_none found ≡ has_phases directives.now
         (kernel_of kernel.now) (Some (reduction_of scan)) (Some (parts_cut parts.now))) }
 {
-    if !has_statement(parts.front) || !has_statement(parts.back) {
-        return Ok(Some(ScanFault::Scan(parts.said.place)));
-    }
-    let name = name_fault(kernel, scan.variable, &parts.said);
-    let first = earliest(name, line_fault(directives, parts.front));
-    let second = earliest(first, line_fault(directives, parts.back));
+    let sides = side_fault(parts);
+    let first = earliest(sides, name_fault(kernel, scan.variable, &parts.said));
+    let second = earliest(first, line_fault(directives, parts.front));
+    let third = earliest(second, line_fault(directives, parts.back));
     let used = use_fault(alloc, scan, parts)?;
-    Ok(earliest(second, used))
+    Ok(earliest(third, used))
 }
 
 /// What is wrong with the loop of a scan behind the directive line at a place, by the clauses that count for it.

@@ -39,6 +39,38 @@ A[i] = s;
         },
         Row {
             text: "
+#pragma omp parallel for lastprivate(s)
+for (uint64_t i = 0; i < 8; i++) {
+s += A[i];
+}",
+            number: 15,
+            line: 4,
+            column: 1,
+        },
+        Row {
+            text: "
+#pragma omp parallel for reduction(inscan, +: s)
+for (uint64_t i = 0; i < 8; i++) {
+s = i;
+#pragma omp scan exclusive(s)
+}",
+            number: 17,
+            line: 4,
+            column: 1,
+        },
+        Row {
+            text: "
+#pragma omp parallel for reduction(inscan, +: s)
+for (uint64_t i = 0; i < 8; i++) {
+s = i;
+#pragma omp scan inclusive(s)
+}",
+            number: 16,
+            line: 4,
+            column: 1,
+        },
+        Row {
+            text: "
 #pragma omp parallel for
 for (uint64_t i = 0; i < 8; i++) {
 #pragma omp ordered
