@@ -143,8 +143,8 @@ fn step_of<'s, 't>(
         (step_of (expression room (names_of context.entry.scope.now))
         (names_of context.entry.scope.now) name.now (tokens_of tokens.now)) }
 {
-    let sign = next_sign(tokens, context.end)?;
     let entity = look_up(context.scope, name, place)?;
+    let sign = next_sign(tokens, context.end)?;
     step_behind(context, room, entity, place, sign)
 }
 
