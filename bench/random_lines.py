@@ -5,7 +5,7 @@
 
 Makes a text for each seed from FIRST on: a small loop, or two in a region, behind directive lines of clauses that are drawn from nearly all that may be
 written, right or wrong, with `scan`, `ordered` and doacross lines in the loop's body. What `check` tells of it, and of an accepted text what `lower`
-lists, has to be what COMMAND tells: another program that takes the same words. A line for each seed that differs, with its text beside it in a
+lists, has to be what COMMAND tells: another program that takes the same words. `lastprivate(conditional: )`, which is refused here, is left out. A line for each seed that differs, with its text beside it in a
 folder that is named; the last line says how many were accepted, refused (by which numbers) and differ. The status is 1 where one does.
 """
 import argparse
