@@ -1,6 +1,6 @@
 -- The parallel loops of a text and what they declare, item by item.
 use Rattle.std.specs.Prelude.{ℕ, zero, suc, ◌+◌, ◌-◌, ◌≡◌, ◌<◌, ◌≤◌, List, [], ◌∷◌, ◌++◌, length, get_or, take, drop, map, Option, Some, None, option_and_then}
-use Rattle.std.proofs.Common.{Box, Vec, Global, refl, sym, ap, ◌∙◌, subst}
+use Rattle.std.proofs.Common.{Vec, Global, refl, sym, ap, ◌∙◌, subst}
 use Rattle.std.proofs.lemmas.List.{append_assoc, append-nil, drop_all}
 use Rattle.semantics.specs.Tree
 use Rattle.semantics.specs.Tree.{Variable}
@@ -11,8 +11,6 @@ use Rattle.semantics.specs.Loops.Nest.{Loop, as_loop, only_loop, nest_of}
 use Rattle.ktree.specs.View.{stmt_of, items_of, with_item}
 use Rattle.ktree.specs.declared.place.Place.{Place}
 use Rattle.ktree.specs.declared.place.VarId.{VarId}
-use Rattle.ktree.specs.declared.statement.Stmt.{Stmt, For}
-use Rattle.ktree.specs.declared.statement.Head.{Head}
 use Rattle.ktree.specs.declared.statement.Item.{Item, Directive, Local, Statement'}
 use Rattle.pragma.specs.Clauses.{ReadsLoop}
 use Rattle.pragma.specs.Parallel.{associated, LineHas}
@@ -21,11 +19,11 @@ use Rattle.pragma.specs.declared.combined.ParallelFor.{ParallelFor}
 use Rattle.ktree.proofs.Trees.{next_item}
 use Rattle.pragma.proofs.PlainLaw.{all_behind}
 use Rattle.flow.specs.Private.{first_stmt_of}
-use Rattle.flow.specs.Roles.{LineData, KeepsRolesThere, LoopsKeepRoles, ItemsKeepRoles, FirstLineKeepsRoles, FirstLoopsKeepRoles}
+use Rattle.flow.specs.Roles.{LineData, KeepsRolesThere}
 use Rattle.flow.specs.Parallel.{numbers, AreRolesOf, IsParallelLoop, Joined, LoopsAre, ItemsAre, FirstLineIs, FirstLoopsAre, Adds}
 use Rattle.flow.specs.declared.environment.LoopRoles.{LoopRoles}
 use Rattle.flow.specs.declared.environment.ParallelLoop.{ParallelLoop}
-use Rattle.flow.proofs.PrivateLemmas.{asked, same_round, loop_of, item_cut}
+use Rattle.flow.proofs.PrivateLemmas.{asked}
 
 -- what an item declares, and what the others do
 among_cut : (i : Item) (rest : Tree.Items) → declared_among (with_item i rest) ≡ declared_among (with_item i Tree.no_items) ++ declared_among rest
@@ -109,21 +107,10 @@ loop_listed text place rest said reads s first private declares R roles are h =
       roles = are;
     }
 
--- a loop's are those of its body
-pub body_listed : (text : List ℕ) (R : LineData) (before after : List ParallelLoop) (s : Stmt) (head : Head) (body : Box Stmt Global) (inner : Stmt) → s ≡ For head body → inner ≡ body.value
-    → (LoopsKeepRoles text R [] (stmt_of inner) → Adds (LoopsAre text R (stmt_of inner)) before after) → LoopsKeepRoles text R [] (stmt_of s) → Adds (LoopsAre text R (stmt_of s)) before after
-body_listed text R before after s head body inner e f listed =
-    let is : loop_of head (stmt_of inner) ≡ stmt_of s = ap (λ b. loop_of head (stmt_of b)) f ∙ sym (ap stmt_of e) in
-    let here : LoopsKeepRoles text R [] (loop_of head (stmt_of inner)) → Adds (LoopsAre text R (loop_of head (stmt_of inner))) before after = λ h. listed (same_round text R _ [] (stmt_of inner) h) in
-    subst (λ t. LoopsKeepRoles text R [] t → Adds (LoopsAre text R t) before after) is here
-
 -- those of both branches
-pub both_listed : (text : List ℕ) (R : LineData) (a b : Tree.Stmt) (before mid after : List ParallelLoop) → (LoopsKeepRoles text R [] a → Adds (LoopsAre text R a) before mid)
-    → (LoopsKeepRoles text R [] b → Adds (LoopsAre text R b) mid after) → LoopsKeepRoles text R [] a × LoopsKeepRoles text R [] b → Adds (Joined (LoopsAre text R a) (LoopsAre text R b)) before after
-both_listed text R a b before mid after one other h =
-    let p = one h.0 in
-    let q = other h.1 in
-    (p.0 ++ q.0, q.1 ∙ ap (λ xs. xs ++ q.0) p.1 ∙ append_assoc before p.0 q.0, (p.0, q.0, refl, p.2, q.2))
+pub both_listed : (text : List ℕ) (R : LineData) (a b : Tree.Stmt) (before mid after : List ParallelLoop) → Adds (LoopsAre text R a) before mid → Adds (LoopsAre text R b) mid after
+    → Adds (Joined (LoopsAre text R a) (LoopsAre text R b)) before after
+both_listed text R a b before mid after p q = (p.0 ++ q.0, q.1 ∙ ap (λ xs. xs ++ q.0) p.1 ∙ append_assoc before p.0 q.0, (p.0, q.0, refl, p.2, q.2))
 
 -- an item's, and those of the others
 joined_item : (text : List ℕ) (R : LineData) (i : Item) (rest : Tree.Items) (a b c : List ParallelLoop) → FirstLineIs text R (with_item i Tree.no_items) rest a
@@ -134,45 +121,30 @@ joined_item text R (Statement' at s) rest a b c p q r = (b, c, ap (λ xs. xs ++ 
 
 -- those of the first items are listed; with those that are left they are all
 abbrev pub Listed : List ℕ → LineData → List Item → ℕ → List ParallelLoop → List ParallelLoop → Type 0
-Listed text R is i before now =
-    ItemsKeepRoles text R [] (items_of is)
-    → ItemsKeepRoles text R [] (items_of (drop i is))
-    × Adds (λ added. (rest : List ParallelLoop) → ItemsAre text R (items_of (drop i is)) rest → ItemsAre text R (items_of is) (added ++ rest)) before now
+Listed text R is i before now = Adds (λ added. (rest : List ParallelLoop) → ItemsAre text R (items_of (drop i is)) rest → ItemsAre text R (items_of is) (added ++ rest)) before now
 
 -- all in the end
-pub all_listed : (text : List ℕ) (R : LineData) (is : List Item) (i : ℕ) (before now : List ParallelLoop) → length is ≤ i → Listed text R is i before now
-    → ItemsKeepRoles text R [] (items_of is) → Adds (ItemsAre text R (items_of is)) before now
-all_listed text R is i before now far left h =
-    let found = (left h).1 in
+pub all_listed : (text : List ℕ) (R : LineData) (is : List Item) (i : ℕ) (before now : List ParallelLoop) → length is ≤ i → Listed text R is i before now → Adds (ItemsAre text R (items_of is)) before now
+all_listed text R is i before now far found =
     let none : ItemsAre text R (items_of (drop i is)) [] = subst (λ xs. ItemsAre text R (items_of xs) []) (sym (drop_all i is far)) refl in
     (found.0, found.1, subst (ItemsAre text R (items_of is)) (append-nil found.0) (found.2 [] none))
 
 -- one item more
 pub item_listed : (text : List ℕ) (R : LineData) (is : List Item) (i : ℕ) (e : Item) → i < length is → e ≡ get_or is i e → (before now mid after : List ParallelLoop) → Listed text R is i before now
-    → (FirstLineKeepsRoles text R (with_item e Tree.no_items) (items_of (take (length is - (i + 1)) (drop (i + 1) is)))
-    → Adds (FirstLineIs text R (with_item e Tree.no_items) (items_of (take (length is - (i + 1)) (drop (i + 1) is)))) now mid)
-    → (FirstLoopsKeepRoles text R (with_item e Tree.no_items) → Adds (FirstLoopsAre text R (with_item e Tree.no_items)) mid after)
+    → Adds (FirstLineIs text R (with_item e Tree.no_items) (items_of (take (length is - (i + 1)) (drop (i + 1) is)))) now mid → Adds (FirstLoopsAre text R (with_item e Tree.no_items)) mid after
     → Listed text R is (i + 1) before after
-item_listed text R is i e lt at before now mid after left line loops h =
+item_listed text R is i e lt at before now mid after so_far line of_loops =
     let first = with_item e Tree.no_items in
     let behind = items_of (drop (i + 1) is) in
     let next = next_item is i e lt at in
-    let so_far = left h in
-    let parts = (item_cut text R e behind).0 (subst (ItemsKeepRoles text R []) next so_far.0) in
-    let of_line : Adds (FirstLineIs text R first behind) now mid =
-    subst (λ xs. FirstLineKeepsRoles text R first (items_of xs) → Adds (FirstLineIs text R first (items_of xs)) now mid) (all_behind is (i + 1)) line parts.0 in
-    let of_loops : Adds (FirstLoopsAre text R first) mid after = loops parts.1 in
-    let a = so_far.1.0 in
+    let of_line : Adds (FirstLineIs text R first behind) now mid = subst (λ xs. Adds (FirstLineIs text R first (items_of xs)) now mid) (all_behind is (i + 1)) line in
+    let a = so_far.0 in
     let b = of_line.0 in
     let c = of_loops.0 in
-    let all : after ≡ before ++ (a ++ (b ++ c)) =
-    of_loops.1 ∙ ap (λ xs. xs ++ c) (of_line.1 ∙ ap (λ xs. xs ++ b) so_far.1.1) ∙ append_assoc (before ++ a) b c ∙ append_assoc before a (b ++ c) in (
-      parts.2,
-      (
-        a ++ (b ++ c),
-        all,
-        λ rest r.
-            subst (ItemsAre text R (items_of is)) (sym (append_assoc a (b ++ c) rest ∙ ap (λ xs. a ++ xs) (append_assoc b c rest)))
-            (so_far.1.2 (b ++ (c ++ rest)) (subst (λ items. ItemsAre text R items (b ++ (c ++ rest))) (sym next) (joined_item text R e behind b c rest of_line.2 of_loops.2 r))),
-      ),
+    let all : after ≡ before ++ (a ++ (b ++ c)) = of_loops.1 ∙ ap (λ xs. xs ++ c) (of_line.1 ∙ ap (λ xs. xs ++ b) so_far.1) ∙ append_assoc (before ++ a) b c ∙ append_assoc before a (b ++ c) in (
+      a ++ (b ++ c),
+      all,
+      λ rest r.
+          subst (ItemsAre text R (items_of is)) (sym (append_assoc a (b ++ c) rest ∙ ap (λ xs. a ++ xs) (append_assoc b c rest)))
+          (so_far.2 (b ++ (c ++ rest)) (subst (λ items. ItemsAre text R items (b ++ (c ++ rest))) (sym next) (joined_item text R e behind b c rest of_line.2 of_loops.2 r))),
     )

@@ -1,5 +1,5 @@
 -- The data of parallel loops, statement by statement.
-use Rattle.std.specs.Prelude.{ℕ, suc, ◌+◌, ◌-◌, Bool, true, false, ◌||◌, ◌&&◌, ◌==◌, ◌≡◌, ◌⊎◌, ◌<◌, ◌≤◌, ◌↔◌, List, [], ◌∷◌, ◌++◌, length, get_or, take, drop, Option, Some, None, option_map, option_and_then, string_bytes}
+use Rattle.std.specs.Prelude.{ℕ, suc, ◌+◌, ◌-◌, Bool, true, false, ◌||◌, ◌&&◌, ◌==◌, ◌≡◌, ◌<◌, ◌≤◌, ◌↔◌, List, [], ◌∷◌, ◌++◌, length, get_or, take, drop, Option, Some, None, option_map, option_and_then, string_bytes}
 use Rattle.std.proofs.Common.{Box, Global, refl, sym, ap, ◌∙◌, subst, cond, arith, inl, inr}
 use Rattle.std.proofs.lemmas.List.Folds.{list_any-append}
 use Rattle.semantics.specs.Tree
@@ -20,7 +20,6 @@ use Rattle.pragma.proofs.LoopLaw.{read_once}
 use Rattle.ktree.proofs.Trees.{next_item}
 use Rattle.pragma.proofs.PlainLaw.{all_behind}
 use Rattle.flow.specs.declared.fault.DataFault.{DataFault}
-use Rattle.flow.specs.declared.fault.DataFault.TheVariants.{OutOfMemory}
 use Rattle.flow.specs.Private.{is_own, keeps, keeps_all, loop_body_of, nest_body_of, only_body_of, first_stmt_of}
 use Rattle.flow.specs.Roles.{LoopData, LineData, KeepsItsRoles, KeepsRolesThere, LoopsKeepRoles, ItemsKeepRoles, FirstLineKeepsRoles, FirstLoopsKeepRoles}
 use Rattle.flow.specs.Told.{Finds, IsNest}
@@ -203,12 +202,13 @@ abbrev mutual
 abbrev pub loop_of : Head → Tree.Stmt → Tree.Stmt
 loop_of head body = Tree.For head.variable.0 (string_bytes head.name) (source_of head.start) (cond_of head.test) (increment_of head.step) body
 
--- a loop is judged by its body
-pub loop_judged : (o : Option DataFault) (text : List ℕ) (R : LineData) (s : Stmt) (head : Head) (body : Box Stmt Global) (inner : Stmt) → s ≡ For head body → inner ≡ body.value
-    → Finds o (LoopsKeepRoles text R [] (stmt_of inner)) → Finds o (LoopsKeepRoles text R [] (stmt_of s))
-loop_judged o text R s head body inner e f h =
-    let is : loop_of head (stmt_of inner) ≡ stmt_of s = ap (λ b. loop_of head (stmt_of b)) f ∙ sym (ap stmt_of e) in
-    subst (λ t. Finds o (LoopsKeepRoles text R [] t)) is (finds_same o (same_round text R [] _ (stmt_of inner)) (same_round text R _ [] (stmt_of inner)) h)
+-- a loop, by what its fields stand for
+pub loop_is : (s : Stmt) (head : Head) (body : Box Stmt Global) (inner : Stmt) → s ≡ For head body → inner ≡ body.value → loop_of head (stmt_of inner) ≡ stmt_of s
+loop_is s head body inner e f = ap (λ b. loop_of head (stmt_of b)) f ∙ sym (ap stmt_of e)
+
+-- the parallel loops in a loop are those in its body
+pub loop_keeps : (text : List ℕ) (R : LineData) (head : Head) (inner s : Tree.Stmt) → loop_of head inner ≡ s → LoopsKeepRoles text R [] inner → LoopsKeepRoles text R [] s
+loop_keeps text R head inner s is h = subst (LoopsKeepRoles text R []) is (same_round text R [] _ inner h)
 
 -- an item, and the others
 pub item_cut : (text : List ℕ) (R : LineData) (i : Item) (rest : Tree.Items)
@@ -235,14 +235,3 @@ module _ (text : List ℕ) (R : LineData) (is : List Item) (i : ℕ) (e : Item) 
   item_parts h =
       let parts = (item_cut text R e (items_of (drop (i + 1) is))).0 (subst (ItemsKeepRoles text R []) (next_item is i e lt at) (left.1 h)) in
       (parts.0, parts.1)
-
-  -- a line before these items that is not so
-  pub line_refused : (f : DataFault) → (f ≡ OutOfMemory) ⊎ (FirstLineKeepsRoles text R (with_item e Tree.no_items) (items_of (take (length is - (i + 1)) (drop (i + 1) is))) → ⊥)
-      → (f ≡ OutOfMemory) ⊎ (ItemsKeepRoles text R [] (items_of is) → ⊥)
-  line_refused f (inl out) = inl out
-  line_refused f (inr none) = inr (λ h. none (subst (λ xs. FirstLineKeepsRoles text R (with_item e Tree.no_items) (items_of xs)) (sym (all_behind is (i + 1))) (item_parts h).0))
-
-  -- an item that is not so
-  pub loops_refused : (f : DataFault) → (f ≡ OutOfMemory) ⊎ (FirstLoopsKeepRoles text R (with_item e Tree.no_items) → ⊥) → (f ≡ OutOfMemory) ⊎ (ItemsKeepRoles text R [] (items_of is) → ⊥)
-  loops_refused f (inl out) = inl out
-  loops_refused f (inr none) = inr (λ h. none (item_parts h).1)

@@ -19,6 +19,10 @@ use Rattle.flow.specs.Roles.{LoopData, LineData, left_roles, ReadsAssigned, Carr
 abbrev pub Finds : Option DataFault → Type 0 → Type 0
 Finds found P = MatchOption found P (λ f. (f ≡ OutOfMemory) ⊎ (P → ⊥))
 
+-- memory was refused, or it is not so, and that is told
+abbrev pub RefusesFor : Type 0 → (DataFault → Type 0) → DataFault → Type 0
+RefusesFor P T f = (f ≡ OutOfMemory) ⊎ ((P → ⊥) × T f)
+
 -- a fault tells of an assignment: it writes a scalar that is not one's own (OpenMP 5.2, 5.1.1)
 abbrev pub TellsOfWrite : DataFault → (Variable → Bool) → Variable → Exprs → Type 0
 TellsOfWrite (Written place) own x is = is_own own x is ≡ false

@@ -6,15 +6,15 @@ ghost use Rattle.ktree.specs.View.{stmt_of, with_item, items_of, kernel_of};
 ghost use Rattle.pragma.specs.Parallel.{LineHas};
 ghost use Rattle.pragma_named.specs.Known.{kept};
 ghost use Rattle.flow.specs.Roles.{data_known, KeepsRolesThere, LoopsKeepRoles, ItemsKeepRoles, FirstLineKeepsRoles, FirstLoopsKeepRoles};
-ghost use Rattle.flow.specs.Told.{Finds, TellsOfLine, TellsOfLoops, TellsOfItems, TellsOfFirstLine, TellsOfFirstLoops};
-ghost use Rattle.flow.specs.Parallel.{AreParallelLoops};
+ghost use Rattle.flow.specs.Told.{Finds, RefusesFor, TellsOfLine, TellsOfLoops, TellsOfItems, TellsOfFirstLine, TellsOfFirstLoops};
+ghost use Rattle.flow.specs.Parallel.{Adds, AreParallelLoops, IsOfLine, LoopsAre, ItemsAre, FirstLineIs, FirstLoopsAre};
 ghost use Rattle.flow.specs.declared.fault.DataFault.TheVariants.{OutOfMemory};
 
 use crate::bodies::{first_statement, nest_body};
 use crate::environment::ParallelLoop;
 use crate::fault::DataFault;
 use crate::keeping::nest_fault;
-use crate::listing::add_items;
+use crate::listing::add_loop;
 use ktree::{Item, Kernel, Place, Stmt};
 use pragma::Directives;
 use pragma_named::LineClauses;
@@ -48,111 +48,151 @@ fn loop_fault(
     nest_fault(alloc, statement, body, place.line, lines, files)
 }
 
-/// What is wrong with an item that is a directive line, before these items.
-fn line_fault(
+/// Adds the parallel loop of the directive line at a place, before these items, or tells what is wrong with it.
+fn classify_loop(
+    alloc: Global,
+    directives: &Directives,
+    lines: &LineClauses,
+    files: usize,
+    place: Place,
+    rest: &[Item],
+    loops: &mut Vec<ParallelLoop>,
+) -> Result<(), DataFault>
+    ensures ok { OnOk result (LineHas directives.now (KeepsRolesThere (data_known (kept lines.now) files place.line)) []
+        place.line (items_of rest.now)) }
+    ensures added { OnOk result (Adds (IsOfLine directives.now (data_known (kept lines.now) files) place.line (items_of rest.now)) loops.old.items loops.new.items) }
+    ensures err { IfErr result (RefusesFor (LineHas directives.now (KeepsRolesThere (data_known (kept lines.now) files place.line)) []
+        place.line (items_of rest.now))
+        (λ f. TellsOfLine f directives.now (data_known (kept lines.now) files) place.line (items_of rest.now))) }
+{
+    if let Some(fault) = loop_fault(alloc, directives, lines, files, place, rest) {
+        return Err(fault);
+    }
+    add_loop(alloc, directives, lines, files, place, rest, loops)?;
+    Ok(())
+}
+
+/// The same, where an item is a directive line.
+fn classify_line(
     alloc: Global,
     directives: &Directives,
     lines: &LineClauses,
     files: usize,
     item: &Item,
     rest: &[Item],
-) -> Option<DataFault>
-    ensures judged { Finds result
-        (FirstLineKeepsRoles directives.now (data_known (kept lines.now) files)
+    loops: &mut Vec<ParallelLoop>,
+) -> Result<(), DataFault>
+    ensures ok { OnOk result (FirstLineKeepsRoles directives.now (data_known (kept lines.now) files)
         (with_item item.now no_items) (items_of rest.now)) }
-    ensures cause { IfSome result
+    ensures added { OnOk result (Adds (FirstLineIs directives.now (data_known (kept lines.now) files)
+        (with_item item.now no_items) (items_of rest.now)) loops.old.items loops.new.items) }
+    ensures err { IfErr result (RefusesFor (FirstLineKeepsRoles directives.now (data_known (kept lines.now) files)
+        (with_item item.now no_items) (items_of rest.now))
         (λ f. TellsOfFirstLine f directives.now (data_known (kept lines.now) files)
-        (with_item item.now no_items) (items_of rest.now)) }
+        (with_item item.now no_items) (items_of rest.now))) }
 {
     match item {
-        Item::Directive(place) => loop_fault(alloc, directives, lines, files, *place, rest),
-        Item::Local(_) => None,
-        Item::Statement(_) => None,
+        Item::Directive(place) => {
+            classify_loop(alloc, directives, lines, files, *place, rest, loops)
+        }
+        Item::Local(_) => Ok(()),
+        Item::Statement(_) => Ok(()),
     }
 }
 
-/// What is wrong with the parallel loops in a statement.
+/// Adds the parallel loops in a statement, or tells what is wrong with the first that is not right.
 #[cycle(classifying)]
-fn statement_fault(
+fn classify_in(
     alloc: Global,
     directives: &Directives,
     lines: &LineClauses,
     files: usize,
     statement: &Stmt,
-) -> Option<DataFault>
-    ensures judged { Finds result
-        (LoopsKeepRoles directives.now (data_known (kept lines.now) files) []
-        (stmt_of statement.now)) }
-    ensures cause { IfSome result
-        (λ f. TellsOfLoops f directives.now (data_known (kept lines.now) files)
-        (stmt_of statement.now)) }
+    loops: &mut Vec<ParallelLoop>,
+) -> Result<(), DataFault>
+    ensures ok { OnOk result (LoopsKeepRoles directives.now (data_known (kept lines.now) files) [] (stmt_of statement.now)) }
+    ensures added { OnOk result (Adds (LoopsAre directives.now (data_known (kept lines.now) files) (stmt_of statement.now)) loops.old.items loops.new.items) }
+    ensures err { IfErr result (RefusesFor (LoopsKeepRoles directives.now (data_known (kept lines.now) files) [] (stmt_of statement.now))
+        (λ f. TellsOfLoops f directives.now (data_known (kept lines.now) files) (stmt_of statement.now))) }
 {
     match statement {
-        Stmt::Assign(_, _) => None,
-        Stmt::Update(_, _, _) => None,
-        Stmt::If(_, then, other) => {
-            if let Some(fault) = statement_fault(alloc, directives, lines, files, then) {
-                return Some(fault);
-            }
-            match other {
-                None => None,
-                Some(other) => statement_fault(alloc, directives, lines, files, other),
-            }
-        }
-        Stmt::For(_, body) => statement_fault(alloc, directives, lines, files, body),
-        Stmt::Block(items) => items_fault(alloc, directives, lines, files, items),
-        Stmt::Print(_, _) => None,
+        Stmt::Assign(_, _) => Ok(()),
+        Stmt::Update(_, _, _) => Ok(()),
+        Stmt::If(_, then, other) => match other {
+            None => classify_in(alloc, directives, lines, files, then, loops),
+            Some(other) => match classify_in(alloc, directives, lines, files, then, loops) {
+                Err(fault) => Err(fault),
+                Ok(()) => classify_in(alloc, directives, lines, files, other, loops),
+            },
+        },
+        Stmt::For(_, body) => classify_in(alloc, directives, lines, files, body, loops),
+        Stmt::Block(items) => classify_among(alloc, directives, lines, files, items, loops),
+        Stmt::Print(_, _) => Ok(()),
     }
 }
 
-/// What is wrong with those among a block's items.
+/// Those in an item.
 #[cycle(classifying)]
-fn items_fault(
-    alloc: Global,
-    directives: &Directives,
-    lines: &LineClauses,
-    files: usize,
-    items: &[Item],
-) -> Option<DataFault>
-    ensures judged { Finds result
-        (ItemsKeepRoles directives.now (data_known (kept lines.now) files) []
-        (items_of items.now)) }
-    ensures cause { IfSome result
-        (λ f. TellsOfItems f directives.now (data_known (kept lines.now) files)
-        (items_of items.now)) }
-{
-    for (i, item) in items.iter().enumerate() {
-        if let Some(fault) = line_fault(alloc, directives, lines, files, item, &items[i + 1..]) {
-            return Some(fault);
-        }
-        if let Some(fault) = item_fault(alloc, directives, lines, files, item) {
-            return Some(fault);
-        }
-    }
-    None
-}
-
-/// What is wrong with those in an item.
-#[cycle(classifying)]
-fn item_fault(
+fn classify_item(
     alloc: Global,
     directives: &Directives,
     lines: &LineClauses,
     files: usize,
     item: &Item,
-) -> Option<DataFault>
-    ensures judged { Finds result
-        (FirstLoopsKeepRoles directives.now (data_known (kept lines.now) files)
+    loops: &mut Vec<ParallelLoop>,
+) -> Result<(), DataFault>
+    ensures ok { OnOk result (FirstLoopsKeepRoles directives.now (data_known (kept lines.now) files)
         (with_item item.now no_items)) }
-    ensures cause { IfSome result
+    ensures added { OnOk result (Adds (FirstLoopsAre directives.now (data_known (kept lines.now) files)
+        (with_item item.now no_items)) loops.old.items loops.new.items) }
+    ensures err { IfErr result (RefusesFor (FirstLoopsKeepRoles directives.now (data_known (kept lines.now) files)
+        (with_item item.now no_items))
         (λ f. TellsOfFirstLoops f directives.now (data_known (kept lines.now) files)
-        (with_item item.now no_items)) }
+        (with_item item.now no_items))) }
 {
     match item {
-        Item::Directive(_) => None,
-        Item::Local(_) => None,
-        Item::Statement(statement) => statement_fault(alloc, directives, lines, files, statement),
+        Item::Directive(_) => Ok(()),
+        Item::Local(_) => Ok(()),
+        Item::Statement(statement) => {
+            classify_in(alloc, directives, lines, files, statement, loops)
+        }
     }
+}
+
+/// Those among a block's items.
+#[cycle(classifying)]
+fn classify_among(
+    alloc: Global,
+    directives: &Directives,
+    lines: &LineClauses,
+    files: usize,
+    items: &[Item],
+    loops: &mut Vec<ParallelLoop>,
+) -> Result<(), DataFault>
+    ensures ok { OnOk result (ItemsKeepRoles directives.now (data_known (kept lines.now) files) [] (items_of items.now)) }
+    ensures added { OnOk result (Adds (ItemsAre directives.now (data_known (kept lines.now) files) (items_of items.now)) loops.old.items loops.new.items) }
+    ensures err { IfErr result (RefusesFor (ItemsKeepRoles directives.now (data_known (kept lines.now) files) [] (items_of items.now))
+        (λ f. TellsOfItems f directives.now (data_known (kept lines.now) files) (items_of items.now))) }
+{
+    for (i, item) in items.iter().enumerate() {
+        match classify_line(
+            alloc,
+            directives,
+            lines,
+            files,
+            item,
+            &items[i + 1..],
+            loops,
+        ) {
+            Err(fault) => return Err(fault),
+            Ok(()) => {}
+        }
+        match classify_item(alloc, directives, lines, files, item, loops) {
+            Err(fault) => return Err(fault),
+            Ok(()) => {}
+        }
+    }
+    Ok(())
 }
 
 /// The parallel loops of a kernel, in the order of the text. The iterations of each keep to data of their own: its body writes no
@@ -182,10 +222,9 @@ pub fn classify(
 {
     let files = kernel.variables.len();
     let items = kernel.body.as_slice();
-    if let Some(fault) = items_fault(alloc, directives, lines, files, items) {
-        return Err(fault);
-    }
     let mut loops = Vec::new(alloc);
-    add_items(alloc, directives, lines, files, items, &mut loops)?;
-    Ok(loops)
+    match classify_among(alloc, directives, lines, files, items, &mut loops) {
+        Err(fault) => Err(fault),
+        Ok(()) => Ok(loops),
+    }
 }

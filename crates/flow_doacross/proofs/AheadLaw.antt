@@ -12,7 +12,8 @@ use Rattle.law_commute.proofs.Values.{first_of, second_of}
 use Rattle.pragma_named.specs.Known.{Lines}
 use Rattle.pragma_region.specs.Regions.{is_doacross_line}
 use Rattle.flow.specs.Private.{nest_body_of}
-use Rattle.flow_doacross.specs.Lines.{Elements, line_before}
+use Rattle.nest_lines.specs.Lines.{line_before}
+use Rattle.flow_doacross.specs.Lines.{Elements}
 use Rattle.flow_doacross.specs.Bodies.{loop_names, in_order, distance_of, is_sink_of, cut_front, ends_in_source}
 use Rattle.flow_doacross.specs.Nests.{is_doacross_nest, nest_by, nest_behind, nests_in, nests_among, doacross_rightly}
 use Rattle.flow_doacross.specs.Listed.{is_near, near, distances_in, NestPart, parts_by, parts_behind, parts_in, parts_among, nest_at, doacross_of}

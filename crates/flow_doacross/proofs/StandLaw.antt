@@ -15,7 +15,7 @@ use Rattle.pragma.specs.Plain.{has_line, has_line_among, IsPlainFor, IsPlainLoop
 use Rattle.pragma_named.specs.Known.{Lines}
 use Rattle.pragma_region.specs.Regions.{is_doacross_line, is_left_out}
 use Rattle.flow.specs.Roles.{LoopsHaveBy, ItemsHaveBy}
-use Rattle.flow_doacross.specs.Lines.{line_before}
+use Rattle.nest_lines.specs.Lines.{line_before}
 use Rattle.flow_doacross.specs.Nests.{is_doacross_nest, nest_by, nest_behind, nests_in, nests_among}
 use Rattle.flow_doacross.specs.Listed.{nest_at, doacross_of}
 use Rattle.flow_doacross.specs.Laws.{HasNest, NestThere, NestsStandAlone}

@@ -6,7 +6,9 @@ use Rattle.semantics.specs.Meaning.State.{same_indexes}
 use Rattle.semantics.specs.Loops.Nest.{holds_none}
 use Rattle.semantics.specs.Loops.Order.{Distance, is_ahead}
 use Rattle.pragma_region.specs.Regions.{is_doacross_line}
-use Rattle.flow_doacross.specs.Lines.{Elements, sink_on, is_source_line, has_doacross}
+use Rattle.nest_lines.specs.Inner.{has_line}
+use Rattle.nest_lines.specs.declared.inner.InnerLine.TheVariants.{Doacross}
+use Rattle.flow_doacross.specs.Lines.{Elements, sink_on, is_source_line}
 
 -- ---- a sink
 
@@ -63,7 +65,7 @@ abbrev pub ends_in_source : List ℕ → Items → Bool
 ends_in_source text no_items = false
 ends_in_source text (mark n rest) = if holds_none rest then is_source_line text n else not (is_doacross_line text n) && ends_in_source text rest
 ends_in_source text (local x name start rest) = ends_in_source text rest
-ends_in_source text (stmt s rest) = not (has_doacross text s) && ends_in_source text rest
+ends_in_source text (stmt s rest) = not (has_line text Doacross s) && ends_in_source text rest
 
 -- one sink or more first, each right, and the source last
 abbrev pub are_ordered : List ℕ → ℕ → List Name → Front → Bool

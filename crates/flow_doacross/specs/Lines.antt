@@ -1,11 +1,10 @@
 -- What directive lines say of a doacross nest, and where its lines stand. (OpenMP 5.2, 4.4.4, 15.9.6 and 15.10)
-use Rattle.std.specs.Prelude.{ℕ, Bool, true, false, ◌==◌, ◌||◌, if◌then◌else◌, List, Option, Some, None, option_map, option_and_then, ℤ}
-use Rattle.semantics.specs.Tree.{Name, Variable, Stmt, Assign, Update, If, IfElse, For, Block, Print, Items, no_items, mark, local, stmt}
+use Rattle.std.specs.Prelude.{ℕ, Bool, true, false, ◌==◌, List, Option, Some, None, option_map, option_and_then, ℤ}
+use Rattle.semantics.specs.Tree.{Name, Variable}
 use Rattle.semantics.specs.Directives.Directive.{Clause, Lastprivate, LastConditional, Reduction, Inscan, Collapse, Directive, DoacrossSource, DoacrossSink}
 use Rattle.pragma.specs.Clauses.{Said, loop_of}
 use Rattle.pragma.specs.Parallel.{associated}
 use Rattle.pragma_attach.specs.Standing.{directive_on}
-use Rattle.pragma_region.specs.Regions.{is_doacross_line, is_left_out}
 
 -- the elements of a sink: the names of a nest's variables, each with its offset
 abbrev pub Elements : Type 0
@@ -26,10 +25,6 @@ is_source _ = false
 -- the source stands on it
 abbrev pub is_source_line : List ℕ → ℕ → Bool
 is_source_line text n = is_source (directive_on text n)
-
--- the line before the next item: those that stand before no loop are passed
-abbrev pub line_before : List ℕ → Option ℕ → ℕ → Option ℕ
-line_before text before n = if is_left_out text n then before else Some n
 
 -- how many loops the directive on a line associates, where it is a loop's (OpenMP 5.2, 4.4.3 and 4.4.4)
 abbrev pub associated_on : List ℕ → ℕ → Option ℕ
@@ -52,21 +47,3 @@ suits_doacross (Inscan op x) = false
 suits_doacross (Lastprivate xs) = false
 suits_doacross (LastConditional xs) = false
 suits_doacross _ = true
-
-abbrev mutual
-  -- a sink or a source stands in a statement
-  pub has_doacross : List ℕ → Stmt → Bool
-  has_doacross text (Assign x is e) = false
-  has_doacross text (Update x is op e) = false
-  has_doacross text (If c a) = has_doacross text a
-  has_doacross text (IfElse c a b) = has_doacross text a || has_doacross text b
-  has_doacross text (For x name start test step body) = has_doacross text body
-  has_doacross text (Block items) = have_doacross text items
-  has_doacross text (Print parts) = false
-
-  -- or among items
-  pub have_doacross : List ℕ → Items → Bool
-  have_doacross text no_items = false
-  have_doacross text (mark n rest) = is_doacross_line text n || have_doacross text rest
-  have_doacross text (local x name start rest) = have_doacross text rest
-  have_doacross text (stmt s rest) = has_doacross text s || have_doacross text rest

@@ -6,7 +6,7 @@ use Rattle.semantics.specs.Loops.Order.{Distance}
 use Rattle.semantics.specs.Directives.Clauses.{doacross_of as ordered_loops}
 use Rattle.pragma_named.specs.Known.{Lines}
 use Rattle.flow.specs.Private.{nest_body_of}
-use Rattle.flow_doacross.specs.Lines.{line_before}
+use Rattle.nest_lines.specs.Lines.{line_before}
 use Rattle.flow_doacross.specs.Bodies.{distance_of, cut_front}
 
 -- a number of 64 bits with its sign

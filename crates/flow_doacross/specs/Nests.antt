@@ -13,7 +13,8 @@ use Rattle.pragma_named.specs.Known.{Lines}
 use Rattle.law_waves.specs.Silent.{is_silent}
 use Rattle.flow.specs.Private.{nest_body_of}
 use Rattle.pragma_region.specs.Regions.{is_doacross_line}
-use Rattle.flow_doacross.specs.Lines.{associates, line_before, suits_doacross}
+use Rattle.nest_lines.specs.Lines.{line_before}
+use Rattle.flow_doacross.specs.Lines.{associates, suits_doacross}
 use Rattle.flow_doacross.specs.Bodies.{loop_names, is_ordered_body}
 
 -- ---- a nest

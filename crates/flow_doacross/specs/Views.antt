@@ -10,13 +10,14 @@ use Rattle.ktree.specs.declared.directive.Written.{Written}
 use Rattle.ktree.specs.declared.directive.SinkElement.{SinkElement}
 use Rattle.semantics.specs.Tree as tree
 use Rattle.semantics.specs.Loops.Order.{Distance}
-use Rattle.flow_doacross.specs.Lines.{Elements, sink_on, is_source_line, line_before}
+use Rattle.flow_doacross.specs.Lines.{Elements, sink_on, is_source_line}
 use Rattle.flow_doacross.specs.Bodies as meant
 use Rattle.flow_doacross.specs.Listed.{is_near, NestPart, parts_among}
 use Rattle.flow_doacross.specs.declared.cutting.Front.{Front}
 use Rattle.flow_doacross.specs.declared.fault.DoacrossFault.{DoacrossFault}
 use Rattle.flow_doacross.specs.declared.fault.DoacrossFault.TheVariants as told
 use Rattle.flow_doacross.specs.declared.listing.DoacrossLoop.{DoacrossLoop}
+use Rattle.nest_lines.specs.Lines.{next_line}
 use Rattle.pragma_named.specs.Known.{Lines}
 use Rattle.pragma_region.specs.Listed.{line_of}
 
@@ -59,11 +60,6 @@ sinks_on text items = filter_map (item_sink text) items
 -- items that are cut
 abbrev pub front_cut : List ℕ → Front → meant.Front
 front_cut text f = record { sinks = sinks_on text f.sinks.now; rest = items_of f.rest.now }
-
--- the line behind which the item behind this one stands
-abbrev pub next_line : List ℕ → Option ℕ → Item → Option ℕ
-next_line text before (Directive place) = line_before text before place.line
-next_line text before _ = None
 
 -- a distance as the code holds it
 abbrev pub distance_kept : Vec ℤ → Distance

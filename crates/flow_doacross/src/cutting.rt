@@ -2,7 +2,8 @@
 
 ghost use Rattle.std.specs.Prelude.{◌≡◌, ◌≤◌, not, false, MatchOption, length, take, drop, option_map};
 ghost use Rattle.ktree.specs.View.{items_of};
-ghost use Rattle.flow_doacross.specs.Lines.{have_doacross};
+ghost use Rattle.nest_lines.specs.Inner.{have_line};
+ghost use Rattle.nest_lines.specs.declared.inner.InnerLine.TheVariants.{Doacross};
 ghost use Rattle.flow_doacross.specs.Bodies.{cut_front, ends_in_source};
 ghost use Rattle.flow_doacross.specs.Views.{elements_of, item_sink, item_source, sinks_on, front_cut};
 
@@ -72,7 +73,7 @@ fn is_source_item(directives: &Directives, item: &Item) -> bool
 pub(crate) fn before_source<'k>(directives: &Directives, items: &'k [Item]) -> Option<&'k [Item]>
     ensures { MatchOption result (ends_in_source directives.now (items_of items.now) ≡ false)
         (λ inner. ends_in_source directives.now (items_of items.now)
-        ≡ not (have_doacross directives.now (items_of inner.now))) }
+        ≡ not (have_line directives.now Doacross (items_of inner.now))) }
 {
     let Some((last, inner)) = items.split_last() else {
         return None;

@@ -1,15 +1,12 @@
 //! The lines of sinks and sources.
 
-ghost use Rattle.std.specs.Prelude.{◌≡◌, ◌||◌, is_some, option_map};
-ghost use Rattle.semantics.specs.Tree.{Items};
-ghost use Rattle.ktree.specs.View.{stmt_of, with_item, items_of};
+ghost use Rattle.std.specs.Prelude.{◌≡◌, option_map};
 ghost use Rattle.ktree.specs.DirectiveView.{name_of, directive_of};
-ghost use Rattle.flow_doacross.specs.Lines.{sink_said, sink_on, is_source, is_source_line, associates, has_doacross, have_doacross};
+ghost use Rattle.flow_doacross.specs.Lines.{sink_said, sink_on, is_source, is_source_line, associates};
 ghost use Rattle.flow_doacross.specs.Views.{elements_of};
 
-use ktree::{Directive, Item, Place, SinkElement, Stmt, Written};
+use ktree::{Directive, Place, SinkElement, Written};
 use pragma::Directives;
-use pragma_region::is_doacross;
 
 /// The elements of a directive, where it is a sink (OpenMP 5.2, 15.9.6).
 fn sink_said(directive: &Directive<Written>) -> Option<&[SinkElement<Written>]>
@@ -65,58 +62,4 @@ pub(crate) fn associates(directives: &Directives, place: Place, depth: u64) -> b
         return false;
     };
     said.associated_loops() == depth
-}
-
-/// The first sink or source in a statement.
-#[cycle(finding)]
-#[tactic(auto, using(ktree::proofs::Trees::block_items))]
-pub(crate) fn line_in(directives: &Directives, statement: &Stmt) -> Option<Place>
-    ensures { is_some result ≡ has_doacross directives.now (stmt_of statement.now) }
-{
-    match statement {
-        Stmt::Assign(_, _) => None,
-        Stmt::Update(_, _, _) => None,
-        Stmt::If(_, then, other) => {
-            let first = line_in(directives, then);
-            match other {
-                None => first,
-                Some(other) => first.or(line_in(directives, other)),
-            }
-        }
-        Stmt::For(_, body) => line_in(directives, body),
-        Stmt::Block(items) => line_among(directives, items),
-        Stmt::Print(_, _) => None,
-    }
-}
-
-/// The first that an item is or has in it.
-#[cycle(finding)]
-fn item_line(directives: &Directives, item: &Item) -> Option<Place>
-    ensures { (rest : Items) → have_doacross directives.now (with_item item.now rest)
-        ≡ (is_some result || have_doacross directives.now rest) }
-{
-    match item {
-        Item::Directive(place) => {
-            if is_doacross(directives, *place) {
-                Some(*place)
-            } else {
-                None
-            }
-        }
-        Item::Local(_) => None,
-        Item::Statement(statement) => line_in(directives, statement),
-    }
-}
-
-/// The first among items.
-#[cycle(finding)]
-pub(crate) fn line_among(directives: &Directives, items: &[Item]) -> Option<Place>
-    ensures { is_some result ≡ have_doacross directives.now (items_of items.now) }
-{
-    for item in items {
-        if let Some(place) = item_line(directives, item) {
-            return Some(place);
-        }
-    }
-    None
 }

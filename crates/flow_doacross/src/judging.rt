@@ -12,12 +12,13 @@ ghost use Rattle.flow_doacross.specs.Views.{item_sink, is_right_sink, sinks_on};
 use crate::clauses::suit_doacross;
 use crate::cutting::{before_source, cut_front};
 use crate::fault::DoacrossFault;
-use crate::finding::{associates, line_among, line_in, sink_at};
+use crate::finding::{associates, sink_at};
 use crate::heads::all_count_up;
 use crate::printing::print_in;
 use crate::sinks::sink_fault;
 use flow::nest_body;
 use ktree::{Clause, Item, Place, Stmt};
+use nest_lines::{InnerLine, line_among};
 use pragma::Directives;
 use pragma_named::Named;
 use std::alloc::{AllocError, Global};
@@ -93,7 +94,7 @@ fn items_fault(
     if found.is_some() {
         return found;
     }
-    line_fault(line_among(directives, inner))
+    line_fault(line_among(directives, InnerLine::Doacross, inner))
 }
 
 /// What is wrong with its body.
@@ -145,14 +146,6 @@ fn first_of(one: Option<DoacrossFault>, other: Option<DoacrossFault>) -> Option<
     }
 }
 
-/// What is wrong with a statement that is no nest of as many loops as its line asks for: a sink or a source in it, or else its line.
-fn no_nest(directives: &Directives, line: Place, statement: &Stmt) -> DoacrossFault {
-    match line_in(directives, statement) {
-        None => DoacrossFault::Nest(line),
-        Some(place) => DoacrossFault::Line(place),
-    }
-}
-
 /// What is wrong with the nest of so many loops behind the directive line at a place, by the clauses that count for it.
 pub(crate) fn nest_fault(
     alloc: Global,
@@ -166,7 +159,7 @@ pub(crate) fn nest_fault(
         (map resolved_clause clauses.now) (stmt_of statement.now)) }
 {
     let Some(body) = nest_body(statement, depth) else {
-        return Ok(Some(no_nest(directives, line, statement)));
+        return Ok(Some(DoacrossFault::Nest(line)));
     };
     if !associates(directives, line, depth) || !suit_doacross(clauses) {
         return Ok(Some(DoacrossFault::Nest(line)));

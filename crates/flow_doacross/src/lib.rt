@@ -16,5 +16,5 @@ mod walking;
 
 pub use fault::DoacrossFault;
 pub use laws::{loops_count_up_anywhere, nests_stand_alone};
-pub use listing::{DoacrossLoop, doacross_of};
-pub use walking::first_misuse;
+pub use listing::DoacrossLoop;
+pub use walking::{DoacrossNests, doacross_of};

@@ -70,11 +70,6 @@ fn body_disorder(directives: &Directives, may: bool, body: &Stmt) -> Option<Diso
     }
 }
 
-/// What is wrong with a statement that is no nest of as many loops as its line associates: a line that stands between these, or else its own.
-fn nest_disorder(directives: &Directives, line: Place, statement: &Stmt) -> Disorder {
-    body_disorder(directives, false, statement).unwrap_or(Disorder::Region(line))
-}
-
 /// What is wrong with the region of a loop behind the directive line at a place.
 fn loop_disorder(
     directives: &Directives,
@@ -89,7 +84,7 @@ fn loop_disorder(
         return Some(Disorder::Region(line));
     };
     let Some(body) = nest_body(statement, said.associated_loops()) else {
-        return Some(nest_disorder(directives, line, statement));
+        return Some(Disorder::Region(line));
     };
     body_disorder(directives, any_orders(clauses), body)
 }

@@ -1,9 +1,9 @@
 -- The directive lines of a text's tree rise, so that no two loops of scans stand behind lines of one number. (C11 5.1.1.2)
-use Rattle.std.specs.Prelude.{ℕ, zero, suc, Bool, true, false, not, ◌≡◌, ◌≤◌, ◌⊎◌, ◌==◌, ◌&&◌, ◌||◌, ◌++◌, if◌then◌else◌, List, [], ◌∷◌, map, Option, Some, None, codes}
-use Rattle.std.proofs.Common.{refl, sym, ap, ◌∙◌, subst, inl, inr, arith}
+use Rattle.std.specs.Prelude.{ℕ, suc, Bool, true, false, not, ◌≡◌, ◌≤◌, ◌⊎◌, ◌==◌, ◌||◌, ◌++◌, if◌then◌else◌, List, [], ◌∷◌, Option, Some, None, codes}
+use Rattle.std.proofs.Common.{refl, sym, ap, subst, inl, inr, arith}
 use Rattle.std.proofs.lemmas.Bool.{and_from, eqb-true}
 use Rattle.std.proofs.lemmas.List.{map-append, append-nil}
-use Rattle.semantics.specs.Tree.{Variable, Stmt, Assign, Update, If, IfElse, For, Block, Print, Items, no_items, mark, local, stmt, Kernel}
+use Rattle.semantics.specs.Tree.{Stmt, Assign, Update, If, IfElse, For, Block, Print, Items, no_items, mark, local, stmt, Kernel}
 use Rattle.semantics.specs.Source.Token.{Token, Word, IntegerConstant, StringLiteral, Punctuator, Header, Line, CloseParen, CloseBrace, Semicolon}
 use Rattle.semantics.specs.Source.Scope.{Scope}
 use Rattle.semantics.specs.Source.Cuts as cuts
@@ -16,7 +16,8 @@ use Rattle.law_roles.specs.Sharing.{are_different}
 use Rattle.pragma_named.specs.Known.{Lines}
 use Rattle.pragma_region.specs.Regions.{is_left_out}
 use Rattle.flow_scan.specs.Parts.{Parts, body_parts}
-use Rattle.flow_scan.specs.Scans.{ScanPart, is_scan_loop, line_before, parts_at, parts_behind, parts_in, parts_among, scans_of}
+use Rattle.nest_lines.specs.Lines.{line_before}
+use Rattle.flow_scan.specs.Scans.{ScanPart, is_scan_loop, parts_at, parts_behind, parts_in, parts_among, scans_of}
 use Rattle.flow_scan.proofs.TellLaw.{lines_of}
 
 -- ---- numbers that rise

@@ -22,8 +22,11 @@ use Rattle.pragma_named.specs.Known.{Lines}
 use Rattle.pragma_region.specs.Regions.{is_scan_line, is_left_out}
 use Rattle.flow.specs.Roles.{LoopsHaveBy, ItemsHaveBy}
 use Rattle.flow_scan.specs.Lines.{is_loop, is_loop_line, is_one, associates_one, associates_one_on, suits_scan, sole_of, scanned, is_called}
-use Rattle.flow_scan.specs.Parts.{Parts, block_parts, body_parts, cut, has_statement, count, have_scan}
-use Rattle.flow_scan.specs.Scans.{ScanPart, has_phases, scans_loop, is_scan_loop, scans_behind, line_before, scans_in, scans_among, parts_at, parts_behind, parts_in, parts_among, scans_of}
+use Rattle.nest_lines.specs.Lines.{line_before}
+use Rattle.nest_lines.specs.Inner.{have_line}
+use Rattle.nest_lines.specs.declared.inner.InnerLine.TheVariants.{Scan}
+use Rattle.flow_scan.specs.Parts.{Parts, block_parts, body_parts, cut, has_statement, count}
+use Rattle.flow_scan.specs.Scans.{ScanPart, has_phases, scans_loop, is_scan_loop, scans_behind, scans_in, scans_among, parts_at, parts_behind, parts_in, parts_among, scans_of}
 use Rattle.flow_scan.specs.Laws.{HasPhases, ScanThere, ScansStandAlone}
 use Rattle.flow_scan.proofs.WithoutLaw.{both_true, phases_kept, cut_joined, count_all}
 
@@ -101,7 +104,7 @@ phased text k (Some r) s h = go (body_parts text s) refl h
       reduced_is = refl;
       parts = p;
       parts_are = e;
-      keeps = second_of (has_statement p.front && has_statement p.back && is_called k r.0 p.said.name && not (have_scan text p.front) && not (have_scan text p.back)) (keeps_phases r.0 r.1 p.said.inclusive p.front p.back) g;
+      keeps = second_of (has_statement p.front && has_statement p.back && is_called k r.0 p.said.name && not (have_line text Scan p.front) && not (have_line text Scan p.back)) (keeps_phases r.0 r.1 p.said.inclusive p.front p.back) g;
     }
 
 module _ (text : List ℕ) (lines : Lines) (k : Kernel) where

@@ -1,7 +1,6 @@
 -- A loop's body, cut at its `scan` line. (OpenMP 5.2, 5.6)
-use Rattle.std.specs.Prelude.{ℕ, suc, Bool, true, false, ◌||◌, List, Option, Some, None, option_map}
-use Rattle.semantics.specs.Tree.{Stmt, Assign, Update, If, IfElse, For, Block, Print, Items, no_items, mark, local, stmt}
-use Rattle.pragma_region.specs.Regions.{is_scan_line}
+use Rattle.std.specs.Prelude.{ℕ, suc, Bool, true, false, List, Option, Some, None, option_map}
+use Rattle.semantics.specs.Tree.{Stmt, For, Block, Items, no_items, mark, local, stmt}
 use Rattle.flow_scan.specs.Lines.{ScanSaid, scan_on}
 
 -- what the line says, and the items in front of it and behind it
@@ -49,21 +48,3 @@ count no_items = 0
 count (mark n rest) = count rest
 count (local x name start rest) = suc (count rest)
 count (stmt s rest) = suc (count rest)
-
-abbrev mutual
-  -- a `scan` line stands in a statement
-  pub has_scan : List ℕ → Stmt → Bool
-  has_scan text (Assign x is e) = false
-  has_scan text (Update x is op e) = false
-  has_scan text (If c a) = has_scan text a
-  has_scan text (IfElse c a b) = has_scan text a || has_scan text b
-  has_scan text (For x name start test step body) = has_scan text body
-  has_scan text (Block items) = have_scan text items
-  has_scan text (Print parts) = false
-
-  -- or among items
-  pub have_scan : List ℕ → Items → Bool
-  have_scan text no_items = false
-  have_scan text (mark n rest) = is_scan_line text n || have_scan text rest
-  have_scan text (local x name start rest) = have_scan text rest
-  have_scan text (stmt s rest) = has_scan text s || have_scan text rest

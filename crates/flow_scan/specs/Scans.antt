@@ -7,14 +7,17 @@ use Rattle.semantics.specs.Directives.Directive.{Clause}
 use Rattle.semantics.specs.Directives.Clauses.{is_scan}
 use Rattle.law_scans.specs.Phases.{keeps_phases}
 use Rattle.pragma_named.specs.Known.{Lines}
-use Rattle.pragma_region.specs.Regions.{is_scan_line, is_left_out}
+use Rattle.pragma_region.specs.Regions.{is_scan_line}
+use Rattle.nest_lines.specs.Lines.{line_before}
+use Rattle.nest_lines.specs.Inner.{have_line}
+use Rattle.nest_lines.specs.declared.inner.InnerLine.TheVariants.{Scan}
 use Rattle.flow_scan.specs.Lines.{is_loop_line, associates_one_on, suits_scan, sole_of, scanned, is_called}
-use Rattle.flow_scan.specs.Parts.{Parts, body_parts, has_statement, count, have_scan}
+use Rattle.flow_scan.specs.Parts.{Parts, body_parts, has_statement, count}
 
 -- a body in two phases, with a statement in each, and no further `scan` line; its own one lists the variable of the scan
 abbrev pub has_phases : List ℕ → Kernel → Option (Variable × ReduceOp) → Option Parts → Bool
 has_phases text k (Some r) (Some p) =
-    has_statement p.front && has_statement p.back && is_called k r.0 p.said.name && not (have_scan text p.front) && not (have_scan text p.back)
+    has_statement p.front && has_statement p.back && is_called k r.0 p.said.name && not (have_line text Scan p.front) && not (have_line text Scan p.back)
     && keeps_phases r.0 r.1 p.said.inclusive p.front p.back
 has_phases text k _ _ = false
 
@@ -30,10 +33,6 @@ is_scan_loop text lines n = is_loop_line text n && is_scan (lines n)
 abbrev pub scans_behind : List ℕ → Kernel → Lines → Option ℕ → Stmt → Bool → Bool
 scans_behind text k lines None s inside = inside
 scans_behind text k lines (Some n) s inside = if is_scan_loop text lines n then scans_loop text k n (lines n) s else inside
-
--- the line before the next item; those that are left out stand before none
-abbrev pub line_before : List ℕ → Option ℕ → ℕ → Option ℕ
-line_before text before n = if is_left_out text n then before else Some n
 
 abbrev mutual
   -- each `scan` line in a statement is that of a scan's loop, and each of these has its phases

@@ -6,7 +6,8 @@ use Rattle.semantics.specs.Loops.Operator.{ReduceOp}
 use Rattle.ktree.specs.View.{items_of}
 use Rattle.ktree.specs.DirectiveView.{name_of}
 use Rattle.ktree.specs.declared.place.Place.{Place}
-use Rattle.ktree.specs.declared.statement.Item.{Item, Directive}
+use Rattle.ktree.specs.declared.statement.Item.{Item}
+use Rattle.nest_lines.specs.Lines.{next_line}
 use Rattle.pragma_mention.specs.Sets.{holds}
 use Rattle.pragma_named.specs.Known.{Lines}
 use Rattle.pragma_region.specs.Listed.{line_of}
@@ -15,7 +16,7 @@ use Rattle.flow_reduction.specs.Reduced.{reduction_of}
 use Rattle.flow_reduction.specs.declared.reduction.Reduction.{Reduction}
 use Rattle.flow_scan.specs.Lines.{ScanSaid}
 use Rattle.flow_scan.specs.Parts as meant
-use Rattle.flow_scan.specs.Scans.{ScanPart, line_before, parts_among}
+use Rattle.flow_scan.specs.Scans.{ScanPart, parts_among}
 use Rattle.flow_scan.specs.declared.fault.ScanFault.{ScanFault}
 use Rattle.flow_scan.specs.declared.fault.ScanFault.TheVariants.{Scan, Reduced}
 use Rattle.flow_scan.specs.declared.clauses.ScanLine.{ScanLine}
@@ -48,11 +49,6 @@ reduced_there (Some r) = reduction_of r ∷ []
 -- a variable that is none of a set, or this one
 abbrev pub is_spared : {S : Type 0} → HashSet ℕ S → Variable → Variable → Bool
 is_spared set x y = y == x || not (holds set y)
-
--- the line behind which the item behind this one stands
-abbrev pub next_line : List ℕ → Option ℕ → Item → Option ℕ
-next_line text before (Directive place) = line_before text before place.line
-next_line text before _ = None
 
 -- the loop of a scan, as it is listed
 abbrev pub scan_part : ScanLoop → ScanPart

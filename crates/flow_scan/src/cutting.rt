@@ -1,15 +1,14 @@
 //! A loop's body, cut at its `scan` line.
 
-ghost use Rattle.std.specs.Prelude.{◌≡◌, ◌||◌, ◌<◌, ◌+◌, length, take, drop, is_some, option_map};
+ghost use Rattle.std.specs.Prelude.{◌≡◌, ◌||◌, ◌<◌, ◌+◌, length, take, drop, option_map};
 ghost use Rattle.semantics.specs.Tree.{Items};
 ghost use Rattle.ktree.specs.View.{stmt_of, with_item, items_of};
-ghost use Rattle.flow_scan.specs.Parts.{behind_item, cut_here, cut, block_parts, body_parts, has_statement, count, has_scan, have_scan};
+ghost use Rattle.flow_scan.specs.Parts.{behind_item, cut_here, cut, block_parts, body_parts, has_statement};
 ghost use Rattle.flow_scan.specs.Views.{line_said, parts_cut};
 
 use crate::clauses::{ScanLine, scan_line};
-use ktree::{Item, Place, Stmt};
+use ktree::{Item, Stmt};
 use pragma::Directives;
-use pragma_region::is_scan;
 
 /// A loop's body on both sides of its first `scan` line.
 #[derive(Clone, Copy)]
@@ -100,57 +99,4 @@ pub(crate) fn has_statement(items: &[Item]) -> bool
         }
     }
     false
-}
-
-/// The first `scan` line in a statement.
-#[cycle(finding)]
-fn line_in(directives: &Directives, statement: &Stmt) -> Option<Place>
-    ensures { is_some result ≡ has_scan directives.now (stmt_of statement.now) }
-{
-    match statement {
-        Stmt::Assign(_, _) => None,
-        Stmt::Update(_, _, _) => None,
-        Stmt::If(_, then, other) => {
-            let first = line_in(directives, then);
-            match other {
-                None => first,
-                Some(other) => first.or(line_in(directives, other)),
-            }
-        }
-        Stmt::For(_, body) => line_in(directives, body),
-        Stmt::Block(items) => line_among(directives, items),
-        Stmt::Print(_, _) => None,
-    }
-}
-
-/// The first that an item is or has in it.
-#[cycle(finding)]
-fn item_line(directives: &Directives, item: &Item) -> Option<Place>
-    ensures { (rest : Items) → have_scan directives.now (with_item item.now rest)
-        ≡ (is_some result || have_scan directives.now rest) }
-{
-    match item {
-        Item::Directive(place) => {
-            if is_scan(directives, *place) {
-                Some(*place)
-            } else {
-                None
-            }
-        }
-        Item::Local(_) => None,
-        Item::Statement(statement) => line_in(directives, statement),
-    }
-}
-
-/// The first among items.
-#[cycle(finding)]
-pub(crate) fn line_among(directives: &Directives, items: &[Item]) -> Option<Place>
-    ensures { is_some result ≡ have_scan directives.now (items_of items.now) }
-{
-    for item in items {
-        if let Some(place) = item_line(directives, item) {
-            return Some(place);
-        }
-    }
-    None
 }

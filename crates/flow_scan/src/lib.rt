@@ -14,5 +14,5 @@ mod writing;
 
 pub use fault::ScanFault;
 pub use laws::{lines_tell_scans, scans_stand_alone};
-pub use listing::{ScanLoop, scans_of};
-pub use walking::first_misuse;
+pub use listing::ScanLoop;
+pub use walking::{Scans, scans_of};

@@ -9,18 +9,21 @@ ghost use Rattle.ktree.specs.View.{stmt_of, items_of, kernel_of};
 ghost use Rattle.pragma_named.specs.Views.{resolved_clause};
 ghost use Rattle.flow_reduction.specs.Reduced.{reduction_of};
 ghost use Rattle.flow_scan.specs.Lines.{is_called};
-ghost use Rattle.flow_scan.specs.Parts.{has_statement, have_scan};
+ghost use Rattle.nest_lines.specs.Inner.{have_line};
+ghost use Rattle.nest_lines.specs.declared.inner.InnerLine.TheVariants.{Scan};
+ghost use Rattle.flow_scan.specs.Parts.{has_statement};
 ghost use Rattle.flow_scan.specs.Scans.{has_phases, scans_loop};
 ghost use Rattle.flow_scan.specs.Views.{line_said, parts_cut};
 
 use crate::clauses::{ScanLine, associates_one_at, sole_scan, suit_scan};
-use crate::cutting::{Parts, body_parts, has_statement, line_among};
+use crate::cutting::{Parts, body_parts, has_statement};
 use crate::fault::{ScanFault, earliest, reduction_fault, scan_fault};
 use crate::naming::is_called;
 use crate::reading::first_read;
 use crate::writing::{first_write, written_among};
 use flow_reduction::{Reduction, first_misuse_among};
 use ktree::{Clause, Item, Kernel, Place, Stmt, VarId};
+use nest_lines::{InnerLine, line_among};
 use pragma::Directives;
 use pragma_named::Named;
 use std::alloc::{AllocError, Global};
@@ -75,9 +78,9 @@ fn name_fault(kernel: &Kernel, variable: VarId, said: &ScanLine) -> Option<ScanF
 
 /// A further `scan` line on one of the sides.
 fn line_fault(directives: &Directives, items: &[Item]) -> Option<ScanFault>
-    ensures { is_none result ≡ not (have_scan directives.now (items_of items.now)) }
+    ensures { is_none result ≡ not (have_line directives.now Scan (items_of items.now)) }
 {
-    scan_fault(line_among(directives, items))
+    scan_fault(line_among(directives, InnerLine::Scan, items))
 }
 
 /// Where the input phase uses the variable of the scan in another way than in updates.

@@ -8,6 +8,7 @@ use Rattle.ktree.specs.View.{kernel_of}
 use Rattle.pragma_named.specs.Known.{Known, Lines, lines_known}
 use Rattle.pragma_region.specs.Regions.{alone}
 use Rattle.pragma_region.specs.NotKnown.{unknown_among}
+use Rattle.nest_lines.specs.Perfect.{has_perfect_nests}
 use Rattle.flow.specs.Roles.{data_known}
 use Rattle.flow_doacross.specs.Nests.{doacross_rightly}
 use Rattle.flow_doacross.specs.Views.{nest_part}
@@ -18,21 +19,22 @@ use Rattle.ompk.specs.declared.accepting.ToldLoops.{ToldLoops}
 use Rattle.ompk.specs.declared.accepting.WholeFaults.{WholeFaults}
 use Rattle.deptest.specs.Accepted.{Program, clauses_counted, data_counted, scans_counted, nests_counted}
 
--- what only a tree with all of its directive lines shows: whether parallel loops print in order, whether scans have their phases, and doacross nests their sinks and their source
+-- what only a tree with all of its directive lines shows: whether nests are perfect, whether parallel loops print in order, whether scans have their phases, and doacross nests their sinks and their source
 pub record Whole : Type 0 where
+  pub perfect : Bool
   pub ordered : Bool
   pub phased : Bool
   pub nested : Bool
 
 -- what is found of it
 abbrev pub whole_of : WholeFaults → Whole
-whole_of f = record { ordered = is_none f.disorder; phased = is_none f.misuse; nested = is_none f.doacross }
+whole_of f = record { perfect = is_none f.imperfect; ordered = is_none f.disorder; phased = is_none f.misuse; nested = is_none f.doacross }
 
 -- what there is to be found, by the clauses that count for each line
 abbrev pub whole_found : List ℕ → Lines → Kernel → Whole
-whole_found text lines k = record { ordered = prints_in_order text k; phased = scans_rightly text lines k; nested = doacross_rightly text lines k }
+whole_found text lines k = record { perfect = has_perfect_nests text k; ordered = prints_in_order text k; phased = scans_rightly text lines k; nested = doacross_rightly text lines k }
 
--- nothing is wrong with it
+-- nothing is wrong with what the pass over data tells
 abbrev pub IsRight : Whole → Type 0
 IsRight w = (w.ordered ≡ true) × (w.phased ≡ true) × (w.nested ≡ true)
 

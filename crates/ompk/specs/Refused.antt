@@ -35,6 +35,10 @@ TellsOneOf numbers r = list_any (λ n. number_of r == n) numbers ≡ true
 abbrev pub RefusesNests : List ℕ → Kernel → Refusal → Type 0
 RefusesNests text tree r = (r ≡ OutOfMemory) ⊎ (TellsOneOf (6 ∷ 7 ∷ 8 ∷ 12 ∷ 21 ∷ []) r × (IsNested tree × AreRightNests text tree → ⊥))
 
+-- with all of its lines a nest is not perfect (K12)
+abbrev pub RefusesImperfect : Whole → Refusal → Type 0
+RefusesImperfect whole r = (whole.perfect ≡ false) × (number_of r ≡ 12)
+
 -- a subscript leaves its array
 abbrev pub RefusesRanges : Kernel → Refusal → Type 0
 RefusesRanges tree r = (place : Place) × (r ≡ SubscriptOutOfRange place) × LeavesSomewhere tree
@@ -77,8 +81,8 @@ abbrev pub RefusesData : List ℕ → Kernel → LineData → Lines → Whole �
 RefusesData text tree R lines whole r = RefusesScalars text tree R r ⊎ (RefusesClauses lines tree r ⊎ RefusesWhole whole r)
 
 -- the passes before that of the data find nothing wrong, nor does that of the data
-abbrev pub IsNestedRightly : List ℕ → Kernel → Type 0
-IsNestedRightly text tree = IsDirected text tree × AreRightNests text tree
+abbrev pub IsNestedRightly : List ℕ → Kernel → Whole → Type 0
+IsNestedRightly text tree whole = IsDirected text tree × AreRightNests text tree × (whole.perfect ≡ true)
 
 abbrev pub HasRightData : List ℕ → Kernel → LineData → Lines → Whole → Type 0
 HasRightData text tree R lines whole = IsDefinite (privates_by R) tree × ItemsKeepRoles text R [] tree.body × (fit_clauses lines tree ≡ true) × IsRight whole
@@ -92,12 +96,12 @@ abbrev pub RefusesPasses : List ℕ → Kernel → LineData → Lines → Whole 
 RefusesPasses text tree R lines whole r =
     (r ≡ OutOfMemory)
     ⊎ (RefusesPlaces text tree r
-    ⊎ ((IsDirected text tree × RefusesNests text tree r)
-    ⊎ (IsNestedRightly text tree × RefusesDataOrRanges text tree R lines whole r)))
+    ⊎ ((IsDirected text tree × (RefusesNests text tree r ⊎ RefusesImperfect whole r))
+    ⊎ (IsNestedRightly text tree whole × RefusesDataOrRanges text tree R lines whole r)))
 
 -- none of them finds anything, by the clauses that are known of each line
 pub record IsJudged (text : List ℕ) (tree : Kernel) (R : LineData) (lines : Lines) (whole : Whole) : Type 0 where
-  pub right : IsNestedRightly text tree
+  pub right : IsNestedRightly text tree whole
   pub environment : HasRightData text tree R lines whole
   pub in_range : IsInRange tree
 

@@ -23,18 +23,19 @@ ghost use Rattle.nest.specs.Perfect.{AreRightNests};
 ghost use Rattle.nest.specs.Judged.{IsTableOf};
 ghost use Rattle.deptest.specs.Accepted.{tree_of, clauses_counted, data_counted, AreRegions, IsAccepted};
 ghost use Rattle.ompk.specs.Judged.{whole_of, whole_found, IsRight, IsToldKernel, IsOfKernel};
-ghost use Rattle.ompk.specs.Refused.{IsJudged, RefusesLines, RefusesUnknown, RefusesPlaces, RefusesNests, RefusesRanges, RefusesScalars, RefusesClauses, RefusesRegions, RefusesWhole, HasRightData, RefusesData, RefusesPasses, RefusesAlone, RefusesKernel, RefusesText};
+ghost use Rattle.ompk.specs.Refused.{IsJudged, RefusesLines, RefusesUnknown, RefusesPlaces, RefusesNests, RefusesImperfect, RefusesRanges, RefusesScalars, RefusesClauses, RefusesRegions, RefusesWhole, HasRightData, RefusesData, RefusesPasses, RefusesAlone, RefusesKernel, RefusesText};
 
 use cparse::parse;
 use deptest::{Checked, Parallel, accept};
 use flow::{DataFault, ParallelLoop, classify};
 use flow_clauses::first_misuse;
 use flow_definite::definite;
-use flow_doacross::{DoacrossFault, DoacrossLoop, doacross_of};
+use flow_doacross::{DoacrossFault, DoacrossLoop, DoacrossNests, doacross_of};
 use flow_ordered::{Disorder, first_disorder};
-use flow_scan::{ScanFault, ScanLoop, scans_of};
+use flow_scan::{ScanFault, ScanLoop, Scans, scans_of};
 use ktree::{Kernel, Refusal};
 use nest::{LoopTable, nests};
+use nest_lines::{ImperfectNest, first_imperfect};
 use pragma::{Directives, first_fault};
 use pragma_attach::attach;
 use pragma_named::LineClauses;
@@ -85,19 +86,66 @@ fn judge_places(kernel: &Kernel, directives: &Directives) -> Result<(), Refusal>
     }
 }
 
+// Whether one refusal is told before another: by the order of the text, at one place by their numbers, and want of memory before all else.
+fn comes_before(one: &Refusal, other: &Refusal) -> bool {
+    match (one.place(), other.place()) {
+        (None, _) => true,
+        (_, None) => false,
+        (Some(first), Some(second)) => {
+            if first.line != second.line {
+                return first.line < second.line;
+            }
+            if first.column != second.column {
+                return first.column < second.column;
+            }
+            one.number() < other.number()
+        }
+    }
+}
+
+// The one of two refusals that is told.
+fn first_of(one: Refusal, other: Refusal) -> Refusal
+    ensures { (result ≡ one) ⊎ (result ≡ other) }
+{
+    if comes_before(&one, &other) {
+        one
+    } else {
+        other
+    }
+}
+
+// What is wrong with a kernel that only its directive lines inside parallel loops show.
+#[derive(Clone, Copy)]
+struct WholeFaults {
+    imperfect: Option<ImperfectNest>,
+    disorder: Option<Disorder>,
+    misuse: Option<ScanFault>,
+    doacross: Option<DoacrossFault>,
+}
+
 // Finds the facts of a kernel's loops, and refuses one whose loops are not canonical or may wrap, with a subscript that is not affine,
-// or with a nest behind a directive line that is not perfect or not rectangular, or has too many iterations.
+// or with a nest behind a directive line that is not perfect, with the lines in it or without, or not rectangular, or has too many
+// iterations, of what comes first in the text.
 fn judge_nests(
     alloc: Global,
     kernel: &Kernel,
     directives: &Directives,
+    faults: WholeFaults,
 ) -> Result<LoopTable, Refusal>
     ensures ok { IfOk result (λ _. AreRightNests directives.now (kernel_of kernel.now)) }
+    ensures perfect { IfOk result (λ _. (whole_of faults).perfect ≡ true) }
     ensures table { IfOk result (IsTableOf (kernel_of kernel.now)) }
-    ensures refusal { IfErr result (RefusesNests directives.now (kernel_of kernel.now)) }
+    ensures refusal { IfErr result (λ r. RefusesNests directives.now (kernel_of kernel.now) r
+        ⊎ RefusesImperfect (whole_of faults) r) }
 {
-    let table = nests(alloc, kernel, directives)?;
-    Ok(table)
+    match (nests(alloc, kernel, directives), faults.imperfect) {
+        (Ok(table), None) => Ok(table),
+        (Ok(_table), Some(imperfect)) => Err(Refusal::from(imperfect)),
+        (Err(fault), None) => Err(Refusal::from(fault)),
+        (Err(fault), Some(imperfect)) => {
+            Err(first_of(Refusal::from(imperfect), Refusal::from(fault)))
+        }
+    }
 }
 
 // Refuses a kernel with a subscript that leaves its array.
@@ -166,34 +214,6 @@ fn judge_clauses(alloc: Global, kernel: &Kernel, lines: &LineClauses) -> Result<
     }
 }
 
-// Whether one refusal is told before another: by the order of the text, at one place by their numbers, and want of memory before all else.
-fn comes_before(one: &Refusal, other: &Refusal) -> bool {
-    match (one.place(), other.place()) {
-        (None, _) => true,
-        (_, None) => false,
-        (Some(first), Some(second)) => {
-            if first.line != second.line {
-                return first.line < second.line;
-            }
-            if first.column != second.column {
-                return first.column < second.column;
-            }
-            one.number() < other.number()
-        }
-    }
-}
-
-// The one of two refusals that is told.
-fn first_of(one: Refusal, other: Refusal) -> Refusal
-    ensures { (result ≡ one) ⊎ (result ≡ other) }
-{
-    if comes_before(&one, &other) {
-        one
-    } else {
-        other
-    }
-}
-
 // Refuses a kernel by its data, or by a clause that names what it may not, whichever comes first in the text.
 fn judge_values(
     alloc: Global,
@@ -224,36 +244,6 @@ fn judge_values(
         (Err(refusal), Ok(_loops)) => Err(refusal),
         (Err(misuse), Err(refusal)) => Err(first_of(misuse, refusal)),
     }
-}
-
-// What is wrong with a kernel that only its directive lines inside parallel loops show.
-#[derive(Clone, Copy)]
-struct WholeFaults {
-    disorder: Option<Disorder>,
-    misuse: Option<ScanFault>,
-    doacross: Option<DoacrossFault>,
-}
-
-// What is wrong with an ordered region, with a loop that prints, with a scan, or with a doacross nest, in a kernel with all of its
-// directive lines.
-fn whole_faults(
-    alloc: Global,
-    kernel: &Kernel,
-    directives: &Directives,
-    lines: &LineClauses,
-) -> Result<WholeFaults, Refusal>
-    ensures found { IfOk result (λ faults. whole_of faults ≡ whole_found directives.now
-        (lines_known (kept lines.now)) (kernel_of kernel.now)) }
-    ensures refusal { IfErr result (λ refusal. refusal ≡ OutOfMemory) }
-{
-    let disorder = first_disorder(kernel, directives);
-    let misuse = flow_scan::first_misuse(alloc, kernel, directives, lines)?;
-    let doacross = flow_doacross::first_misuse(alloc, kernel, directives, lines)?;
-    Ok(WholeFaults {
-        disorder,
-        misuse,
-        doacross,
-    })
 }
 
 // What tells of ordered regions, loops that print and scans, of what comes first in the text.
@@ -341,7 +331,7 @@ fn judge(
         (lines_known (kept lines.now)) (whole_of faults)) }
 {
     judge_places(kernel, directives)?;
-    let table = judge_nests(alloc, kernel, directives)?;
+    let table = judge_nests(alloc, kernel, directives, faults)?;
     let loops = judge_data(alloc, kernel, directives, lines, faults)?;
     judge_ranges(kernel, &table)?;
     Ok(KnownLoops { table, loops })
@@ -354,23 +344,48 @@ struct ToldLoops {
     doacross: Vec<DoacrossLoop>,
 }
 
-// Those of a kernel with all of its directive lines.
-fn told_loops(
+// What is found of a kernel with all of its directive lines.
+#[derive(Drop)]
+struct WholeKernel {
+    faults: WholeFaults,
+    told: ToldLoops,
+}
+
+// Looks for nests that lines part, at ordered regions, loops that print, scans and doacross nests.
+fn judge_whole(
     alloc: Global,
     kernel: &Kernel,
     directives: &Directives,
     lines: &LineClauses,
-) -> Result<ToldLoops, Refusal>
-    ensures scans { IfOk result (λ told. map scan_part told.scans.items
+) -> Result<WholeKernel, Refusal>
+    ensures found { IfOk result (λ whole. whole_of whole.faults ≡ whole_found directives.now
+        (lines_known (kept lines.now)) (kernel_of kernel.now)) }
+    ensures scans { IfOk result (λ whole. map scan_part whole.told.scans.items
         ≡ scans.scans_of directives.now (lines_known (kept lines.now)) (kernel_of kernel.now)) }
-    ensures nests { IfOk result (λ told. map nest_part told.doacross.items
+    ensures nests { IfOk result (λ whole. map nest_part whole.told.doacross.items
         ≡ listed.doacross_of directives.now (lines_known (kept lines.now))
         (kernel_of kernel.now)) }
     ensures refusal { IfErr result (λ refusal. refusal ≡ OutOfMemory) }
 {
-    let scans = scans_of(alloc, kernel, directives, lines)?;
-    let doacross = doacross_of(alloc, kernel, directives, lines)?;
-    Ok(ToldLoops { scans, doacross })
+    let imperfect = first_imperfect(kernel, directives);
+    let disorder = first_disorder(kernel, directives);
+    let Scans { loops, misuse } = scans_of(alloc, kernel, directives, lines)?;
+    let DoacrossNests {
+        nests,
+        misuse: doacross,
+    } = doacross_of(alloc, kernel, directives, lines)?;
+    Ok(WholeKernel {
+        faults: WholeFaults {
+            imperfect,
+            disorder,
+            misuse,
+            doacross,
+        },
+        told: ToldLoops {
+            scans: loops,
+            doacross: nests,
+        },
+    })
 }
 
 // Accepts a kernel whose regions are dissolved, or refuses it.
@@ -380,21 +395,23 @@ fn accept_alone(
     text: &[u8],
     directives: &Directives,
     lines: &LineClauses,
-    told: ToldLoops,
+    whole: WholeKernel,
     regions: Vec<RegionPart>,
-    faults: WholeFaults,
 ) -> Result<Checked, Refusal>
-    requires stands { IsToldKernel text.now (kernel_of kernel) (kept lines.now) (whole_of faults)
-        told }
+    requires stands { IsToldKernel text.now (kernel_of kernel) (kept lines.now)
+        (whole_of whole.faults) whole.told }
     requires lines { directives.now ≡ text.now }
     requires regions { AreRegions text.now (kernel_of kernel) regions.items }
     ensures is { IfOk result (λ checked. checked ≡ record { text = text.now; kernel = kernel }) }
     ensures refusal { IfErr result (RefusesAlone text.now (kernel_of kernel)
         (data_known (kept lines.now) (length (kernel_of kernel).variables))
-        (lines_known (kept lines.now)) (whole_of faults)) }
+        (lines_known (kept lines.now)) (whole_of whole.faults)) }
 {
-    let KnownLoops { table, loops } = judge(alloc, &kernel, directives, lines, faults)?;
-    let ToldLoops { scans, doacross } = told;
+    let KnownLoops { table, loops } = judge(alloc, &kernel, directives, lines, whole.faults)?;
+    let WholeKernel {
+        faults: _,
+        told: ToldLoops { scans, doacross },
+    } = whole;
     let parallel = Parallel {
         loops,
         scans,
@@ -419,13 +436,10 @@ fn accept_directed(
 {
     let lines = judge_lines(alloc, &kernel, directives)?;
     judge_known(&kernel, directives)?;
-    let faults = whole_faults(alloc, &kernel, directives, &lines)?;
     let regions = regions_of(alloc, directives, &kernel)?;
-    let told = told_loops(alloc, &kernel, directives, &lines)?;
+    let whole = judge_whole(alloc, &kernel, directives, &lines)?;
     let kernel = dissolve_regions(alloc, directives, kernel)?;
-    accept_alone(
-        alloc, kernel, text, directives, &lines, told, regions, faults,
-    )
+    accept_alone(alloc, kernel, text, directives, &lines, whole, regions)
 }
 
 // Accepts the kernel of a text, or refuses it.

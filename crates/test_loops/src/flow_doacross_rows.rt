@@ -1,7 +1,7 @@
 //! Where the sinks and the source of a doacross nest stand, and what is wrong with it.
 
 use crate::told::{Expected, all_told, clauses_of};
-use flow_doacross::{DoacrossFault, DoacrossLoop, doacross_of, first_misuse};
+use flow_doacross::{DoacrossFault, DoacrossLoop, doacross_of};
 use ktree::{Kernel, Place};
 use pragma::Directives;
 use std::alloc::Global;
@@ -9,9 +9,12 @@ use std::alloc::Global;
 /// What is wrong with the doacross nests of a kernel.
 impl Expected for Option<DoacrossFault> {
     fn is_told(self, alloc: Global, kernel: &Kernel, directives: &Directives) -> bool {
-        match clauses_of(alloc, kernel, directives) {
-            Some(lines) => first_misuse(alloc, kernel, directives, &lines) == Ok(self),
-            None => false,
+        let Some(lines) = clauses_of(alloc, kernel, directives) else {
+            return false;
+        };
+        match doacross_of(alloc, kernel, directives, &lines) {
+            Ok(found) => found.misuse == self,
+            Err(_error) => false,
         }
     }
 }
@@ -240,7 +243,7 @@ impl Expected for Nests {
             return false;
         };
         match doacross_of(alloc, kernel, directives, &lines) {
-            Ok(found) => are_nests(found.as_slice(), self.0),
+            Ok(found) => are_nests(found.nests.as_slice(), self.0),
             Err(_error) => false,
         }
     }

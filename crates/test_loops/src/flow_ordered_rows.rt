@@ -88,9 +88,10 @@ fn regions_stand_in_loops_that_order_their_iterations(rt: HostRuntime) {
             "#pragma omp parallel for ordered\nfor (uint64_t i = 0; i < 3; i++) { A[i] = 1;\n#pragma omp ordered\n}",
             Some(Disorder::Region(Place { line: 4, column: 1 })),
         ),
+        // Between the loops of a nest, which is then no nest of so many.
         (
             "#pragma omp parallel for ordered collapse(2)\nfor (uint64_t i = 0; i < 3; i++) {\n#pragma omp ordered\nfor (uint64_t j = 0; j < 3; j++) printf(\"1\"); }",
-            Some(Disorder::Region(Place { line: 4, column: 1 })),
+            Some(Disorder::Region(Place { line: 2, column: 1 })),
         ),
     ];
     all_told(&rt, rt.alloc(), ROWS);

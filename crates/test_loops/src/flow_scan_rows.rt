@@ -1,7 +1,7 @@
 //! Where scans may stand, and what their phases share.
 
 use crate::told::{Expected, all_told, clauses_of};
-use flow_scan::{ScanFault, ScanLoop, first_misuse, scans_of};
+use flow_scan::{ScanFault, ScanLoop, scans_of};
 use ktree::{Kernel, Place};
 use pragma::Directives;
 use std::alloc::Global;
@@ -9,9 +9,12 @@ use std::alloc::Global;
 /// What is wrong with the scans of a kernel.
 impl Expected for Option<ScanFault> {
     fn is_told(self, alloc: Global, kernel: &Kernel, directives: &Directives) -> bool {
-        match clauses_of(alloc, kernel, directives) {
-            Some(lines) => first_misuse(alloc, kernel, directives, &lines) == Ok(self),
-            None => false,
+        let Some(lines) = clauses_of(alloc, kernel, directives) else {
+            return false;
+        };
+        match scans_of(alloc, kernel, directives, &lines) {
+            Ok(found) => found.misuse == self,
+            Err(_error) => false,
         }
     }
 }
@@ -270,7 +273,7 @@ impl Expected for ScanLoops {
             return false;
         };
         match scans_of(alloc, kernel, directives, &lines) {
-            Ok(found) => found.as_slice() == self.0,
+            Ok(found) => found.loops.as_slice() == self.0,
             Err(_error) => false,
         }
     }

@@ -14,6 +14,8 @@ mod flow_rows;
 #[cfg(test)]
 mod flow_scan_rows;
 #[cfg(test)]
+mod nest_lines_rows;
+#[cfg(test)]
 mod nest_loop_rows;
 #[cfg(test)]
 mod nest_rows;

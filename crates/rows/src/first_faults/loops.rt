@@ -131,6 +131,48 @@ for (uint64_t i = 0; i; i++) {
             line: 3,
             column: 1,
         },
+        // With a line between its loops, beside faults of data and of what comes behind in the text.
+        Row {
+            text: "
+#pragma omp parallel for ordered(2)
+for (uint64_t i = 1; i < 8; i++) {
+#pragma omp ordered doacross(sink: i-1, j)
+for (uint64_t j = 1; j < s; j++) {
+A[s] = 1;
+}
+#pragma omp ordered doacross(source:)
+}",
+            number: 12,
+            line: 3,
+            column: 1,
+        },
+        Row {
+            text: "
+#pragma omp parallel for ordered collapse(2)
+for (uint64_t i = 1; i < 8; i += A[0]) {
+#pragma omp ordered
+for (uint64_t j = 1; j < 8; j++) {
+printf(\"a\");
+}
+}",
+            number: 6,
+            line: 3,
+            column: 1,
+        },
+        Row {
+            text: "
+s = A[8];
+#pragma omp parallel for collapse(2) reduction(inscan, +: s)
+for (uint64_t i = 0; i < 16777217; i++) {
+#pragma omp scan inclusive(s)
+for (uint64_t j = 0; j < 8; j++) {
+s = j;
+}
+}",
+            number: 12,
+            line: 4,
+            column: 1,
+        },
         // With a schedule, behind which no nest may be a triangle.
         Row {
             text: "

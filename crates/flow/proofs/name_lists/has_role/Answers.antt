@@ -1,9 +1,8 @@
 use Rattle.std.specs.Prelude.{◌||◌, map}
 use Rattle.std.proofs.Common.{sym, ap, ◌∙◌}
 use Rattle.semantics.specs.Meaning.Agrees.{is_among}
-use Rattle.law_roles.specs.Sharing.{role_variables}
 use Rattle.pragma_named.specs.Known.{kept, lines_known}
-use Rattle.flow.specs.Roles.{roles_known, data_known}
+use Rattle.flow.specs.Roles.{data_known}
 use Rattle.flow.proofs.ListLemmas.{scanned_among, left_among}
 use Rattle.flow.proofs.name_lists.has_role.Goals as goal
 

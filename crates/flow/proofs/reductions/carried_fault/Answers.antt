@@ -6,7 +6,7 @@ use Rattle.law_roles.specs.Sharing.{assigned_first}
 use Rattle.pragma_named.specs.Known.{kept, lines_known}
 use Rattle.pragma_named.specs.Views.{variable_named}
 use Rattle.flow.specs.Private.{all_but}
-use Rattle.flow.specs.Roles.{roles_known, data_known, CarriesOthers}
+use Rattle.flow.specs.Roles.{roles_known}
 use Rattle.flow.proofs.ListLemmas.{scanned_among}
 use Rattle.flow.proofs.reductions.carried_fault.Goals as goal
 

@@ -23,14 +23,14 @@ accept_alone-requires-clause-stands c =
     let ds = directives_of c.args.directives.now tree in
     let said = c.in_ok-lines.ensures in
     let known = kept c.in_ok-lines.lines in
-    told_kernel text tree (kernel_of c.in_ok-kernel.kernel) ds known (whole_of c.in_ok-faults.faults) c.in_ok-told.told c.requires.reads (subst (λ (t : List ℕ). IsAttached t tree ds) c.requires.lines said.attached)
+    told_kernel text tree (kernel_of c.in_ok-kernel.kernel) ds known (whole_of c.in_ok-whole.whole.faults) c.in_ok-whole.whole.told c.requires.reads (subst (λ (t : List ℕ). IsAttached t tree ds) c.requires.lines said.attached)
     (subst (λ (t : List ℕ). unknown_among t tree.body ≡ None) c.requires.lines c.in_ok-judge_known.ensures.ok)
     (subst (λ (t : List ℕ). clauses_counted t tree ds ≡ lines_known known) c.requires.lines said.clauses)
     (subst (λ (t : List ℕ). data_counted t tree ds ≡ data_known known (length tree.variables)) c.requires.lines said.roles)
     (c.in_ok-kernel.ensures ∙ ap (λ (t : List ℕ). alone t tree) c.requires.lines)
-    (c.in_ok-faults.ensures.found ∙ ap (λ (t : List ℕ). whole_found t (lines_known known) tree) c.requires.lines)
-    (c.in_ok-told.ensures.scans ∙ ap (λ (t : List ℕ). scans_of t (lines_known known) tree) c.requires.lines)
-    (c.in_ok-told.ensures.nests ∙ ap (λ (t : List ℕ). doacross_of t (lines_known known) tree) c.requires.lines)
+    (c.in_ok-whole.ensures.found ∙ ap (λ (t : List ℕ). whole_found t (lines_known known) tree) c.requires.lines)
+    (c.in_ok-whole.ensures.scans ∙ ap (λ (t : List ℕ). scans_of t (lines_known known) tree) c.requires.lines)
+    (c.in_ok-whole.ensures.nests ∙ ap (λ (t : List ℕ). doacross_of t (lines_known known) tree) c.requires.lines)
 
 pub returns-clause-refusal : goal.returns-clause-refusal
 returns-clause-refusal c =
@@ -40,13 +40,13 @@ returns-clause-refusal c =
     let ds = directives_of c.args.directives.now tree in
     let known = kept c.in_ok-lines.lines in
     let said = c.in_ok-lines.ensures in
-    let whole = whole_of c.in_ok-faults.faults in
+    let whole = whole_of c.in_ok-whole.whole.faults in
     IfErr-weaker c.accept_alone.result (RefusesAlone text k (data_known known (length k.variables)) (lines_known known) whole) (RefusesKernel text tree)
     (λ r h. alone_refused text tree k ds known whole r (subst (λ (t : List ℕ). IsAttached t tree ds) c.requires.lines said.attached)
     (subst (λ (t : List ℕ). unknown_among t tree.body ≡ None) c.requires.lines c.in_ok-judge_known.ensures.ok) (subst (λ (t : List ℕ). clauses_counted t tree ds ≡ lines_known known) c.requires.lines said.clauses)
     (subst (λ (t : List ℕ). data_counted t tree ds ≡ data_known known (length tree.variables)) c.requires.lines said.roles)
     (c.in_ok-kernel.ensures ∙ ap (λ (t : List ℕ). alone t tree) c.requires.lines)
-    (c.in_ok-faults.ensures.found ∙ ap (λ (t : List ℕ). whole_found t (lines_known known) tree) c.requires.lines) h) c.accept_alone.ensures.refusal
+    (c.in_ok-whole.ensures.found ∙ ap (λ (t : List ℕ). whole_found t (lines_known known) tree) c.requires.lines) h) c.accept_alone.ensures.refusal
 
 pub returns-in_err-judge_known-clause-refusal : goal.returns-in_err-judge_known-clause-refusal
 returns-in_err-judge_known-clause-refusal c =

@@ -17,4 +17,4 @@ returns-in_err-loops-clause-refusal c =
     let whole = whole_of c.args.faults in
     let refused : IfErr c.from_residual-in_err-loops.result (RefusesData text k R lines whole) = search rules in
     IfErr-weaker c.from_residual-in_err-loops.result (RefusesData text k R lines whole) (RefusesPasses text k R lines whole)
-    (λ r h. inr (inr (inr ((c.in_ok-judge_places.ensures.ok, c.in_ok-table.ensures.ok), inl h)))) refused
+    (λ r h. inr (inr (inr ((c.in_ok-judge_places.ensures.ok, c.in_ok-table.ensures.ok, c.in_ok-table.ensures.perfect), inl h)))) refused
