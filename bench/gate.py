@@ -2,7 +2,8 @@
 """Where the time of proofs goes.
 
     python3 bench/gate.py watch PID           what the checks below the process PID cost, printed when that process has
-                                              ended or this one is asked to end: by kind, and by crate
+                                              ended or this one is asked to end: by kind, and by crate. Looked at twice a
+                                              second, so that some of each check is missed; the last line has all that ended
     python3 bench/gate.py functions CRATE..   what each function of these crates takes from nothing, by one job over built
                                               libraries, tests included: the fifteen dearest. The first has the start of the check
 """
@@ -41,6 +42,16 @@ def processes():
     return found
 
 
+def seconds_of_ended(pid):
+    """The processor seconds of all below a process that has ended."""
+    try:
+        with open(f"/proc/{pid}/stat", encoding="utf-8", errors="replace") as it:
+            words = it.read().rpartition(")")[2].split()
+    except OSError:
+        return 0.0
+    return (int(words[13]) + int(words[14])) / TICK
+
+
 def is_below(pid, top, found):
     while pid in found and pid != top:
         pid = found[pid][0]
@@ -66,9 +77,10 @@ def task_of(pid):
 def watch(top):
     """Adds up what the checks below a process cost until it ends, or this one is told to end."""
     signal.signal(signal.SIGTERM, lambda *_: sys.exit(0))
-    tasks, spent = {}, collections.Counter()
+    tasks, spent, ended = {}, collections.Counter(), 0.0
     try:
         while os.path.isdir(f"/proc/{top}"):
+            ended = max(ended, seconds_of_ended(top))
             found = processes()
             for pid, (_, name, seconds) in found.items():
                 if name != "rattle" or not is_below(pid, top, found):
@@ -79,11 +91,11 @@ def watch(top):
                     spent[pid] = max(spent[pid], seconds)
             time.sleep(0.5)
     finally:
-        tell(tasks, spent)
+        tell(tasks, spent, max(ended, seconds_of_ended(top)))
 
 
-def tell(tasks, spent):
-    """A line for each crate, the dearest first, and their sum."""
+def tell(tasks, spent, ended):
+    """A line for each crate, the dearest first, and their sum; and what all cost that ended, checks and scripts."""
     table = collections.defaultdict(collections.Counter)
     for pid, seconds in spent.items():
         crate, kind = tasks[pid]
@@ -93,7 +105,8 @@ def tell(tasks, spent):
     for crate, cost in rows:
         print(f"{crate:20}" + "".join(f"{cost[it]:9.0f}" for it in KINDS) + f"{sum(cost.values()):9.0f}")
     whole = [sum(cost[it] for _, cost in rows) for it in KINDS]
-    print(f"{'all crates':20}" + "".join(f"{it:9.0f}" for it in whole) + f"{sum(whole):9.0f}", flush=True)
+    print(f"{'all crates':20}" + "".join(f"{it:9.0f}" for it in whole) + f"{sum(whole):9.0f}")
+    print(f"{'all that ended':20}{ended:36.0f}", flush=True)
 
 
 def function_of(crate, module):

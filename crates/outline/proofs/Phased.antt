@@ -3,7 +3,7 @@ use Rattle.std.specs.Prelude.{ℕ, Bool, true, false, ◌≡◌, ◌||◌, if◌
 use Rattle.std.proofs.Common.{refl, sym, ap, ◌∙◌, subst, append_assoc}
 use Rattle.std.proofs.lemmas.Bool.{true≢false}
 use Rattle.semantics.specs.Tree
-use Rattle.semantics.specs.Tree.{Variable, Stmt}
+use Rattle.semantics.specs.Tree.{Stmt}
 use Rattle.semantics.specs.Meaning.Agrees.{declared_in, declared_among}
 use Rattle.semantics.specs.Meaning.Runs.{declared, run, run_items}
 use Rattle.ktree.specs.View.{stmt_of, items_of}

@@ -1,4 +1,4 @@
-use Rattle.std.proofs.Common.{◌≡◌, ◌<◌, ◌≤◌, [], length, map, sym, ap, ◌∙◌, subst, rules}
+use Rattle.std.proofs.Common.{◌≡◌, ◌<◌, [], map, sym, ap, ◌∙◌, subst}
 use Rattle.semantics.specs.Meaning.Agrees.{declared_among}
 use Rattle.ktree.specs.View.{kernel_of, items_of}
 use Rattle.law_apart.specs.Apart.{apart_items}
