@@ -7,7 +7,7 @@ use Rattle.semantics.specs.Directives.Directive.{Clause, Private, Firstprivate, 
 use Rattle.pragma_named.specs.Known.{Lines}
 use Rattle.pragma_named.specs.Lines.{Question, each_among}
 use Rattle.flow_clauses.specs.declared.judging.Misuse.{Misuse}
-use Rattle.flow_clauses.specs.declared.judging.Misuse.TheVariants.{Privatised, Reduced}
+use Rattle.flow_clauses.specs.declared.judging.Misuse.TheVariants.{Privatised, LoopVariable, Reduced}
 
 abbrev mutual
   -- the variables of the loops in a statement (C11 6.8.5.3)
@@ -64,4 +64,5 @@ fit_clauses lines k = each_among (line_fits k.variables (is_among (loop_variable
 -- the number of what is told: K15 of private variables, K16 of reductions
 abbrev pub number_told : Misuse → ℕ
 number_told (Privatised place) = 15
+number_told (LoopVariable place x) = 15
 number_told (Reduced place) = 16

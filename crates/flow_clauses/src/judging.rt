@@ -8,7 +8,7 @@ ghost use Rattle.pragma_named.specs.Views.{variable_named, resolved_clause};
 ghost use Rattle.ktree.specs.Numbers.{number_of};
 ghost use Rattle.flow_clauses.specs.Fitting.{is_scalar, is_private_local, is_result, fits, number_told};
 
-use ktree::{Clause, Declaration, Place, Refusal};
+use ktree::{Clause, Declaration, Place, Refusal, VarId};
 use pragma_named::Named;
 use std::collections::HashSet;
 
@@ -17,6 +17,8 @@ use std::collections::HashSet;
 pub enum Misuse {
     /// In a `private`, `firstprivate` or `lastprivate` clause (OpenMP 5.2, 5.4.3 to 5.4.5).
     Privatised(Place),
+    /// The variable of a loop in a `private` clause inside that loop, with the variable (OpenMP 5.2, 5.4.3).
+    LoopVariable(Place, VarId),
     /// In a `reduction` clause (OpenMP 5.2, 5.5.8).
     Reduced(Place),
 }
@@ -29,7 +31,9 @@ impl From<Misuse> for Refusal {
 
     fn from(misuse: Misuse) -> Refusal {
         match misuse {
-            Misuse::Privatised(place) => Refusal::PrivateVariable(place),
+            Misuse::Privatised(place) | Misuse::LoopVariable(place, _) => {
+                Refusal::PrivateVariable(place)
+            }
             Misuse::Reduced(place) => Refusal::Reduction(place),
         }
     }
@@ -57,15 +61,24 @@ fn is_private_local(files: &[Declaration], loops: &HashSet<u32>, named: &Named) 
     !loops.contains(&number)
 }
 
-/// Where a private list first names what may not stand in it (OpenMP 5.2, 5.4.3).
-fn private_fault(files: &[Declaration], loops: &HashSet<u32>, names: &[Named]) -> Option<Place>
+/// A name that may not stand in a private list.
+fn private_name(loops: &HashSet<u32>, named: &Named) -> Misuse {
+    if loops.contains(&named.variable.0) {
+        Misuse::LoopVariable(named.place, named.variable)
+    } else {
+        Misuse::Privatised(named.place)
+    }
+}
+
+/// The first name in a private list that may not stand there (OpenMP 5.2, 5.4.3).
+fn private_fault(files: &[Declaration], loops: &HashSet<u32>, names: &[Named]) -> Option<Misuse>
     ensures { is_none result ≡ list_all
         (is_private_local (map declaration_of files.now) (holds loops.now))
         (map variable_named names.now) }
 {
     for named in names {
         if !is_private_local(files, loops, named) {
-            return Some(named.place);
+            return Some(private_name(loops, named));
         }
     }
     None
@@ -120,7 +133,7 @@ fn scan_fault(files: &[Declaration], loops: &HashSet<u32>, named: &Named) -> Opt
     }
 }
 
-/// A place in a list of private variables.
+/// A place in a list of variables with copies of their own.
 fn private_misuse(place: Option<Place>) -> Option<Misuse>
     ensures { is_none result ≡ is_none place }
 {
@@ -150,7 +163,7 @@ fn clause_fault(
         ≡ fits (map declaration_of files.now) (holds loops.now) (resolved_clause clause.now) }
 {
     match clause {
-        Clause::Private(names) => private_misuse(private_fault(files, loops, names)),
+        Clause::Private(names) => private_fault(files, loops, names),
         Clause::Firstprivate(names) => private_misuse(copied_fault(files, names)),
         Clause::Lastprivate(names) => private_misuse(result_fault(files, loops, names)),
         Clause::Reduction(_, names) => reduction_misuse(result_fault(files, loops, names)),

@@ -1,7 +1,8 @@
 //! Which texts are accepted.
 
-ghost use Rattle.std.specs.Prelude.{◌≡◌, ◌≤◌, ◌^◌, ◌⊎◌, [], true, None, map, length, MatchOption, OnOk, IfOk, IfErr};
-ghost use Rattle.flow_clauses.specs.Fitting.{fit_clauses};
+ghost use Rattle.std.specs.Prelude.{◌≡◌, ◌≤◌, ◌^◌, ◌⊎◌, [], true, None, map, length, is_none, MatchOption, OnOk, IfOk, IfErr};
+ghost use Rattle.flow_clauses.specs.Fitting.{fit_clauses, number_told};
+ghost use Rattle.ktree.specs.Numbers.{number_of};
 ghost use Rattle.flow.specs.Roles.{data_known, privates_by, ItemsKeepRoles};
 ghost use Rattle.pragma_named.specs.Known.{kept, lines_known};
 ghost use Rattle.pragma_attach.specs.Attached.{directives_of};
@@ -28,12 +29,12 @@ ghost use Rattle.ompk.specs.Refused.{IsJudged, RefusesLines, RefusesUnknown, Ref
 use cparse::parse;
 use deptest::{Checked, Parallel, accept};
 use flow::{DataFault, ParallelLoop, classify};
-use flow_clauses::first_misuse;
+use flow_clauses::{Misuse, first_misuse, loop_place};
 use flow_definite::definite;
 use flow_doacross::{DoacrossFault, DoacrossLoop, DoacrossNests, doacross_of};
 use flow_ordered::{Disorder, first_disorder};
 use flow_scan::{ScanFault, ScanLoop, Scans, scans_of};
-use ktree::{Kernel, Refusal};
+use ktree::{Kernel, Place, Refusal};
 use nest::{LoopTable, nests};
 use nest_lines::{ImperfectNest, first_imperfect};
 use pragma::{Directives, first_fault};
@@ -157,6 +158,25 @@ fn judge_ranges(kernel: &Kernel, table: &LoopTable) -> Result<(), Refusal>
     ranges::check(kernel, table)
 }
 
+// Where a loop's variable stands in a private list inside the loop, the head of the outermost loop round it. From there on it is no fault of its
+// own that a local may be read unassigned: the loop's head assigns its variable.
+fn spared_from(kernel: &Kernel, misuse: Option<Misuse>) -> Option<Place> {
+    match misuse {
+        Some(Misuse::LoopVariable(_, variable)) => loop_place(kernel, variable),
+        _ => None,
+    }
+}
+
+// Whether it is that a local may be read before it is assigned, from such a head on.
+fn is_spared(refusal: &Refusal, spared: Option<Place>) -> bool {
+    match (refusal, spared) {
+        (Refusal::MayBeUnassigned(place), Some(head)) => {
+            place.line > head.line || (place.line == head.line && place.column > head.column)
+        }
+        _ => false,
+    }
+}
+
 // Whether a fault of the data stands before a local that may be read before it is assigned.
 fn stands_before(fault: DataFault, refusal: &Refusal) -> bool {
     match refusal {
@@ -166,12 +186,13 @@ fn stands_before(fault: DataFault, refusal: &Refusal) -> bool {
 }
 
 // What refuses a kernel in which a parallel loop writes a shared scalar or does not keep the roles of its scalars, or a local may be read
-// before it is assigned.
+// before it is assigned; the former where such reads are spared and both are so.
 fn judge_scalars(
     alloc: Global,
     kernel: &Kernel,
     directives: &Directives,
     lines: &LineClauses,
+    spared: Option<Place>,
 ) -> Result<Vec<ParallelLoop>, Refusal>
     ensures listed { IfOk result (λ loops. AreParallelLoops directives.now
         (data_known (kept lines.now) (length (kernel_of kernel.now).variables))
@@ -192,7 +213,7 @@ fn judge_scalars(
         (Ok(()), Err(fault)) => Err(Refusal::from(fault)),
         (Err(refusal), Ok(_loops)) => Err(refusal),
         (Err(refusal), Err(fault)) => {
-            if stands_before(fault, &refusal) {
+            if is_spared(&refusal, spared) || stands_before(fault, &refusal) {
                 Err(Refusal::from(fault))
             } else {
                 Err(refusal)
@@ -201,17 +222,29 @@ fn judge_scalars(
     }
 }
 
-// Refuses a kernel with a clause that names what it may not.
-fn judge_clauses(alloc: Global, kernel: &Kernel, lines: &LineClauses) -> Result<(), Refusal>
-    ensures ok { OnOk result (fit_clauses (lines_known (kept lines.now)) (kernel_of kernel.now)
-        ≡ true) }
-    ensures refusal { IfErr result (RefusesClauses (lines_known (kept lines.now))
-        (kernel_of kernel.now)) }
+// The first name that may not stand in its clause, if there is one.
+fn clause_misuse(
+    alloc: Global,
+    kernel: &Kernel,
+    lines: &LineClauses,
+) -> Result<Option<Misuse>, Refusal>
+    ensures fit { IfOk result (λ found. is_none found
+        ≡ fit_clauses (lines_known (kept lines.now)) (kernel_of kernel.now)) }
+    ensures refusal { IfErr result (λ refusal. refusal ≡ OutOfMemory) }
 {
-    match first_misuse(alloc, kernel, lines)? {
-        None => Ok(()),
-        Some(misuse) => Err(Refusal::from(misuse)),
+    let found = first_misuse(alloc, kernel, lines)?;
+    Ok(found)
+}
+
+// The one of a name in a clause and of what else is wrong with the data that is told.
+fn first_value(misuse: Misuse, refusal: Refusal, spared: Option<Place>) -> Refusal
+    ensures { (result ≡ refusal) ⊎ (number_of result ≡ number_told misuse) }
+{
+    let told = Refusal::from(misuse);
+    if is_spared(&refusal, spared) {
+        return told;
     }
+    first_of(told, refusal)
 }
 
 // Refuses a kernel by its data, or by a clause that names what it may not, whichever comes first in the text.
@@ -235,14 +268,16 @@ fn judge_values(
         (data_known (kept lines.now) (length (kernel_of kernel.now).variables)) r
         ⊎ RefusesClauses (lines_known (kept lines.now)) (kernel_of kernel.now) r) }
 {
+    let misuse = clause_misuse(alloc, kernel, lines)?;
+    let spared = spared_from(kernel, misuse);
     match (
-        judge_clauses(alloc, kernel, lines),
-        judge_scalars(alloc, kernel, directives, lines),
+        misuse,
+        judge_scalars(alloc, kernel, directives, lines, spared),
     ) {
-        (Ok(()), Ok(loops)) => Ok(loops),
-        (Ok(()), Err(refusal)) => Err(refusal),
-        (Err(refusal), Ok(_loops)) => Err(refusal),
-        (Err(misuse), Err(refusal)) => Err(first_of(misuse, refusal)),
+        (None, Ok(loops)) => Ok(loops),
+        (None, Err(refusal)) => Err(refusal),
+        (Some(misuse), Ok(_loops)) => Err(Refusal::from(misuse)),
+        (Some(misuse), Err(refusal)) => Err(first_value(misuse, refusal, spared)),
     }
 }
 

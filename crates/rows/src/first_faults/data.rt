@@ -8,6 +8,50 @@ fn first_fault_of_data_is_told(rt: HostRuntime) {
     const ROWS: &[Row] = &[
         Row {
             text: "
+for (uint64_t t = 0; t < 3; t++) {
+for (uint64_t u = t; u < 3; u++) {
+#pragma omp parallel for private(u, t)
+for (uint64_t i = 0; i < 8; i++) {
+A[i] = t;
+}
+}
+}",
+            number: 15,
+            line: 4,
+            column: 34,
+        },
+        Row {
+            text: "
+for (uint64_t t = 0; t < 3; t++) {
+#pragma omp parallel for
+for (uint64_t i = 0; i < 8; i++) {
+s = i;
+}
+#pragma omp parallel for private(t)
+for (uint64_t i = 0; i < 8; i++) {
+A[i] = t;
+}
+}",
+            number: 14,
+            line: 5,
+            column: 1,
+        },
+        Row {
+            text: "
+uint64_t x;
+s = x;
+for (uint64_t t = 0; t < 3; t++) {
+#pragma omp parallel for private(t)
+for (uint64_t i = 0; i < 8; i++) {
+A[i] = 1;
+}
+}",
+            number: 10,
+            line: 3,
+            column: 5,
+        },
+        Row {
+            text: "
 uint64_t x;
 uint64_t y;
 x += y;",
