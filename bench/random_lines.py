@@ -1,10 +1,10 @@
 #!/usr/bin/env python3
 """Compares what is told of random directive lines with what another program tells.
 
-    bench/random_lines.py [--program PROGRAM] --beside COMMAND FIRST COUNT
+    bench/random_lines.py [--program PROGRAM] [--moved] --beside COMMAND FIRST COUNT
 
 Makes a text for each seed from FIRST on: a small loop, or two in a region, behind directive lines of clauses that are drawn from nearly all that may be
-written, right or wrong, with `scan`, `ordered` and doacross lines in the loop's body. What `check` tells of it, and of an accepted text what `lower`
+written, right or wrong, with `scan`, `ordered` and doacross lines in the loop's body; with `--moved` a directive line or two of it are moved or doubled. What `check` tells of it, and of an accepted text what `lower`
 lists, has to be what COMMAND tells: another program that takes the same words. `lastprivate(conditional: )`, which is refused here, is left out. A line for each seed that differs, with its text beside it in a
 folder that is named; the last line says how many were accepted, refused (by which numbers) and differ. The status is 1 where one does.
 """
@@ -120,6 +120,9 @@ void kernel(void)
 }}
 """
 
+# The first line in the kernel's block.
+FIRST_LINE = KERNEL[: KERNEL.index("{{")].count("\n") + 1
+
 
 def loop_behind(chance, directive, counts):
     """A loop behind a line of this directive with some clauses."""
@@ -144,9 +147,21 @@ def text_of(seed):
     return KERNEL.format("\n".join((front, body, chance.choice(ENDS))))
 
 
+def with_lines_moved(text, seed):
+    """The text with a directive line or two moved to another place of the kernel, or doubled there."""
+    chance = random.Random(-1 - seed)
+    lines = text.split("\n")
+    for _time in range(chance.choice((1, 2))):
+        at = chance.choice([number for number, line in enumerate(lines) if line.startswith("#pragma")])
+        line = lines.pop(at) if chance.random() < 0.5 else lines[at]
+        lines.insert(chance.randrange(FIRST_LINE, len(lines) - 1), line)
+    return "\n".join(lines)
+
+
 def main():
     parser = argparse.ArgumentParser()
     parser.add_argument("--program", default=str(TOP / "crates/ompk_cli/out/ompk_cli"))
+    parser.add_argument("--moved", action="store_true")
     parser.add_argument("--beside", required=True)
     parser.add_argument("first", type=int)
     parser.add_argument("count", type=int)
@@ -155,7 +170,8 @@ def main():
     with tempfile.TemporaryDirectory() as folder:
         judge = Judge(options, pathlib.Path(folder), kept)
         for seed in range(options.first, options.first + options.count):
-            judge.check(str(seed), text_of(seed))
+            text = text_of(seed)
+            judge.check(str(seed), with_lines_moved(text, seed) if options.moved else text)
     print(counted(judge))
     return 1 if judge.differ else 0
 

@@ -2,10 +2,8 @@
 #![tactic(auto)]
 
 mod gathering;
-mod heads;
 mod judging;
 mod walking;
 
-pub use heads::loop_place;
 pub use judging::Misuse;
 pub use walking::first_misuse;

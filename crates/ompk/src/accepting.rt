@@ -26,10 +26,11 @@ ghost use Rattle.deptest.specs.Accepted.{tree_of, clauses_counted, data_counted,
 ghost use Rattle.ompk.specs.Judged.{whole_of, whole_found, IsRight, IsToldKernel, IsOfKernel};
 ghost use Rattle.ompk.specs.Refused.{IsJudged, RefusesLines, RefusesUnknown, RefusesPlaces, RefusesNests, RefusesImperfect, RefusesRanges, RefusesScalars, RefusesClauses, RefusesRegions, RefusesWhole, HasRightData, RefusesData, RefusesPasses, RefusesAlone, RefusesKernel, RefusesText};
 
+use crate::spared::{is_spared, spared_from};
 use cparse::parse;
 use deptest::{Checked, Parallel, accept};
 use flow::{DataFault, ParallelLoop, classify};
-use flow_clauses::{Misuse, first_misuse, loop_place};
+use flow_clauses::{Misuse, first_misuse};
 use flow_definite::definite;
 use flow_doacross::{DoacrossFault, DoacrossLoop, DoacrossNests, doacross_of};
 use flow_ordered::{Disorder, first_disorder};
@@ -156,25 +157,6 @@ fn judge_ranges(kernel: &Kernel, table: &LoopTable) -> Result<(), Refusal>
     ensures refusal { IfErr result (RefusesRanges (kernel_of kernel.now)) }
 {
     ranges::check(kernel, table)
-}
-
-// Where a loop's variable stands in a private list inside the loop, the head of the outermost loop round it. From there on it is no fault of its
-// own that a local may be read unassigned: the loop's head assigns its variable.
-fn spared_from(kernel: &Kernel, misuse: Option<Misuse>) -> Option<Place> {
-    match misuse {
-        Some(Misuse::LoopVariable(_, variable)) => loop_place(kernel, variable),
-        _ => None,
-    }
-}
-
-// Whether it is that a local may be read before it is assigned, from such a head on.
-fn is_spared(refusal: &Refusal, spared: Option<Place>) -> bool {
-    match (refusal, spared) {
-        (Refusal::MayBeUnassigned(place), Some(head)) => {
-            place.line > head.line || (place.line == head.line && place.column > head.column)
-        }
-        _ => false,
-    }
 }
 
 // Whether a fault of the data stands before a local that may be read before it is assigned.

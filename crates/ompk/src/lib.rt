@@ -2,6 +2,7 @@
 #![tactic(auto)]
 
 mod accepting;
+mod spared;
 
 pub use accepting::check;
 pub use deptest::Checked;

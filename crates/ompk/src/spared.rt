@@ -1,8 +1,9 @@
-//! The loops round the loop of a variable.
+//! Reads of locals that are no fault of their own.
 
-use ktree::{Item, Kernel, Place, Stmt, VarId};
+use flow_clauses::Misuse;
+use ktree::{Item, Kernel, Place, Refusal, Stmt, VarId};
 
-/// Where the outermost is in a statement.
+/// Where the outermost loop stands in a statement that has the loop of a variable in it, or is that loop.
 #[cycle(looking)]
 fn loop_in(statement: &Stmt, variable: VarId) -> Option<Place> {
     match statement {
@@ -48,7 +49,21 @@ fn loop_among(items: &[Item], variable: VarId) -> Option<Place> {
     None
 }
 
-/// Where the `for` of the outermost loop stands that has the loop of a variable in it, or is that loop (C11 6.8.5.3).
-pub fn loop_place(kernel: &Kernel, variable: VarId) -> Option<Place> {
-    loop_among(kernel.body.as_slice(), variable)
+/// The head of the outermost loop round a loop whose variable stands in a private list inside it: the place of its `for`. From there on it is no
+/// fault of its own that a local may be read unassigned, since the loop's head assigns its variable (C11 6.8.5.3; OpenMP 5.2, 5.4.3).
+pub(crate) fn spared_from(kernel: &Kernel, misuse: Option<Misuse>) -> Option<Place> {
+    match misuse {
+        Some(Misuse::LoopVariable(_, variable)) => loop_among(kernel.body.as_slice(), variable),
+        _ => None,
+    }
+}
+
+/// Whether it is that a local may be read before it is assigned, from such a head on.
+pub(crate) fn is_spared(refusal: &Refusal, spared: Option<Place>) -> bool {
+    match (refusal, spared) {
+        (Refusal::MayBeUnassigned(place), Some(head)) => {
+            place.line > head.line || (place.line == head.line && place.column > head.column)
+        }
+        _ => false,
+    }
 }
