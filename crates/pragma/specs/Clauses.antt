@@ -1,4 +1,4 @@
--- What a `parallel for`, or a `for` inside a `parallel`, says, of the clauses that are known so far. (OpenMP 5.2, 4.4.3, 4.4.4, 11.5.1 and 11.5.3)
+-- What a `parallel for`, or a `for` inside a `parallel`, says, of the clauses that are run. (OpenMP 5.2, 4.4.3, 4.4.4, 11.5.1 and 11.5.3)
 use Rattle.std.specs.Prelude.{ℕ, ◌≡◌, max, List, [], ◌∷◌, Option, Some, None}
 use Rattle.semantics.specs.Tree.{Name}
 use Rattle.semantics.specs.Directives.Directive.{Schedule, Clause, DefaultShared, DefaultNone, Nowait, Ordered, Shared, Private, Firstprivate, Lastprivate, Reduction, Inscan, ScheduledBy, Collapse, OrderedLoops, Directive, ParallelFor, Worksharing}

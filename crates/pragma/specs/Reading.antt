@@ -1,5 +1,5 @@
 -- What the lines of a text are read as.
-use Rattle.std.specs.Prelude.{ℕ, ◌≡◌, ◌⊎◌, ◌<◌, List, [], ◌∷◌, ◌++◌, Some, slice_get}
+use Rattle.std.specs.Prelude.{ℕ, false, ◌≡◌, ◌⊎◌, ◌<◌, List, [], ◌∷◌, ◌++◌, Some, slice_get}
 use Rattle.semantics.specs.Tree.{Name}
 use Rattle.semantics.specs.Source.Text.{line_from}
 use Rattle.semantics.specs.Directives.Directive.{Directive}
@@ -8,6 +8,7 @@ use Rattle.pragma.specs.declared.reading.Reading.{Reading}
 use Rattle.pragma.specs.declared.reading.Reading.TheVariants.{Read, TooLarge, Malformed}
 use Rattle.pragma.specs.declared.lines.LineReading.{LineReading}
 use Rattle.ktree.specs.DirectiveView.{name_of, directive_of}
+use Rattle.pragma_clause.specs.DirectiveReader.{line_directive}
 use Rattle.pragma_clause.specs.Outcome.{HasForm}
 
 -- no directive
@@ -21,7 +22,7 @@ IsTooLarge line = HasForm line × ReadsNone line
 -- a line is read as this
 abbrev pub IsReading : List ℕ → Reading → Type 0
 IsReading line (Read d) = ReadsLine line (directive_of name_of d)
-IsReading line TooLarge = IsTooLarge line
+IsReading line (TooLarge d) = IsTooLarge line × (line_directive false line ≡ Some (directive_of name_of d))
 IsReading line Malformed = (HasForm line → ⊥) × ReadsNone line
 
 -- each of these is what the line of its index is read as, and the indexes rise

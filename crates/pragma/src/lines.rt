@@ -1,6 +1,6 @@
 //! The directive lines of a text.
 
-ghost use Rattle.std.specs.Prelude.{◌≡◌, ℕ, Option, IfOk, IfErr, OnOk, MatchOption, List, drop};
+ghost use Rattle.std.specs.Prelude.{◌≡◌, ℕ, Option, option_map, IfOk, IfErr, OnOk, MatchOption, List, drop};
 ghost use Rattle.semantics.specs.Source.Text.{line_at};
 ghost use Rattle.semantics.specs.Directives.DirectiveGrammar.{ReadsLine};
 ghost use Rattle.ktree.specs.DirectiveView.{name_of, directive_of};
@@ -8,6 +8,7 @@ ghost use Rattle.ktree.specs.declared.refusal.Refusal.TheVariants.{OutOfMemory};
 ghost use Rattle.pragma.specs.Clauses.{ReadsLoop};
 ghost use Rattle.pragma.specs.Views.{scheduled};
 ghost use Rattle.semantics.specs.Directives.Directive.{Schedule};
+ghost use Rattle.pragma_clause.specs.DirectiveReader.{line_form};
 ghost use Rattle.pragma_clause.specs.Outcome.{HasForm, IsFault};
 ghost use Rattle.pragma.specs.Lines.{line_starts};
 ghost use Rattle.pragma.specs.Reading.{IsTooLarge, ReadsNone, IsReading, AddsLine};
@@ -144,6 +145,18 @@ impl<'t> Directives<'t> {
             return Err(Refusal::Directive(place));
         };
         reading.at(place)
+    }
+
+    /// The directive at a place whatever the size of its numbers, with 1 in place of each of them where one is above its limit; none
+    /// where the line is no directive in either way.
+    pub fn form(&self, place: Place) -> Option<&Directive<Written>>
+        ensures { option_map (λ d. directive_of name_of d.now) result
+            ≡ line_form (line_at self.now place.line) }
+    {
+        match self.reading_of_line(place.line) {
+            None => None,
+            Some(reading) => reading.form(),
+        }
     }
 
     /// What the `parallel for` at a place says (OpenMP 5.2, 17); `place` is that of its `#`.

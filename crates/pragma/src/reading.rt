@@ -1,15 +1,15 @@
 //! What a line of a text is read as.
 
-ghost use Rattle.std.specs.Prelude.{◌≡◌, ℕ, List, IfOk, IfErr};
+ghost use Rattle.std.specs.Prelude.{◌≡◌, ℕ, List, option_map, IfOk, IfErr};
 ghost use Rattle.ktree.specs.DirectiveView.{name_of, directive_of};
-ghost use Rattle.ktree.specs.declared.place.Place.{Place as Places};
 ghost use Rattle.ktree.specs.declared.refusal.Refusal.TheVariants.{OutOfMemory};
 ghost use Rattle.semantics.specs.Directives.DirectiveGrammar.{ReadsLine};
+ghost use Rattle.pragma_clause.specs.DirectiveReader.{line_form};
 ghost use Rattle.pragma_clause.specs.Outcome.{HasForm, IsFault, IsTold};
-ghost use Rattle.pragma.specs.Reading.{IsReading, ReadsNone};
+ghost use Rattle.pragma.specs.Reading.{IsTooLarge, IsReading, ReadsNone};
 
 use ktree::{Directive, Place, Refusal, Written};
-use pragma_clause::read;
+use pragma_clause::{read, read_form};
 use std::alloc::Global;
 use text::skip_blanks;
 
@@ -18,8 +18,8 @@ use text::skip_blanks;
 pub(crate) enum Reading {
     /// A directive.
     Read(Directive<Written>),
-    /// A directive but for a number above its limit.
-    TooLarge,
+    /// A directive but for a number above its limit, with 1 in place of each of its numbers.
+    TooLarge(Directive<Written>),
     /// Any other line.
     Malformed,
 }
@@ -34,8 +34,19 @@ impl Reading {
     {
         match self {
             Reading::Read(directive) => Ok(directive),
-            Reading::TooLarge => Err(Refusal::Limit(place)),
+            Reading::TooLarge(_) => Err(Refusal::Limit(place)),
             Reading::Malformed => Err(Refusal::Directive(place)),
+        }
+    }
+
+    /// The directive of the line whatever the size of its numbers.
+    pub(crate) fn form(&self) -> Option<&Directive<Written>>
+        ensures { (line : List ℕ) → IsReading line self.now
+            → option_map (λ d. directive_of name_of d.now) result ≡ line_form line }
+    {
+        match self {
+            Reading::Read(directive) | Reading::TooLarge(directive) => Some(directive),
+            Reading::Malformed => None,
         }
     }
 }
@@ -49,15 +60,32 @@ fn hash_place(index: usize, line: &[u8]) -> Place {
     }
 }
 
+/// What a line is read as whose numbers alone keep it from being a directive.
+fn too_large(alloc: Global, line: &[u8], place: Place) -> Result<Reading, Refusal>
+    requires { IsTooLarge line.now }
+    ensures ok { IfOk result (IsReading line.now) }
+    ensures err { IfErr result (λ refusal. refusal ≡ OutOfMemory) }
+{
+    match read_form(alloc, line, place) {
+        Ok(directive) => Ok(Reading::TooLarge(directive)),
+        Err(refusal) => Err(refusal),
+    }
+}
+
 /// What a line is read as that is no directive, by its refusal.
-fn reading_of_refusal(refusal: &Refusal) -> Result<Reading, Refusal>
-    ensures ok { (place : Places) (line : List ℕ) → IsTold place line refusal.now
-        → IfOk result (IsReading line) }
+fn reading_of_refusal(
+    alloc: Global,
+    line: &[u8],
+    place: Place,
+    refusal: &Refusal,
+) -> Result<Reading, Refusal>
+    requires { IsTold place line.now refusal.now }
+    ensures ok { IfOk result (IsReading line.now) }
     ensures err { IfErr result (λ refusal. refusal ≡ OutOfMemory) }
 {
     match refusal {
         Refusal::OutOfMemory => Err(Refusal::OutOfMemory),
-        Refusal::Limit(_) => Ok(Reading::TooLarge),
+        Refusal::Limit(_) => too_large(alloc, line, place),
         _ => Ok(Reading::Malformed),
     }
 }
@@ -71,8 +99,9 @@ pub(crate) fn read_line(alloc: Global, index: usize, line: &[u8]) -> Result<Read
     ensures ok { IfOk result (IsReading line.now) }
     ensures err { IfErr result (λ refusal. refusal ≡ OutOfMemory) }
 {
-    match read(alloc, line, hash_place(index, line)) {
+    let place = hash_place(index, line);
+    match read(alloc, line, place) {
         Ok(directive) => Ok(Reading::Read(directive)),
-        Err(refusal) => reading_of_refusal(&refusal),
+        Err(refusal) => reading_of_refusal(alloc, line, place, &refusal),
     }
 }

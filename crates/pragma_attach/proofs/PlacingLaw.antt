@@ -7,7 +7,10 @@ use Rattle.semantics.specs.Source.Scope.{Scope, AVariable}
 use Rattle.semantics.specs.Directives.Directive.{Directive, ParallelFor, Parallel, Worksharing, ScanInclusive, ScanExclusive, OrderedRegion, DoacrossSource, DoacrossSink}
 use Rattle.semantics.specs.Directives.Annotated.{Directives, lines_in, lines_among}
 use Rattle.semantics.specs.Directives.Placed as placed
-use Rattle.pragma_attach.specs.Standing.{directive_on, construct_of, may_be_loop, are_loops, holds_loops, fits, is_team, stands, all_stand}
+use Rattle.semantics.specs.Source.Text.{line_at}
+use Rattle.cparse_grammar.specs.Reading.{chosen}
+use Rattle.pragma_clause.specs.DirectiveReader.{line_directive}
+use Rattle.pragma_attach.specs.Standing.{directive_on, form_on, construct_of, may_be_loop, are_loops, holds_loops, fits, is_team, stands, all_stand}
 use Rattle.pragma_attach.proofs.LinesLaw.{AllRead, both_read, AllFound, found_first, found_second}
 
 and_same : {a b c d : Bool} → a ≡ b → c ≡ d → (a && c) ≡ (b && d)
@@ -54,13 +57,17 @@ worksharing (DoacrossSink es) = refl
 module _ (text : List ℕ) (ds : Directives) where
   -- ---- the block of a `parallel`
 
+  -- a line that is read is the directive that it is whatever its numbers
+  form_read : (n : ℕ) (d : Directive Name) → directive_on text n ≡ Some d → form_on text n ≡ Some d
+  form_read n d e = ap (λ o. chosen o (line_directive false (line_at text n)) Some) e
+
   loops : (scope : Scope) (items : Items) → AllFound text ds (lines_among scope items) → are_loops text false items ≡ placed.are_pairs ds items
   loops scope no_items h = refl
-  loops scope (mark n no_items) h = never (may_be_loop (directive_on text n))
-  loops scope (mark n (mark m rest)) h = never (may_be_loop (directive_on text n))
-  loops scope (mark n (local x name start rest)) h = never (may_be_loop (directive_on text n))
+  loops scope (mark n no_items) h = never (may_be_loop (form_on text n))
+  loops scope (mark n (mark m rest)) h = never (may_be_loop (form_on text n))
+  loops scope (mark n (local x name start rest)) h = never (may_be_loop (form_on text n))
   loops scope (mark n (stmt s rest)) h =
-      and_same (ap may_be_loop h.0.1 ∙ worksharing h.0.0 ∙ sym (ap placed.is_worksharing h.0.2))
+      and_same (ap may_be_loop (form_read n h.0.0 h.0.1) ∙ worksharing h.0.0 ∙ sym (ap placed.is_worksharing h.0.2))
       (ap (λ b. placed.is_for s && b) (loops scope rest (found_second text ds (lines_in scope s) (lines_among scope rest) h.1)))
   loops scope (local x name start rest) h = refl
   loops scope (stmt s rest) h = refl

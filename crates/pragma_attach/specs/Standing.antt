@@ -4,13 +4,17 @@ use Rattle.semantics.specs.Tree.{Name, Stmt, Assign, Update, If, IfElse, For, Bl
 use Rattle.semantics.specs.Source.Text.{line_at}
 use Rattle.semantics.specs.Directives.Directive.{Directive, ParallelFor, Parallel, Worksharing}
 use Rattle.semantics.specs.Directives.Placed.{is_for, holds_items}
-use Rattle.pragma_clause.specs.DirectiveReader.{line_directive}
+use Rattle.pragma_clause.specs.DirectiveReader.{line_directive, line_form}
 use Rattle.pragma_attach.specs.declared.placed.Construct.{Construct}
 use Rattle.pragma_attach.specs.declared.placed.Construct.TheVariants.{ParallelLoop, Team, Loop}
 
 -- the directive on a line of a text, if it is one
 abbrev pub directive_on : List ℕ → ℕ → Option (Directive Name)
 directive_on text n = line_directive true (line_at text n)
+
+-- the one that it is whatever its numbers
+abbrev pub form_on : List ℕ → ℕ → Option (Directive Name)
+form_on text n = line_form (line_at text n)
 
 -- the construct that a directive opens
 abbrev pub construct_of : Option (Directive Name) → Option Construct
@@ -19,7 +23,7 @@ construct_of (Some (Parallel cs)) = Some Team
 construct_of (Some (Worksharing cs)) = Some Loop
 construct_of _ = None
 
--- a `for` directive, or a line that is refused for itself
+-- a `for` directive whatever its numbers, or a line that is refused for itself
 abbrev pub may_be_loop : Option (Directive Name) → Bool
 may_be_loop None = true
 may_be_loop (Some (Worksharing cs)) = true
@@ -28,7 +32,7 @@ may_be_loop _ = false
 -- the items of a `parallel` block: `for` directives, each with its loop; behind: the line of one stands before
 abbrev pub are_loops : List ℕ → Bool → Items → Bool
 are_loops text behind no_items = not behind
-are_loops text false (mark n rest) = may_be_loop (directive_on text n) && are_loops text true rest
+are_loops text false (mark n rest) = may_be_loop (form_on text n) && are_loops text true rest
 are_loops text true (stmt s rest) = is_for s && are_loops text false rest
 are_loops text _ _ = false
 

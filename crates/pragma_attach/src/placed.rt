@@ -5,7 +5,7 @@ ghost use Rattle.semantics.specs.Tree.{Items, mark};
 ghost use Rattle.semantics.specs.Directives.Placed.{is_for, holds_items};
 ghost use Rattle.ktree.specs.DirectiveView.{name_of, directive_of};
 ghost use Rattle.ktree.specs.View.{stmt_of, with_item, items_of, kernel_of};
-ghost use Rattle.pragma_attach.specs.Standing.{directive_on, construct_of, may_be_loop, are_loops, holds_loops, fits, is_team, stands, all_stand, is_standing};
+ghost use Rattle.pragma_attach.specs.Standing.{directive_on, form_on, construct_of, may_be_loop, are_loops, holds_loops, fits, is_team, stands, all_stand, is_standing};
 ghost use Rattle.pragma_attach.specs.Opened.{opened_by};
 
 use crate::fault::{Fault, Flaw};
@@ -91,14 +91,13 @@ fn opened_by(directives: &Directives, place: Place) -> Result<Option<Opened>, Fa
     }
 }
 
-/// Whether a line may be a `for` directive: it is one, or is refused for itself.
+/// Whether a line may be a `for` directive: it is one whatever its numbers, or is refused for itself.
 fn may_be_loop(directives: &Directives, place: Place) -> bool
-    ensures { result ≡ may_be_loop (directive_on directives.now place.line) }
+    ensures { result ≡ may_be_loop (form_on directives.now place.line) }
 {
-    match directive_on(directives, place) {
-        Err(_) => true,
-        Ok(Directive::For(_)) => true,
-        Ok(_) => false,
+    match directives.form(place) {
+        None | Some(Directive::For(_)) => true,
+        Some(_) => false,
     }
 }
 
@@ -253,17 +252,30 @@ fn begins_with_loop(items: &[Item]) -> bool {
     }
 }
 
-/// What is told of a line with a number above its limit: where no line with numbers may stand, it is told that it is misplaced.
-fn lower_of(fault: Fault, around: Surroundings, item: &Item, behind: &[Item]) -> Fault {
-    let may_stand = (around.may || around.in_team) && begins_with_loop(behind);
-    match item {
-        Item::Directive(place) => match fault.flaw {
-            Flaw::Limit if !may_stand => Fault {
+/// Whether a line with a number, which is that of a loop, may stand before these items.
+fn may_stand(directives: &Directives, around: Surroundings, place: Place, behind: &[Item]) -> bool {
+    let may = match directives.form(place) {
+        Some(Directive::For(_)) => around.in_team,
+        _ => around.may,
+    };
+    may && begins_with_loop(behind)
+}
+
+/// What is told of a line with a number above its limit: where it may not stand whatever its numbers, that it is misplaced.
+fn lower_of(
+    directives: &Directives,
+    fault: Fault,
+    around: Surroundings,
+    item: &Item,
+    behind: &[Item],
+) -> Fault {
+    match (fault.flaw, item) {
+        (Flaw::Limit, Item::Directive(place)) if !may_stand(directives, around, *place, behind) => {
+            Fault {
                 place: *place,
                 flaw: Flaw::Directive,
-            },
-            _ => fault,
-        },
+            }
+        }
         _ => fault,
     }
 }
@@ -322,7 +334,9 @@ fn items_fault(directives: &Directives, around: Surroundings, items: &[Item]) ->
     for (i, item) in items.iter().enumerate() {
         match item_behind(directives, around, before, item) {
             Ok(next) => before = next,
-            Err(fault) => return Some(lower_of(fault, around, item, &items[i + 1..])),
+            Err(fault) => {
+                return Some(lower_of(directives, fault, around, item, &items[i + 1..]));
+            }
         }
     }
     unfinished_fault(before)

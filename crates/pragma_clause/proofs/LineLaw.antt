@@ -31,7 +31,7 @@ refused : (bs : List ℕ) → line_directive true bs ≡ None → (d : meant.Dir
 refused bs e d r = no_some (sym e ∙ line_read bs d r)
 
 -- a line that is read with 1 for each number has the form
-formed : (bs : List ℕ) → is_some (line_directive false bs) ≡ true → HasForm bs
+pub formed : (bs : List ℕ) → is_some (line_directive false bs) ≡ true → HasForm bs
 formed bs h = go (is_directive_line bs) refl h
   where
     n : ℕ
@@ -49,7 +49,7 @@ formed bs h = go (is_directive_line bs) refl h
     go false e h = absurd (cc)
 
 -- and one that is not has not
-formless : (bs : List ℕ) → line_directive false bs ≡ None → HasForm bs → ⊥
+pub formless : (bs : List ℕ) → line_directive false bs ≡ None → HasForm bs → ⊥
 formless bs e h =
     let n : ℕ = length bs in
     let ts : List Token = words (behind_omp bs) in

@@ -1,5 +1,5 @@
 -- The reading of directives from the front of a list of tokens (OpenMP 5.2, 5.6, 10.1, 11.5.1, 15.9, 15.10, 17).
-use Rattle.std.specs.Prelude.{ℕ, suc, Bool, ◌||◌, ◌==◌, if◌then◌else◌, List, [], ◌∷◌, length, take, drop, Option, Some, None, ℤ, pos, neg_ℤ, codes}
+use Rattle.std.specs.Prelude.{ℕ, suc, Bool, true, false, ◌||◌, ◌==◌, if◌then◌else◌, List, [], ◌∷◌, length, take, drop, Option, Some, None, ℤ, pos, neg_ℤ, codes}
 use Rattle.semantics.specs.Tree.{Name, Suffix, Bare, Ull}
 use Rattle.semantics.specs.Source.Text.{is_directive_line, behind_omp}
 use Rattle.semantics.specs.Source.Token.{Token}
@@ -116,3 +116,7 @@ directive exact n ts = run ts >>= λ w. behind_first exact n w.0 w.1
 -- the directive of a line
 abbrev pub line_directive : Bool → List ℕ → Option (Directive Name)
 line_directive exact bs = if is_directive_line bs then directive exact (length bs) (words (behind_omp bs)) else None
+
+-- the directive of a line whatever the size of its numbers: with 1 for each of them where one is above its limit
+abbrev pub line_form : List ℕ → Option (Directive Name)
+line_form bs = chosen (line_directive true bs) (line_directive false bs) Some

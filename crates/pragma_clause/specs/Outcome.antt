@@ -22,6 +22,10 @@ abbrev pub Gives : {X Y : Type 0} → (X → Y) → Result X Unread → Option Y
 Gives view (Ok x) read = read ≡ Some (view x)
 Gives view (Err e) read = Fails e read
 
+-- a line is refused that is no directive whatever its numbers, or memory ran out
+abbrev pub IsFormless : Place → List ℕ → Refusal → Type 0
+IsFormless place bs r = (r ≡ refusals.OutOfMemory) ⊎ ((r ≡ refusals.Directive place) × (line_directive false bs ≡ None))
+
 -- a line that is not read is refused by its numbers alone, or by its form, or memory ran out
 abbrev pub IsRefusal : Place → List ℕ → Refusal → Type 0
 IsRefusal place bs r =

@@ -12,4 +12,4 @@ mod tokens;
 mod unread;
 mod word;
 
-pub use line::read;
+pub use line::{read, read_form};

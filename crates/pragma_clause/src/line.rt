@@ -1,12 +1,11 @@
 //! Directive lines (OpenMP 5.2, 3.1).
 
-ghost use Rattle.std.specs.Prelude.{◌≡◌, ◌⊎◌, true, false, is_some, Some, None, IfOk, IfErr};
-ghost use Rattle.semantics.specs.Source.Text.{is_directive_line, behind_omp};
-ghost use Rattle.semantics.specs.Directives.DirectiveGrammar.{words, ReadsLine};
+ghost use Rattle.std.specs.Prelude.{◌≡◌, ◌⊎◌, true, false, length, is_some, Some, IfOk, IfErr};
+ghost use Rattle.semantics.specs.Directives.DirectiveGrammar.{ReadsLine};
 ghost use Rattle.ktree.specs.DirectiveView.{name_of, directive_of};
 ghost use Rattle.ktree.specs.declared.refusal.Refusal.TheVariants as refusals;
-ghost use Rattle.pragma_clause.specs.DirectiveReader.{directive, line_directive};
-ghost use Rattle.pragma_clause.specs.Outcome.{IsRefusal, IsTold};
+ghost use Rattle.pragma_clause.specs.DirectiveReader.{line_directive};
+ghost use Rattle.pragma_clause.specs.Outcome.{IsFormless, IsRefusal, IsTold};
 ghost use Rattle.pragma_clause.specs.Views.{written_directive};
 
 use crate::directive::directive;
@@ -31,24 +30,45 @@ fn line_start(line: &[u8], place: Place) -> Place {
     }
 }
 
-/// Why a line is refused that is not read exactly.
-fn refusal(setting: Setting, text: &[u8], place: Place) -> Refusal
-    ensures { (result ≡ refusals.OutOfMemory)
-        ⊎ (((result ≡ refusals.Limit place)
-        × (is_some (directive false setting.length (words text.now)) ≡ true))
-        ⊎ ((result ≡ refusals.Directive place)
-        × (directive false setting.length (words text.now) ≡ None))) }
+/// How a line is read whose `#` stands at a place.
+fn setting_of(alloc: Global, line: &[u8], place: Place, exact: bool) -> Setting
+    ensures { (result.length ≡ length line.now) × (result.exact ≡ exact) }
 {
-    let setting = Setting {
-        alloc: setting.alloc,
-        place: setting.place,
-        length: setting.length,
-        exact: false,
+    Setting {
+        alloc,
+        place: line_start(line, place),
+        length: line.len(),
+        exact,
+    }
+}
+
+/// The directive that a line is but for the size of its numbers, each of them read as 1; `line` and `place` are as for [`read`].
+///
+/// # Errors
+///
+/// [`Refusal::Directive`] where the line is no directive whatever its numbers, and [`Refusal::OutOfMemory`] where memory runs out.
+pub fn read_form(alloc: Global, line: &[u8], place: Place) -> Result<Directive<Written>, Refusal>
+    ensures ok { IfOk result (λ d. line_directive false line.now ≡ Some (directive_of name_of d)) }
+    ensures err { IfErr result (IsFormless place line.now) }
+{
+    let Some(text) = behind_omp(line) else {
+        return Err(Refusal::Directive(place));
     };
-    match directive(setting, text) {
+    match directive(setting_of(alloc, line, place, false), text) {
+        Ok(directive) => Ok(directive),
+        Err(Unread::Malformed) => Err(Refusal::Directive(place)),
+        Err(Unread::OutOfMemory) => Err(Refusal::OutOfMemory),
+    }
+}
+
+/// Why a line is refused that is not read exactly.
+fn refusal(alloc: Global, line: &[u8], place: Place) -> Refusal
+    ensures { ((result ≡ refusals.Limit place)
+        × (is_some (line_directive false line.now) ≡ true)) ⊎ IsFormless place line.now result }
+{
+    match read_form(alloc, line, place) {
         Ok(_) => Refusal::Limit(place),
-        Err(Unread::Malformed) => Refusal::Directive(place),
-        Err(Unread::OutOfMemory) => Refusal::OutOfMemory,
+        Err(refusal) => refusal,
     }
 }
 
@@ -60,15 +80,9 @@ fn read_line(alloc: Global, line: &[u8], place: Place) -> Result<Directive<Writt
     let Some(text) = behind_omp(line) else {
         return Err(Refusal::Directive(place));
     };
-    let setting = Setting {
-        alloc,
-        place: line_start(line, place),
-        length: line.len(),
-        exact: true,
-    };
-    match directive(setting, text) {
+    match directive(setting_of(alloc, line, place, true), text) {
         Ok(directive) => Ok(directive),
-        Err(Unread::Malformed) => Err(refusal(setting, text, place)),
+        Err(Unread::Malformed) => Err(refusal(alloc, line, place)),
         Err(Unread::OutOfMemory) => Err(Refusal::OutOfMemory),
     }
 }

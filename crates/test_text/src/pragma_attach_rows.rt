@@ -261,6 +261,30 @@ fn the_first_fault_is_told(rt: HostRuntime) {
             1,
         ),
         (
+            "uint64_t v; void kernel(void) {\n#pragma omp for collapse(5)\nfor (uint64_t i = 0; i < 8; i++) { } }\n",
+            11,
+            2,
+            1,
+        ),
+        (
+            "uint64_t v; void kernel(void) {\n#pragma omp parallel\n{\n#pragma omp for collapse(5)\nfor (uint64_t i = 0; i < 8; i++) { } } }\n",
+            21,
+            4,
+            1,
+        ),
+        (
+            "uint64_t v; void kernel(void) {\n#pragma omp parallel\n{\n#pragma omp parallel for collapse(5)\nfor (uint64_t i = 0; i < 8; i++) { } } }\n",
+            11,
+            2,
+            1,
+        ),
+        (
+            "uint64_t v; void kernel(void) {\n#pragma omp parallel for\nfor (uint64_t i = 0; i < 8; i++) {\n#pragma omp parallel for schedule(static, 16777217)\nfor (uint64_t j = 0; j < 8; j++) { } } }\n",
+            11,
+            4,
+            1,
+        ),
+        (
             "uint64_t A[8]; uint64_t B[8]; void kernel(void) {\n#pragma omp parallel for default(none) shared(A)\nfor (uint64_t i = 0; i < 8; i++) { A[i] = B[i]; }\n#pragma omp simd\n}\n",
             13,
             3,
