@@ -6,11 +6,10 @@ ghost use Rattle.semantics.specs.Loops.Nest.{nest_of};
 ghost use Rattle.ktree.specs.Numbers.{number_of};
 ghost use Rattle.ktree.specs.View.{stmt_of, with_item, items_of, kernel_of};
 ghost use Rattle.pragma.specs.Views.{said_of};
+ghost use Rattle.pragma_named.specs.Lines.{asked, each_construct, each_among, line_in};
 ghost use Rattle.pragma_region.specs.Listed.{line_of};
-ghost use Rattle.nest_lines.specs.Lines.{next_line};
-ghost use Rattle.nest_lines.specs.Perfect.{said_on, nests_as, nests_behind, nests_in, nests_among, has_perfect_nests};
+ghost use Rattle.nest_lines.specs.Perfect.{said_on, nests_as, is_perfect, has_perfect_nests};
 
-use crate::behind::line_behind;
 use ktree::{Item, Kernel, Place, Refusal, Stmt};
 use nest::as_loop;
 use pragma::{Directives, ParallelFor, loop_of};
@@ -78,7 +77,7 @@ fn imperfect_behind(
     statement: &Stmt,
 ) -> Option<ImperfectNest>
     ensures { is_none result
-        ≡ nests_behind directives.now (line_of before) (stmt_of statement.now) }
+        ≡ asked (is_perfect directives.now) (line_of before) (stmt_of statement.now) }
 {
     let Some(line) = before else {
         return None;
@@ -89,11 +88,21 @@ fn imperfect_behind(
     Some(told_at(statement, line))
 }
 
+/// The line that an item is, where it is a directive line.
+fn own_line(item: &Item) -> Option<Place>
+    ensures { line_of result ≡ line_in item.now }
+{
+    match item {
+        Item::Directive(place) => Some(*place),
+        _ => None,
+    }
+}
+
 /// The first such nest in a statement.
 #[cycle(walking)]
 #[tactic(auto, using(ktree::proofs::Trees::block_items))]
 fn imperfect_in(directives: &Directives, statement: &Stmt) -> Option<ImperfectNest>
-    ensures { is_none result ≡ nests_in directives.now (stmt_of statement.now) }
+    ensures { is_none result ≡ each_construct (is_perfect directives.now) (stmt_of statement.now) }
 {
     match statement {
         Stmt::Assign(_, _) => None,
@@ -119,9 +128,8 @@ fn imperfect_item(
     item: &Item,
 ) -> Option<ImperfectNest>
     ensures { (rest : Items)
-        → nests_among directives.now (line_of before) (with_item item.now rest)
-        ≡ (is_none result && nests_among directives.now
-        (next_line directives.now (line_of before) item.now) rest) }
+        → each_among (is_perfect directives.now) (line_of before) (with_item item.now rest)
+        ≡ (is_none result && each_among (is_perfect directives.now) (line_in item.now) rest) }
 {
     match item {
         Item::Directive(_) => None,
@@ -136,7 +144,7 @@ fn imperfect_item(
 /// The first one among a block's items.
 #[cycle(walking)]
 fn imperfect_among(directives: &Directives, items: &[Item]) -> Option<ImperfectNest>
-    ensures { is_none result ≡ nests_among directives.now None (items_of items.now) }
+    ensures { is_none result ≡ each_among (is_perfect directives.now) None (items_of items.now) }
 {
     let mut before = None;
     for item in items {
@@ -144,7 +152,7 @@ fn imperfect_among(directives: &Directives, items: &[Item]) -> Option<ImperfectN
         if found.is_some() {
             return found;
         }
-        before = line_behind(directives, before, item);
+        before = own_line(item);
     }
     None
 }
