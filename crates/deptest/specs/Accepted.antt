@@ -67,7 +67,7 @@ nests_counted text k ds = doacross_of text (clauses_counted text k ds) k
 abbrev pub inside_counted : List ℕ → Kernel → Directives → LinesInside
 inside_counted text k ds line = record { phases = phases_at (scans_counted text k ds) line; sinks = nest_at (nests_counted text k ds) line }
 
--- what is known before the dependence test: the tree is one of the text, whose directives are attached to the whole of it, and none of these is one that is not known so far; its loops are canonical and never wrap, no subscript leaves its array, each directive line left in it is that of a loop directly behind it that holds no other, with a right nest, that writes no scalar but its own and those with a role, and keeps their roles, and no local is read before it is assigned; the roles are those of the clauses that count for a loop, and these name what they may; parallel loops print in ordered regions alone, scans have their two phases, and doacross nests their sinks and their source
+-- what is known before the dependence test: the tree is one of the text, whose directives are attached to the whole of it, and none of these has a clause that is not run; its loops are canonical and never wrap, no subscript leaves its array, each directive line left in it is that of a loop directly behind it that holds no other, with a right nest, that writes no scalar but its own and those with a role, and keeps their roles, and no local is read before it is assigned; the roles are those of the clauses that count for a loop, and these name what they may; parallel loops print in ordered regions alone, scans have their two phases, and doacross nests their sinks and their source
 pub record HasPassed (text : List ℕ) (k : Kernel) : Type 0 where
   pub reads : IsTreeOf text k
   pub directives : Directives
@@ -116,7 +116,7 @@ pub record IsAccepted (p : Program) : Type 0 where
   pub passed : HasPassed p.text (kernel_of p.kernel)
   pub ordered : AreOrdered passed
 
--- the parts of a text's parallel regions, where the tree is that of the text with these regions dissolved, and no directive of it is one that is not known so far
+-- the parts of a text's parallel regions, where the tree is that of the text with these regions dissolved, and no directive of it has a clause that is not run
 pub record AreRegions (text : List ℕ) (k : Kernel) (parts : List RegionPart) : Type 0 where
   pub whole : Kernel
   pub reads : ReadsText text whole

@@ -38,7 +38,7 @@ whole_found text lines k = record { perfect = has_perfect_nests text k; ordered 
 abbrev pub IsRight : Whole → Type 0
 IsRight w = (w.ordered ≡ true) × (w.phased ≡ true) × (w.nested ≡ true)
 
--- a tree of a text, whose directives are attached to the whole of it, are known so far, and are dissolved in it; this is known of the clauses that count for each line, and of the whole
+-- a tree of a text, whose directives are attached to the whole of it, have no clause that is not run, and are dissolved in it; this is known of the clauses that count for each line, and of the whole
 pub record IsLineKernel (text : List ℕ) (tree : Kernel) (known : Known) (whole : Whole) : Type 0 where
   pub reads : IsTreeOf text tree
   pub directives : Directives

@@ -51,7 +51,7 @@ RefusesDirectives text tree r = TellsOneOf (3 ∷ 11 ∷ 13 ∷ 21 ∷ []) r × 
 abbrev pub RefusesLines : List ℕ → Kernel → Refusal → Type 0
 RefusesLines text tree r = (r ≡ OutOfMemory) ⊎ RefusesDirectives text tree r
 
--- the first clause that is not known so far has this number (K15)
+-- the first clause that is read and not run has this number (K15)
 abbrev pub RefusesUnknown : List ℕ → Kernel → Refusal → Type 0
 RefusesUnknown text tree r = unknown_among text tree.body ≡ Some (number_of r)
 
@@ -109,12 +109,12 @@ pub record IsJudged (text : List ℕ) (tree : Kernel) (R : LineData) (lines : Li
 abbrev pub RefusesAlone : List ℕ → Kernel → LineData → Lines → Whole → Refusal → Type 0
 RefusesAlone text tree R lines whole r = RefusesPasses text tree R lines whole r ⊎ RefusesLoops text tree r
 
--- each directive is known so far, and the tree with its regions dissolved is refused, by the clauses that count for its lines
+-- each clause of a directive is one that is run, and the tree with its regions dissolved is refused, by the clauses that count for its lines
 abbrev pub RefusesKnown : List ℕ → Kernel → Directives → Refusal → Type 0
 RefusesKnown text tree ds r =
     (unknown_among text tree.body ≡ None) × RefusesAlone text (alone text tree) (data_counted text tree ds) (clauses_counted text tree ds) (whole_found text (clauses_counted text tree ds) tree) r
 
--- the directives are attached, and one is not known so far, or the tree is refused though all are
+-- the directives are attached, and one has a clause that is not run, or the tree is refused though all are
 abbrev pub RefusesAttached : List ℕ → Kernel → Refusal → Type 0
 RefusesAttached text tree r = (ds : Directives) × IsAttached text tree ds × (RefusesUnknown text tree r ⊎ RefusesKnown text tree ds r)
 

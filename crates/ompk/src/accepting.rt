@@ -66,7 +66,7 @@ fn judge_lines(
     Ok(lines)
 }
 
-// Refuses a kernel with a clause that is not known so far.
+// Refuses a kernel with a clause that is read and not run.
 fn judge_known(kernel: &Kernel, directives: &Directives) -> Result<(), Refusal>
     ensures ok { OnOk result (unknown_among directives.now (kernel_of kernel.now).body ≡ None) }
     ensures refusal { IfErr result (RefusesUnknown directives.now (kernel_of kernel.now)) }

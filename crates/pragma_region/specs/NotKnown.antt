@@ -1,4 +1,4 @@
--- Clauses that the grammar has and that are not known so far, each by the number that refuses it. (OpenMP 5.2, 5.4.5)
+-- Clauses that are read and not run, each by the number that refuses it. (OpenMP 5.2, 5.4.5)
 use Rattle.std.specs.Prelude.{ℕ, List, [], ◌∷◌, Option, Some, None}
 use Rattle.semantics.specs.Tree.{Name, Stmt, Assign, Update, If, IfElse, For, Block, Print, Items, no_items, mark, local, stmt}
 use Rattle.semantics.specs.Directives.Directive.{Clause, LastConditional, Directive, ParallelFor, Worksharing}

@@ -1,4 +1,4 @@
-//! Parallel regions that are dissolved into their loops, and clauses that are not known so far.
+//! Parallel regions that are dissolved into their loops, and clauses that are read and not run.
 #![tactic(auto)]
 
 mod counting;

@@ -1,4 +1,4 @@
-//! The first clause of a kernel's directive lines that the grammar has and that is not known so far.
+//! The first clause of a kernel's directive lines that is read and not run.
 
 ghost use Rattle.std.specs.Prelude.{◌≡◌, map, option_map};
 ghost use Rattle.semantics.specs.Tree.{Items};
@@ -12,7 +12,7 @@ ghost use Rattle.pragma_region.specs.NotKnown.{first_told, clause_number, first_
 use ktree::{Clause, Directive, Item, Kernel, Place, Refusal, Stmt, Written};
 use pragma::Directives;
 
-/// What is not known so far, and where that is told.
+/// A clause that is read and not run, and where that is told.
 #[derive(Clone, Copy, Debug, PartialEq, Eq)]
 pub enum Unknown {
     /// A `lastprivate` clause of the last assignment: the place of its first name (OpenMP 5.2, 5.4.5).
@@ -141,7 +141,7 @@ fn item_unknown(directives: &Directives, item: &Item) -> Option<Unknown>
     }
 }
 
-/// What is told of the first clause of a kernel's directive lines that is not known so far, in the order of the text: of `lastprivate` with
+/// What is told of the first clause of a kernel's directive lines that is read and not run, in the order of the text: of `lastprivate` with
 /// the modifier `conditional`, where it names a variable (OpenMP 5.2, 5.4.5). Where none is told, no line of the kernel has such a clause.
 pub fn first_unknown(kernel: &Kernel, directives: &Directives) -> Option<Unknown>
     ensures { option_map number_told result
