@@ -172,6 +172,10 @@ def try_at_functions(rt):
 def try_one_by_one(rt):
     """Has rt ci try each must-fail edit of a crate by itself. Over what a check of the whole crate kept, which rt makes and makes again where
     there are several, it would cost more than at its functions alone."""
+    if not hasattr(rt, "add_edits"):
+        # some kits try all edits of a crate in one call
+        rt.must_fail_all = lambda crate, edits, flags: [rt.must_fail(crate, it, flags) for it in edits]
+        return
     add_all = rt.add_edits
 
     def add_edits(tasks, crate, edits, *given, **named):
