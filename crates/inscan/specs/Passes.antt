@@ -14,7 +14,7 @@ use Rattle.law_starts.specs.Begun.{begun}
 use Rattle.reduce.specs.declared.partial.Partial.{Partial}
 use Rattle.reduce.specs.Partial.{partial_of}
 use Rattle.store.specs.Kept.{Kept}
-use Rattle.lower_code.specs.declared.term.Laid.{Laid}
+use Rattle.lower_code.specs.declared.laid.Laid.{Laid}
 use Rattle.lower.specs.declared.lowered.LoweredLoop.{LoweredLoop}
 use Rattle.lower.specs.Lowered.{IsReached}
 use Rattle.overlay.specs.declared.worker.Piece.{Piece}

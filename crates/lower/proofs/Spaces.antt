@@ -14,7 +14,7 @@ use Rattle.nest_space.specs.Nests.{given}
 use Rattle.nest_space.specs.Space.{Turns}
 use Rattle.nest_space.specs.Heads.{HasIterations}
 use Rattle.store.specs.Kept.{Kept}
-use Rattle.lower_code.specs.declared.term.Laid.{Laid}
+use Rattle.lower_code.specs.declared.laid.Laid.{Laid}
 use Rattle.lower_run.specs.Walk.{StandFor}
 use Rattle.lower.specs.declared.lowered.LoweredLoop.{LoweredLoop}
 use Rattle.lower.specs.Lowered.{IsLoweredFrom, IsSpaceOf, values_in}

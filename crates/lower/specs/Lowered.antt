@@ -18,7 +18,7 @@ use Rattle.nest_space.specs.Nests.{given, AreModest}
 use Rattle.nest_space.specs.Heads.{AreHeadsOf}
 use Rattle.nest_space.specs.Reached.{AreRunsReached}
 use Rattle.store.specs.Kept.{Kept}
-use Rattle.lower_code.specs.declared.term.Laid.{Laid}
+use Rattle.lower_code.specs.declared.laid.Laid.{Laid}
 use Rattle.lower_code.specs.Meaning.{AreLocals}
 use Rattle.lower_run.specs.Walk.{Performs, StandFor}
 use Rattle.lower.specs.declared.lowered.LoweredLoop.{LoweredLoop}

@@ -4,7 +4,7 @@ use Rattle.semantics.specs.Tree.{Variable}
 use Rattle.semantics.specs.Loops.Operator.{ReduceOp}
 use Rattle.semantics.specs.Loops.Piece.{Roles}
 use Rattle.ktree.specs.DirectiveView.{operator_of}
-use Rattle.lower_code.specs.declared.term.Laid.{Laid}
+use Rattle.lower_code.specs.declared.laid.Laid.{Laid}
 use Rattle.lower_code.specs.Layout
 use Rattle.lower_code.specs.Layout.{shapes_of}
 use Rattle.lower_code.specs.Meaning.{AreLocals}

@@ -8,7 +8,7 @@ use Rattle.semantics.specs.Tree
 use Rattle.semantics.specs.Meaning.Places.{size}
 use Rattle.ktree.specs.declared.statement.Declaration.{Declaration}
 use Rattle.ktree.specs.View.{declaration_of}
-use Rattle.lower_code.specs.declared.term.Laid.{Laid}
+use Rattle.lower_code.specs.declared.laid.Laid.{Laid}
 use Rattle.lower_code.specs.Layout.{first_of, shapes_of, shapes_in, IsLaid}
 use Rattle.lower_code.proofs.Spots.{same_some}
 

@@ -1,8 +1,4 @@
-pub mod Texts
-pub mod Course
 pub mod Spots
-pub mod Sizes
-pub mod Masks
 pub mod Values
 pub mod Doing
 pub mod Whole
@@ -10,4 +6,3 @@ pub mod Printing
 pub mod Marks
 pub mod Keeping
 pub mod Laying
-pub mod Starting

@@ -10,7 +10,7 @@ use Rattle.semantics.specs.Meaning.Agrees.{declared_in, declared_among}
 use Rattle.ktree.specs.View.{stmt_of, items_of, with_item}
 use Rattle.ktree.specs.declared.statement.Item.{Item, Directive, Local, Statement'}
 use Rattle.ktree.proofs.Trees.{next_item}
-use Rattle.lower_code.specs.declared.term.Laid.{Laid}
+use Rattle.lower_code.specs.declared.laid.Laid.{Laid}
 use Rattle.lower_code.specs.Meaning.{AreBelow, all_behind, AreBehind, AreLocals}
 
 pub below_more : (m n : ℕ) (xs : List ℕ) → m ≤ n → AreBelow m xs → AreBelow n xs

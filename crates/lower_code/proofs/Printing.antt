@@ -9,11 +9,11 @@ use Rattle.semantics.specs.Meaning.Value.{value}
 use Rattle.semantics.specs.Meaning.Runs.{part_text, print_text}
 use Rattle.ktree.specs.View.{part_of}
 use Rattle.ktree.specs.declared.statement.PrintPart.{PrintPart}
-use Rattle.lower_code.specs.declared.term.Laid.{Laid}
-use Rattle.lower_code.specs.declared.term.Term.{Term}
-use Rattle.lower_code.specs.declared.term.Piece.{Piece}
-use Rattle.lower_code.specs.declared.term.Piece.TheVariants.{Characters, Decimal}
-use Rattle.lower_code.specs.Machine.{Machine, piece_text}
+use Rattle.lower_code.specs.declared.laid.Laid.{Laid}
+use Rattle.lower_machine.specs.declared.term.Term.{Term}
+use Rattle.lower_machine.specs.declared.term.Piece.{Piece}
+use Rattle.lower_machine.specs.declared.term.Piece.TheVariants.{Characters, Decimal}
+use Rattle.lower_machine.specs.Machine.{Machine, piece_text}
 use Rattle.lower_code.specs.Meaning.{Represents, MeansValue, MeansPart, MeansText}
 use Rattle.lower_code.proofs.Spots.{same_some}
 use Rattle.lower_code.proofs.Values.{map_there, both_there}

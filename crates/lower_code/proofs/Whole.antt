@@ -9,11 +9,11 @@ use Rattle.ktree.specs.View.{stmt_of, items_of, with_item}
 use Rattle.ktree.specs.declared.statement.Item.{Item, Directive, Local, Statement'}
 use Rattle.ktree.proofs.Trees.{next_item}
 use Rattle.seqrun.proofs.BlockLemmas.{items_on, items_over, item_on}
-use Rattle.lower_code.specs.declared.term.Laid.{Laid}
-use Rattle.lower_code.specs.declared.term.Term.{Term}
-use Rattle.lower_code.specs.declared.term.Test.{Test}
-use Rattle.lower_code.specs.declared.term.Code.{Code}
-use Rattle.lower_code.specs.Machine.{Running, after, truth, spins}
+use Rattle.lower_code.specs.declared.laid.Laid.{Laid}
+use Rattle.lower_machine.specs.declared.term.Term.{Term}
+use Rattle.lower_machine.specs.declared.term.Test.{Test}
+use Rattle.lower_machine.specs.declared.term.Code.{Code}
+use Rattle.lower_machine.specs.Machine.{Running, after, truth, spins}
 use Rattle.lower_code.specs.Meaning.{Represents, Leads, Gives, DoesAlways, MeansTest, AreLocals, MeansDeclared, MeansStmt, MeansTurns, MeansItems}
 use Rattle.lower_code.proofs.Spots.{same_some}
 use Rattle.lower_code.proofs.Doing.{Sets, parts, overwritten-append, leads_nothing, then_does, branch_does, loop_does, set_declares, nothing_declares}

@@ -1,18 +1,28 @@
 //! Terms and tests from expressions and conditions.
 
-ghost use Rattle.std.specs.Prelude.{IfOk, ◌≡◌, ◌<◌, length};
+ghost use Rattle.std.specs.Prelude.{IfOk, ◌≡◌, ◌<◌, length, slice_index};
 ghost use Rattle.ktree.specs.View.{expr_of, exprs_of, cond_of, source_of};
 ghost use Rattle.semantics.specs.Tree.{Object};
 ghost use Rattle.semantics.specs.Meaning.Value.{source_value};
 ghost use Rattle.lower_code.specs.Meaning.{Gives, MeansValue, MeansTest, MeansPlace};
 
-use crate::making::{
-    beside, binary, both, comparison, conditional, either, element, negation, number, unary,
-};
-use crate::running::entry;
-use crate::term::{Laid, Register, Term, Test};
+use crate::laid::Laid;
 use ktree::{BinaryOp, CompareOp, Cond, Expr, Source, VarId};
+use lower_machine::{
+    Register, Term, Test, beside, binary, both, comparison, conditional, either, element, negation,
+    number, unary,
+};
 use std::alloc::{AllocError, Global};
+
+/// The length of a dimension, and 0 where there is none.
+fn length_of(lengths: &[u64], dimension: u64) -> u64
+    ensures { result ≡ slice_index lengths.now dimension }
+{
+    match lengths.get(dimension as usize) {
+        Some(length) => *length,
+        None => 0,
+    }
+}
 
 /// The term of an expression (C11 6.5).
 #[cycle(expression)]
@@ -114,7 +124,7 @@ pub(crate) fn place(
             alloc,
             BinaryOp::Times,
             at,
-            number(entry(&laid.lengths, d as u64)),
+            number(length_of(&laid.lengths, d as u64)),
         )?;
         let (row, index) = beside(row, value(alloc, subscript, layout))?;
         at = binary(alloc, BinaryOp::Plus, row, index)?;

@@ -1,15 +1,13 @@
 //! Where file-scope variables lie in one flat list of cells.
 
-ghost use Rattle.std.specs.Prelude.{IfOk, ◌≡◌, ◌<◌, ◌%◌, ◌^◌, length, map};
+ghost use Rattle.std.specs.Prelude.{IfOk, ◌≡◌, ◌%◌, ◌^◌, map};
 ghost use Rattle.semantics.specs.Meaning.Places.{size};
 ghost use Rattle.ktree.specs.View.{declaration_of};
-ghost use Rattle.store.specs.Flat.{AreFilled, filled, values_of};
 ghost use Rattle.lower_code.specs.Layout.{IsLaid, shapes_of, shapes_in};
 
-use crate::term::Laid;
-use ktree::{Declaration, VarId};
+use crate::laid::Laid;
+use ktree::Declaration;
 use std::alloc::{AllocError, Global};
-use store::Store;
 
 /// The number of an array's elements, modulo 2^64.
 fn elements(lengths: &[u64]) -> u64
@@ -41,29 +39,4 @@ pub fn layout_of(alloc: Global, declarations: &[Declaration]) -> Result<Vec<Laid
         first = first.wrapping_add(count);
     }
     Ok(layout)
-}
-
-/// All values of a store, one variable behind another.
-pub(crate) fn cells(alloc: Global, store: &Store) -> Result<Vec<u64>, AllocError>
-    ensures values { IfOk result (λ cells. cells.items ≡ values_of store.now) }
-    ensures counts { IfOk result (λ _. AreFilled store.now) }
-{
-    let cells = Vec::from_slice(alloc, store.cells())?;
-    Ok(cells)
-}
-
-/// Writes cells back to the variables of a store, one behind another.
-pub(crate) fn keep(store: &mut Store, cells: &[u64])
-    requires few { length store.old < 2 ^ 32 }
-    requires count { length cells.now ≡ length (values_of store.old) }
-    ensures { store.new ≡ filled cells.now store.old }
-{
-    let count = store.len();
-    let mut rest = cells;
-    for x in 0..count {
-        let array = store.array(x);
-        let (values, later) = rest.split_at(array.values().len());
-        store.write(VarId(x as u32), 0, values);
-        rest = later;
-    }
 }

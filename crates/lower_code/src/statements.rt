@@ -6,13 +6,13 @@ ghost use Rattle.semantics.specs.Tree;
 ghost use Rattle.semantics.specs.Tree.{no_items};
 ghost use Rattle.ktree.specs.View.{binary_of, cond_of, exprs_of, part_of, source_of, start_of, increment_of, stmt_of, items_of, with_item};
 ghost use Rattle.ktree.specs.declared.statement.Stmt.TheVariants.{Assign, Update};
-ghost use Rattle.lower_code.specs.Machine.{Running, after};
+ghost use Rattle.lower_machine.specs.Machine.{Running, after};
 ghost use Rattle.lower_code.specs.Meaning.{DoesAlways, Assigns, Updates, MeansPart, MeansText, MeansDeclared, MeansStmt, MeansTurns, MeansItems};
 
 use crate::expression::{object, place, source_value, test, value};
-use crate::making::{beside, binary, branch, number, repeat, then};
-use crate::term::{Code, Laid, Piece, Register, Term};
+use crate::laid::Laid;
 use ktree::{BinaryOp, Cond, Expr, Head, Increment, Item, PrintPart, Source, Stmt, Target, VarId};
+use lower_machine::{Code, Piece, Register, Term, beside, binary, branch, number, repeat, then};
 use std::alloc::{AllocError, Global};
 
 /// An object takes what a term is worth (C11 6.5.16).

@@ -2,11 +2,11 @@
 use Rattle.std.proofs.Common.{◌≡◌, ℕ, ◌<◌, Bool, true, false, cond, length, refl, sym, ap, ◌∙◌, subst, arith}
 use Rattle.std.specs.Prelude.{slice_set, ◌==◌, not}
 use Rattle.std.proofs.lemmas.List.{set-set, set_comm, set-get_or}
-use Rattle.lower_code.specs.declared.term.Code.{Code, Nothing, Set}
-use Rattle.lower_code.specs.declared.term.Register.{Register}
-use Rattle.lower_code.specs.declared.term.Term.{Term}
-use Rattle.lower_code.specs.declared.term.Test.{Test}
-use Rattle.lower_code.specs.Machine.{Machine, Running, machine, running, after, truth, worth}
+use Rattle.lower_machine.specs.declared.term.Code.{Code, Nothing, Set}
+use Rattle.lower_machine.specs.declared.term.Register.{Register}
+use Rattle.lower_machine.specs.declared.term.Term.{Term}
+use Rattle.lower_machine.specs.declared.term.Test.{Test}
+use Rattle.lower_machine.specs.Machine.{Machine, Running, machine, running, after, truth, worth}
 use Rattle.lower_unroll.specs.Turns.{knowing, with_register, sets_others}
 use Rattle.lower_unroll.proofs.Registers.{held, width, with_twice, with_held, holds_now, width_with, unlike, leaves, width_after}
 

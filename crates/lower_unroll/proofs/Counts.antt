@@ -4,9 +4,9 @@ use Rattle.std.specs.Prelude.{slice_index, nat_lt}
 use Rattle.std.proofs.Math.Nat.{suc-mul, mul_comm, div-add-mod, mul-le-mul_right}
 use Rattle.std.proofs.lemmas.Bool.{lt-ltb, ltb-true}
 use Rattle.semantics.specs.Meaning.Runs.{greatest_trip_count}
-use Rattle.lower_code.specs.declared.term.Code.{Code, Nothing}
-use Rattle.lower_code.specs.declared.term.Test.{Test}
-use Rattle.lower_code.specs.Machine.{Machine, Running, after, spins, truth}
+use Rattle.lower_machine.specs.declared.term.Code.{Code, Nothing}
+use Rattle.lower_machine.specs.declared.term.Test.{Test}
+use Rattle.lower_machine.specs.Machine.{Machine, Running, after, spins, truth}
 use Rattle.lower_unroll.specs.Turns.{with_register, sets_others, turns}
 use Rattle.lower_unroll.proofs.Registers.{held, width, with_twice, holds_now, width_with, leaves, width_after}
 use Rattle.lower_unroll.proofs.Copies.{IsCopy}

@@ -1,7 +1,7 @@
 -- Code whose parts are written out.
 use Rattle.std.proofs.Common.{◌≡◌, ℕ, zero, suc, Bool, cond, refl, ap, ◌∙◌}
-use Rattle.lower_code.specs.declared.term.Code.{Code}
-use Rattle.lower_code.specs.Machine.{Machine, Running, after, spins}
+use Rattle.lower_machine.specs.declared.term.Code.{Code}
+use Rattle.lower_machine.specs.Machine.{Machine, Running, after, spins}
 use Rattle.lower_unroll.specs.Turns.{DoesAs}
 use Rattle.lower_unroll.proofs.Registers.{width, width_after}
 

@@ -3,8 +3,8 @@ use Rattle.std.proofs.Common.{◌≡◌, ◌≢◌, ℕ, zero, suc, ◌<◌, Boo
 use Rattle.std.specs.Prelude.{slice_index, slice_set, ◌==◌, not}
 use Rattle.std.proofs.lemmas.Bool.{and_parts, eq-eqb, true≢false}
 use Rattle.std.proofs.lemmas.List.{length-set, get_or-set_same, get_or-set_other, set-set, set-get_or}
-use Rattle.lower_code.specs.declared.term.Code.{Code, Nothing, Set, Save, Then', If', Loop', Print}
-use Rattle.lower_code.specs.Machine.{Machine, Running, machine, running, after, spins, truth, worth}
+use Rattle.lower_machine.specs.declared.term.Code.{Code, Nothing, Set, Save, Then', If', Loop', Print}
+use Rattle.lower_machine.specs.Machine.{Machine, Running, machine, running, after, spins, truth, worth}
 use Rattle.semantics.specs.Meaning.Runs.{greatest_trip_count}
 use Rattle.lower_unroll.specs.Turns.{with_register, sets_others}
 

@@ -1,7 +1,7 @@
 -- Turns of a loop whose variable is known in each of them. (C11 6.8.5)
 use Rattle.std.specs.Prelude.{ℕ, zero, suc, ◌≡◌, ◌+◌, ◌==◌, Bool, true, false, not, ◌&&◌, length, slice_set}
-use Rattle.lower_code.specs.declared.term.Code.{Code, Nothing, Set, Then', If'}
-use Rattle.lower_code.specs.Machine.{Machine, Running, machine, running, after}
+use Rattle.lower_machine.specs.declared.term.Code.{Code, Nothing, Set, Then', If'}
+use Rattle.lower_machine.specs.Machine.{Machine, Running, machine, running, after}
 
 -- a register takes a number
 abbrev pub knowing : ℕ → ℕ → Machine → Machine

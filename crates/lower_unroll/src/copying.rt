@@ -1,10 +1,10 @@
 //! Copies of code in which a register's number is known.
 
 ghost use Rattle.std.specs.Prelude.{◌≡◌, ◌<◌, true, length, slice_index, IfOk};
-ghost use Rattle.lower_code.specs.Machine.{Machine, Running, worth, truth, after};
+ghost use Rattle.lower_machine.specs.Machine.{Machine, Running, worth, truth, after};
 ghost use Rattle.lower_unroll.specs.Turns.{sets_others, knowing, with_register};
 
-use lower_code::{
+use lower_machine::{
     Code, Register, Term, Test, beside, binary, both, branch, comparison, conditional, either,
     element, negation, number, then, unary,
 };

@@ -1,11 +1,11 @@
 //! Loops of which is known how often they turn.
 
 ghost use Rattle.std.specs.Prelude.{◌≡◌, ◌+◌, ◌*◌, ◌%◌, ◌<◌, ◌≤◌, ◌^◌, ℕ, true, length, slice_index, nat_lt, IfSome};
-ghost use Rattle.lower_code.specs.Machine.{Machine, Running, worth, truth, after};
+ghost use Rattle.lower_machine.specs.Machine.{Machine, Running, worth, truth, after};
 ghost use Rattle.lower_unroll.specs.Turns.{sets_others, with_register, turns};
 
 use ktree::{BinaryOp, CompareOp};
-use lower_code::{Code, Register, Term, Test, is_local};
+use lower_machine::{Code, Register, Term, Test, is_local};
 
 /// How many turns are written out at most.
 const MOST_TURNS: u64 = 256;

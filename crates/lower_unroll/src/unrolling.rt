@@ -2,12 +2,12 @@
 
 ghost use Rattle.std.specs.Prelude.{◌≡◌, ◌+◌, ◌*◌, ◌<◌, ◌≤◌, ◌^◌, true, length, IfOk, if◌then◌else◌};
 ghost use Rattle.semantics.specs.Meaning.Runs.{greatest_trip_count};
-ghost use Rattle.lower_code.specs.Machine.{Running, after, spins, truth};
+ghost use Rattle.lower_machine.specs.Machine.{Running, after, spins, truth};
 ghost use Rattle.lower_unroll.specs.Turns.{DoesAs, sets_others, turns, with_register};
 
 use crate::copying::{Known, copy_code};
 use crate::counting::{Counted, counted_of};
-use lower_code::{Code, Test, beside, box_both, branch, number, then};
+use lower_machine::{Code, Test, beside, box_both, branch, number, then};
 use std::alloc::{AllocError, Global};
 
 // A number that a register takes.

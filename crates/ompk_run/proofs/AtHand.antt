@@ -18,7 +18,7 @@ use Rattle.law_independence.specs.OrderLaws.{AreAtHand}
 use Rattle.law_apart.specs.Apart.{stands_there, is_at_hand}
 use Rattle.store.specs.Kept.{Kept}
 use Rattle.store.specs.Flat.{values_of}
-use Rattle.lower_code.specs.declared.term.Laid.{Laid}
+use Rattle.lower_code.specs.declared.laid.Laid.{Laid}
 use Rattle.lower_code.specs.Layout.{shapes_of, spot_in, spot, first_of as first_in, cell_at}
 use Rattle.lower_code.proofs.Values.{bind_there}
 use Rattle.lower_run.specs.Walk.{StandFor}

@@ -16,10 +16,10 @@ use Rattle.law_apart.proofs.Shared.{left_apart}
 use Rattle.law_apart.proofs.Undeclared.{runs_outside}
 use Rattle.store.specs.Kept.{Kept}
 use Rattle.store.specs.Flat.{values_of}
-use Rattle.lower_code.specs.declared.term.Laid.{Laid}
+use Rattle.lower_code.specs.declared.laid.Laid.{Laid}
 use Rattle.lower_code.specs.Layout.{shapes_of, cell_at}
 use Rattle.seqrun.specs.Ran.{lengths_of}
-use Rattle.lower_code.specs.Machine.{Fits, machine}
+use Rattle.lower_machine.specs.Machine.{Fits, machine}
 use Rattle.lower_run.specs.Walk.{StandFor, Arrives}
 use Rattle.ompk_run.proofs.AtHand.{alone}
 use Rattle.ompk_run.proofs.Leaving.{role_told, IsTold, holds, stays, empty}

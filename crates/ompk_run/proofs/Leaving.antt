@@ -25,7 +25,7 @@ use Rattle.law_starts.proofs.Holding.{walks_keep, chunks_keep}
 use Rattle.law_independence.specs.OrderLaws.{AreAtHand}
 use Rattle.store.specs.Kept.{Kept}
 use Rattle.store.specs.Flat.{values_of}
-use Rattle.lower_code.specs.declared.term.Laid.{Laid}
+use Rattle.lower_code.specs.declared.laid.Laid.{Laid}
 use Rattle.lower_code.specs.Layout.{shapes_of, cell_at}
 use Rattle.team.specs.Together.{HoldsAt, PutTogether}
 use Rattle.ompk_run.proofs.AtHand.{one_of}

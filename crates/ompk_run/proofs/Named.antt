@@ -8,7 +8,7 @@ use Rattle.semantics.specs.Meaning.Agrees.{is_among}
 use Rattle.semantics.specs.Loops.Operator.{ReduceOp}
 use Rattle.semantics.specs.Loops.Piece.{Roles}
 use Rattle.law_starts.specs.Begun.{told_apart}
-use Rattle.lower_code.specs.declared.term.Laid.{Laid}
+use Rattle.lower_code.specs.declared.laid.Laid.{Laid}
 use Rattle.lower_op.proofs.Stepping.{length_set, index_same, index_other}
 use Rattle.lower.specs.declared.roles.Spot.{Spot}
 use Rattle.lower.specs.declared.roles.Spot.TheVariants.{Register, Cell}

@@ -11,7 +11,7 @@ use Rattle.semantics.specs.Meaning.State.{State}
 use Rattle.law_commute.specs.Joining.{DeclaresLocals}
 use Rattle.store.specs.Kept.{Kept}
 use Rattle.store.specs.Flat.{values_of}
-use Rattle.lower_code.specs.declared.term.Laid.{Laid}
+use Rattle.lower_code.specs.declared.laid.Laid.{Laid}
 use Rattle.lower_code.specs.Layout.{shapes_of, spot_in, first_of, cell_at}
 use Rattle.lower_code.specs.Meaning.{AreLocals}
 use Rattle.lower_run.specs.Walk.{StandFor}

@@ -25,7 +25,7 @@ use Rattle.law_scopes.proofs.Named.{target_named}
 use Rattle.store.specs.Kept.{Kept}
 use Rattle.store.specs.Flat.{AreFilled, values_of}
 use Rattle.seqrun.specs.Ran.{lengths_of}
-use Rattle.lower_code.specs.declared.term.Laid.{Laid}
+use Rattle.lower_code.specs.declared.laid.Laid.{Laid}
 use Rattle.lower_code.specs.Layout.{IsLaid, shapes_of, shapes_in, first_of, spot_in, spot}
 use Rattle.outline.specs.Accepted.{HasPlace}
 use Rattle.deptest.specs.Accepted.{HasPassed, data_passed}

@@ -10,8 +10,8 @@ use Rattle.store.specs.Kept.{Kept, state_of}
 use Rattle.store.specs.Flat.{AreFilled, values_of}
 use Rattle.seqrun_io.specs.Lines.{HasLengths}
 use Rattle.seqrun.specs.Ran.{lengths_of}
-use Rattle.lower_code.specs.declared.term.Laid.{Laid}
-use Rattle.lower_code.specs.Machine.{Fits, machine}
+use Rattle.lower_code.specs.declared.laid.Laid.{Laid}
+use Rattle.lower_machine.specs.Machine.{Fits, machine}
 use Rattle.lower_code.specs.Layout.{IsLaid, shapes_of, shapes_in, cell_at}
 use Rattle.lower_code.specs.Meaning.{AreLocals, AreBelow}
 use Rattle.lower_code.proofs.Keeping.{cells_lie}

@@ -19,7 +19,7 @@ use Rattle.flow.specs.declared.environment.ParallelLoop.{ParallelLoop}
 use Rattle.flow.proofs.PrivateLemmas.{among_both}
 use Rattle.law_commute.specs.Targets.{targets, targets_among}
 use Rattle.law_independence.proofs.Targeted.{outside_target}
-use Rattle.lower_code.specs.declared.term.Laid.{Laid}
+use Rattle.lower_code.specs.declared.laid.Laid.{Laid}
 use Rattle.outline.specs.Accepted.{HasPlace, StandsAt, LoopFirst, HasRightLoops, HaveRightLoops}
 use Rattle.outline.specs.Handed.{IsOfText, AreOfText}
 use Rattle.ompk_run.proofs.Listed.{are_of_text}

@@ -41,9 +41,9 @@ use Rattle.store.specs.Kept.{Kept}
 use Rattle.store.specs.Flat.{values_of}
 use Rattle.seqrun_io.specs.Told.{AddsBeginning}
 use Rattle.seqrun.specs.Ran.{lengths_of, text_of}
-use Rattle.lower_code.specs.declared.term.Laid.{Laid}
+use Rattle.lower_code.specs.declared.laid.Laid.{Laid}
 use Rattle.lower_code.specs.Layout.{shapes_of, cell_at}
-use Rattle.lower_code.specs.Machine.{Fits, machine}
+use Rattle.lower_machine.specs.Machine.{Fits, machine}
 use Rattle.lower.specs.Lowered.{IsLoweredFrom, IsReached}
 use Rattle.lower.specs.declared.lowered.LoweredLoop.{LoweredLoop}
 use Rattle.lower_run.specs.Walk.{StandFor, Arrives}

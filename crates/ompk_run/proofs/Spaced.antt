@@ -12,7 +12,7 @@ use Rattle.nest_space.specs.Nests.{given, AreModest}
 use Rattle.nest_space.proofs.Reached.{length-reached}
 use Rattle.law_ranges.specs.Spaces.{RunsFew}
 use Rattle.store.specs.Kept.{Kept}
-use Rattle.lower_code.specs.declared.term.Laid.{Laid}
+use Rattle.lower_code.specs.declared.laid.Laid.{Laid}
 use Rattle.lower_run.specs.Walk.{StandFor}
 use Rattle.lower.specs.declared.lowered.LoweredLoop.{LoweredLoop}
 use Rattle.lower.specs.Lowered.{IsLoweredFrom, MayBeReached, values_in}

@@ -9,9 +9,9 @@ use Rattle.flow.specs.Roles.{LineData}
 use Rattle.seqrun_io.specs.Told.{AddsBeginning}
 use Rattle.seqrun.specs.Ran.{text_of}
 use Rattle.seqrun.proofs.RunLemmas.{rest_some, test_some}
-use Rattle.lower_code.specs.declared.term.Laid.{Laid}
-use Rattle.lower_code.specs.declared.term.Test.{Test}
-use Rattle.lower_code.specs.Machine.{machine, truth}
+use Rattle.lower_code.specs.declared.laid.Laid.{Laid}
+use Rattle.lower_machine.specs.declared.term.Test.{Test}
+use Rattle.lower_machine.specs.Machine.{machine, truth}
 use Rattle.lower_code.specs.Meaning.{MeansTest}
 use Rattle.store.specs.Flat.{values_of}
 use Rattle.lower_run.specs.Walk.{StandFor, Arrives, Stage, Walks, Begins}

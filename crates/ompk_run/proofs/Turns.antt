@@ -12,9 +12,9 @@ use Rattle.flow.specs.Roles.{LineData}
 use Rattle.nest.specs.Heads.{head_of}
 use Rattle.store.specs.Flat.{values_of}
 use Rattle.seqrun.proofs.RunLemmas.{turns_on, turns_over, turns_last}
-use Rattle.lower_code.specs.declared.term.Laid.{Laid}
-use Rattle.lower_code.specs.declared.term.Test.{Test}
-use Rattle.lower_code.specs.Machine.{machine, truth}
+use Rattle.lower_code.specs.declared.laid.Laid.{Laid}
+use Rattle.lower_machine.specs.declared.term.Test.{Test}
+use Rattle.lower_machine.specs.Machine.{machine, truth}
 use Rattle.lower_block.specs.declared.tree.Compiled.{Compiled}
 use Rattle.lower_run.specs.Walk.{Stage, Performs, Walks, Begins}
 use Rattle.outline.specs.declared.shape.LoweredHead.{LoweredHead}

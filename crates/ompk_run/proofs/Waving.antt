@@ -33,9 +33,9 @@ use Rattle.law_apart.specs.Apart.{left_effect, is_at_hand, handed}
 use Rattle.store.specs.Kept.{Kept}
 use Rattle.store.specs.Flat.{values_of}
 use Rattle.seqrun.specs.Ran.{lengths_of}
-use Rattle.lower_code.specs.declared.term.Laid.{Laid}
+use Rattle.lower_code.specs.declared.laid.Laid.{Laid}
 use Rattle.lower_code.specs.Layout.{shapes_of, cell_at}
-use Rattle.lower_code.specs.Machine.{Fits, machine}
+use Rattle.lower_machine.specs.Machine.{Fits, machine}
 use Rattle.lower.specs.Lowered.{IsReached}
 use Rattle.nest_space.specs.Space.{vectors}
 use Rattle.lower_run.specs.Walk.{StandFor, Arrives}

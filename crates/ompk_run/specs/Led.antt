@@ -2,7 +2,7 @@
 use Rattle.std.specs.Prelude.{ℕ, List}
 use Rattle.semantics.specs.Loops.Nest.{Loop}
 use Rattle.flow.specs.Roles.{LineData}
-use Rattle.lower_code.specs.declared.term.Laid.{Laid}
+use Rattle.lower_code.specs.declared.laid.Laid.{Laid}
 use Rattle.lower_run.specs.Walk.{Stage, Walks, Begins}
 use Rattle.outline.specs.declared.shape.OutlineItem.{OutlineItem}
 use Rattle.outline.specs.Fit.{AllFit}

@@ -4,7 +4,7 @@ use Rattle.ktree.specs.View.{items_of}
 use Rattle.flow.specs.Roles.{LineData}
 use Rattle.law_apart.specs.Apart.{apart_items}
 use Rattle.store.specs.Kept.{Kept, state_of}
-use Rattle.lower_code.specs.declared.term.Laid.{Laid}
+use Rattle.lower_code.specs.declared.laid.Laid.{Laid}
 use Rattle.lower_run.specs.Walk.{StandFor}
 use Rattle.outline.specs.declared.shape.OutlineItem.{OutlineItem}
 use Rattle.outline.specs.Fit.{AllFit}

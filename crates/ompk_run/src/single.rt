@@ -8,7 +8,7 @@ ghost use Rattle.outline.specs.View.{performed};
 ghost use Rattle.outline.specs.declared.shape.Outline.TheVariants.{Team};
 ghost use Rattle.seqrun_io.specs.Told.{Refuses};
 ghost use Rattle.seqrun.specs.Ran.{lengths_of};
-ghost use Rattle.lower_code.specs.declared.term.Laid.{Laid};
+ghost use Rattle.lower_code.specs.declared.laid.Laid.{Laid};
 ghost use Rattle.lower_run.specs.Walk.{Walks, Begins, stage};
 ghost use Rattle.ompk_run.specs.Taken.{taken_at, taken_each, reduced_at, taken};
 

@@ -12,15 +12,15 @@ ghost use Rattle.outline.specs.declared.shape.Way.TheVariants.{Chunks, Scan, Wav
 ghost use Rattle.seqrun_io.specs.Told.{Refuses};
 ghost use Rattle.seqrun.specs.Ran.{lengths_of};
 ghost use Rattle.store.specs.Flat.{values_of};
-ghost use Rattle.lower_code.specs.declared.term.Laid.{Laid};
-ghost use Rattle.lower_code.specs.Machine.{machine, truth};
+ghost use Rattle.lower_code.specs.declared.laid.Laid.{Laid};
+ghost use Rattle.lower_machine.specs.Machine.{machine, truth};
 ghost use Rattle.lower_run.specs.Walk.{Walks, Begins, stage};
 
 use crate::single::run_by_one;
 use ktree::{Refusal, Schedule, Workers};
 use lane_rows::Bench;
 use lower::LoweredLoop;
-use lower_code::{Test, truth};
+use lower_machine::{Test, truth};
 use lower_run::{confirm_words, perform};
 use outline::{Outline, OutlineItem, TeamLoop, Way};
 use schedule::{Sched, sched_of};

@@ -4,7 +4,7 @@ use mathlib.Core.Former.{Count}
 use Rattle.semantics.specs.Meaning.Runs.{then_from}
 use Rattle.semantics.specs.Loops.Nest.{Loop}
 use Rattle.flow.specs.Roles.{LineData}
-use Rattle.lower_code.specs.declared.term.Laid.{Laid}
+use Rattle.lower_code.specs.declared.laid.Laid.{Laid}
 use Rattle.outline.specs.declared.shape.Outline.{Outline, Block, Block', Row_of-OutlineItem, end_of-OutlineItem, more_of-OutlineItem, items-the_row-OutlineItem, items_hidden-the_row-OutlineItem-0}
 use Rattle.outline.specs.declared.shape.OutlineItem.{OutlineItem}
 use Rattle.outline.specs.Fit.{Fits, RowFits, AllFit}

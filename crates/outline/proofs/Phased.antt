@@ -12,8 +12,8 @@ use Rattle.pragma.specs.Plain.{has_line, has_line_among}
 use Rattle.flow.specs.Phases.{item_count}
 use Rattle.law_scans.specs.Phases.{joined_items, bare, input_of}
 use Rattle.law_scans.specs.Scanning.{first_of}
-use Rattle.lower_code.specs.declared.term.Laid.{Laid}
-use Rattle.lower_code.specs.declared.term.Code.{Code, Nothing}
+use Rattle.lower_code.specs.declared.laid.Laid.{Laid}
+use Rattle.lower_machine.specs.declared.term.Code.{Code, Nothing}
 use Rattle.lower_code.specs.Meaning.{AreLocals, Does}
 use Rattle.lower_code.proofs.Doing.{then_does, nothing_declares}
 use Rattle.lower_code.proofs.Whole.{locals_left, locals_right}

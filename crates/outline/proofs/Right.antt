@@ -14,7 +14,7 @@ use Rattle.nest_loop.specs.Facts.{AreFactsOf}
 use Rattle.nest_loop.specs.Loops.{inside}
 use Rattle.nest_loop.proofs.Laws.{loop_is_unique}
 use Rattle.flow.specs.declared.environment.ParallelLoop.{ParallelLoop}
-use Rattle.lower_code.specs.declared.term.Laid.{Laid}
+use Rattle.lower_code.specs.declared.laid.Laid.{Laid}
 use Rattle.outline.specs.Accepted.{HasRightLoops, ItemIsRight, ItemsAreRight}
 use Rattle.outline.specs.Made.{line_of, loop_with}
 

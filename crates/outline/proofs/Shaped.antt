@@ -45,8 +45,8 @@ use Rattle.law_independence.specs.Said.{SaidInside, LinesInside}
 use Rattle.law_independence.specs.OrderLaws.{AreStepsRead, HasStepsRead, SharesAsNest, used_roles}
 use Rattle.law_ranges.specs.Spaces.{RunsFewAtTurns}
 use Rattle.law_apart.specs.Apart.{apart_items, apart_behind, handed}
-use Rattle.lower_code.specs.declared.term.Laid.{Laid}
-use Rattle.lower_code.specs.declared.term.Test.{Test}
+use Rattle.lower_code.specs.declared.laid.Laid.{Laid}
+use Rattle.lower_machine.specs.declared.term.Test.{Test}
 use Rattle.lower_code.specs.Meaning.{AreLocals, MeansTest}
 use Rattle.lower_code.proofs.Whole.{locals_left, locals_right}
 use Rattle.lower_block.specs.declared.tree.Compiled.{Compiled}

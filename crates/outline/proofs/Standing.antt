@@ -10,7 +10,7 @@ use Rattle.ktree.specs.declared.place.VarId.{VarId}
 use Rattle.flow_reduction.specs.Reduced.{reduction_of, reduced}
 use Rattle.flow.specs.Parallel.{numbers}
 use Rattle.flow_reduction.specs.declared.reduction.Reduction.{Reduction}
-use Rattle.lower_code.specs.declared.term.Laid.{Laid}
+use Rattle.lower_code.specs.declared.laid.Laid.{Laid}
 use Rattle.lower.specs.declared.roles.Spot.{Spot}
 use Rattle.lower.specs.declared.roles.LoweredReduction.{LoweredReduction}
 use Rattle.lower.specs.Roles.{StandsAt, StandEach, AreReduced}

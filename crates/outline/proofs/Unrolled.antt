@@ -1,7 +1,7 @@
 -- Code whose loops are written out.
 use Rattle.std.proofs.Common.{ℕ, subst}
-use Rattle.lower_code.specs.declared.term.Code.{Code}
-use Rattle.lower_code.specs.Machine.{after}
+use Rattle.lower_machine.specs.declared.term.Code.{Code}
+use Rattle.lower_machine.specs.Machine.{after}
 use Rattle.lower_unroll.specs.Turns.{DoesAs}
 use Rattle.lower_block.specs.declared.tree.Compiled.{Compiled}
 use Rattle.lower_block.specs.Emission.{Beside, Compiles, runs_compiled}

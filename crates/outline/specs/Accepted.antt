@@ -14,7 +14,7 @@ use Rattle.nest_loop.specs.declared.head.Canonical.{Canonical}
 use Rattle.nest.specs.Perfect.{IsRightNest}
 use Rattle.pragma.specs.Parallel.{associated}
 use Rattle.flow.specs.declared.environment.ParallelLoop.{ParallelLoop}
-use Rattle.lower_code.specs.declared.term.Laid.{Laid}
+use Rattle.lower_code.specs.declared.laid.Laid.{Laid}
 use Rattle.lower_code.specs.Layout.{shapes_of, spot}
 
 -- a scalar has its place: at file scope the one cell that the layout tells, and a local has a register (C11 6.2.1)

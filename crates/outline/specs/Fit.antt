@@ -18,7 +18,7 @@ use Rattle.law_scans.specs.Scanning.{whole_of, first_of}
 use Rattle.law_independence.specs.Said.{SaidInside}
 use Rattle.law_independence.specs.OrderLaws.{SharesAsNest}
 use Rattle.law_ranges.specs.Spaces.{RunsFewAtTurns}
-use Rattle.lower_code.specs.declared.term.Laid.{Laid}
+use Rattle.lower_code.specs.declared.laid.Laid.{Laid}
 use Rattle.lower_code.specs.Meaning.{MeansTest, AreLocals}
 use Rattle.lower_block.specs.declared.tree.Compiled.{Compiled}
 use Rattle.lower_run.specs.Walk.{Performs}

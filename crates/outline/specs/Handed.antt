@@ -31,7 +31,7 @@ use Rattle.law_scans.specs.Phases.{input_of}
 use Rattle.law_scans.specs.Scanning.{whole_of}
 use Rattle.law_independence.specs.Said.{LinesInside}
 use Rattle.law_independence.specs.OrderLaws.{used_roles}
-use Rattle.lower_code.specs.declared.term.Laid.{Laid}
+use Rattle.lower_code.specs.declared.laid.Laid.{Laid}
 use Rattle.lower_code.specs.Meaning.{AreLocals}
 use Rattle.lower_block.specs.declared.tree.Compiled.{Compiled}
 use Rattle.lower_run.specs.Walk.{Performs}

@@ -22,7 +22,7 @@ use Rattle.law_independence.specs.Said.{LinesInside}
 use Rattle.law_independence.specs.OrderLaws.{SharesBy, used_roles}
 use Rattle.law_ranges.specs.Spaces.{RunsFewAtTurns}
 use Rattle.law_apart.specs.Apart.{handed, apart, apart_items, apart_behind}
-use Rattle.lower_code.specs.declared.term.Laid.{Laid}
+use Rattle.lower_code.specs.declared.laid.Laid.{Laid}
 use Rattle.lower_code.specs.Meaning.{AreLocals}
 use Rattle.outline.specs.declared.handing.Loops.{Loops}
 use Rattle.outline.specs.declared.shape.Outline.{Outline}

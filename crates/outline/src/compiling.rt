@@ -15,9 +15,9 @@ use crate::shape::LoweredHead;
 use ktree::{Cond, Head, Item, Refusal, Stmt};
 use lower_block::{Compiled, compile};
 use lower_code::{
-    Code, Laid, Test, entry, increment, item as code_of_item, items as code_of_items, statement,
-    test,
+    Laid, entry, increment, item as code_of_item, items as code_of_items, statement, test,
 };
+use lower_machine::{Code, Test};
 use lower_unroll::unroll;
 use std::alloc::Global;
 

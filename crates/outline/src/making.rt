@@ -7,7 +7,7 @@ ghost use Rattle.ktree.specs.View.{stmt_of, items_of, cond_of, if_of};
 ghost use Rattle.ktree.specs.declared.refusal.Refusal.TheVariants.{OutOfMemory};
 ghost use Rattle.affine.specs.declared.interval.Side.{Side};
 ghost use Rattle.flow.specs.declared.environment.ParallelLoop.{ParallelLoop};
-ghost use Rattle.lower_code.specs.declared.term.Laid.{Laid};
+ghost use Rattle.lower_code.specs.declared.laid.Laid.{Laid};
 ghost use Rattle.outline.specs.declared.handing.Loops.{Loops};
 ghost use Rattle.semantics.specs.Tree.{Declaration};
 ghost use Rattle.flow.specs.Roles.{LineData, ItemsHaveBy};

@@ -5,7 +5,7 @@ ghost use Rattle.outline.specs.Waved.{IsFixedInWaves};
 use ktree::{Cond, Head, Item, Stmt};
 use lower::LoweredLoop;
 use lower_block::Compiled;
-use lower_code::Test;
+use lower_machine::Test;
 use waves::Sinks;
 
 /// How a team may run a loop.

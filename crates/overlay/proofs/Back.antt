@@ -9,7 +9,7 @@ use Rattle.semantics.specs.Meaning.Agrees.{is_among}
 use Rattle.semantics.specs.Meaning.Places.{within}
 use Rattle.semantics.specs.Loops.Operator.{ReduceOp}
 use Rattle.seqrun_value.proofs.FrameLemmas.{slice_get_set_same, slice_get_set_other}
-use Rattle.lower_code.specs.declared.term.Laid.{Laid}
+use Rattle.lower_code.specs.declared.laid.Laid.{Laid}
 use Rattle.lower_code.specs.Layout.{spot, spot_in, shapes_of, cell_at, first_of}
 use Rattle.lower_code.proofs.Spots.{lies, apart}
 use Rattle.lower.specs.declared.roles.Spot.{Spot}

@@ -11,9 +11,9 @@ use Rattle.law_nests.specs.Walks.{walk}
 use Rattle.nest_space.specs.Space.{Turns, vectors}
 use Rattle.store.specs.Kept.{Kept}
 use Rattle.store.specs.Flat.{values_of}
-use Rattle.lower_code.specs.declared.term.Laid.{Laid}
+use Rattle.lower_code.specs.declared.laid.Laid.{Laid}
 use Rattle.lower_code.specs.Layout.{shapes_of, cell_at}
-use Rattle.lower_code.specs.Machine.{machine, running}
+use Rattle.lower_machine.specs.Machine.{machine, running}
 use Rattle.lower_code.specs.Meaning.{Represents, Leads}
 use Rattle.overlay_pages.specs.Over.{writes_of, written_over}
 use Rattle.lower.specs.declared.lowered.LoweredLoop.{LoweredLoop}

@@ -11,7 +11,7 @@ use Rattle.semantics.specs.Meaning.Runs.{Effect, nothing, joined, then_from, run
 use Rattle.semantics.specs.Loops.Nest.{Loop, Vector}
 use Rattle.law_commute.proofs.Matched.{overwritten-append}
 use Rattle.law_nests.specs.Walks.{enters, walk}
-use Rattle.lower_code.specs.Machine.{Running, machine, running}
+use Rattle.lower_machine.specs.Machine.{Running, machine, running}
 use Rattle.lower.specs.declared.lowered.LoweredLoop.{LoweredLoop}
 use Rattle.overlay.specs.Walking.{Enters, RunsOver, WalksOver}
 use Rattle.overlay.proofs.Going.{goes_then, walks_on, walks_none}

@@ -16,12 +16,12 @@ use Rattle.overlay.specs.declared.beginning.Start.{Start}
 use Rattle.overlay.specs.declared.beginning.Start.TheVariants.{Reduction, Scan}
 use Rattle.law_starts.proofs.Holding.{given_lasts}
 use Rattle.ktree.specs.DirectiveView
-use Rattle.lower_code.specs.declared.term.Laid.{Laid}
-use Rattle.lower_code.specs.Machine.{Machine, machine}
+use Rattle.lower_code.specs.declared.laid.Laid.{Laid}
+use Rattle.lower_machine.specs.Machine.{Machine, machine}
 use Rattle.lower_code.specs.Layout.{spot, shapes_of}
 use Rattle.lower_code.specs.Meaning.{Represents}
 use Rattle.lower_code.proofs.Values.{bind_there, no_object}
-use Rattle.lower_code.proofs.Sizes.{set_fits}
+use Rattle.lower_machine.proofs.Sizes.{set_fits}
 use Rattle.lower_code.proofs.Spots.{cell_written}
 use Rattle.lower_code.proofs.Doing.{local_stands}
 use Rattle.overlay.proofs.Back.{set_length}

@@ -14,8 +14,8 @@ use Rattle.law_roles.specs.Sharing.{are_different, changed_from, unless_same}
 use Rattle.semantics.specs.Loops.Joined.{given}
 use Rattle.law_roles.proofs.Seen.{apart_back, only_look, look_of, takes}
 use Rattle.law_starts.proofs.Beginning.{reduced, first_apart, others_apart, begun_holds, given_only}
-use Rattle.lower_code.specs.declared.term.Laid.{Laid}
-use Rattle.lower_code.specs.Machine.{Machine}
+use Rattle.lower_code.specs.declared.laid.Laid.{Laid}
+use Rattle.lower_machine.specs.Machine.{Machine}
 use Rattle.lower_code.specs.Meaning.{Represents}
 use Rattle.lower.specs.declared.roles.Spot.{Spot}
 use Rattle.lower.specs.declared.roles.LoweredReduction.{LoweredReduction}

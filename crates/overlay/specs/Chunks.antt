@@ -15,7 +15,7 @@ use Rattle.law_starts.specs.Begun.{told_apart, begun_with}
 use Rattle.reduce.specs.Partial.{partial_of}
 use Rattle.store.specs.Kept.{Kept}
 use Rattle.store.specs.Flat.{values_of}
-use Rattle.lower_code.specs.declared.term.Laid.{Laid}
+use Rattle.lower_code.specs.declared.laid.Laid.{Laid}
 use Rattle.lower_code.specs.Layout.{shapes_of, cell_at}
 use Rattle.overlay_pages.specs.Over.{writes_of, written_over}
 use Rattle.overlay_pages.specs.declared.changes.Change.{Change}

@@ -1,7 +1,7 @@
 -- What is told of variables with a role behind a chunk. (OpenMP 5.2, 5.4.5 and 5.5.2)
 use Rattle.std.specs.Prelude.{Bool, ◌≡◌, [], map, if◌then◌else◌}
 use Rattle.reduce.specs.Partial.{partial_of}
-use Rattle.lower_code.specs.Machine.{Machine}
+use Rattle.lower_machine.specs.Machine.{Machine}
 use Rattle.lower.specs.declared.roles.LoweredRoles.{LoweredRoles}
 use Rattle.overlay.specs.declared.beginning.Start.{Start}
 use Rattle.overlay.specs.declared.ending.Told.{Told}

@@ -2,7 +2,7 @@
 use Rattle.std.specs.Prelude.{ℕ, ◌≡◌, ◌≤◌, List, [], length, take, drop, slice_index}
 use Rattle.semantics.specs.Loops.Nest.{Vector}
 use Rattle.nest_space.specs.Space.{Turns, vectors}
-use Rattle.lower_code.specs.Machine.{Machine, running}
+use Rattle.lower_machine.specs.Machine.{Machine, running}
 use Rattle.lower.specs.declared.lowered.LoweredLoop.{LoweredLoop}
 use Rattle.overlay.specs.declared.beginning.Start.{Start}
 use Rattle.overlay.specs.declared.positions.Order.{Order}

@@ -3,7 +3,7 @@ use Rattle.std.specs.Prelude.{ℕ, ◌<◌, ◌^◌, List, [], ◌∷◌, map, O
 use Rattle.ktree.specs.DirectiveView.{operator_of}
 use Rattle.semantics.specs.Loops.Operator.{ReduceOp}
 use Rattle.law_roles.specs.Sharing.{begins_with, unless_same}
-use Rattle.lower_code.specs.Machine.{Machine, machine}
+use Rattle.lower_machine.specs.Machine.{Machine, machine}
 use Rattle.lower.specs.declared.roles.Spot.{Spot}
 use Rattle.lower.specs.declared.roles.Spot.TheVariants.{Register, Cell}
 use Rattle.lower.specs.declared.roles.LoweredReduction.{LoweredReduction}

@@ -3,7 +3,7 @@
 ghost use Rattle.std.specs.Prelude.{◌≡◌, ◌<◌, ◌^◌};
 ghost use Rattle.ktree.specs.DirectiveView.{operator_of};
 ghost use Rattle.law_roles.specs.Sharing as law;
-ghost use Rattle.lower_code.specs.Machine.{machine};
+ghost use Rattle.lower_machine.specs.Machine.{machine};
 ghost use Rattle.overlay_pages.specs.Seen.{cells_of};
 ghost use Rattle.overlay.specs.Spots.{IsWord, begins_at, begun_by};
 

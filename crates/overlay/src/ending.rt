@@ -5,7 +5,7 @@ ghost use Rattle.ktree.specs.DirectiveView.{operator_of};
 ghost use Rattle.store.specs.Flat.{values_of};
 ghost use Rattle.reduce.specs.Partial.{partial_of};
 ghost use Rattle.law_roles.specs.Sharing as law;
-ghost use Rattle.lower_code.specs.Machine.{machine};
+ghost use Rattle.lower_machine.specs.Machine.{machine};
 ghost use Rattle.overlay_pages.specs.Seen.{cells_of};
 ghost use Rattle.overlay.specs.Spots.{begins_at, held_at, partial_at, back_at_each, reduced_at};
 ghost use Rattle.overlay.specs.Ending.{IsTold};

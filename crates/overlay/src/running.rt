@@ -3,7 +3,7 @@
 ghost use Rattle.std.specs.Prelude.{◌≡◌, ◌+◌, ◌≤◌, length, IfOk};
 ghost use Rattle.store.specs.Flat.{values_of};
 ghost use Rattle.nest_space.specs.Space.{vectors};
-ghost use Rattle.lower_code.specs.Machine.{machine};
+ghost use Rattle.lower_machine.specs.Machine.{machine};
 ghost use Rattle.overlay_pages.specs.Seen.{cells_of};
 ghost use Rattle.overlay.specs.Positions.{ordered, AreNumbersOf, has_last};
 ghost use Rattle.overlay.specs.Running.{IsRun, IsRunOver};

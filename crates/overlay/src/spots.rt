@@ -2,7 +2,7 @@
 
 ghost use Rattle.std.specs.Prelude.{◌≡◌, slice_index};
 ghost use Rattle.store.specs.Flat.{values_of};
-ghost use Rattle.lower_code.specs.Machine.{machine};
+ghost use Rattle.lower_machine.specs.Machine.{machine};
 ghost use Rattle.overlay_pages.specs.Seen.{cells_of};
 ghost use Rattle.overlay.specs.Spots.{held_at, with_at, back_at};
 

@@ -8,7 +8,7 @@ use Rattle.std.proofs.lemmas.Nat.Bits.{bit_at_mask_inside, bit_at_mask_below, bi
 use Rattle.store.specs.Kept.{Kept, overlaid}
 use Rattle.store.proofs.Writing.{overlaid_none, overlaid_more}
 use Rattle.store.specs.Flat.{values_of, filled}
-use Rattle.lower_code.proofs.Keeping.{filled_values}
+use Rattle.lower_op.proofs.Refilled.{filled_values}
 use Rattle.overlay_pages.specs.declared.changes.Change.{Change}
 use Rattle.overlay_pages.specs.Over.{Writes, or_else, written_over, and_at, last_of, writes_of}
 use Rattle.overlay_pages.specs.Runs.{row, cells_in, changes_in, AllDiffer}

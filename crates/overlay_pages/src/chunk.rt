@@ -2,7 +2,7 @@
 
 ghost use Rattle.std.specs.Prelude.{◌≡◌, ℕ, ◌<◌, ◌^◌, length, replicate, slice_index, IfOk, None};
 ghost use Rattle.store.specs.Flat.{values_of};
-ghost use Rattle.lower_code.specs.Machine.{Fits, machine};
+ghost use Rattle.lower_machine.specs.Machine.{Fits, machine};
 ghost use Rattle.overlay_pages.specs.Over.{writes_of, writes_in, changing, written_over, ChangeCells, AreOnce};
 ghost use Rattle.overlay_pages.specs.Seen.{cells_of, lent_of};
 

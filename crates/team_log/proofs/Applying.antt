@@ -7,7 +7,7 @@ use Rattle.std.proofs.lemmas.List.Elements.{All-nil, All-cons, All-append}
 use Rattle.schedule.proofs.Sized.{get-append_left}
 use Rattle.store.specs.Kept.{Kept}
 use Rattle.store.specs.Flat.{values_of, filled}
-use Rattle.lower_code.proofs.Keeping.{filled_values}
+use Rattle.lower_op.proofs.Refilled.{filled_values}
 use Rattle.overlay_pages.specs.declared.changes.Change.{Change}
 use Rattle.overlay_pages.specs.Over.{Writes, or_else, writes_of, written_over, last_of}
 use Rattle.overlay_pages.proofs.Overlays.{length_over}

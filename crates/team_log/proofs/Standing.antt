@@ -10,8 +10,8 @@ use Rattle.ktree.specs.DirectiveView
 use Rattle.law_roles.specs.Updates.{operator_of}
 use Rattle.law_roles.specs.Sharing.{are_different}
 use Rattle.law_starts.proofs.Beginning.{first_apart, others_apart}
-use Rattle.lower_code.specs.declared.term.Laid.{Laid}
-use Rattle.lower_code.specs.Machine.{Machine}
+use Rattle.lower_code.specs.declared.laid.Laid.{Laid}
+use Rattle.lower_machine.specs.Machine.{Machine}
 use Rattle.lower_code.specs.Layout.{shapes_of, spot, cell_at}
 use Rattle.lower_code.proofs.Spots.{apart}
 use Rattle.lower_op.proofs.Stepping.{length_set, index_same, index_other}

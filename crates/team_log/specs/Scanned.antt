@@ -4,7 +4,7 @@ use Rattle.semantics.specs.Loops.Joined.{value_at}
 use Rattle.ktree.specs.DirectiveView.{operator_of}
 use Rattle.reduce.specs.declared.partial.Partial.{Partial}
 use Rattle.reduce.specs.Partial.{partial_of}
-use Rattle.lower_code.specs.Machine.{Machine}
+use Rattle.lower_machine.specs.Machine.{Machine}
 use Rattle.lower.specs.declared.roles.LoweredReduction.{LoweredReduction}
 use Rattle.inscan.specs.InFront.{AreStarts}
 use Rattle.overlay.specs.Spots.{held_at}

@@ -5,7 +5,7 @@ use Rattle.semantics.specs.Loops.Joined.{value_at}
 use Rattle.ktree.specs.DirectiveView.{operator_of}
 use Rattle.store.specs.Kept.{Kept}
 use Rattle.store.specs.Flat.{values_of}
-use Rattle.lower_code.specs.Machine.{Machine, machine}
+use Rattle.lower_machine.specs.Machine.{Machine, machine}
 use Rattle.lower.specs.declared.roles.Spot.{Spot}
 use Rattle.lower.specs.declared.roles.LoweredReduction.{LoweredReduction}
 use Rattle.lower.specs.declared.roles.LoweredRoles.{LoweredRoles}

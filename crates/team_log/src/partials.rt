@@ -3,7 +3,7 @@
 ghost use Rattle.std.specs.Prelude.{◌≡◌, map, replicate, None, IfOk};
 ghost use Rattle.reduce.specs.Partial.{partial_of};
 ghost use Rattle.store.specs.Flat.{values_of};
-ghost use Rattle.lower_code.specs.Machine.{machine};
+ghost use Rattle.lower_machine.specs.Machine.{machine};
 ghost use Rattle.team_log.specs.Logged.{joined};
 ghost use Rattle.team_log.specs.Printed.{entered_by};
 ghost use Rattle.team_log.specs.Scanned.{told_of_scan, partials_in_order, StartFrom};

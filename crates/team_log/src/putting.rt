@@ -4,7 +4,7 @@ ghost use Rattle.std.specs.Prelude.{◌≡◌, ◌+◌, ◌<◌, ◌^◌, length
 ghost use Rattle.ktree.specs.DirectiveView.{operator_of};
 ghost use Rattle.semantics.specs.Loops.Operator.{combined_all};
 ghost use Rattle.store.specs.Flat.{values_of};
-ghost use Rattle.lower_code.specs.Machine.{machine};
+ghost use Rattle.lower_machine.specs.Machine.{machine};
 ghost use Rattle.overlay.specs.Spots.{held_at, with_at};
 ghost use Rattle.team_log.specs.Logged.{joined};
 ghost use Rattle.team_log.specs.Spots.{told_of, reduced, scanned, totalled, put_values, IsPutBy};

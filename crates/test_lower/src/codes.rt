@@ -3,7 +3,7 @@
 use cparse::parse;
 use ktree::Kernel;
 use lower_block::{Compiled, compile};
-use lower_code::{Lowered, lower_items};
+use lower_code::{items, layout_of, mark_among};
 use lower_unroll::unroll;
 use std::alloc::Global;
 
@@ -15,7 +15,7 @@ pub(crate) const SMALL_WITH_LOCAL: &str =
     "uint64_t A[8]; uint64_t B[2][3]; uint64_t s; void kernel(void) { uint64_t x;";
 
 /// The kernel with these lines behind what stands before them.
-pub(crate) fn kernel_of(alloc: Global, before: &str, lines: &str) -> Option<Kernel> {
+fn kernel_of(alloc: Global, before: &str, lines: &str) -> Option<Kernel> {
     match format!(in alloc;
         "#include <inttypes.h>\n#include <stdint.h>\n#include <stdio.h>\n{before}\n{lines}\n}}\n"
     ) {
@@ -26,7 +26,9 @@ pub(crate) fn kernel_of(alloc: Global, before: &str, lines: &str) -> Option<Kern
 
 /// The code of a kernel.
 fn code_of(alloc: Global, kernel: &Kernel) -> Option<Compiled> {
-    let Lowered { code, registers } = lower_items(alloc, &kernel.variables, &kernel.body).ok()?;
+    let layout = layout_of(alloc, &kernel.variables).ok()?;
+    let code = items(alloc, &kernel.body, &layout).ok()?;
+    let registers = mark_among(&kernel.body);
     let code = unroll(alloc, code, registers).ok()?;
     compile(alloc, &code, registers).ok()
 }

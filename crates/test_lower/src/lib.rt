@@ -18,8 +18,6 @@ mod lane_rows_rows;
 #[cfg(test)]
 mod lower_block_rows;
 #[cfg(test)]
-mod lower_code_rows;
-#[cfg(test)]
 mod lower_lanes_rows;
 #[cfg(test)]
 mod lowering;

@@ -115,6 +115,38 @@ fn blocks_print_what_c_prints(rt: HostRuntime) {
             "for (uint64_t i = 0; i < 3; i++) for (uint64_t j = i; j < 3; j++) { if (j == 1) s += 10; s += i * j; } printf(\"%\" PRIu64 \"\", s);",
             "27",
         ),
+        (
+            "x = 1; x = x << 63; s = x >> 3; printf(\"%\" PRIu64 \"!\\n\", s);",
+            "1152921504606846976!\n",
+        ),
+        (
+            "for (uint64_t i = 0; i < 8; i++) A[i] = A[i] * 3 + i; s = A[5] + A[7]; printf(\"%\" PRIu64 \"\\n\", s);",
+            "12\n",
+        ),
+        (
+            "x = 5; if (x > 4 && s == 0) s = 1; else s = 2; printf(\"%\" PRIu64 \"\", s);",
+            "1",
+        ),
+        (
+            "x = 5; if (x < 4 || !(s == 0)) s = 1; else s = 2; printf(\"%\" PRIu64 \"\", s);",
+            "2",
+        ),
+        (
+            "x = 0; s = x != 0 && A[x - 1] / 2 == 0; printf(\"%\" PRIu64 \"\", s);",
+            "0",
+        ),
+        (
+            "x = 12; s = x > 10 ? x % 5 : x / 5; printf(\"%\" PRIu64 \"\", s);",
+            "2",
+        ),
+        (
+            "for (uint64_t i = 3; i >= 1; i--) { uint64_t y = i * i; s ^= y; } printf(\"%\" PRIu64 \"\", s);",
+            "12",
+        ),
+        (
+            "x = 6; x |= 9; x &= 13; s = ~x; printf(\"%\" PRIu64 \" %\" PRIu64 \"\", x, -s);",
+            "13 14",
+        ),
     ];
     no_other(&rt, first_other(rt.alloc(), ROWS));
 }

@@ -3,9 +3,9 @@ use Rattle.std.proofs.lemmas.Option.{slice_get_read}
 use Rattle.std.proofs.lemmas.Result.{IfOk-weaker, IfOk-at_ok}
 use Rattle.ktree.specs.View.{expr_of, exprs_of, cond_of, binary_of, unary_of, compare_of}
 use Rattle.ktree.proofs.Trees.{object_is}
-use Rattle.lower_code.specs.declared.term.Term.{Term, Local}
-use Rattle.lower_code.specs.declared.term.Test.{Test}
-use Rattle.lower_code.specs.Machine.{worth}
+use Rattle.lower_machine.specs.declared.term.Term.{Term, Local}
+use Rattle.lower_machine.specs.declared.term.Test.{Test}
+use Rattle.lower_machine.specs.Machine.{worth}
 use Rattle.lower_code.specs.Meaning.{MeansValue, MeansTest}
 use Rattle.lower_code.proofs.Values.{unary_means, binary_means, conditional_means, compare_means, not_zero_means, not_means, both_means, either_means, local_means, element_means, under_on, place_means}
 use Rattle.lower_code.proofs.expression.+expression.Goals as goal
@@ -85,8 +85,8 @@ test-returns-in_ok-a-in-NotZero t c =
 
 pub place-loop-d-preserved : goal.place-loop-d-preserved
 place-loop-d-preserved t c =
-    under_on c.args.layout.now c.index-layout-variable.result.lengths.items c.args.subscripts.now c.loop-d.d c.loop-d.at c.number.result c.in_ok-row-2.row c.in_ok-row-2.index c.in_ok-at.at c.entry.result c.index-subscripts-d.result
-    c.loop-d-test.true c.index-subscripts-d.is (rw c.deref.ensures.value at c.entry.ensures) c.loop-d.invariant (IfOk-at_ok (MeansValue c.args.layout.now (expr_of c.index-subscripts-d.result)) c.in_ok-row-2.ensures.next c.value.ensures) c.number.ensures (λ m. ap (λ t. worth t m) c.in_ok-row-2.ensures.before ∙ c.in_ok-row.ensures m) c.in_ok-at.ensures
+    under_on c.args.layout.now c.index-layout-variable.result.lengths.items c.args.subscripts.now c.loop-d.d c.loop-d.at c.number.result c.in_ok-row-2.row c.in_ok-row-2.index c.in_ok-at.at c.length_of.result c.index-subscripts-d.result
+    c.loop-d-test.true c.index-subscripts-d.is (rw c.deref.ensures.value at c.length_of.ensures) c.loop-d.invariant (IfOk-at_ok (MeansValue c.args.layout.now (expr_of c.index-subscripts-d.result)) c.in_ok-row-2.ensures.next c.value.ensures) c.number.ensures (λ m. ap (λ t. worth t m) c.in_ok-row-2.ensures.before ∙ c.in_ok-row.ensures m) c.in_ok-at.ensures
 
 pub place-returns : goal.place-returns
 place-returns t c =

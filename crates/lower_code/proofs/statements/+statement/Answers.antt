@@ -5,7 +5,7 @@ use Rattle.semantics.specs.Tree
 use Rattle.ktree.specs.View.{stmt_of, items_of, with_item, start_of, part_of}
 use Rattle.ktree.specs.declared.statement.Stmt.{If}
 use Rattle.ktree.proofs.Trees.{block_is}
-use Rattle.lower_code.specs.declared.term.Code.{Nothing}
+use Rattle.lower_machine.specs.declared.term.Code.{Nothing}
 use Rattle.lower_code.specs.Meaning.{MeansStmt, MeansItems}
 use Rattle.lower_code.proofs.Whole.{Begun, begun, begun_on, begun_ends, statement_alone, local_alone, line_alone}
 use Rattle.lower_code.proofs.statements.+statement.Goals as goal

@@ -1,6 +1,6 @@
 use Rattle.std.proofs.Common.{refl}
 use Rattle.ktree.specs.View.{exprs_of}
-use Rattle.lower_code.specs.declared.term.Code.{Save, Set}
+use Rattle.lower_machine.specs.declared.term.Code.{Save, Set}
 use Rattle.lower_code.proofs.Doing.{save_assigns, set_assigns}
 use Rattle.lower_code.proofs.statements.assign.Goals as goal
 

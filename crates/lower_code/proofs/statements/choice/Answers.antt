@@ -1,8 +1,8 @@
 use Rattle.std.proofs.Common.{sym, subst, ◌≡◌}
 use Rattle.std.proofs.lemmas.Result.{IfOk-weaker, IfOk-at_ok}
 use Rattle.ktree.specs.View.{cond_of}
-use Rattle.lower_code.specs.declared.term.Code.{Code}
-use Rattle.lower_code.specs.Machine.{Running, after}
+use Rattle.lower_machine.specs.declared.term.Code.{Code}
+use Rattle.lower_machine.specs.Machine.{Running, after}
 use Rattle.lower_code.specs.Meaning.{MeansTest, MeansStmt}
 use Rattle.lower_code.proofs.Whole.{if_means, if_else_means}
 use Rattle.lower_code.proofs.statements.choice.Goals as goal

@@ -1,6 +1,6 @@
 use Rattle.std.proofs.Common.{refl, sym, subst}
 use Rattle.ktree.specs.View.{source_of, start_of}
-use Rattle.lower_code.specs.declared.term.Code.{Nothing, Set}
+use Rattle.lower_machine.specs.declared.term.Code.{Nothing, Set}
 use Rattle.lower_code.specs.Meaning.{MeansDeclared}
 use Rattle.lower_code.proofs.Whole.{declaration_means, empty_means}
 use Rattle.lower_code.proofs.statements.declare.Goals as goal

@@ -1,6 +1,6 @@
 use Rattle.std.proofs.Common.{refl}
 use Rattle.ktree.specs.View.{source_of}
-use Rattle.lower_code.specs.declared.term.Code.{Set}
+use Rattle.lower_machine.specs.declared.term.Code.{Set}
 use Rattle.lower_code.proofs.Whole.{declaration_means}
 use Rattle.lower_code.proofs.statements.entry.Goals as goal
 

@@ -2,8 +2,8 @@ use Rattle.std.proofs.Common.{sym, subst}
 use Rattle.std.proofs.lemmas.Result.{IfOk-weaker, IfOk-at_ok}
 use Rattle.semantics.specs.Meaning.Runs.{incremented}
 use Rattle.ktree.specs.View.{cond_of, increment_of}
-use Rattle.lower_code.specs.declared.term.Test.{Test}
-use Rattle.lower_code.specs.declared.term.Code.{Code}
+use Rattle.lower_machine.specs.declared.term.Test.{Test}
+use Rattle.lower_machine.specs.declared.term.Code.{Code}
 use Rattle.lower_code.specs.Meaning.{MeansTest, MeansStmt, DoesAlways}
 use Rattle.lower_code.proofs.Whole.{turns_mean}
 use Rattle.lower_code.proofs.statements.loop_turns.Goals as goal

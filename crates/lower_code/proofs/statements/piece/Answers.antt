@@ -1,6 +1,6 @@
 use Rattle.std.proofs.Common.{sym, subst}
 use Rattle.ktree.specs.View.{expr_of, part_of}
-use Rattle.lower_code.specs.declared.term.Piece.TheVariants.{Decimal}
+use Rattle.lower_machine.specs.declared.term.Piece.TheVariants.{Decimal}
 use Rattle.lower_code.specs.Meaning.{MeansPart}
 use Rattle.lower_code.proofs.Printing.{decimal_means}
 use Rattle.lower_code.proofs.statements.piece.Goals as goal

@@ -1,7 +1,7 @@
 use Rattle.std.proofs.Common.{refl}
 use Rattle.std.specs.Prelude.{map}
 use Rattle.ktree.specs.View.{part_of}
-use Rattle.lower_code.specs.declared.term.Code.{Print}
+use Rattle.lower_machine.specs.declared.term.Code.{Print}
 use Rattle.lower_code.proofs.Doing.{print_does}
 use Rattle.lower_code.proofs.statements.print.Goals as goal
 

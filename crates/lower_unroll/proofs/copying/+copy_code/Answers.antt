@@ -2,9 +2,9 @@ use Rattle.std.specs.Prelude.{slice_index}
 use Rattle.std.proofs.Common.{◌≡◌, ◌<◌, true, length, sym, ap, subst, ◌∙◌}
 use Rattle.std.proofs.lemmas.Bool.{and_parts}
 use Rattle.std.proofs.lemmas.Result.{IfOk-weaker, IfOk-at_ok}
-use Rattle.lower_code.specs.declared.term.Code.{Code, Set}
-use Rattle.lower_code.specs.declared.term.Test.{Test}
-use Rattle.lower_code.specs.Machine.{Machine, after, truth}
+use Rattle.lower_machine.specs.declared.term.Code.{Code, Set}
+use Rattle.lower_machine.specs.declared.term.Test.{Test}
+use Rattle.lower_machine.specs.Machine.{Machine, after, truth}
 use Rattle.lower_unroll.specs.Turns.{knowing, sets_others, with_register}
 use Rattle.lower_unroll.proofs.Copies.{IsCopy, nothing_copied, set_copied, then_copied, branch_copied, copied_at}
 use Rattle.lower_unroll.proofs.copying.+copy_code.Goals as goal

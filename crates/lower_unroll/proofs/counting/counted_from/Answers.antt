@@ -1,7 +1,7 @@
 use Rattle.std.proofs.Common.{◌≡◌, true, sym, ap, ◌∙◌, subst, ◌+◌, ◌%◌, ◌^◌}
 use Rattle.std.specs.Prelude.{slice_index}
 use Rattle.semantics.specs.Meaning.Runs.{greatest_trip_count}
-use Rattle.lower_code.specs.Machine.{Running, after}
+use Rattle.lower_machine.specs.Machine.{Running, after}
 use Rattle.lower_unroll.specs.Turns.{sets_others, turns, with_register}
 use Rattle.lower_unroll.proofs.Counts.{few_turns, spun}
 use Rattle.lower_unroll.proofs.counting.counted_from.Goals as goal

@@ -1,7 +1,7 @@
 use Rattle.std.proofs.Common.{sym, ap, subst, ◌∙◌}
 use Rattle.std.proofs.lemmas.Result.{IfOk-weaker, IfOk-at_ok}
 use Rattle.semantics.specs.Meaning.Runs.{greatest_trip_count}
-use Rattle.lower_code.specs.Machine.{after, spins, truth}
+use Rattle.lower_machine.specs.Machine.{after, spins, truth}
 use Rattle.lower_unroll.specs.Turns.{DoesAs}
 use Rattle.lower_unroll.proofs.Parts.{then_written, turns_written}
 use Rattle.lower_unroll.proofs.unrolling.+unroll.Goals as goal

@@ -1,6 +1,6 @@
 use Rattle.std.proofs.Common.{◌+◌, ◌*◌, arith, ap, ◌∙◌}
 use Rattle.std.proofs.lemmas.Result.{IfOk-weaker, IfOk-at_ok}
-use Rattle.lower_code.specs.Machine.{after}
+use Rattle.lower_machine.specs.Machine.{after}
 use Rattle.lower_unroll.proofs.Copies.{IsCopy}
 use Rattle.lower_unroll.proofs.Counts.{none_written, more_written, all_written}
 use Rattle.lower_unroll.proofs.unrolling.copies.Goals as goal

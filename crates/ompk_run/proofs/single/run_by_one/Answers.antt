@@ -2,7 +2,7 @@ use Rattle.std.proofs.Common.{◌≡◌, ◌∙◌, sym, subst}
 use Rattle.semantics.specs.Meaning.Runs.{run}
 use Rattle.ktree.specs.View.{stmt_of}
 use Rattle.store.specs.Flat.{values_of}
-use Rattle.lower_code.specs.Machine.{Fits, machine}
+use Rattle.lower_machine.specs.Machine.{Fits, machine}
 use Rattle.lower_run.specs.Walk.{Walks, Begins, stage}
 use Rattle.law_apart.specs.Apart.{handed}
 use Rattle.outline.specs.View.{roles_in}

@@ -3,8 +3,8 @@ use Rattle.ktree.specs.View.{stmt_of}
 use Rattle.law_apart.specs.Apart.{handed}
 use Rattle.outline.specs.View.{roles_in}
 use Rattle.team.specs.Together.{ScansTogether, ScansBeginning}
-use Rattle.lower_code.specs.Machine.{Fits, machine}
-use Rattle.lower_code.proofs.Starting.{put_back}
+use Rattle.lower_machine.specs.Machine.{Fits, machine}
+use Rattle.lower_run.proofs.Restored.{put_back}
 use Rattle.store.specs.Flat.{values_of}
 use Rattle.lower_run.specs.Walk.{Arrives}
 use Rattle.ompk_run.proofs.Scanning.{scanned_so, scan_arrives, scan_begins}

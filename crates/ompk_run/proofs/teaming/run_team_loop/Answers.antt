@@ -4,8 +4,8 @@ use Rattle.law_apart.specs.Apart.{handed}
 use Rattle.outline.specs.View.{roles_in}
 use Rattle.schedule.specs.Sched.{kind_said}
 use Rattle.team.specs.Together.{LeavesTogether, BeginsTogether}
-use Rattle.lower_code.specs.Machine.{Fits, machine}
-use Rattle.lower_code.proofs.Starting.{put_back}
+use Rattle.lower_machine.specs.Machine.{Fits, machine}
+use Rattle.lower_run.proofs.Restored.{put_back}
 use Rattle.store.specs.Flat.{values_of}
 use Rattle.lower_run.specs.Walk.{Arrives}
 use Rattle.ompk_run.proofs.Handing.{nothing_carried, loop_arrives, loop_begins}

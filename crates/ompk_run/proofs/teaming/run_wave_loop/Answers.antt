@@ -1,7 +1,7 @@
 use Rattle.std.proofs.Common.{subst}
 use Rattle.schedule.specs.Sched.{kind_said}
 use Rattle.store.specs.Flat.{values_of}
-use Rattle.lower_code.specs.Machine.{Fits, machine}
+use Rattle.lower_machine.specs.Machine.{Fits, machine}
 use Rattle.team.specs.Waved.{LeavesInWaves}
 use Rattle.ompk_run.proofs.Waving.{waved_so, waves_arrive}
 use Rattle.ompk_run.proofs.teaming.run_wave_loop.Goals as goal

@@ -1,7 +1,7 @@
 use Rattle.std.proofs.Common.{◌≡◌, map, take}
 use Rattle.store.specs.Flat.{values_of}
 use Rattle.reduce.specs.Partial.{partial_of}
-use Rattle.lower_code.specs.Machine.{machine}
+use Rattle.lower_machine.specs.Machine.{machine}
 use Rattle.overlay_pages.specs.Seen.{cells_of}
 use Rattle.overlay.specs.Spots.{partial_at}
 use Rattle.overlay.proofs.ending.partials.Given as goal

@@ -1,5 +1,5 @@
 use Rattle.std.proofs.Common.{◌≡◌, map, take}
-use Rattle.lower_code.specs.Machine.{machine}
+use Rattle.lower_machine.specs.Machine.{machine}
 use Rattle.overlay_pages.specs.Seen.{cells_of}
 use Rattle.overlay.specs.Spots.{held_at}
 use Rattle.overlay.proofs.ending.values.Given as goal

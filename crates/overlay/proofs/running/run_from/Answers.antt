@@ -2,7 +2,7 @@ use Rattle.std.proofs.Common.{ℕ, Bool, List, [], length, sym, ap, ◌∙◌, s
 use Rattle.nest_space.specs.Space.{vectors}
 use Rattle.store.specs.Kept.{Kept}
 use Rattle.store.specs.Flat.{values_of}
-use Rattle.lower_code.specs.Machine.{Machine, machine, running}
+use Rattle.lower_machine.specs.Machine.{Machine, machine, running}
 use Rattle.lower.specs.declared.roles.LoweredReduction.{LoweredReduction}
 use Rattle.overlay_pages.specs.Over.{writes_in}
 use Rattle.overlay_pages.specs.Seen.{Seen, cells_of}

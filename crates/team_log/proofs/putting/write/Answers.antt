@@ -2,8 +2,8 @@ use Rattle.std.proofs.Common.{ℕ, List, map, sym, ap, ◌∙◌}
 use Rattle.std.specs.Prelude.{slice_set}
 use Rattle.store.specs.Kept.{Kept}
 use Rattle.store.specs.Flat.{values_of}
-use Rattle.lower_code.specs.Machine.{machine}
-use Rattle.lower_code.proofs.Keeping.{filled_values, filled_lengths}
+use Rattle.lower_machine.specs.Machine.{machine}
+use Rattle.lower_op.proofs.Refilled.{filled_values, filled_lengths}
 use Rattle.overlay.proofs.Back.{set_length}
 use Rattle.overlay.specs.Spots.{with_at}
 use Rattle.team_log.proofs.putting.write.Goals as goal

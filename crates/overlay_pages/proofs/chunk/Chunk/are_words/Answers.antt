@@ -1,7 +1,7 @@
 use Rattle.std.proofs.Common.{ℕ, ◌<◌, ◌^◌, List, length, sym, ap, ◌∙◌, subst}
 use Rattle.std.specs.Prelude.{slice_index}
 use Rattle.store.specs.Flat.{values_of}
-use Rattle.lower_code.specs.Machine.{Fits, machine}
+use Rattle.lower_machine.specs.Machine.{Fits, machine}
 use Rattle.overlay_pages.specs.Over.{writes_in}
 use Rattle.overlay_pages.specs.Seen.{Seen, cells_of}
 use Rattle.overlay_pages.proofs.Overlays.{read_over, length_over, either_fits}

@@ -1,0 +1,4 @@
+pub mod Texts
+pub mod Course
+pub mod Sizes
+pub mod Masks
