@@ -30,9 +30,9 @@ use Rattle.law_starts.proofs.Beginning.{begun_cells}
 use Rattle.reduce.specs.Partial.{partial_of}
 use Rattle.store.specs.Kept.{Kept}
 use Rattle.store.specs.Flat.{AreFilled, values_of}
-use Rattle.lower_code.specs.declared.term.Laid.{Laid}
+use Rattle.lower_code.specs.declared.laid.Laid.{Laid}
 use Rattle.lower_code.specs.Layout.{first_of, shapes_of, spot, cell_at}
-use Rattle.lower_code.specs.Machine.{Machine, machine}
+use Rattle.lower_machine.specs.Machine.{Machine, machine}
 use Rattle.lower_code.proofs.Spots.{lies, place_below}
 use Rattle.lower_code.proofs.Values.{no_object}
 use Rattle.overlay_pages.specs.Over.{writes_of, written_over}

@@ -27,8 +27,8 @@ use Rattle.law_scans.proofs.Changing.{Kin, kin_cells}
 use Rattle.law_scans.proofs.Steps.{same_slot}
 use Rattle.store.specs.Kept.{Kept}
 use Rattle.store.specs.Flat.{AreFilled, values_of}
-use Rattle.lower_code.specs.declared.term.Laid.{Laid}
-use Rattle.lower_code.specs.Machine.{machine}
+use Rattle.lower_code.specs.declared.laid.Laid.{Laid}
+use Rattle.lower_machine.specs.Machine.{machine}
 use Rattle.lower.specs.declared.lowered.LoweredLoop.{LoweredLoop}
 use Rattle.lower.specs.declared.roles.LoweredReduction.{LoweredReduction}
 use Rattle.lower.specs.Lowered.{IsReached}

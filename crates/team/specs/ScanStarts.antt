@@ -13,7 +13,7 @@ use Rattle.law_roles.specs.Reducing.{AreHeld}
 use Rattle.law_roles.specs.Sharing.{changed_from}
 use Rattle.law_starts.specs.Begun.{begun}
 use Rattle.store.specs.Kept.{Kept}
-use Rattle.lower_code.specs.declared.term.Laid.{Laid}
+use Rattle.lower_code.specs.declared.laid.Laid.{Laid}
 use Rattle.lower.specs.declared.lowered.LoweredLoop.{LoweredLoop}
 use Rattle.lower.specs.Lowered.{IsReached}
 use Rattle.inscan.specs.InFront.{AreStarts}

@@ -13,9 +13,9 @@ use Rattle.law_roles.specs.Sharing.{MergesAt}
 use Rattle.nest_space.specs.Space.{Turns, vectors}
 use Rattle.store.specs.Kept.{Kept}
 use Rattle.store.specs.Flat.{values_of}
-use Rattle.lower_code.specs.declared.term.Laid.{Laid}
+use Rattle.lower_code.specs.declared.laid.Laid.{Laid}
 use Rattle.lower_code.specs.Layout.{shapes_of, cell_at}
-use Rattle.lower_code.specs.Machine.{Fits, machine}
+use Rattle.lower_machine.specs.Machine.{Fits, machine}
 use Rattle.lower.specs.declared.lowered.LoweredLoop.{LoweredLoop}
 use Rattle.lower.specs.Lowered.{IsReached, IsSpaceOf}
 use Rattle.waves.specs.Wanted.{vector_at, AreWaves}

@@ -1,12 +1,12 @@
 //! A loop that is lent to a crew.
 
-ghost use Rattle.std.specs.Prelude.{◌≡◌, ◌<◌, vec_len, IfOk, IfErr};
+ghost use Rattle.std.specs.Prelude.{◌≡◌, ◌<◌, length, vec_len, IfOk, IfErr};
 ghost use Rattle.std.specs.Global.{Box};
 ghost use Rattle.semantics.specs.Loops.Chunk.{cut};
 ghost use Rattle.schedule.specs.Sched.{kind_of};
 ghost use Rattle.team_worker.specs.Ends.{AreAll};
 ghost use Rattle.team_log.specs.Logged.{joined};
-ghost use Rattle.team_worker.specs.Places.{AreFor, AreLeft, AreSplit, IsWay, aim_of, count_taken};
+ghost use Rattle.team_worker.specs.Places.{AreFor, AreLeft, AreSplit, IsWay, aim_of, count_taken, places_of};
 
 use crew::{Crew, Part, lend};
 use ktree::{Refusal, Workers};
@@ -22,7 +22,7 @@ use team_worker::{
     way_and_places,
 };
 
-/// A loop where it is reached, with all that its workers need, and a place for what each of them leaves. Threads share it. It is moved
+/// A loop where it is reached, with all that its workers need, and a place for what each of them leaves that comes to a chunk. Threads share it. It is moved
 /// from hand to hand when it is lent, so that what is large stands in a box.
 #[derive(Drop)]
 pub struct LentLoop<'l> {
@@ -35,14 +35,14 @@ pub struct LentLoop<'l> {
     places: Vec<Place>,
     pub ghost ready: { AreSplit lowered.now grounds.value },
     pub ghost comes: { IsWay way (count_taken grounds.value) grounds.value.chunks workers },
-    pub ghost all: { vec_len places ≡ workers },
+    pub ghost all: { vec_len places ≡ places_of way (length grounds.value.chunks) workers },
     pub ghost made: { AreFor (aim_of lowered.now grounds.value store way workers) places.items },
 }
 
 /// A crew to which loops are lent.
 pub type LoopCrew<'l> = Crew<LentLoop<'l>, ThreadMemory>;
 
-/// Runs the worker of a number, and leaves its end at its place, if memory is left for that.
+/// Runs the worker of a number, if it has a place, and leaves its end there, if memory is left for that.
 fn run_worker<G: Gate>(lent: &LentLoop<'_>, number: u64, gate: &G, memory: &mut ThreadMemory) {
     let Some(place) = lent.places.get(number as usize) else {
         return;

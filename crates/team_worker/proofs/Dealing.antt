@@ -1,6 +1,9 @@
 -- The pieces of the chunks that are dealt to workers are those of all chunks.
-use Rattle.std.specs.Prelude.{ℕ, zero, suc, Bool, false, ◌≡◌, ◌+◌, ◌<◌, ◌≤◌, List, [], ◌∷◌, ◌++◌, length, flat_map, take, slice_get, Option, Some, None}
-use Rattle.std.proofs.Common.{refl, sym, ap, ◌∙◌, subst, append-nil, arith}
+use Rattle.std.specs.Prelude.{ℕ, zero, suc, Bool, true, false, ◌≡◌, ◌==◌, ◌+◌, ◌-◌, ◌%◌, ◌<◌, ◌≤◌, List, [], ◌∷◌, ◌++◌, length, flat_map, min, take, slice_get, Option, Some, None}
+use Rattle.std.proofs.Common.{refl, sym, ap, ◌∙◌, cond, subst, append-nil, arith, ⊎_elim}
+use Rattle.std.proofs.Math.Nat.{min-le_right, mod-le}
+use Rattle.std.proofs.lemmas.Bool.{eqb-true, cases_lt}
+use Rattle.std.proofs.lemmas.List.Elements.{filter-append}
 use Rattle.std.proofs.lemmas.List.{take_more}
 use Rattle.std.proofs.lemmas.List.Sums.{length-filter, count_by-le-length}
 use Rattle.std.proofs.lemmas.Grind.{flat_map-append}
@@ -18,7 +21,10 @@ use Rattle.lower.specs.declared.lowered.LoweredLoop.{LoweredLoop}
 use Rattle.team_worker.specs.declared.pass.Pass.{Pass}
 use Rattle.team_worker.specs.Ends.{IsAccount, AreAll}
 use Rattle.team_log.specs.Logged.{Account, both}
+use Rattle.team_worker.specs.declared.way.Way.{Way}
+use Rattle.team_worker.specs.declared.way.Way.TheVariants.{Dealt, Drawn}
 use Rattle.team_worker.specs.Dealt.{own_numbers}
+use Rattle.team_worker.specs.Places.{places_of}
 use Rattle.team_worker.proofs.Accounts.{account_both}
 use Rattle.team_worker.proofs.Cutting.{length_below}
 
@@ -43,10 +49,59 @@ past_end [] i e = omega arith
 past_end (x ∷ xs) zero e = absurd (cc e)
 past_end (x ∷ xs) (suc i) e = let r = past_end xs i e in omega arith
 
--- where none stands first, there is none
-pub none_own : (xs : List ℕ) → slice_get xs 0 ≡ None → xs ≡ []
-none_own [] e = refl
-none_own (x ∷ xs) e = absurd (cc e)
+-- no chunk before a worker's number is its own
+not_mine : (size : Option ℕ) (workers worker c : ℕ) → c < worker → is_mine worker (owner (static_kind size) c workers) ≡ false
+not_mine size workers worker c lt = low size
+  where
+    other : (v : ℕ) → v < worker → (b : Bool) → (v == worker) ≡ b → (v == worker) ≡ false
+    other v less true e = let same = eqb-true v worker e in absurd (omega arith)
+    other v less false e = e
+
+    low : (size : Option ℕ) → is_mine worker (owner (static_kind size) c workers) ≡ false
+    low None = other c lt (c == worker) refl
+    low (Some k) = let most = mod-le c workers in other (c % workers) (omega arith) (c % workers == worker) refl
+
+-- a worker past the chunks has none
+pub past_none : (size : Option ℕ) (workers worker count : ℕ) → count ≤ worker → own_numbers size count workers worker ≡ []
+past_none size workers worker zero le = refl
+past_none size workers worker (suc n) le =
+    let p : ℕ → Bool = λ c. is_mine worker (owner (static_kind size) c workers) in
+    filter-append p (below n) (n ∷ [])
+    ∙ ap (λ (xs : List ℕ). xs ++ cond (p n) (n ∷ []) []) (past_none size workers worker n (omega arith))
+    ∙ ap (λ (b : Bool). cond b (n ∷ []) []) (not_mine size workers worker n (omega arith))
+
+-- more workers have no more of them
+more_none : (size : Option ℕ) (workers count m more : ℕ) → count ≤ m → flat_map (own_numbers size count workers) (below (more + m)) ≡ flat_map (own_numbers size count workers) (below m)
+more_none size workers count m zero le = let none : 0 + m ≡ m = omega arith in ap (λ n. flat_map (own_numbers size count workers) (below n)) none
+more_none size workers count m (suc more) le =
+    let own : ℕ → List ℕ = own_numbers size count workers in
+    let next : suc more + m ≡ suc (more + m) = omega arith in
+    ap (λ n. flat_map own (below n)) next
+    ∙ flat_map-append own (below (more + m)) ((more + m) ∷ [])
+    ∙ ap (λ (xs : List ℕ). flat_map own (below (more + m)) ++ (xs ++ [])) (past_none size workers (more + m) count (omega arith))
+    ∙ append-nil (flat_map own (below (more + m)))
+    ∙ more_none size workers count m more le
+
+-- the workers that come to a chunk have all of them
+pub placed_share : (size : Option ℕ) (workers count : ℕ) → flat_map (own_numbers size count workers) (below (min count workers)) ≡ flat_map (own_numbers size count workers) (below workers)
+placed_share size workers count = ⊎_elim few many (cases_lt count workers)
+  where
+    own : ℕ → List ℕ
+    own = own_numbers size count workers
+
+    few : count < workers → flat_map own (below (min count workers)) ≡ flat_map own (below workers)
+    few lt =
+        let low : min count workers ≡ count = omega arith in
+        let whole : workers ≡ (workers - count) + count = omega arith in
+        ap (λ n. flat_map own (below n)) low ∙ sym (more_none size workers count count (workers - count) (omega arith)) ∙ ap (λ n. flat_map own (below n)) (sym whole)
+
+    many : workers ≤ count → flat_map own (below (min count workers)) ≡ flat_map own (below workers)
+    many le = let low : min count workers ≡ workers = omega arith in ap (λ n. flat_map own (below n)) low
+
+-- there are no more places than workers
+pub places_few : (way : Way) (count workers : ℕ) → places_of way count workers ≤ workers
+places_few (Dealt size) count workers = min-le_right count workers
+places_few (Drawn draw) count workers = omega arith
 
 module _ (l : LoweredLoop) (registers : List ℕ) (ks : List Kept) (pass : Pass) (chunks : List Chunk) where
   -- one worker more
@@ -63,7 +118,7 @@ module _ (l : LoweredLoop) (registers : List ℕ) (ks : List Kept) (pass : Pass)
   not_drawn (Some k) = refl
 
   -- all workers' together
-  pub dealt_all : (size : Option ℕ) (workers n iterations : ℕ) (a : Account) → chunks ≡ cut (static_kind size) iterations workers → 0 < workers → n ≡ workers
+  pub dealt_all : (size : Option ℕ) (workers n iterations : ℕ) (a : Account) → chunks ≡ cut (static_kind size) iterations workers → 0 < workers → n ≡ min (length chunks) workers
       → IsAccount l registers ks pass chunks (flat_map (own_numbers size (length chunks) workers) (below n)) a → AreAll l registers ks pass chunks a
   dealt_all size workers n iterations a is some number dealt =
       let kind = static_kind size in
@@ -73,5 +128,5 @@ module _ (l : LoweredLoop) (registers : List ℕ) (ks : List Kept) (pass : Pass)
       record {
         numbers = flat_map (own_numbers size count workers) (below n);
         account = dealt;
-        once = λ x. ap (λ k. times x (flat_map (own_numbers size count workers) (below k))) number ∙ law x;
+        once = λ x. ap (λ k. times x (flat_map (own_numbers size count workers) (below k))) number ∙ ap (times x) (placed_share size workers count) ∙ law x;
       }

@@ -1,5 +1,5 @@
 -- Cells that one worker's chunks overwrite after another's.
-use Rattle.std.specs.Prelude.{ℕ, suc, ◌≡◌, ◌<◌, List, [], ◌∷◌, ◌++◌, length, flat_map, slice_get, Option, None}
+use Rattle.std.specs.Prelude.{ℕ, suc, ◌≡◌, ◌<◌, List, [], ◌∷◌, ◌++◌, length, flat_map, min, slice_get, Option, None}
 use Rattle.std.proofs.Common.{refl, ap, ◌∙◌, inl}
 use Rattle.std.proofs.lemmas.Option.{slice_get_within}
 use Rattle.std.proofs.lemmas.List.Elements.{All-nil}
@@ -43,7 +43,7 @@ overwritten_more a own n m before now after log next first last applied =
     }
 
 -- all workers
-pub overwritten_all : (a : Aim) (size : Option ℕ) (count n : ℕ) (before after : List ℕ) → a.chunks ≡ cut (static_kind size) count a.workers → 0 < a.workers → n ≡ a.workers
+pub overwritten_all : (a : Aim) (size : Option ℕ) (count n : ℕ) (before after : List ℕ) → a.chunks ≡ cut (static_kind size) count a.workers → 0 < a.workers → n ≡ min (length a.chunks) a.workers
     → AreOverwrittenBy a (flat_map (own_numbers size (length a.chunks) a.workers) (below n)) before after → AreOverwrittenByAll a before after
 overwritten_all a size count n before after is some number dealt =
     record {

@@ -13,7 +13,7 @@ use Rattle.draw.specs.Tickets.{DrawingName, SeatState, all_tickets}
 use Rattle.nest_space.specs.Space.{Turns, vectors}
 use Rattle.reduce.specs.Partial.{partial_of}
 use Rattle.store.specs.Kept.{Kept}
-use Rattle.lower_code.specs.declared.term.Laid.{Laid}
+use Rattle.lower_code.specs.declared.laid.Laid.{Laid}
 use Rattle.lower.specs.declared.lowered.LoweredLoop.{LoweredLoop}
 use Rattle.lower.specs.Lowered.{IsReached, IsSpaceOf}
 use Rattle.overlay.specs.declared.positions.Order.{Order}

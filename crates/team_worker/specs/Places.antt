@@ -1,5 +1,5 @@
 -- Places for what the workers of a loop leave.
-use Rattle.std.specs.Prelude.{ℕ, ◌≡◌, ◌≤◌, ◌^◌, List, length, slice_get, All, Option, Some}
+use Rattle.std.specs.Prelude.{ℕ, ◌≡◌, ◌≤◌, ◌^◌, List, length, min, slice_get, All, Option, Some}
 use Rattle.std.specs.Global.{Box}
 use Rattle.semantics.specs.Loops.Chunk.{Chunk, cut}
 use Rattle.draw.specs.Tickets.{fresh}
@@ -72,10 +72,15 @@ pub record IsWay (way : Way) (count : ℕ) (chunks : List Chunk) (workers : ℕ)
   pub drawn : (draw : Box Draw) → way ≡ Drawn draw → draw.value.drawing.count ≡ length chunks
   pub seats : (draw : Box Draw) → way ≡ Drawn draw → (draw.value.drawing.seats ≡ workers) × All (λ s. s ≡ fresh draw.value.drawing) draw.value.seats.items
 
+-- how many workers have a place: of dealt chunks only those that come to one
+abbrev pub places_of : Way → ℕ → ℕ → ℕ
+places_of (Dealt size) count workers = min count workers
+places_of (Drawn draw) count workers = workers
+
 -- the places of a loop's workers, of whom there are some, and how chunks came to them
 pub record AreLeft (a : Aim) (count : ℕ) (way : Way) (places : List Aim) : Type 0 where
   pub way_is : a.way ≡ way
   pub comes : IsWay way count a.chunks a.workers
   pub some : 1 ≤ a.workers
-  pub all : length places ≡ a.workers
+  pub all : length places ≡ places_of way (length a.chunks) a.workers
   pub made : AreFor a places

@@ -1,6 +1,6 @@
 //! Chunks that are dealt to workers, of the schedules that fix the worker of each (OpenMP 5.2, 11.5.3).
 
-ghost use Rattle.std.specs.Prelude.{◌≡◌, true, ℕ, ◌<◌, ◌≤◌, ◌^◌, [], length, map, vec_len, flat_map, Option, IfOk, IfErr, IfSome, OnOk};
+ghost use Rattle.std.specs.Prelude.{◌≡◌, ℕ, ◌<◌, ◌≤◌, ◌^◌, [], length, map, vec_len, flat_map, Option, IfOk, IfErr, IfSome, OnOk};
 ghost use Rattle.std.specs.Global.{Box};
 ghost use Rattle.semantics.specs.Loops.Chunk.{cut};
 ghost use Rattle.semantics.specs.Meaning.Places.{below};
@@ -65,22 +65,6 @@ fn run_dealt<G: Gate>(
     Ok(())
 }
 
-// Whether no chunk is a worker's own.
-fn is_idle(job: Job, workers: Workers, worker: u64, size: Option<u64>) -> bool
-    requires ready { IsReady job }
-    requires chunks { job.chunks.now
-        ≡ cut (static_kind size) (length (taken_in job.pass.now (vectors job.space.now))) workers }
-    requires size { IfSome size (λ k. (1 ≤ k) × (k ≤ 2 ^ 24)) }
-    requires worker { worker < workers }
-    ensures { result ≡ true → own_numbers size (length job.entry.chunks.now) workers worker ≡ [] }
-{
-    let part = static_init(job.pass.count(job.space), workers, worker, size);
-    match part.number(0) {
-        None => true,
-        Some(_first) => false,
-    }
-}
-
 // Runs a worker's own chunks, in their order, and enters them in a log: those of `static, k` for `Some(k)`, else those of plain `static`.
 // The tools are what the thread keeps from loop to loop.
 fn run_own<G: Gate>(
@@ -103,9 +87,6 @@ fn run_own<G: Gate>(
         (own_numbers size (length job.entry.chunks.now) workers worker) log.new) }
     ensures refusal { IfErr result (λ refusal. refusal ≡ Refusal.OutOfMemory) }
 {
-    if is_idle(job, workers, worker, size) {
-        return Ok(());
-    }
     let resumed = Tools::resume(alloc, job.store, tools.take())?;
     let mut runner = Worker::over(job.store, resumed);
     run_dealt(alloc, job, workers, worker, size, &mut runner, log, gate)?;

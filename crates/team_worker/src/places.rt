@@ -1,13 +1,13 @@
 //! The places of a loop's workers: made for them beside the way that chunks come to them, and what lies there behind the loop.
 
-ghost use Rattle.std.specs.Prelude.{◌≡◌, ℕ, map, vec_len, IfOk, IfErr, OnOk};
+ghost use Rattle.std.specs.Prelude.{◌≡◌, ℕ, length, map, vec_len, IfOk, IfErr, OnOk};
 ghost use Rattle.semantics.specs.Loops.Chunk.{cut};
 ghost use Rattle.schedule.specs.Sched.{kind_of};
 ghost use Rattle.store.specs.Flat.{values_of};
 ghost use Rattle.team_worker.specs.Ends.{AreAll};
 ghost use Rattle.team_log.specs.Logged.{joined};
 ghost use Rattle.team_worker.specs.Overwritten.{AreOverwrittenByAll};
-ghost use Rattle.team_worker.specs.Places.{Aim, AreFor, AreLeft, AreSplit, IsWay, aim_of, count_taken};
+ghost use Rattle.team_worker.specs.Places.{Aim, AreFor, AreLeft, AreSplit, IsWay, aim_of, count_taken, places_of};
 
 use crate::dealt::{apply_dealt, gather};
 use crate::drawn::{TeamEnd, all_logs, collect};
@@ -17,13 +17,23 @@ use crate::place::{Place, Plan};
 use crate::way::{Draw, Way, way_of};
 use ktree::{Refusal, Workers};
 use lower::LoweredLoop;
-use schedule::Sched;
+use schedule::{Chunks, Sched};
 use std::alloc::{AllocError, Global};
 use std::mem;
 use store::Store;
 use team_log::{ChunkLog, apply_all};
 
-// A place for each of so many workers, in memory that is kept.
+// How many of so many workers leave something: of dealt chunks only those that come to one.
+fn count_places(way: &Way, chunks: &Chunks, workers: Workers) -> u64
+    ensures { result ≡ places_of way.now (length chunks.now) workers }
+{
+    match way {
+        Way::Dealt(_) => chunks.len().min(workers.get()),
+        Way::Drawn(_) => workers.get(),
+    }
+}
+
+// A place for each worker that leaves something, in memory that is kept.
 fn places_for(
     alloc: Global,
     lowered: &LoweredLoop,
@@ -33,7 +43,8 @@ fn places_for(
     workers: Workers,
     spare: &mut Spare,
 ) -> Result<Vec<Place>, Refusal>
-    ensures all { IfOk result (λ places. vec_len places ≡ workers) }
+    ensures all { IfOk result (λ places. vec_len places
+        ≡ places_of way.now (length grounds.now.chunks) workers) }
     ensures made { IfOk result (λ places. AreFor
         (aim_of lowered.now grounds.now store.now way.now workers) places.items) }
     ensures refusal { IfErr result (λ refusal. refusal ≡ Refusal.OutOfMemory) }
@@ -42,8 +53,9 @@ fn places_for(
     // each worker finds memory at its place that it had before
     spare.logs.reverse();
     places.clear();
-    places.reserve(workers.get() as usize)?;
-    for number in 0..workers.get() {
+    let count = count_places(way, &grounds.chunks, workers);
+    places.reserve(count as usize)?;
+    for number in 0..count {
         let memory = spare.log(alloc)?;
         let plan = Plan::new(
             lowered,
@@ -60,7 +72,8 @@ fn places_for(
     Ok(places)
 }
 
-/// The way that chunks come to so many workers of a loop, and a place for each, in memory that is kept.
+/// The way that chunks come to so many workers of a loop, and a place for each that leaves something, in memory that is kept: where chunks
+/// are dealt, a worker that comes to none has no place.
 ///
 /// # Errors
 ///
@@ -79,7 +92,8 @@ pub fn way_and_places(
         ≡ cut (kind_of sched.now) (count_taken grounds.now) workers }
     ensures comes { IfOk result (λ r. IsWay r.0 (count_taken grounds.now) grounds.now.chunks
         workers) }
-    ensures all { IfOk result (λ r. vec_len r.1 ≡ workers) }
+    ensures all { IfOk result (λ r. vec_len r.1
+        ≡ places_of r.0 (length grounds.now.chunks) workers) }
     ensures made { IfOk result (λ r. AreFor
         (aim_of lowered.now grounds.now store.now r.0 workers) r.1.items) }
     ensures refusal { IfErr result (λ refusal. refusal ≡ Refusal.OutOfMemory) }

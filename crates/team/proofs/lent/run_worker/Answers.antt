@@ -1,4 +1,4 @@
-use Rattle.std.proofs.Common.{◌≡◌, ◌<◌, ℕ, List, length, sym, ap, subst, ◌∙◌}
+use Rattle.std.proofs.Common.{◌≡◌, ◌<◌, ℕ, List, length, sym, ap, subst, ◌∙◌, arith}
 use Rattle.semantics.specs.Loops.Chunk.{cut}
 use Rattle.schedule.specs.Part.{static_kind}
 use Rattle.team_worker.specs.declared.grounds.Grounds.{Grounds}
@@ -6,6 +6,7 @@ use Rattle.team_worker.specs.declared.way.Draw.{Draw}
 use Rattle.team_worker.specs.Ends.{IsSplit, IsAccount, IsFinished}
 use Rattle.team_worker.specs.Dealt.{own_numbers}
 use Rattle.team_worker.specs.Places.{Aim, AreFor, AreSplit, aim_of, count_taken}
+use Rattle.team_worker.proofs.Dealing.{places_few}
 use Rattle.team.proofs.Lending.{place_is, size_fits, share_is_end, draws_are_end}
 use Rattle.team.proofs.lent.run_worker.Goals as goal
 
@@ -30,7 +31,9 @@ leave_share-requires-clause-size g c =
 pub leave_share-requires-clause-number : goal.leave_share-requires-clause-number
 leave_share-requires-clause-number g c =
     let lent = c.args.lent.now in
-    subst (λ (n : ℕ). c.args.number < n) (ap (λ (k : List Aim). length k) c.deref.ensures.value ∙ sym lent.places.ok.0 ∙ lent.all) c.in-Some.ensures.lookup.3.0
+    let placed = subst (λ (n : ℕ). c.args.number < n) (ap (λ (k : List Aim). length k) c.deref.ensures.value ∙ sym lent.places.ok.0 ∙ lent.all) c.in-Some.ensures.lookup.3.0 in
+    let few = places_few lent.way (length lent.grounds.value.chunks) lent.workers in
+    omega arith
 
 pub leave_share-requires-clause-place : goal.leave_share-requires-clause-place
 leave_share-requires-clause-place g c =

@@ -3,7 +3,7 @@ use Rattle.reduce.specs.declared.partial.Partial.{Partial}
 use Rattle.reduce.specs.Partial.{partial_of}
 use Rattle.store.specs.Kept.{Kept}
 use Rattle.store.specs.Flat.{values_of}
-use Rattle.lower_code.specs.Machine.{machine}
+use Rattle.lower_machine.specs.Machine.{machine}
 use Rattle.lower.specs.declared.roles.LoweredReduction.{LoweredReduction}
 use Rattle.team_worker.specs.declared.pass.Pass.{Pass}
 use Rattle.team_worker.specs.declared.pass.Pass.TheVariants.{Plain}

@@ -2,7 +2,7 @@ use Rattle.std.proofs.Common.{◌≡◌, ℕ, List, Vec, Global, ap, sym, subst,
 use Rattle.nest_space.specs.Space.{vectors}
 use Rattle.schedule.specs.Sched.{kind_of}
 use Rattle.store.specs.Flat.{values_of}
-use Rattle.lower_code.specs.Machine.{Fits, machine}
+use Rattle.lower_machine.specs.Machine.{Fits, machine}
 use Rattle.team_worker.specs.declared.grounds.Grounds.{Grounds}
 use Rattle.team.specs.declared.waving.Reached.{Reached}
 use Rattle.team.specs.Waved.{WaveTogether, WaveLeaves, IsReachedBy, IsWaveIn, standing}

@@ -1,11 +1,11 @@
-use Rattle.std.proofs.Common.{◌<◌, List, length, sym, subst, ◌∙◌, arith}
+use Rattle.std.proofs.Common.{◌<◌, List, length, sym, ap, subst, ◌∙◌, arith}
 use Rattle.std.specs.Global.{Vec}
 use Rattle.std.proofs.lemmas.Result.{on_ok_weaker}
 use Rattle.store.specs.Flat.{values_of}
 use Rattle.team_log.specs.Applied.{AreApplied}
 use Rattle.team_log.specs.Logged.{Account, joined}
 use Rattle.team_worker.specs.declared.place.Place.{Place}
-use Rattle.team_worker.specs.Places.{AreLeft}
+use Rattle.team_worker.specs.Places.{AreLeft, places_of}
 use Rattle.team_worker.proofs.Overwriting.{overwritten_all}
 use Rattle.team_worker.proofs.places.apply_left.Goals as goal
 
@@ -19,7 +19,7 @@ returns-in-Dealt-clause-applied c =
     on_ok_weaker c.apply_dealt.result (λ dealt aim n left.
     let least = left.some in
     let some : 0 < aim.workers = omega arith in
-    overwritten_all aim size n (length places) before after (left.comes.cut size is) some left.all (dealt aim size (left.way_is ∙ is) left.made)) c.apply_dealt.ensures.dealt
+    overwritten_all aim size n (length places) before after (left.comes.cut size is) some (left.all ∙ ap (λ way. places_of way (length aim.chunks) aim.workers) is) (dealt aim size (left.way_is ∙ is) left.made)) c.apply_dealt.ensures.dealt
 
 pub logs_left-requires : goal.logs_left-requires
 logs_left-requires c =

@@ -1,9 +1,10 @@
-use Rattle.std.proofs.Common.{length, flat_map, vec_len, sym, subst, ◌∙◌, arith}
+use Rattle.std.proofs.Common.{length, flat_map, vec_len, sym, ap, subst, ◌∙◌, arith}
 use Rattle.std.proofs.lemmas.Result.{IfOk-weaker}
 use Rattle.semantics.specs.Meaning.Places.{below}
 use Rattle.team_worker.specs.declared.way.Draw.{Draw}
 use Rattle.team_worker.specs.Ends.{IsAccount, AreBack, AreDrawn, AreAll}
 use Rattle.team_worker.specs.Dealt.{own_numbers}
+use Rattle.team_worker.specs.Places.{places_of}
 use Rattle.team_log.specs.Logged.{joined}
 use Rattle.team_worker.proofs.Dealing.{dealt_all}
 use Rattle.team_worker.proofs.places.logs_left.Goals as goal
@@ -19,7 +20,7 @@ all_logs-requires c =
     let len = c.in_ok-seats-in-Drawn.ensures.len in
     let seats = (left.comes.seats draw is).0 in
     let places = c.args.places.ok.0 in
-    let all = left.all in
+    let all = left.all ∙ ap (λ way. places_of way (length aim.chunks) aim.workers) is in
     let least = left.some in
     let are : AreBack draw.value.drawing back = record {
       some = omega arith;
@@ -36,7 +37,7 @@ returns-in-Dealt-clause-all c = λ aim n left.
     let own = own_numbers size (length aim.chunks) aim.workers in
     let count = vec_len c.args.places in
     let places = c.args.places.ok.0 in
-    let all = left.all in
+    let all = left.all ∙ ap (λ way. places_of way (length aim.chunks) aim.workers) is in
     let least = left.some in
     IfOk-weaker c.gather.result (λ cs. IsAccount aim.lowered aim.registers aim.store aim.pass aim.chunks (flat_map own (below count)) (joined cs.items)) (λ cs. AreAll aim.lowered aim.registers aim.store aim.pass aim.chunks (joined cs.items))
     (λ cs dealt. dealt_all aim.lowered aim.registers aim.store aim.pass aim.chunks size aim.workers count n (joined cs.items) (left.comes.cut size is) (omega arith) (omega arith) dealt)

@@ -5,8 +5,7 @@ use Rattle.team_worker.proofs.places.places_for.Given as goal
 abbrev pub invariant-loop-number : goal.invariant-loop-number
 invariant-loop-number l =
     record {
-      end : l.number-end ≡ l.workers;
       len : vec_len l.places ≡ l.number;
-      room : l.workers ≤ vec_capacity l.places;
+      room : l.count ≤ vec_capacity l.places;
       made : AreFor (aim_of l.lowered l.grounds l.store l.way l.workers) l.places.items;
     }
