@@ -51,38 +51,6 @@ locals_between layout n mark (x ∷ xs) e a (there, b) =
     let here : n ≤ x = leb-true n x (first_of (nat_le n x) (all_behind n xs) a) in
     ((omega arith, there), locals_between layout n mark xs e (second_of (nat_le n x) (all_behind n xs) a) b)
 
--- of two lists, of one statement alone, and of one item and those behind it
+-- of two lists
 pub behind_both : (n : ℕ) (xs ys : List ℕ) → (all_behind n xs && all_behind n ys) ≡ all_behind n (xs ++ ys)
 behind_both n xs ys = sym (list_all-append (λ x. nat_le n x) xs ys)
-
-pub behind_alone : (n : ℕ) (a : Tree.Stmt) → all_behind n (declared_in a) ≡ all_behind n (declared_among (Tree.stmt a Tree.no_items))
-behind_alone n a = ap (all_behind n) (sym (append-nil (declared_in a)))
-
-and_true : (b : Bool) → (b && true) ≡ b
-and_true true = refl
-and_true false = refl
-
-item_behind : (n : ℕ) (e : Item) (rest : Tree.Items) → all_behind n (declared_among (with_item e rest)) ≡ (all_behind n (declared_among (with_item e Tree.no_items)) && all_behind n (declared_among rest))
-item_behind n (Directive place) rest = refl
-item_behind n (Local l) rest = ap (λ b. b && all_behind n (declared_among rest)) (sym (and_true (nat_le n l.variable.0)))
-item_behind n (Statement' p s) rest = sym (behind_both n (declared_in (stmt_of s)) (declared_among rest)) ∙ ap (λ b. b && all_behind n (declared_among rest)) (behind_alone n (stmt_of s))
-
--- the items so far, and those that are left
-abbrev pub Behind : ℕ → List Item → ℕ → Bool → Type 0
-Behind n items i so_far = (so_far && all_behind n (declared_among (items_of (drop i items)))) ≡ all_behind n (declared_among (items_of items))
-
-pub behind_on : (n : ℕ) (items : List Item) (i : ℕ) (e : Item) (so_far here next : Bool) → i < length items → e ≡ get_or items i e → Behind n items i so_far → here ≡ all_behind n (declared_among (with_item e Tree.no_items)) → next ≡ (so_far && here) → Behind n items (i + 1) next
-behind_on n items i e so_far here next lt is before h f =
-    let rest = all_behind n (declared_among (items_of (drop (i + 1) items))) in
-    ap (λ b. b && rest) f
-    ∙ grouped so_far here rest
-    ∙ ap (λ b. so_far && (b && rest)) h
-    ∙ ap (λ b. so_far && b) (sym (ap (λ xs. all_behind n (declared_among xs)) (next_item items i e lt is) ∙ item_behind n e (items_of (drop (i + 1) items))))
-    ∙ before
-  where
-    grouped : (a b c : Bool) → ((a && b) && c) ≡ (a && (b && c))
-    grouped true b c = refl
-    grouped false b c = refl
-
-pub behind_over : (n : ℕ) (items : List Item) (i : ℕ) (so_far : Bool) → length items ≤ i → Behind n items i so_far → so_far ≡ all_behind n (declared_among (items_of items))
-behind_over n items i so_far le before = sym (and_true so_far) ∙ ap (λ xs. so_far && all_behind n (declared_among (items_of xs))) (sym (drop_all i items le)) ∙ before
