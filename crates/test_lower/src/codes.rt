@@ -15,7 +15,7 @@ pub(crate) const SMALL_WITH_LOCAL: &str =
     "uint64_t A[8]; uint64_t B[2][3]; uint64_t s; void kernel(void) { uint64_t x;";
 
 /// The kernel with these lines behind what stands before them.
-fn kernel_of(alloc: Global, before: &str, lines: &str) -> Option<Kernel> {
+pub(crate) fn kernel_of(alloc: Global, before: &str, lines: &str) -> Option<Kernel> {
     match format!(in alloc;
         "#include <inttypes.h>\n#include <stdint.h>\n#include <stdio.h>\n{before}\n{lines}\n}}\n"
     ) {
