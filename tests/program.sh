@@ -66,6 +66,57 @@ printf 'uint64_t x;\nuint64_t B[2][2];\nvoid kernel(void)\n{\n}\n' >"$work/empty
 printf 'B 1 2 3 18446744073709551615\n' >"$work/input"
 expect 0 $'x = 0\nB = 1 2 3 18446744073709551615\n' '' run "$work/empty.c" --input "$work/input"
 
+# loops of more than 2^18 turns, run in place and in chunks
+cat >"$work/long.c" <<'END'
+uint64_t n;
+uint64_t A[300000];
+uint64_t B[300002];
+uint64_t C[300000][2];
+uint64_t D[900001];
+uint64_t E[300000];
+uint64_t last;
+void kernel(void)
+{
+    #pragma omp parallel for
+    for (uint64_t i = 0; i < 300002; i++) { B[i] = i * i; }
+    #pragma omp parallel for schedule(static)
+    for (uint64_t i = 0; i < 300000; i++) { A[i] = B[i] + B[i + 1] * 3 + B[i + 2]; }
+    #pragma omp parallel for lastprivate(last)
+    for (uint64_t i = 1; i < 299999; i++) { C[i][1] = A[i]; last = A[i] + i; C[i][0] = last + n; }
+    #pragma omp parallel for
+    for (uint64_t i = 0; i < 300000; i += 1) { D[3 * i + 1] += C[i][1] - i; }
+    #pragma omp parallel for
+    for (uint64_t i = 0; i < 300000; i++) { E[i] = A[299999 - i]; }
+    #pragma omp parallel for
+    for (uint64_t i = 0; i < 300000; i++) { if (E[i] % 3 == 1) { E[i] = E[i] / 3; } }
+}
+END
+python3 - >"$work/long.out" <<'END'
+n = 300000
+word = 1 << 64
+B = [i * i for i in range(n + 2)]
+A = [B[i] + B[i + 1] * 3 + B[i + 2] for i in range(n)]
+C = [0] * (2 * n)
+D = [0] * (3 * n + 1)
+for i in range(1, n - 1):
+    C[2 * i], C[2 * i + 1] = A[i] + i, A[i]
+for i in range(n):
+    D[3 * i + 1] = (C[2 * i + 1] - i) % word
+E = [A[n - 1 - i] // 3 if A[n - 1 - i] % 3 == 1 else A[n - 1 - i] for i in range(n)]
+print("n = 0")
+for name, values in (("A", A), ("B", B), ("C", C), ("D", D), ("E", E)):
+    print(name, "=", *values)
+print("last =", A[n - 2] + n - 2)
+END
+for workers in 1 2 3 64; do
+    "$program" run "$work/long.c" --workers "$workers" >"$work/out" 2>"$work/err"
+    last=$?
+    if [ "$last" -ne 0 ] || [ -s "$work/err" ] || ! cmp -s "$work/out" "$work/long.out"; then
+        printf 'long loops by %s workers: status %s\n' "$workers" "$last"
+        faults=1
+    fi
+done
+
 # texts
 loop() { printf 'uint64_t A[8];\nvoid kernel(void)\n{\n#pragma omp %s\nfor (uint64_t i = 0; i < %s; i++) { A[i] = i; }\n}\n' "$1" "$2"; }
 refuse 'K01 3:2 syntax' $'void kernel(void)\n{\n}'

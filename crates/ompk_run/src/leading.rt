@@ -21,7 +21,7 @@ use store::Store;
 use team::Gate;
 
 // Runs a body, and dismisses the crew.
-fn lead<'l, R: Threads + Wait + Sync, G: Gate, S: Sink>(
+fn lead<'l, R: Threads + Wait + Sync, G: Gate + Sync, S: Sink>(
     items: &'l [OutlineItem<'_>],
     team: &Teaming<'_, '_, '_, 'l, R, G>,
     registers: &mut Vec<u64>,

@@ -2,6 +2,7 @@
 #![tactic(auto)]
 
 mod leading;
+mod placing;
 mod preparing;
 mod running;
 mod single;

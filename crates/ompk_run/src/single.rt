@@ -68,7 +68,7 @@ fn take_reductions(own: &[u64], reductions: &[LoweredReduction], registers: &mut
 }
 
 // So do those of lastprivate and reduction variables (OpenMP 5.2, 5.4.5 and 5.5.8).
-fn take_roles(own: &[u64], roles: &LoweredRoles, registers: &mut Vec<u64>)
+pub(crate) fn take_roles(own: &[u64], roles: &LoweredRoles, registers: &mut Vec<u64>)
     ensures { registers.new.items ≡ taken own.now roles.now registers.old.items }
 {
     take_each(own, roles.lasts.as_slice(), registers);

@@ -1,6 +1,6 @@
 //! The loops that a team runs.
 
-ghost use Rattle.std.specs.Prelude.{◌≡◌, ℕ, ◌+◌, ◌<◌, ◌^◌, List, OnOk, IfErr};
+ghost use Rattle.std.specs.Prelude.{◌≡◌, ℕ, ◌+◌, ◌<◌, ◌^◌, true, false, List, OnOk, IfOk, IfErr};
 ghost use Rattle.semantics.specs.Loops.Chunk.{IsSized};
 ghost use Rattle.semantics.specs.Loops.Nest.{Loop};
 ghost use Rattle.flow.specs.Roles.{LineData};
@@ -16,6 +16,7 @@ ghost use Rattle.lower_code.specs.declared.laid.Laid.{Laid};
 ghost use Rattle.lower_machine.specs.Machine.{machine, truth};
 ghost use Rattle.lower_run.specs.Walk.{Walks, Begins, stage};
 
+use crate::placing::run_by_parts;
 use crate::single::run_by_one;
 use ktree::{Refusal, Schedule, Workers};
 use lane_rows::Bench;
@@ -30,11 +31,12 @@ use std::sync::Wait;
 use std::thread::Threads;
 use store::Store;
 use team::{Gate, LoopCrew, share_loop, share_scan, share_waves};
+use team_in_place::Crew;
 use waves::Sinks;
 
 // A team of so many workers for each parallel loop, in the threads of a crew; the gate is told of the chunks that they take.
 #[derive(Drop)]
-pub(crate) struct Teaming<'r, 'g, 'c, 'l, R: Threads + Wait + Sync, G: Gate> {
+pub(crate) struct Teaming<'r, 'g, 'c, 'l, R: Threads + Wait + Sync, G: Gate + Sync> {
     pub(crate) rt: &'r R,
     pub(crate) alloc: Global,
     pub(crate) crew: &'c LoopCrew<'l>,
@@ -73,7 +75,7 @@ fn confirm_cut(clause: Option<Schedule>, runtime: Sched, workers: Workers)
 }
 
 // Runs a loop by the team, and puts what it prints (OpenMP 5.2, 11.5 and 15.10).
-fn run_team_loop<'l, R: Threads + Wait + Sync, G: Gate, S: Sink>(
+fn run_team_loop<'l, R: Threads + Wait + Sync, G: Gate + Sync, S: Sink>(
     construct: &'l TeamLoop<'_>,
     team: &Teaming<'_, '_, '_, 'l, R, G>,
     registers: &mut Vec<u64>,
@@ -113,8 +115,72 @@ fn run_team_loop<'l, R: Threads + Wait + Sync, G: Gate, S: Sink>(
     Ok(())
 }
 
+// Whether a loop's chunks are those of plain static.
+fn is_plain_static(clause: Option<Schedule>, runtime: Sched) -> bool {
+    matches!(sched_of(clause, runtime), Sched::PlainStatic)
+}
+
+// Runs a loop in place, if its chunks are those of plain static and it is seen that it may be; else it changes nothing, and tells so.
+fn is_run_in_place<'l, R: Threads + Wait + Sync, G: Gate + Sync>(
+    construct: &'l TeamLoop<'_>,
+    team: &Teaming<'_, '_, '_, 'l, R, G>,
+    registers: &mut Vec<u64>,
+    store: &mut Store,
+) -> Result<bool, Refusal>
+    ensures ran { IfOk result (λ done. done ≡ true → (layout : List Laid) (mark : ℕ)
+        (R : LineData) (serial : List Loop) (text : List ℕ)
+        → Fits layout mark R serial (Team construct.now)
+        → Walks layout mark (performed R serial (Team construct.now))
+        (stage registers.old.items store.old text) (stage registers.new.items store.new text)) }
+    ensures left { IfOk result (λ done. done ≡ false
+        → (registers.new.items ≡ registers.old.items) × (store.new ≡ store.old)) }
+    ensures refusal { IfErr result (λ refusal. refusal ≡ Refusal.OutOfMemory) }
+    ensures shape { lengths_of store.new ≡ lengths_of store.old }
+{
+    if !is_plain_static(construct.lowered.schedule, team.sched) {
+        return Ok(false);
+    }
+    let crew = Crew {
+        rt: team.rt,
+        alloc: team.alloc,
+        gate: team.gate,
+        workers: team.workers,
+    };
+    let done = run_by_parts(&crew, construct, registers, store)?;
+    Ok(done)
+}
+
+// Runs a loop by the team: in place, if it is seen that it may be, and else in chunks (OpenMP 5.2, 11.5).
+fn run_chunk_loop<'l, R: Threads + Wait + Sync, G: Gate + Sync, S: Sink>(
+    construct: &'l TeamLoop<'_>,
+    team: &Teaming<'_, '_, '_, 'l, R, G>,
+    registers: &mut Vec<u64>,
+    store: &mut Store,
+    sink: &mut S,
+) -> Result<(), Refusal>
+    requires chunks { construct.now.way ≡ Chunks }
+    requires room { S.failed sink.old + 1 < 2 ^ 64 }
+    ensures ran { OnOk result ((layout : List Laid) (mark : ℕ) (R : LineData) (serial : List Loop)
+        → Fits layout mark R serial (Team construct.now)
+        → Walks layout mark (performed R serial (Team construct.now))
+        (stage registers.old.items store.old (S.told sink.old))
+        (stage registers.new.items store.new (S.told sink.new))) }
+    ensures beginning { (layout : List Laid) (mark : ℕ) (R : LineData) (serial : List Loop)
+        → Fits layout mark R serial (Team construct.now)
+        → Begins layout mark (performed R serial (Team construct.now))
+        (stage registers.old.items store.old (S.told sink.old)) (S.told sink.new) }
+    ensures sound { OnOk result (S.failed sink.new ≡ S.failed sink.old) }
+    ensures refusal { IfErr result (Refuses (S.failed sink.old) (S.failed sink.new)) }
+    ensures shape { lengths_of store.new ≡ lengths_of store.old }
+{
+    if is_run_in_place(construct, team, registers, store)? {
+        return Ok(());
+    }
+    run_team_loop(construct, team, registers, store, sink)
+}
+
 // Runs a scan by the team in two passes: the input phase first, which this loop is (OpenMP 5.2, 5.6).
-fn run_scan_loop<'l, R: Threads + Wait + Sync, G: Gate, S: Sink>(
+fn run_scan_loop<'l, R: Threads + Wait + Sync, G: Gate + Sync, S: Sink>(
     construct: &'l TeamLoop<'_>,
     first: &'l LoweredLoop,
     team: &Teaming<'_, '_, '_, 'l, R, G>,
@@ -155,7 +221,7 @@ fn run_scan_loop<'l, R: Threads + Wait + Sync, G: Gate, S: Sink>(
 }
 
 // Runs a doacross nest by the team, wave by wave (OpenMP 5.2, 15.9.6 and 15.10.1). It prints nothing.
-fn run_wave_loop<'l, R: Threads + Wait + Sync, G: Gate>(
+fn run_wave_loop<'l, R: Threads + Wait + Sync, G: Gate + Sync>(
     construct: &'l TeamLoop<'_>,
     sinks: &Sinks,
     team: &Teaming<'_, '_, '_, 'l, R, G>,
@@ -190,7 +256,7 @@ fn run_wave_loop<'l, R: Threads + Wait + Sync, G: Gate>(
 }
 
 // Runs a parallel loop: by the team in the way that it may be run, and as any other statement where there is one worker.
-fn run_parallel_loop<'l, R: Threads + Wait + Sync, G: Gate, S: Sink>(
+fn run_parallel_loop<'l, R: Threads + Wait + Sync, G: Gate + Sync, S: Sink>(
     construct: &'l TeamLoop<'_>,
     team: &Teaming<'_, '_, '_, 'l, R, G>,
     registers: &mut Vec<u64>,
@@ -218,7 +284,7 @@ fn run_parallel_loop<'l, R: Threads + Wait + Sync, G: Gate, S: Sink>(
         );
     }
     match &construct.way {
-        Way::Chunks => run_team_loop(construct, team, registers, store, sink),
+        Way::Chunks => run_chunk_loop(construct, team, registers, store, sink),
         Way::Scan(first) => run_scan_loop(construct, first, team, registers, store, sink),
         Way::Waves(sinks) => run_wave_loop(construct, sinks, team, registers, store),
         Way::Alone => run_by_one(
@@ -229,7 +295,7 @@ fn run_parallel_loop<'l, R: Threads + Wait + Sync, G: Gate, S: Sink>(
 
 // Runs a statement, each parallel loop in it by the team (C11 6.8; OpenMP 5.2, 11.5).
 #[cycle(teaming)]
-fn team_statement<'l, R: Threads + Wait + Sync, G: Gate, S: Sink>(
+fn team_statement<'l, R: Threads + Wait + Sync, G: Gate + Sync, S: Sink>(
     outline: &'l Outline<'_>,
     team: &Teaming<'_, '_, '_, 'l, R, G>,
     registers: &mut Vec<u64>,
@@ -281,7 +347,7 @@ fn team_statement<'l, R: Threads + Wait + Sync, G: Gate, S: Sink>(
 
 // Runs the items of a block in their order (C11 6.8.2).
 #[cycle(teaming)]
-pub(crate) fn team_block<'l, R: Threads + Wait + Sync, G: Gate, S: Sink>(
+pub(crate) fn team_block<'l, R: Threads + Wait + Sync, G: Gate + Sync, S: Sink>(
     items: &'l [OutlineItem<'_>],
     team: &Teaming<'_, '_, '_, 'l, R, G>,
     registers: &mut Vec<u64>,
@@ -311,7 +377,7 @@ pub(crate) fn team_block<'l, R: Threads + Wait + Sync, G: Gate, S: Sink>(
 
 // Runs one item of a block.
 #[cycle(teaming)]
-fn team_item<'l, R: Threads + Wait + Sync, G: Gate, S: Sink>(
+fn team_item<'l, R: Threads + Wait + Sync, G: Gate + Sync, S: Sink>(
     item: &'l OutlineItem<'_>,
     team: &Teaming<'_, '_, '_, 'l, R, G>,
     registers: &mut Vec<u64>,

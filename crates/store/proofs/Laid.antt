@@ -1,7 +1,7 @@
 -- Variables that lie one behind another in one list of cells.
 use Rattle.std.specs.Prelude.{ℕ, zero, suc, ◌≡◌, ◌+◌, ◌-◌, ◌<◌, ◌≤◌, List, [], ◌∷◌, ◌++◌, length, take, drop, replicate, map, Option, Some, slice_get, slice_set, slice_index}
 use Rattle.std.proofs.Common.{refl, sym, ap, ◌∙◌, subst, arith}
-use Rattle.std.proofs.lemmas.List.{take-append-drop, drop-drop, drop_all, drop-set-lt, drop-set-add, take-set-le, length-set, length-take, length-drop, drop-replicate, take-replicate}
+use Rattle.std.proofs.lemmas.List.{take-append-drop, drop-drop, drop_all, drop-set-lt, drop-set-add, take-set-le, length-set, length-take, length-drop, length-replicate, drop-replicate, take-replicate}
 use Rattle.std.proofs.lemmas.List.Concat.{flat_map-cons}
 use Rattle.std.proofs.Math.Seq.{take-set-lt}
 use Rattle.semantics.specs.Meaning.Places.{size}
@@ -83,6 +83,17 @@ put_fills cells new ps place value l e =
 pub row_fills : (cells new : List ℕ) (ps : List Placed) (first : ℕ) (vs : List ℕ) → Lie 0 ps (length cells) → new ≡ overlaid cells first vs → kept_in new ps ≡ filled (overlaid (values_of (kept_in cells ps)) first vs) (kept_in cells ps)
 row_fills cells new ps first vs l e =
     sym (refilled cells new 0 (length cells) ps l refl) ∙ ap (λ cs. filled cs (kept_in cells ps)) (e ∙ ap (λ cs. overlaid cs first vs) (sym (values_are cells ps l)))
+
+-- variables with each element 0, that lie among so many cells
+module _ (count : ℕ) (ps : List Placed) (l : Lie 0 ps count) where
+  long : length {A = ℕ} (replicate count 0) ≡ count
+  long = length-replicate {A = ℕ} count 0
+
+  pub frame_count : length (values_of (kept_in (replicate count 0) ps)) ≡ count
+  frame_count = ap length (values_are (replicate count 0) ps (subst (Lie 0 ps) (sym long) l)) ∙ long
+
+  pub frame_fills : (cells : List ℕ) → filled cells (kept_in (replicate count 0) ps) ≡ kept_in cells ps
+  frame_fills cells = refilled (replicate count 0) cells 0 count ps l (sym long)
 
 pub index_outside : (xs : List ℕ) (i : ℕ) → length xs ≤ i → slice_index xs i ≡ 0
 index_outside [] i le = refl

@@ -71,6 +71,25 @@ impl Model for Store {
     ghost invariant = { λ s. Lie 0 s.places.items (length s.cells.items) };
 }
 
+/// The variables of a store whose cells are elsewhere. Contracts see them with each element 0.
+#[derive(Drop)]
+pub struct Frame {
+    places: Vec<Placed>,
+    count: u64,
+}
+
+impl Model for Frame {
+    ghost use Rattle.std.specs.Prelude.{List, replicate};
+    ghost use Rattle.store.specs.Kept.{Kept};
+    ghost use Rattle.store.specs.Placing.{kept_in, Lie};
+
+    ghost Value = { List Kept };
+
+    ghost view = { λ f. kept_in (replicate f.count 0) f.places.items };
+
+    ghost invariant = { λ f. Lie 0 f.places.items f.count };
+}
+
 // So many cells from a first one on.
 fn part(cells: &[u64], first: u64, count: u64) -> &[u64]
     requires { first + count ≤ length cells.now }
@@ -221,5 +240,26 @@ impl Store {
         let placed = &self.places[variable.0 as usize];
         let place = placed.first + at;
         set_cell(&mut self.cells, place, value);
+    }
+
+    /// Its variables, and the cells of all of them, one variable behind another.
+    pub fn into_cells(self) -> (Frame, Vec<u64>)
+        ensures cells { filled result.1.items result.0 ≡ self }
+        ensures count { length result.1.items ≡ length (values_of result.0) }
+    {
+        let Store { places, cells } = self;
+        let count = cells.len() as u64;
+        (Frame { places, count }, cells)
+    }
+}
+
+impl Frame {
+    /// The store of these variables with these cells, one variable behind another.
+    pub fn with_cells(self, cells: Vec<u64>) -> Store
+        requires { length cells.items ≡ length (values_of self) }
+        ensures { result ≡ filled cells.items self }
+    {
+        let Frame { places, count: _ } = self;
+        Store { places, cells }
     }
 }

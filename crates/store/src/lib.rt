@@ -4,5 +4,5 @@
 mod arrays;
 mod shape;
 
-pub use arrays::{Array, Store};
+pub use arrays::{Array, Frame, Store};
 pub use shape::Shape;

@@ -1,0 +1,4 @@
+pub mod Cells
+pub mod Front
+pub mod Turned
+pub mod Whole

@@ -1,0 +1,129 @@
+//! The turns of a loop, shared by the threads of a team.
+
+ghost use Rattle.std.specs.Prelude.{◌≡◌, ◌+◌, ◌*◌, ◌<◌, ◌≤◌, length, IfOk};
+ghost use Rattle.std.specs.Thread.{IsSync};
+ghost use Rattle.team_parts.specs.Placed.{IsPartDone};
+
+use ktree::Workers;
+use schedule::static_init;
+use std::alloc::{AllocError, Global};
+use std::thread::{Threads, join_mut};
+use team_parts::{Shared, Tools, run_part};
+use team_worker::{Gate, Taken};
+
+/// What the workers of a team have in common.
+#[derive(Drop)]
+pub(crate) struct Team<'t, 'k, R: Threads + Sync, G: Gate + Sync> {
+    pub(crate) rt: &'t R,
+    pub(crate) alloc: Global,
+    pub(crate) gate: &'t G,
+    pub(crate) workers: Workers,
+    pub(crate) shared: Shared<'t, 'k>,
+}
+
+// The first turn of a worker under plain static (OpenMP 5.2, 11.5.3).
+fn first_turn(shared: &Shared<'_, '_>, workers: Workers, worker: u64) -> u64
+    requires { worker < workers }
+{
+    match static_init(shared.count, workers, worker, None).chunk(0) {
+        Some(chunk) => chunk.first,
+        None => shared.count,
+    }
+}
+
+// How many of so many turns from one on are those before a worker's, at least one and not all.
+fn turns_before(
+    shared: &Shared<'_, '_>,
+    workers: Workers,
+    worker: u64,
+    from: u64,
+    count: u64,
+) -> u64
+    requires worker { worker < workers }
+    requires some { 2 ≤ count }
+    ensures some { 0 < result }
+    ensures within { result < count }
+{
+    let before = first_turn(shared, workers, worker).saturating_sub(from);
+    before.max(1).min(count - 1)
+}
+
+// Runs a worker's turns. The registers are as these leave them.
+fn run_share<R: Threads + Sync, G: Gate + Sync>(
+    team: &Team<'_, '_, R, G>,
+    worker: u64,
+    from: u64,
+    count: u64,
+    own: &mut [u64],
+) -> Result<Vec<u64>, AllocError>
+    requires worker { worker < team.now.workers }
+    requires within { from + count ≤ team.now.shared.count }
+    requires own { length own.old ≡ team.now.shared.window.width * count }
+    ensures { IfOk result (λ rs. IsPartDone team.now.shared from count own.old own.new rs.items) }
+{
+    let workers = team.workers.get();
+    team.gate.entered(Taken {
+        worker,
+        workers,
+        chunk: worker,
+        chunks: workers,
+    });
+    let mut tools = Tools::new(team.alloc)?;
+    run_part(team.alloc, team.shared, from, count, own, &mut tools)?;
+    Ok(tools.into_registers())
+}
+
+/// Runs so many turns from one on over their own cells, by so many workers from one on, each its share under plain static in a thread of its own.
+/// The registers are as the last of them leaves them (OpenMP 5.2, 11.5.3).
+///
+/// # Errors
+///
+/// Where memory is refused: some of the cells may be written then.
+pub(crate) fn run_shares<R: Threads + Sync, G: Gate + Sync>(
+    team: &Team<'_, '_, R, G>,
+    worker: u64,
+    number: u64,
+    from: u64,
+    count: u64,
+    own: &mut [u64],
+) -> Result<Vec<u64>, AllocError>
+    requires some { 0 < number }
+    requires workers { worker + number ≤ team.now.workers }
+    requires within { from + count ≤ team.now.shared.count }
+    requires own { length own.old ≡ team.now.shared.window.width * count }
+    ensures { IfOk result (λ rs. IsPartDone team.now.shared from count own.old own.new rs.items) }
+{
+    if number < 2 || count < 2 {
+        return run_share(team, worker, from, count, own);
+    }
+    let _most = team.workers.get();
+    let half = number / 2;
+    let (second, others) = (worker + half, number - half);
+    let some = turns_before(&team.shared, team.workers, second, from, count);
+    let (next, rest) = (from + some, count - some);
+    let (front, back) = own.split_at_mut(team.shared.cells_of(some) as usize);
+    let (done, end) = join_mut(
+        team.rt,
+        &mut || -> Result<Vec<u64>, AllocError>
+            requires sync { IsSync R.row × IsSync G.row }
+            requires some { 0 < half }
+            requires workers { worker + half ≤ team.now.workers }
+            requires within { from + some ≤ team.now.shared.count }
+            requires own { length front.now ≡ team.now.shared.window.width * some }
+            ensures { IfOk result (λ rs. IsPartDone team.entry.now.shared from some
+                front.entry.now front.exit.now rs.items) }
+        { run_shares(team, worker, half, from, some, front) },
+        &mut || -> Result<Vec<u64>, AllocError>
+            requires sync { IsSync R.row × IsSync G.row }
+            requires some { 0 < others }
+            requires workers { second + others ≤ team.now.workers }
+            requires within { next + rest ≤ team.now.shared.count }
+            requires own { length back.now ≡ team.now.shared.window.width * rest }
+            ensures { IfOk result (λ rs. IsPartDone team.entry.now.shared next rest
+                back.entry.now back.exit.now rs.items) }
+        { run_shares(team, second, others, next, rest, back) },
+    );
+    done?;
+    let registers = end?;
+    Ok(registers)
+}

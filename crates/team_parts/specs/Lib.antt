@@ -1,0 +1,3 @@
+pub mod Parted
+pub mod Placed
+pub mod Window

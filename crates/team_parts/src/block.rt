@@ -1,0 +1,193 @@
+//! A part of the turns of a loop, block by block.
+
+ghost use Rattle.std.specs.Prelude.{◌≡◌, ◌+◌, ◌*◌, ◌≤◌, true, false, length, OnOk};
+ghost use Rattle.lane_rows.specs.Lanes.{stepped};
+ghost use Rattle.law_lanes.specs.Lanes.{turns};
+ghost use Rattle.lower_machine.specs.Machine.{machine};
+ghost use Rattle.lower_runner.specs.Turning.{ConstantsStand};
+ghost use Rattle.team_parts.specs.Placed.{IsPartDone};
+
+use crate::cells::Parted;
+use crate::shared::Shared;
+use lane_body::Body;
+use lane_rows::Bench;
+use lower_lanes::new_bench;
+use lower_op::Cells;
+use std::alloc::{AllocError, Global};
+use std::marker::Model;
+use std::mem;
+
+/// The most turns whose cells are copied at once, so that the copies stay in a processor's cache.
+const BLOCK: u64 = 4096;
+
+/// What a thread runs turns with: registers, room for rows, the cells of a block, and memory that all cells have room in, which is written only where
+/// a turn writes cells that are not its own. Contracts see the registers.
+#[derive(Drop)]
+pub struct Tools {
+    registers: Vec<u64>,
+    bench: Bench,
+    block: Vec<u64>,
+    memory: Vec<u64>,
+}
+
+impl Model for Tools {
+    ghost use Rattle.std.specs.Prelude.{ℕ, List};
+
+    ghost Value = { List ℕ };
+
+    ghost view = { λ t. t.registers.items };
+}
+
+// These numbers take the place of others.
+fn copy_into(to: &mut Vec<u64>, numbers: &[u64]) -> Result<(), AllocError>
+    ensures { OnOk result (to.new.items ≡ numbers.now) }
+{
+    to.clear();
+    to.extend_from_slice(numbers)?;
+    Ok(())
+}
+
+// Runs so many turns over cells in lanes, where their places are seen to be apart; else it leaves registers and cells.
+fn run_in_lanes<M: Cells>(
+    shared: Shared<'_, '_>,
+    first: u64,
+    count: u64,
+    registers: &mut [u64],
+    cells: &mut M,
+    bench: &mut Bench,
+) -> bool
+    requires few { count ≤ 16384 }
+    ensures does { result ≡ true → machine registers.new (M.cells cells.new)
+        ≡ turns shared.entry.laned.variable.at (stepped first shared.entry.by)
+        shared.entry.code.ops.now count (machine registers.old (M.cells cells.old)) }
+    ensures left { result ≡ false → (registers.new ≡ registers.old)
+        × (M.cells cells.new ≡ M.cells cells.old) }
+    ensures kept { M.shape cells.new ≡ M.shape cells.old }
+{
+    if !bench.has_rows(64) {
+        return false;
+    }
+    let body = Body::Plain(shared.laned);
+    shared
+        .code
+        .run_turns(body, first, shared.by, count, registers, cells, bench)
+}
+
+// Runs so many turns over cells, in lanes where they may be run so, and else one after another.
+fn run_over<M: Cells>(
+    shared: Shared<'_, '_>,
+    first: u64,
+    count: u64,
+    registers: &mut [u64],
+    cells: &mut M,
+    bench: &mut Bench,
+)
+    requires few { count ≤ 16384 }
+    requires stand { ConstantsStand shared.code.compiled.now registers.old }
+    ensures does { machine registers.new (M.cells cells.new)
+        ≡ turns shared.entry.laned.variable.at (stepped first shared.entry.by)
+        shared.entry.code.ops.now count (machine registers.old (M.cells cells.old)) }
+    ensures kept { M.shape cells.new ≡ M.shape cells.old }
+{
+    if !run_in_lanes(shared, first, count, registers, cells, bench) {
+        let Shared {
+            code,
+            laned,
+            by,
+            ..
+        } = shared;
+        code.run_each_turn(laned.variable, first, by, count, registers, cells);
+    }
+}
+
+// Runs so many turns from one on over copies of their own cells, and writes these back.
+fn run_block(
+    alloc: Global,
+    shared: Shared<'_, '_>,
+    from: u64,
+    count: u64,
+    own: &mut [u64],
+    tools: &mut Tools,
+) -> Result<(), AllocError>
+    requires few { count ≤ 16384 }
+    requires within { from + count ≤ shared.count }
+    requires own { length own.old ≡ shared.window.width * count }
+    ensures { OnOk result (IsPartDone shared.entry from count
+        own.old own.new tools.new) }
+{
+    copy_into(&mut tools.registers, shared.registers)?;
+    copy_into(&mut tools.block, own)?;
+    let left = shared.cells_of(from);
+    let right = shared.cells_of(shared.count - from - count);
+    let block = mem::replace(&mut tools.block, Vec::new(alloc));
+    let memory = mem::replace(&mut tools.memory, Vec::new(alloc));
+    let mut cells = Parted::over(shared.before, left, block, right, shared.behind, memory)?;
+    let first = shared.first.wrapping_add(from.wrapping_mul(shared.by));
+    let registers = tools.registers.as_mut_slice();
+    run_over(
+        shared,
+        first,
+        count,
+        registers,
+        &mut cells,
+        &mut tools.bench,
+    );
+    let (block, memory) = cells.take_own();
+    own.copy_from_slice(&block);
+    tools.block = block;
+    tools.memory = memory;
+    Ok(())
+}
+
+/// Runs so many turns from one on over their own cells. The tools hold the registers as these turns leave them.
+///
+/// # Errors
+///
+/// Where memory is refused: some of the cells may be written then.
+pub fn run_part(
+    alloc: Global,
+    shared: Shared<'_, '_>,
+    from: u64,
+    count: u64,
+    own: &mut [u64],
+    tools: &mut Tools,
+) -> Result<(), AllocError>
+    requires within { from + count ≤ shared.count }
+    requires own { length own.old ≡ shared.window.width * count }
+    ensures { OnOk result (IsPartDone shared.entry from count
+        own.old own.new tools.new) }
+{
+    if count <= BLOCK {
+        return run_block(alloc, shared, from, count, own, tools);
+    }
+    let half = count / 2;
+    let (front, back) = own.split_at_mut(shared.cells_of(half) as usize);
+    run_part(alloc, shared, from, half, front, tools)?;
+    run_part(alloc, shared, from + half, count - half, back, tools)?;
+    Ok(())
+}
+
+impl Tools {
+    /// Tools that have run nothing.
+    ///
+    /// # Errors
+    ///
+    /// Where memory is refused.
+    pub fn new(alloc: Global) -> Result<Tools, AllocError> {
+        let bench = new_bench(alloc)?;
+        Ok(Tools {
+            registers: Vec::new(alloc),
+            bench,
+            block: Vec::new(alloc),
+            memory: Vec::new(alloc),
+        })
+    }
+
+    /// The registers as the last turns have left them.
+    pub fn into_registers(self) -> Vec<u64>
+        ensures { result.items ≡ self }
+    {
+        let Tools { registers, .. } = self;
+        registers
+    }
+}

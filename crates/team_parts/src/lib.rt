@@ -1,0 +1,13 @@
+//! The turns of a loop in parts, each by a thread of its own: each part runs over cells of its own and those that no turn writes, and its own cells are
+//! those of the store.
+#![tactic(auto)]
+
+mod block;
+mod cells;
+mod shared;
+mod window;
+
+pub use block::{Tools, run_part};
+pub use cells::Parted;
+pub use shared::Shared;
+pub use window::{Window, window_of};
