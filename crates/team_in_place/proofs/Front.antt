@@ -33,3 +33,6 @@ module _ (compiled : Compiled) (ops : List Op) (variable first : ℕ) (leaves : 
       ap (λ (m : Machine). slice_index m.registers (compiled.first_constant + i)) (e ∙ same_turns compiled ops variable leaves (stepped first 0) (machine rs cells) stand 1)
       ∙ kept compiled ops variable leaves (stepped first 0) (machine rs cells) stand 1 (compiled.first_constant + i) (leaves.spared i lt) (leaves.other i lt)
       ∙ stand i lt
+
+  pub cells_left : (rs' cells' : List ℕ) → machine rs' cells' ≡ turned_often compiled ops variable (stepped first 0) 1 (machine rs cells) → cells' ≡ cells
+  cells_left rs' cells' e = ap (λ (m : Machine). m.cells) (e ∙ ran_once ∙ all_quiet ops rs cells quiet)

@@ -1,124 +1,93 @@
--- All turns of a counted loop are the loop.
-use Rattle.std.proofs.Common.{◌≡◌, ℕ, ◌+◌, ◌-◌, ◌^◌, ◌<◌, ◌≤◌, Bool, true, false, List, length, refl, sym, ap, ◌∙◌, subst, arith}
-use Rattle.std.specs.Prelude.{slice_index, slice_set, nat_lt, not, ◌==◌, ◌&&◌}
-use Rattle.std.specs.List.{list_all}
-use Rattle.std.proofs.lemmas.Bool.{eqb-false, ltb-true}
+-- All turns of a loop that is run in place are the loop.
+use Rattle.std.proofs.Common.{◌≡◌, ℕ, ◌^◌, ◌<◌, List, sym, ap, ◌∙◌, subst, refl}
+use Rattle.std.specs.Prelude.{slice_set}
 use Rattle.semantics.specs.Meaning.Runs.{greatest_trip_count}
-use Rattle.lower_machine.specs.Machine.{Machine, Running, machine, running}
+use Rattle.lower_machine.specs.Machine.{Running, machine, running}
 use Rattle.lower_machine.specs.declared.term.Register.{Register}
-use Rattle.lower_machine.proofs.Course.{spins_over}
 use Rattle.lower_op.specs.declared.op.Op.{Op}
 use Rattle.lower_op.specs.Steps.{steps}
 use Rattle.lower_op.specs.Stretches.{written}
-use Rattle.lower_op.proofs.Stepping.{index_same, index_other}
-use Rattle.law_lanes.specs.Reading.{is_written}
-use Rattle.law_lanes.specs.Lanes.{is_steady, turns}
+use Rattle.law_lanes.specs.Lanes.{turns}
+use Rattle.law_unrolled.specs.Unrolled.{Nested, flat}
 use Rattle.lane_rows.specs.Lanes.{stepped}
-use Rattle.lane_part.proofs.Marking.{first_of, not_true, second_of}
-use Rattle.lane_body.specs.Counted.{advances, counts, goes_on}
-use Rattle.lane_body.specs.Steady.{is_steady_rise}
+use Rattle.lane_body.specs.Counted.{counts, goes_on, moved}
 use Rattle.lane_body.specs.declared.counted.Course.{Course}
 use Rattle.lane_body.specs.declared.counted.Course.TheVariants.{Up}
 use Rattle.lane_body.specs.declared.counted.Counted.{Counted}
-use Rattle.lane_body.proofs.InLanes.{laned_variable}
 use Rattle.lower_block.specs.declared.tree.Compiled.{Compiled}
 use Rattle.lower_block.specs.Block.{runs}
 use Rattle.lower_block.specs.Emission.{EndsBeside}
 use Rattle.lower_runner.proofs.Course.{ends_beside}
-use Rattle.lower_lanes.proofs.Counting.{counted_there}
-use Rattle.lower_lanes.proofs.Cutting.{outside}
+use Rattle.team_parts.specs.Turned.{nested_in, ops_of, variable_of}
+use Rattle.team_parts.proofs.Windows.{variable_there}
 use Rattle.team_in_place.specs.Counting.{counted, AreEntered, IsPlannedFor}
+use Rattle.team_in_place.specs.Nesting.{IsNestPlannedFor, nested_loop, nested_with, turned_by}
+use Rattle.team_in_place.specs.Spinning.{AreItsTurns}
+use Rattle.team_in_place.specs.declared.nest_planning.NestPlan.{NestPlan}
+use Rattle.team_in_place.specs.declared.nesting.Nesting.{Nesting}
 use Rattle.team_in_place.specs.declared.planning.Plan.{Plan}
-
--- so many turns are no more than there can be
-enough : (n : ℕ) → n ≤ 2 ^ 24 → greatest_trip_count - n + n ≡ greatest_trip_count
-unfolding greatest_trip_count
-enough n few = omega (arith, few)
-
-not_less : (a b : ℕ) → b ≤ a → nat_lt a b ≡ false
-not_less a b le = go (nat_lt a b) refl
-  where
-    go : (t : Bool) → nat_lt a b ≡ t → nat_lt a b ≡ false
-    go true e = let lt : a < b = ltb-true a b e in absurd (omega (arith, lt, le))
-    go false e = e
+use Rattle.team_in_place.proofs.NestTurns.{nests_law}
+use Rattle.team_in_place.proofs.Spins.{AdvancesAlike, counted_law, spins_law}
 
 module _ (c : Counted) (registers cells : List ℕ) (n : ℕ) (p : Plan) (planned : IsPlannedFor c registers n p) where
-  steady : is_steady_rise c.variable.at c.end.at c.by.at c.ops.items ≡ true
-  steady = c.steady planned.lanes
-
-  front : (not (is_written c.ops.items c.variable.at) && (not (is_written c.ops.items c.end.at) && not (is_written c.ops.items c.by.at))) ≡ true
-  front = first_of (not (is_written c.ops.items c.variable.at) && (not (is_written c.ops.items c.end.at) && not (is_written c.ops.items c.by.at))) (not (c.variable.at == c.end.at) && not (c.variable.at == c.by.at)) steady
-
-  behind : (not (c.variable.at == c.end.at) && not (c.variable.at == c.by.at)) ≡ true
-  behind = second_of (not (is_written c.ops.items c.variable.at) && (not (is_written c.ops.items c.end.at) && not (is_written c.ops.items c.by.at))) (not (c.variable.at == c.end.at) && not (c.variable.at == c.by.at)) steady
-
-  others_left : (not (is_written c.ops.items c.end.at) && not (is_written c.ops.items c.by.at)) ≡ true
-  others_left = second_of (not (is_written c.ops.items c.variable.at)) (not (is_written c.ops.items c.end.at) && not (is_written c.ops.items c.by.at)) front
-
-  end_left : is_written c.ops.items c.end.at ≡ false
-  end_left = not_true (is_written c.ops.items c.end.at) (first_of (not (is_written c.ops.items c.end.at)) (not (is_written c.ops.items c.by.at)) others_left)
-
-  not_end : (c.variable.at == c.end.at) ≡ false
-  not_end = not_true (c.variable.at == c.end.at) (first_of (not (c.variable.at == c.end.at)) (not (c.variable.at == c.by.at)) behind)
-
-  there : c.variable.at < length registers
-  there =
-      let low = laned_variable c.limit c.variable.at c.ops.items (c.laned planned.lanes) in
-      let inside = planned.inside in
-      omega (arith, low, inside)
-
-  stays : list_all (is_steady c.ops.items) c.ops.items ≡ true
-  stays = subst (λ ops. list_all (is_steady ops) ops ≡ true) planned.ops ((planned.apart.apart cells).steady)
-
   abbrev value : ℕ → ℕ
   value = stepped p.rise.first p.rise.by
 
-  module _ (rs cells' : List ℕ) (ran : machine rs cells' ≡ turns p.laned.variable.at (stepped p.rise.first p.rise.by) p.laned.ops.now p.rise.count (machine registers cells)) where
-    abbrev new : List ℕ
-    new = slice_set rs c.variable.at p.rise.next
+  its_turns : AreItsTurns c.variable c.end c.by c.ops.items registers p.rise.first p.rise.by p.rise.count p.rise.next
+  its_turns =
+      let rise = planned.turns.rise in
+      record {
+        steady = c.steady planned.lanes;
+        there = variable_there c.limit c.variable.at c.ops.items registers (c.laned planned.lanes) planned.inside;
+        begins = sym rise.first;
+        by_step = sym rise.by;
+        small = subst (λ n. n < 2 ^ 64) (sym rise.first) (planned.words c.variable.at);
+        step_small = subst (λ n. n < 2 ^ 64) (sym rise.by) (planned.words c.by.at);
+        end_small = planned.words c.end.at;
+        below = rise.below;
+        goes_to = rise.next;
+        ends = rise.ends;
+        few = planned.apart.few;
+      }
 
-    did : machine rs cells' ≡ turns c.variable.at value c.ops.items p.rise.count (machine registers cells)
-    did =
-        ran
-        ∙ ap (λ (ops : List Op). turns p.laned.variable.at value ops p.rise.count (machine registers cells)) planned.ops
-        ∙ ap (λ (v : Register). turns v.at value c.ops.items p.rise.count (machine registers cells)) planned.variable
+  pub all_turns : (rs cells' : List ℕ) → machine rs cells' ≡ turns (variable_of p.turned) value (ops_of p.turned) p.rise.count (machine registers cells)
+      → (text : List ℕ) → counted c (running (machine registers cells) text) ≡ running (machine (slice_set rs c.variable.at p.rise.next) cells') text
+  all_turns rs cells' ran text =
+      let did : machine rs cells' ≡ turns c.variable.at value c.ops.items p.rise.count (machine registers cells)
+      = ran
+      ∙ ap (λ (ops : List Op). turns (variable_of p.turned) value ops p.rise.count (machine registers cells)) planned.ops
+      ∙ ap (λ (v : ℕ). turns v value c.ops.items p.rise.count (machine registers cells)) planned.variable in
+      ap (λ (u : Course). counts greatest_trip_count u c.ops.items c.variable c.end c.by (running (machine registers cells) text)) planned.turns.up
+      ∙ counted_law c.ops.items c.variable c.end c.by registers cells p.rise.first p.rise.by p.rise.count p.rise.next its_turns rs cells' did text
 
-    goes : (k : ℕ) (text : List ℕ) → counts (k + p.rise.count) Up c.ops.items c.variable c.end c.by (running (machine registers cells) text) ≡ counts k Up c.ops.items c.variable c.end c.by (running (machine new cells') text)
-    goes k text =
-        let t = planned.turns in
-        counted_there Up c.ops.items c.variable c.end c.by registers cells steady there planned.words p.rise.first (slice_index registers c.end.at) p.rise.by p.rise.count rs cells' new t.first refl t.by t.below did
-        (ap (slice_set rs c.variable.at) t.next) k text
+module _ (x : Nesting) (registers cells : List ℕ) (n : ℕ) (p : NestPlan) (planned : IsNestPlannedFor x registers n p) where
+  -- a turn by the numbers of its inner loop
+  abbrev turn : Nested
+  turn = nested_with x (stepped p.nest.first p.nest.by) p.nest.count p.nest.next
 
-    same_count : length rs ≡ length registers
-    same_count = ap (λ (m : Machine). length m.registers) did ∙ (outside c.variable.at p.rise.first p.rise.by c.ops.items (machine registers cells) stays p.rise.count).count
+  alike : AdvancesAlike (turned_by x) (flat turn) x.variable x.by registers
+  alike rs cells text kept =
+      ap (λ (u : Course). after (counts greatest_trip_count u x.counted.now.ops.items x.counted.now.variable x.counted.now.end x.counted.now.by (running (steps x.front.now (machine rs cells)) text))) planned.up
+      ∙ nests_law x.variable x.by x.counted.now.end x.counted.now.by turn registers p.nest.first p.nest.by refl planned.inner rs cells text kept
+    where
+      after : Running → Running
+      after q = running (moved Up x.variable x.by (steps x.back.now q.machine)) q.text
 
-    variable_held : slice_index new c.variable.at ≡ p.rise.next
-    variable_held = index_same rs c.variable.at p.rise.next (omega (arith, same_count, there))
-
-    end_held : slice_index new c.end.at ≡ slice_index registers c.end.at
-    end_held =
-        index_other rs c.variable.at c.end.at p.rise.next (λ e. eqb-false c.variable.at c.end.at not_end (sym e))
-        ∙ ap (λ (m : Machine). slice_index m.registers c.end.at) did
-        ∙ (outside c.variable.at p.rise.first p.rise.by c.ops.items (machine registers cells) stays p.rise.count).rest c.end.at not_end end_left
-
-    at_end : goes_on Up c.variable c.end (machine new cells') ≡ false
-    at_end =
-        let ends = planned.turns.ends in
-        not_less (slice_index new c.variable.at) (slice_index new c.end.at) (omega (arith, variable_held, end_held, ends))
-
-    pub all_turns : (text : List ℕ) → counted c (running (machine registers cells) text) ≡ running (machine new cells') text
-    all_turns text =
-        ap (λ (u : Course). counts greatest_trip_count u c.ops.items c.variable c.end c.by (running (machine registers cells) text)) planned.turns.up
-        ∙ ap (λ k. counts k Up c.ops.items c.variable c.end c.by (running (machine registers cells) text)) (sym (enough p.rise.count planned.apart.few))
-        ∙ goes (greatest_trip_count - p.rise.count) text
-        ∙ spins_over p.rise.count (goes_on Up c.variable c.end) (advances Up c.ops.items c.variable c.by) (running (machine new cells') text) at_end
+  pub all_nested : (rs cells' : List ℕ) → machine rs cells' ≡ turns p.nest.variable.at (stepped p.rise.first p.rise.by) (flat (nested_in p.nest)) p.rise.count (machine registers cells)
+      → (text : List ℕ) → nested_loop x (running (machine registers cells) text) ≡ running (machine (slice_set rs x.variable.at p.rise.next) cells') text
+  all_nested rs cells' ran text =
+      let did : machine rs cells' ≡ turns x.variable.at (stepped p.rise.first p.rise.by) (flat turn) p.rise.count (machine registers cells)
+      = ran
+      ∙ ap (λ (s : Nested). turns p.nest.variable.at (stepped p.rise.first p.rise.by) (flat s) p.rise.count (machine registers cells)) planned.is
+      ∙ ap (λ (v : Register). turns v.at (stepped p.rise.first p.rise.by) (flat turn) p.rise.count (machine registers cells)) planned.variable in
+      spins_law (turned_by x) (goes_on Up x.variable x.end) (flat turn) x.variable x.end x.by registers cells p.rise.first p.rise.by p.rise.count p.rise.next planned.turns (λ m. refl) alike rs cells' did text
 
 -- so the code that the loop is compiled to has run
-pub ran_in_place : (compiled : Compiled) (c : Counted) (ops : List Op) (registers cells own new cells' : List ℕ) (entered : AreEntered compiled ops registers cells own)
-    → ((r : Running) → runs compiled.block r ≡ counted c (running (steps ops r.machine) r.text))
-    → ((text : List ℕ) → counted c (running (machine own cells) text) ≡ running (machine new cells') text)
+pub ran_in_place : (compiled : Compiled) (loop : Running → Running) (ops : List Op) (registers cells own new cells' : List ℕ) (entered : AreEntered compiled ops registers cells own)
+    → ((r : Running) → runs compiled.block r ≡ loop (running (steps ops r.machine) r.text))
+    → ((text : List ℕ) → loop (running (machine own cells) text) ≡ running (machine new cells') text)
     → (text : List ℕ) → EndsBeside compiled (running (machine entered.wide cells) text) (running (machine new cells') text)
-ran_in_place compiled c ops registers cells own new cells' entered is turned text =
+ran_in_place compiled loop ops registers cells own new cells' entered is turned text =
     let began = running (machine (written compiled.first_constant compiled.constants.items entered.wide) cells) text in
     ends_beside compiled (running (machine entered.wide cells) text) (running (machine new cells') text)
-    (sym (is began ∙ ap (λ m. counted c (running m text)) (sym entered.does) ∙ turned text))
+    (sym (is began ∙ ap (λ m. loop (running m text)) (sym entered.does) ∙ turned text))

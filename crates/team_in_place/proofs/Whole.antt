@@ -12,6 +12,7 @@ use Rattle.law_parts.proofs.Parts.{others_law}
 use Rattle.lane_rows.specs.Lanes.{stepped}
 use Rattle.team_parts.specs.declared.shared.Shared.{Shared}
 use Rattle.team_parts.specs.Placed.{IsPlaced, LeavesOwn, IsPartDone, left_by}
+use Rattle.team_parts.specs.Turned.{ops_of, variable_of}
 use Rattle.team_parts.specs.Window.{bound_of}
 
 -- turns make no cells
@@ -45,7 +46,7 @@ module _ (s : Shared) (mine : List ℕ) (low : length s.before.now ≡ s.window.
       let b = length-append own s.behind.now in
       omega (arith, a, b, low)
 
-  module _ (apart : KeepApart s.laned.variable.at (stepped s.first s.by) s.code.ops.now s.count (machine s.registers.now (cells_with mine)) (bound_of s.window)) where
+  module _ (apart : KeepApart (variable_of s.turned) (stepped s.first s.by) (ops_of s.turned) s.count (machine s.registers.now (cells_with mine)) (bound_of s.window)) where
     none : s.window.width * 0 ≡ 0
     none = omega arith
 
@@ -74,12 +75,12 @@ module _ (s : Shared) (mine : List ℕ) (low : length s.before.now ≡ s.window.
       counted =
           let a = count_with new in
           let b = count_with mine in
-          let c = turned_count s.laned.variable.at (stepped s.first s.by) s.code.ops.now s.count (machine s.registers.now (cells_with mine)) in
+          let c = turned_count (variable_of s.turned) (stepped s.first s.by) (ops_of s.turned) s.count (machine s.registers.now (cells_with mine)) in
           omega (arith, a, b, c, kept, long)
 
       others : (p : ℕ) → (p < s.window.low) ⊎ (s.window.low + s.window.width * s.count ≤ p) → slice_index (left_by s (cells_with mine)).cells p ≡ slice_index (cells_with mine) p
-      others p (inl less) = others_law s.laned.variable.at (stepped s.first s.by) s.code.ops.now s.count (machine s.registers.now (cells_with mine)) (bound_of s.window) apart p (inl (omega (arith, less, none)))
-      others p (inr more) = others_law s.laned.variable.at (stepped s.first s.by) s.code.ops.now s.count (machine s.registers.now (cells_with mine)) (bound_of s.window) apart p (inr more)
+      others p (inl less) = others_law (variable_of s.turned) (stepped s.first s.by) (ops_of s.turned) s.count (machine s.registers.now (cells_with mine)) (bound_of s.window) apart p (inl (omega (arith, less, none)))
+      others p (inr more) = others_law (variable_of s.turned) (stepped s.first s.by) (ops_of s.turned) s.count (machine s.registers.now (cells_with mine)) (bound_of s.window) apart p (inr more)
 
       abbrev here : ℕ → Type 0
       here p = slice_index (cells_with new) p ≡ slice_index (left_by s (cells_with mine)).cells p

@@ -1,6 +1,9 @@
 //! Loops of many turns that a team runs in place: each worker's turns over cells of its own.
 #![tactic(auto)]
 
+mod looping;
+mod nest_planning;
+mod nesting;
 mod planning;
 mod running;
 mod sharing;

@@ -1,62 +1,14 @@
 //! Which loops are run in place.
 
 ghost use Rattle.std.specs.Prelude.{◌≡◌, ◌+◌, ◌*◌, ◌<◌, ℕ, IfSome};
-ghost use Rattle.lower_machine.specs.Machine.{Running, running};
-ghost use Rattle.lower_op.specs.Steps.{steps};
-ghost use Rattle.lower_block.specs.Block.{runs};
-ghost use Rattle.team_in_place.specs.Counting.{counted, AreTurnsOf, IsPlannedFor};
+ghost use Rattle.team_in_place.specs.Counting.{AreTurnsOf, IsPlannedFor, IsRise};
 
 use lane_body::{Counted, Course, Laned};
 use lane_part::{Turns, hold_numbers, register_value};
-use lower_block::Block;
-use lower_op::Op;
-use team_parts::{Window, window_of};
+use team_parts::{Turned, Window, window_of};
 
 /// Fewer turns are sooner run in chunks, by threads that there are.
-const MANY: u64 = 1 << 18;
-
-/// A loop's turns, and the instructions in front of them.
-#[derive(Clone, Copy)]
-pub(crate) struct Counting<'c> {
-    pub(crate) front: &'c [Op],
-    pub(crate) counted: &'c Counted,
-}
-
-// The turns of a counted loop that is all of a block.
-fn counted_in(block: &Block) -> Option<&Counted>
-    ensures { IfSome result (λ c. (r : Running) → runs block.now r ≡ counted c.now r) }
-{
-    match block {
-        Block::Counts(counted) => Some(counted),
-        _ => None,
-    }
-}
-
-// The counted loop that a block is, behind instructions.
-fn counting_behind<'c>(front: &'c Block, turns: &'c Block) -> Option<Counting<'c>>
-    ensures { IfSome result (λ c. (r : Running) → runs turns.now (runs front.now r)
-        ≡ counted c.counted.now (running (steps c.front.now r.machine) r.text)) }
-{
-    let counted = counted_in(turns)?;
-    match front {
-        Block::Straight(ops) => Some(Counting {
-            front: ops,
-            counted,
-        }),
-        _ => None,
-    }
-}
-
-/// The counted loop that a block is, behind instructions.
-pub(crate) fn counting_of(block: &Block) -> Option<Counting<'_>>
-    ensures { IfSome result (λ c. (r : Running) → runs block.now r
-        ≡ counted c.counted.now (running (steps c.front.now r.machine) r.text)) }
-{
-    match block {
-        Block::Then(front, turns) => counting_behind(front, turns),
-        _ => None,
-    }
-}
+pub(crate) const MANY: u64 = 1 << 18;
 
 /// The turns of a counted loop: the variable's number in the first one, what it grows by, how many they are, and its number behind the last one.
 #[derive(Clone, Copy)]
@@ -80,16 +32,10 @@ fn turns_before(first: u64, end: u64, by: u64) -> u64
     (end - first - 1) / by + 1
 }
 
-// The turns of a counted loop whose variable rises to its end, from where it stands in registers.
-fn rise_of(counted: &Counted, registers: &[u64]) -> Option<Rise>
-    ensures { IfSome result (AreTurnsOf counted.now registers.now) }
+/// The turns of a loop whose variable rises from a number by another one to an end.
+pub(crate) fn rise_between(first: u64, end: u64, by: u64) -> Option<Rise>
+    ensures { IfSome result (IsRise first end by) }
 {
-    if !matches!(counted.course, Course::Up) {
-        return None;
-    }
-    let first = register_value(registers, counted.variable.at);
-    let end = register_value(registers, counted.end.at);
-    let by = register_value(registers, counted.by.at);
     let count = turns_before(first, end, by);
     let next = first.wrapping_add(count.wrapping_mul(by));
     if next < end {
@@ -103,16 +49,29 @@ fn rise_of(counted: &Counted, registers: &[u64]) -> Option<Rise>
     })
 }
 
-/// A loop that may be run in place: its body, its turns, and the cells that each of these has to itself.
+// The turns of a counted loop whose variable rises to its end, from where it stands in registers.
+fn rise_of(counted: &Counted, registers: &[u64]) -> Option<Rise>
+    ensures { IfSome result (AreTurnsOf counted.now registers.now) }
+{
+    if !matches!(counted.course, Course::Up) {
+        return None;
+    }
+    let first = register_value(registers, counted.variable.at);
+    let end = register_value(registers, counted.end.at);
+    let by = register_value(registers, counted.by.at);
+    rise_between(first, end, by)
+}
+
+/// A loop that may be run in place: what a turn is, its turns, and the cells that each of these has to itself.
 #[derive(Clone, Copy)]
 pub(crate) struct Plan<'c> {
-    pub(crate) laned: Laned<'c>,
+    pub(crate) turned: Turned<'c>,
     pub(crate) rise: Rise,
     pub(crate) window: Window,
 }
 
-// The body of a counted loop that may be run in lanes as it is.
-fn laned_body(counted: &Counted) -> Option<Laned<'_>>
+/// The body of a counted loop that may be run in lanes as it is.
+pub(crate) fn laned_body(counted: &Counted) -> Option<Laned<'_>>
     ensures { IfSome result (λ l. (l.ops.now ≡ counted.now.ops.items)
         × (l.variable ≡ counted.now.variable) × (l.limit ≡ counted.now.limit)
         × (0 < counted.now.limit)) }
@@ -149,7 +108,7 @@ pub(crate) fn plan_of<'c>(counted: &'c Counted, registers: &[u64], cells: u64) -
     hold_numbers(registers);
     let window = window_of(laned, turns, cells)?;
     Some(Plan {
-        laned,
+        turned: Turned::Straight(laned),
         rise,
         window,
     })

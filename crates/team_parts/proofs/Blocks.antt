@@ -13,6 +13,7 @@ use Rattle.law_parts.proofs.Parts.{parts_law}
 use Rattle.lane_rows.specs.Lanes.{stepped}
 use Rattle.team_parts.specs.declared.shared.Shared.{Shared}
 use Rattle.team_parts.specs.Parted.{parted}
+use Rattle.team_parts.specs.Turned.{ops_of, variable_of}
 use Rattle.team_parts.specs.Placed.{IsPlaced, LeavesOwn, IsPartDone, left_by}
 use Rattle.team_parts.specs.Window.{bound_of}
 use Rattle.team_parts.proofs.Places.{parted_length, before_at, own_at, behind_at}
@@ -84,17 +85,17 @@ module _ (s : Shared) (from count : ℕ) (mine cells : List ℕ) (placed : IsPla
           ap (slice_index part) at ∙ behind_at s.before.now (width * from) mine (width * rest) s.behind.now k ∙ placed.behind k ∙ ap (slice_index cells) back
 
   abbrev mine_turns : Machine
-  mine_turns = turns s.laned.variable.at (later (stepped s.first s.by) from) s.code.ops.now count (machine s.registers.now part)
+  mine_turns = turns (variable_of s.turned) (later (stepped s.first s.by) from) (ops_of s.turned) count (machine s.registers.now part)
 
   pub leaves_part : LeavesPart (bound_of s.window from) (bound_of s.window (from + count)) ((0 < count) × (from + count ≡ s.count)) mine_turns (left_by s cells)
-  leaves_part = parts_law s.laned.variable.at (stepped s.first s.by) s.code.ops.now s.count (machine s.registers.now cells) (bound_of s.window) from count part placed.apart within is_part
+  leaves_part = parts_law (variable_of s.turned) (stepped s.first s.by) (ops_of s.turned) s.count (machine s.registers.now cells) (bound_of s.window) from count part placed.apart within is_part
 
-  pub leaves_own : (first : ℕ) (m : Machine) → first ≡ stepped s.first s.by from → m ≡ turns s.laned.variable.at (stepped first s.by) s.code.ops.now count (machine s.registers.now part)
+  pub leaves_own : (first : ℕ) (m : Machine) → first ≡ stepped s.first s.by from → m ≡ turns (variable_of s.turned) (stepped first s.by) (ops_of s.turned) count (machine s.registers.now part)
       → LeavesOwn s from count (take (width * count) (drop (length s.before.now + width * from) m.cells)) m.registers cells
   leaves_own first m is ran =
       let same : m ≡ mine_turns
       = ran
-      ∙ turns_alike s.laned.variable.at (stepped first s.by) (later (stepped s.first s.by) from) s.code.ops.now count (machine s.registers.now part)
+      ∙ turns_alike (variable_of s.turned) (stepped first s.by) (later (stepped s.first s.by) from) (ops_of s.turned) count (machine s.registers.now part)
       (λ k. ap (λ f. stepped f s.by k) is ∙ stepped_behind s.first s.by from k) in
       record {
         own = λ k lt.
@@ -110,7 +111,7 @@ module _ (s : Shared) (from count : ℕ) (mine cells : List ℕ) (placed : IsPla
 
 -- a part that was run over copies of its own cells
 pub part_done : (s : Shared) (from count first : ℕ) (mine new : List ℕ) (m : Machine) → from + count ≤ s.count → length mine ≡ s.window.width * count → first ≡ stepped s.first s.by from
-    → m ≡ turns s.laned.variable.at (stepped first s.by) s.code.ops.now count (machine s.registers.now (parted s.before.now (s.window.width * from) mine (s.window.width * (s.count - from - count)) s.behind.now))
+    → m ≡ turns (variable_of s.turned) (stepped first s.by) (ops_of s.turned) count (machine s.registers.now (parted s.before.now (s.window.width * from) mine (s.window.width * (s.count - from - count)) s.behind.now))
     → new ≡ take (s.window.width * count) (drop (length s.before.now + s.window.width * from) m.cells) → length new ≡ length mine → IsPartDone s from count mine new m.registers
 part_done s from count first mine new m within long is ran taken kept = record {
   long = kept;

@@ -28,7 +28,7 @@ module _ (w : Window) (count : ℕ) (few : count ≤ 2 ^ 24) (room : w.low + w.w
   width_more : (t : ℕ) → w.width * suc t ≡ w.width * t + w.width
   width_more t = let one : suc t ≡ t + 1 = omega arith in ap (λ n. w.width * n) one ∙ mul-add w.width t 1 ∙ (let e : w.width * t + w.width * 1 ≡ w.width * t + w.width = omega arith in e)
 
-  width_rises : (j k : ℕ) → j ≤ k → w.width * j ≤ w.width * k
+  pub width_rises : (j k : ℕ) → j ≤ k → w.width * j ≤ w.width * k
   width_rises j k le = mul-le w.width j w.width k (omega arith) le
 
   kept_place : (s : Stride) (t : ℕ) → Keeps w s → t < count → IsBetween (bound_of w t) (bound_of w (suc t)) (stepped s.start s.step t)
@@ -56,19 +56,18 @@ module _ (w : Window) (count : ℕ) (few : count ≤ 2 ^ 24) (room : w.low + w.w
       go far is none (inl less) = inl (omega (arith, far, is, none, less))
       go far is none (inr more) = inr (omega (arith, is, more))
 
-  module _ (variable first by : ℕ) (registers : List ℕ) (ops : List Op) (there : variable < length registers) (words : (r : ℕ) → slice_index registers r < 2 ^ 64)
-      (fits : (op : Op) → Contains ops op → FitsWindow w variable first by count registers op) (cells : List ℕ) where
+  module _ (variable first by : ℕ) (registers : List ℕ) (there : variable < length registers) (words : (r : ℕ) → slice_index registers r < 2 ^ 64) (cells : List ℕ) where
     follows : (op : Op) (t : ℕ) → Follows t (form_sum (part_of op).form (entered variable (stepped first by) t (machine registers cells))) (places_of variable first by registers (part_of op).form)
     follows op t = places_follow variable first by t registers cells (part_of op).form there
 
-    written_there : (op : Op) (t : ℕ) → Contains ops op → t < count → saves op ≡ true → IsBetween (bound_of w t) (bound_of w (suc t)) (place_of op (entered variable (stepped first by) t (machine registers cells)))
-    written_there op t among lt s =
+    pub written_there : (op : Op) (t : ℕ) → FitsWindow w variable first by count registers op → t < count → saves op ≡ true → IsBetween (bound_of w t) (bound_of w (suc t)) (place_of op (entered variable (stepped first by) t (machine registers cells)))
+    written_there op t fits lt s =
         subst (IsBetween (bound_of w t) (bound_of w (suc t))) (sym (place_follows op variable first by t registers cells (places_of variable first by registers (part_of op).form) words (follows op t)))
-        (kept_place (places_of variable first by registers (part_of op).form) t ((fits op among).writes (sym (part_saves op) ∙ s)) lt)
+        (kept_place (places_of variable first by registers (part_of op).form) t (fits.writes (sym (part_saves op) ∙ s)) lt)
 
-    read_there : (op : Op) (t : ℕ) → Contains ops op → t < count → loads op ≡ true
+    pub read_there : (op : Op) (t : ℕ) → FitsWindow w variable first by count registers op → t < count → loads op ≡ true
         → IsBetween (bound_of w t) (bound_of w (suc t)) (source_of op (entered variable (stepped first by) t (machine registers cells))) ⊎ IsBeside (bound_of w 0) (bound_of w count) (source_of op (entered variable (stepped first by) t (machine registers cells)))
-    read_there op t among lt l = go ((fits op among).reads (sym (part_loads op) ∙ l))
+    read_there op t fits lt l = go (fits.reads (sym (part_loads op) ∙ l))
       where
         s : Stride
         s = sources (part_of op).work (places_of variable first by registers (part_of op).form)
@@ -81,15 +80,15 @@ module _ (w : Window) (count : ℕ) (few : count ≤ 2 ^ 24) (room : w.low + w.w
         go (inl keeps) = inl (subst (IsBetween (bound_of w t) (bound_of w (suc t))) (sym is) (kept_place s t keeps lt))
         go (inr beside) = inr (subst (IsBeside (bound_of w 0) (bound_of w count)) (sym is) (place_beside s t beside lt))
 
-    pub kept_apart : (limit : ℕ) → are_laned limit variable ops ≡ true → KeepApart variable (stepped first by) ops count (machine registers cells) (bound_of w)
-    kept_apart limit laned =
+    pub kept_apart : (ops : List Op) → ((op : Op) → Contains ops op → FitsWindow w variable first by count registers op) → (limit : ℕ) → are_laned limit variable ops ≡ true → KeepApart variable (stepped first by) ops count (machine registers cells) (bound_of w)
+    kept_apart ops fits limit laned =
         let parts = second_of (is_room limit variable && list_all (has_room limit) ops) (are_own variable ops [] ops && list_all (is_steady ops) ops) laned in
         record {
           own = first_of (are_own variable ops [] ops) (list_all (is_steady ops) ops) parts;
           steady = second_of (are_own variable ops [] ops) (list_all (is_steady ops) ops) parts;
           rise = λ j k le. let up = width_rises j k le in omega (arith, up);
-          writes = written_there;
-          reads = read_there;
+          writes = λ op t among lt s. written_there op t (fits op among) lt s;
+          reads = λ op t among lt l. read_there op t (fits op among) lt l;
         }
 
 -- the variable is a register that there is

@@ -1,3 +1,5 @@
+pub mod Around
 pub mod Parted
 pub mod Placed
+pub mod Turned
 pub mod Window

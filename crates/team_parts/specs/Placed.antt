@@ -5,15 +5,16 @@ use Rattle.lane_rows.specs.Lanes.{stepped}
 use Rattle.law_lanes.specs.Lanes.{turns}
 use Rattle.law_parts.specs.Parts.{KeepApart}
 use Rattle.team_parts.specs.declared.shared.Shared.{Shared}
+use Rattle.team_parts.specs.Turned.{ops_of, variable_of}
 use Rattle.team_parts.specs.Window.{bound_of}
 
 -- what all turns leave, one after another, over so many cells
 abbrev pub left_by : Shared → List ℕ → Machine
-left_by s cells = turns s.laned.variable.at (stepped s.first s.by) s.code.ops.now s.count (machine s.registers.now cells)
+left_by s cells = turns (variable_of s.turned) (stepped s.first s.by) (ops_of s.turned) s.count (machine s.registers.now cells)
 
 -- the turns have their cells to themselves, and what is lent and a part's own cells are these cells
 pub record IsPlaced (s : Shared) (from count : ℕ) (mine cells : List ℕ) : Type 0 where
-  pub apart : KeepApart s.laned.variable.at (stepped s.first s.by) s.code.ops.now s.count (machine s.registers.now cells) (bound_of s.window)
+  pub apart : KeepApart (variable_of s.turned) (stepped s.first s.by) (ops_of s.turned) s.count (machine s.registers.now cells) (bound_of s.window)
   pub long : length cells ≡ s.window.low + s.window.width * s.count + length s.behind.now
   pub low : length s.before.now ≡ s.window.low
   pub before : (k : ℕ) → k < s.window.low → slice_index s.before.now k ≡ slice_index cells k

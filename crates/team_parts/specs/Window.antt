@@ -22,6 +22,14 @@ pub record LiesBeside (w : Window) (count : ℕ) (s : Stride) : Type 0 where
   pub step : s.step < 2 ^ 38
   pub aside : (s.start + count * s.step < w.low) ⊎ (w.low + w.width * count ≤ s.start)
 
+-- the own places of so many turns, which are not many, are below a number of cells, and each turn has some
+pub record IsBelow (w : Window) (count cells : ℕ) : Type 0 where
+  pub some : 0 < w.width
+  pub one : w.low + w.width < 2 ^ 64
+  pub few : count ≤ 2 ^ 24
+  pub within : w.low + w.width * count ≤ cells
+  pub room : w.low + w.width * count < 2 ^ 62
+
 -- what an instruction writes is the turn's own, and what it reads is too, or no turn's
 pub record FitsWindow (w : Window) (variable first by count : ℕ) (registers : List ℕ) (op : Op) : Type 0 where
   pub writes : work_saves (part_of op).work ≡ true → Keeps w (places_of variable first by registers (part_of op).form)

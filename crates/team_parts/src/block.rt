@@ -1,24 +1,22 @@
 //! A part of the turns of a loop, block by block.
 
-ghost use Rattle.std.specs.Prelude.{◌≡◌, ◌+◌, ◌*◌, ◌≤◌, true, false, length, OnOk};
-ghost use Rattle.lane_rows.specs.Lanes.{stepped};
-ghost use Rattle.law_lanes.specs.Lanes.{turns};
-ghost use Rattle.lower_machine.specs.Machine.{machine};
-ghost use Rattle.lower_runner.specs.Turning.{ConstantsStand};
+ghost use Rattle.std.specs.Prelude.{◌≡◌, ◌+◌, ◌*◌, ◌<◌, ◌≤◌, true, false, length, OnOk};
 ghost use Rattle.team_parts.specs.Placed.{IsPartDone};
 
 use crate::cells::Parted;
 use crate::shared::Shared;
-use lane_body::Body;
+use crate::turning::run_over;
 use lane_rows::Bench;
 use lower_lanes::new_bench;
-use lower_op::Cells;
 use std::alloc::{AllocError, Global};
 use std::marker::Model;
 use std::mem;
 
-/// The most turns whose cells are copied at once, so that the copies stay in a processor's cache.
+/// The most turns that are run over one copy of their cells.
 const BLOCK: u64 = 4096;
+
+/// The most cells that are copied at once, so that the copy stays in a processor's cache, but for those of one turn.
+const COPIED: u64 = 1 << 15;
 
 /// What a thread runs turns with: registers, room for rows, the cells of a block, and memory that all cells have room in, which is written only where
 /// a turn writes cells that are not its own. Contracts see the registers.
@@ -47,59 +45,6 @@ fn copy_into(to: &mut Vec<u64>, numbers: &[u64]) -> Result<(), AllocError>
     Ok(())
 }
 
-// Runs so many turns over cells in lanes, where their places are seen to be apart; else it leaves registers and cells.
-fn run_in_lanes<M: Cells>(
-    shared: Shared<'_, '_>,
-    first: u64,
-    count: u64,
-    registers: &mut [u64],
-    cells: &mut M,
-    bench: &mut Bench,
-) -> bool
-    requires few { count ≤ 16384 }
-    ensures does { result ≡ true → machine registers.new (M.cells cells.new)
-        ≡ turns shared.entry.laned.variable.at (stepped first shared.entry.by)
-        shared.entry.code.ops.now count (machine registers.old (M.cells cells.old)) }
-    ensures left { result ≡ false → (registers.new ≡ registers.old)
-        × (M.cells cells.new ≡ M.cells cells.old) }
-    ensures kept { M.shape cells.new ≡ M.shape cells.old }
-{
-    if !bench.has_rows(64) {
-        return false;
-    }
-    let body = Body::Plain(shared.laned);
-    shared
-        .code
-        .run_turns(body, first, shared.by, count, registers, cells, bench)
-}
-
-// Runs so many turns over cells, in lanes where they may be run so, and else one after another.
-fn run_over<M: Cells>(
-    shared: Shared<'_, '_>,
-    first: u64,
-    count: u64,
-    registers: &mut [u64],
-    cells: &mut M,
-    bench: &mut Bench,
-)
-    requires few { count ≤ 16384 }
-    requires stand { ConstantsStand shared.code.compiled.now registers.old }
-    ensures does { machine registers.new (M.cells cells.new)
-        ≡ turns shared.entry.laned.variable.at (stepped first shared.entry.by)
-        shared.entry.code.ops.now count (machine registers.old (M.cells cells.old)) }
-    ensures kept { M.shape cells.new ≡ M.shape cells.old }
-{
-    if !run_in_lanes(shared, first, count, registers, cells, bench) {
-        let Shared {
-            code,
-            laned,
-            by,
-            ..
-        } = shared;
-        code.run_each_turn(laned.variable, first, by, count, registers, cells);
-    }
-}
-
 // Runs so many turns from one on over copies of their own cells, and writes these back.
 fn run_block(
     alloc: Global,
@@ -125,8 +70,10 @@ fn run_block(
     let first = shared.first.wrapping_add(from.wrapping_mul(shared.by));
     let registers = tools.registers.as_mut_slice();
     run_over(
-        shared,
+        shared.compiled,
+        shared.turned,
         first,
+        shared.by,
         count,
         registers,
         &mut cells,
@@ -137,6 +84,15 @@ fn run_block(
     tools.block = block;
     tools.memory = memory;
     Ok(())
+}
+
+// Whether so many turns are run over one copy of their cells.
+fn is_block(shared: Shared<'_, '_>, count: u64) -> bool
+    requires within { count ≤ shared.count }
+    ensures few { result ≡ true → count ≤ 16384 }
+    ensures some { result ≡ false → 1 < count }
+{
+    count < 2 || count <= BLOCK && shared.cells_of(count) <= COPIED
 }
 
 /// Runs so many turns from one on over their own cells. The tools hold the registers as these turns leave them.
@@ -157,7 +113,7 @@ pub fn run_part(
     ensures { OnOk result (IsPartDone shared.entry from count
         own.old own.new tools.new) }
 {
-    if count <= BLOCK {
+    if is_block(shared, count) {
         return run_block(alloc, shared, from, count, own, tools);
     }
     let half = count / 2;

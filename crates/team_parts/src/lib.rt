@@ -2,12 +2,18 @@
 //! those of the store.
 #![tactic(auto)]
 
+mod around;
 mod block;
 mod cells;
 mod shared;
+mod turned;
+mod turning;
+mod unrolling;
 mod window;
 
+pub use around::nest_window_of;
 pub use block::{Tools, run_part};
 pub use cells::Parted;
 pub use shared::Shared;
+pub use turned::{Nest, Turned};
 pub use window::{Window, window_of};

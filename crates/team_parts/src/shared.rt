@@ -1,19 +1,21 @@
 //! What the parts of a loop's turns have in common.
 
-ghost use Rattle.std.specs.Prelude.{◌≡◌, ◌+◌, ◌*◌, ◌<◌, ◌≤◌, ◌^◌};
-ghost use Rattle.lower_runner.specs.Turning.{ConstantsStand, LeavesConstants};
+ghost use Rattle.std.specs.Prelude.{◌≡◌, ◌+◌, ◌*◌, ◌<◌, ◌≤◌, ◌^◌, length};
+ghost use Rattle.lower_runner.specs.Turning.{ConstantsStand};
+ghost use Rattle.team_parts.specs.Turned.{LeaveConstants, limit_of};
 
+use crate::turned::Turned;
 use crate::window::Window;
-use lane_body::Laned;
-use lower_runner::Instructions;
+use lower_block::Compiled;
 
-/// What the parts of a loop's turns have in common: the body, which is run in lanes where that may be; the variable's number in the first turn, what it
-/// grows by from turn to turn, modulo 2^64, and how many turns there are; the registers before all turns, with the body's constants; the cells that
-/// each turn has to itself, and those in front of all of these and behind them (C11 6.8.5; OpenMP 5.2, 11.5).
+/// What the parts of a loop's turns have in common: the code that the loop is of; what a turn is, which is run in lanes where that may be; the
+/// variable's number in the first turn, what it grows by from turn to turn, modulo 2^64, and how many turns there are; the registers before all
+/// turns, with the code's constants; the cells that each turn has to itself, and those in front of all of these and behind them (C11 6.8.5; OpenMP
+/// 5.2, 11.5).
 #[derive(Clone, Copy)]
 pub struct Shared<'c, 'k> {
-    pub code: Instructions<'c>,
-    pub laned: Laned<'c>,
+    pub compiled: &'c Compiled,
+    pub turned: Turned<'c>,
     pub first: u64,
     pub by: u64,
     pub count: u64,
@@ -21,9 +23,9 @@ pub struct Shared<'c, 'k> {
     pub window: Window,
     pub before: &'k [u64],
     pub behind: &'k [u64],
-    pub ghost same: { laned.ops.now ≡ code.ops.now },
-    pub ghost leaves: { LeavesConstants code.compiled.now code.ops.now laned.variable.at },
-    pub ghost stand: { ConstantsStand code.compiled.now registers.now },
+    pub ghost leaves: { LeaveConstants compiled.now turned },
+    pub ghost stand: { ConstantsStand compiled.now registers.now },
+    pub ghost wide: { limit_of turned ≤ length registers.now },
     pub ghost few: { count ≤ 2 ^ 24 },
     pub ghost room: { window.width * count < 2 ^ 62 },
 }

@@ -5,6 +5,7 @@ use Rattle.lower_machine.specs.Machine.{machine}
 use Rattle.law_lanes.specs.Lanes.{turns}
 use Rattle.lane_rows.specs.Lanes.{stepped}
 use Rattle.lower_run.proofs.Restored.{put_back}
+use Rattle.team_parts.specs.Turned.{ops_of, variable_of}
 use Rattle.team_in_place.proofs.Cells.{same_lengths, values_after, values_before}
 use Rattle.team_in_place.proofs.running.run_over_store.Goals as goal
 
@@ -47,7 +48,7 @@ returns-clause-does g c =
     let values' : values_of c.with_cells.result ≡ new = values_after cells new frame c.args.store.now c.with_cells.result c.into_cells-frame.ensures.count long before after in
     ap (λ cs. machine rs cs) values'
     ∙ c.in_ok-registers.ensures.does
-    ∙ ap (λ cs. turns p.laned.variable.at (stepped p.rise.first p.rise.by) p.laned.ops.now p.rise.count (machine c.args.registers.now cs)) (c.as_mut_slice.ensures.value ∙ sym values)
+    ∙ ap (λ cs. turns (variable_of p.turned) (stepped p.rise.first p.rise.by) (ops_of p.turned) p.rise.count (machine c.args.registers.now cs)) (c.as_mut_slice.ensures.value ∙ sym values)
 
 pub returns-clause-shape : goal.returns-clause-shape
 returns-clause-shape g c =

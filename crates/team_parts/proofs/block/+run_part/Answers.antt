@@ -13,7 +13,7 @@ run_part-requires-2 t c =
     let rest = c.args.count - half in
     let all : c.args.count ≡ half + rest = omega arith in
     let both : w * c.args.count ≡ w * half + w * rest = ap (λ n. w * n) all ∙ mul-add w half rest in
-    let first : rest < t = omega (arith, c.decreases, c.if-count-le-BLOCK.false) in
+    let first : rest < t = omega (arith, c.decreases, (c.is_block.ensures.some c.if-is_block.false)) in
     let second : c.args.from + half + rest ≤ c.args.shared.count = omega (arith, all, c.requires.within) in
     let front : length c.split_at_mut-front.result.1.now ≡ w * rest = omega (arith, both, c.split_at_mut-front.ensures.back_len, c.requires.own, c.cells_of.ensures) in
     (first, (second, front))
@@ -27,7 +27,7 @@ returns t c =
     let front = c.split_at_mut-front.result.0.now in
     let back = c.split_at_mut-front.result.1.now in
     let all : half + rest ≡ c.args.count = omega arith in
-    let some : 0 < rest = omega (arith, c.if-count-le-BLOCK.false) in
+    let some : 0 < rest = omega (arith, (c.is_block.ensures.some c.if-is_block.false)) in
     let long : length front ≡ s.window.width * half = search rules in
     let whole : front ++ back ≡ c.args.own.now = search rules in
     let done : IsPartDone s from (half + rest) (front ++ back) (c.run_part.new.own ++ c.run_part-2.new.own) c.run_part-2.new.tools

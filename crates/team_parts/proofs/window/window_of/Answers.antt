@@ -1,5 +1,5 @@
 -- What is left to show of the window.
-use Rattle.std.proofs.Common.{◌+◌, ◌*◌, ◌<◌, ◌≤◌, ◌^◌, subst, arith}
+use Rattle.std.proofs.Common.{subst}
 use Rattle.std.specs.Prelude.{Contains}
 use Rattle.lower_op.specs.declared.op.Op.{Op}
 use Rattle.team_parts.specs.Window.{FitsWindow}
@@ -13,8 +13,7 @@ returns-clause-apart c cells =
     let laned = c.args.laned in
     let turns = c.args.turns in
     let registers = turns.registers.now in
-    let few : turns.count ≤ 2 ^ 24 = omega (arith, c.if-turns.false) in
-    let room : w.low + w.width * turns.count < 2 ^ 62 = omega (arith, c.if-cells.false, c.if-window-cells.false, c.if-window-turns.false) in
+    let below = c.is_below.ensures c.if-not-is_below.false in
     let fits : (op : Op) → Contains laned.ops.now op → FitsWindow w laned.variable.at turns.first turns.by turns.count registers op
     = subst (λ v. (op : Op) → Contains laned.ops.now op → FitsWindow w v turns.first turns.by turns.count registers op) c.requires.along (c.all_fit.ensures c.if-not-all_fit.false) in
-    kept_apart w turns.count few room laned.variable.at turns.first turns.by registers laned.ops.now (variable_there laned.limit laned.variable.at laned.ops.now registers laned.laned c.requires.inside) c.hold_numbers.ensures fits cells laned.limit laned.laned
+    kept_apart w turns.count below.few below.room laned.variable.at turns.first turns.by registers (variable_there laned.limit laned.variable.at laned.ops.now registers laned.laned c.requires.inside) c.hold_numbers.ensures cells laned.ops.now fits laned.limit laned.laned
