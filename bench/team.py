@@ -90,6 +90,31 @@ void kernel(void)
     }
 }
 """
+STENCIL = """uint64_t A[2000][2000];
+uint64_t B[2000][2000];
+
+void kernel(void)
+{
+    for (uint64_t i = 0; i < 2000; i++) {
+        for (uint64_t j = 0; j < 2000; j++) {
+            A[i][j] = i * 31 + j * 17 & 255;
+        }
+    }
+    /* timed from here on */
+    #pragma omp parallel for schedule(static)
+    for (uint64_t i = 1; i < 1999; i++) {
+        for (uint64_t j = 1; j < 1999; j++) {
+            B[i][j] = A[i][j] + A[i-1][j] + A[i+1][j] + A[i][j-1] + A[i][j+1];
+        }
+    }
+    #pragma omp parallel for schedule(static)
+    for (uint64_t i = 1; i < 1999; i++) {
+        for (uint64_t j = 1; j < 1999; j++) {
+            A[i][j] = B[i][j] >> 2;
+        }
+    }
+}
+"""
 ONES = """uint64_t A[1000000];
 
 void kernel(void)
@@ -259,6 +284,7 @@ KERNELS = {
     "hash": HASH,
     "product": PRODUCT,
     "map": MAP,
+    "stencil": STENCIL,
     "sum": reduced("+", "s += A[i] + i;"),
     "max": reduced("max", "if ((A[i] ^ i) > s) s = (A[i] ^ i);"),
     "xor": reduced("^", "s ^= A[i] + i;"),
@@ -272,7 +298,7 @@ COMPUTED = ("hash", "product")
 LIGHT = ("distance", "sweep")
 
 # how often the body of a kernel runs where its loops are timed alone
-OFTEN = {"hash": 3, "product": 9, "map": 17, "sum": 57, "max": 57, "xor": 57, "local": 513, "prefix": 5, "distance": 9, "sweep": 9, "relax": 5}
+OFTEN = {"hash": 3, "product": 9, "map": 17, "stencil": 9, "sum": 57, "max": 57, "xor": 57, "local": 513, "prefix": 5, "distance": 9, "sweep": 9, "relax": 5}
 
 
 class Runner:

@@ -66,7 +66,7 @@ printf 'uint64_t x;\nuint64_t B[2][2];\nvoid kernel(void)\n{\n}\n' >"$work/empty
 printf 'B 1 2 3 18446744073709551615\n' >"$work/input"
 expect 0 $'x = 0\nB = 1 2 3 18446744073709551615\n' '' run "$work/empty.c" --input "$work/input"
 
-# loops of more than 2^18 turns, run in place and in chunks
+# loops of many turns, run in place and in chunks
 cat >"$work/long.c" <<'END'
 uint64_t n;
 uint64_t A[300000];
@@ -113,6 +113,68 @@ for workers in 1 2 3 64; do
     last=$?
     if [ "$last" -ne 0 ] || [ -s "$work/err" ] || ! cmp -s "$work/out" "$work/long.out"; then
         printf 'long loops by %s workers: status %s\n' "$workers" "$last"
+        faults=1
+    fi
+done
+
+# loops over rows, of which each turn has one or a part of one to itself, and some that have not
+cat >"$work/rows.c" <<'END'
+uint64_t scale;
+uint64_t A[500][600];
+uint64_t B[500][600];
+uint64_t S[600];
+uint64_t T[500][600][2];
+void kernel(void)
+{
+    #pragma omp parallel for
+    for (uint64_t i = 0; i < 500; i++) { for (uint64_t j = 0; j < 600; j++) { A[i][j] = i * 31 + j * j + scale; } }
+    for (uint64_t t = 0; t < 2; t++) {
+        #pragma omp parallel for schedule(static)
+        for (uint64_t i = 1; i < 499; i++) {
+            for (uint64_t j = 1; j < 599; j++) { B[i][j] = A[i][j] + A[i - 1][j] * 3 + A[i + 1][j] + A[i][j - 1] + A[i][j + 1]; }
+        }
+        #pragma omp parallel for schedule(static)
+        for (uint64_t i = 1; i < 499; i++) { for (uint64_t j = 1; j < 599; j++) { A[i][j] = B[i][j] + t; } }
+    }
+    #pragma omp parallel for
+    for (uint64_t i = 0; i < 500; i++) { for (uint64_t j = 1; j < 600; j++) { B[i][j] += B[i][j - 1] + i; } }
+    #pragma omp parallel for
+    for (uint64_t i = 0; i < 500; i++) { for (uint64_t j = 0; j < 600; j++) { uint64_t x = A[i][j]; T[i][j][1] = x; T[i][j][0] = x ^ j; } }
+    #pragma omp parallel for
+    for (uint64_t j = 0; j < 600; j++) { for (uint64_t i = 0; i < 500; i++) { S[j] += A[i][j]; } }
+    #pragma omp parallel for
+    for (uint64_t i = 0; i < 499; i += 2) { for (uint64_t j = 0; j < 599; j += 3) { A[i][j] = A[i + 1][j] + j; } }
+}
+END
+python3 - >"$work/rows.out" <<'END'
+word = (1 << 64) - 1
+rows, width = 500, 600
+A = [[(i * 31 + j * j) & word for j in range(width)] for i in range(rows)]
+B = [[0] * width for _ in range(rows)]
+for t in range(2):
+    for i in range(1, rows - 1):
+        for j in range(1, width - 1):
+            B[i][j] = (A[i][j] + A[i - 1][j] * 3 + A[i + 1][j] + A[i][j - 1] + A[i][j + 1]) & word
+    for i in range(1, rows - 1):
+        for j in range(1, width - 1):
+            A[i][j] = (B[i][j] + t) & word
+for i in range(rows):
+    for j in range(1, width):
+        B[i][j] = (B[i][j] + B[i][j - 1] + i) & word
+T = [n for i in range(rows) for j in range(width) for n in (A[i][j] ^ j, A[i][j])]
+S = [sum(A[i][j] for i in range(rows)) & word for j in range(width)]
+for i in range(0, rows - 1, 2):
+    for j in range(0, width - 1, 3):
+        A[i][j] = (A[i + 1][j] + j) & word
+print("scale = 0")
+for name, values in (("A", sum(A, [])), ("B", sum(B, [])), ("S", S), ("T", T)):
+    print(name, "=", *values)
+END
+for workers in 1 2 3 64; do
+    "$program" run "$work/rows.c" --workers "$workers" >"$work/out" 2>"$work/err"
+    last=$?
+    if [ "$last" -ne 0 ] || [ -s "$work/err" ] || ! cmp -s "$work/out" "$work/rows.out"; then
+        printf 'loops over rows by %s workers: status %s\n' "$workers" "$last"
         faults=1
     fi
 done

@@ -8,7 +8,7 @@ use lane_part::{Turns, hold_numbers, register_value};
 use team_parts::{Turned, Window, window_of};
 
 /// Fewer turns are sooner run in chunks, by threads that there are.
-pub(crate) const MANY: u64 = 1 << 18;
+pub(crate) const MANY: u64 = 1 << 16;
 
 /// The turns of a counted loop: the variable's number in the first one, what it grows by, how many they are, and its number behind the last one.
 #[derive(Clone, Copy)]
