@@ -4,8 +4,8 @@
     bench/random_rows.py [--program PROGRAM] FIRST COUNT
 
 Makes a text for each seed from FIRST on: three arrays of some 300 rows, and two parallel loops under plain static over rows of one of them, each with a
-loop of random steps and ends inside, which reads the others near the place that it writes, and the row itself. So most are long enough to be run in place, and
-some are not, or may not be. What an accepted text leaves by `run` with 1, 2, 3, 5 and 64 workers has to be what `seq` leaves. A line for each seed that
+loop of random steps and ends inside, which reads the others near the place that it writes, and the row itself; and one over an element each, with a loop inside
+that changes a local by itself and by elements near. So most are long enough to be run in place, and some are not, or may not be. What an accepted text leaves by `run` with 1, 2, 3, 5 and 64 workers has to be what `seq` leaves. A line for each seed that
 differs; the last line says how many were run, refused and differ. The status is 1 where one does.
 """
 import argparse
@@ -59,13 +59,34 @@ def loop(draw, rows, width):
     )
 
 
+def changes(draw):
+    """What a local becomes from turn to turn of an inner loop."""
+    near = draw.choice(["D[i+k]", "D[i+k-1]", "D[i+31-k]", "D[i]", "F[k]", "F[31-k]", "G[k][i]", "k", "i", "D[i+2*k]"])
+    return draw.choice([f"s += {near};", f"s = s * {draw.randrange(2, 9)} + {near};", f"s ^= {near}; s += s << {draw.randrange(1, 9)};", f"s = s * {near} ^ F[k];", f"if ({near} < s) s = {near};"])
+
+
+def folded(draw, count):
+    """A parallel loop over elements, each made by a loop that changes a local."""
+    clause, first, end = draw.choice(["", " schedule(static)"]), draw.choice([1, 2]), draw.choice([2, 9, 16, 30])
+    before, behind = draw.choice(["", "E[i] = i; ", "E[i] += F[3]; "]), draw.choice(["E[i] = s;", "E[i] += s;", "E[i] = s / 3 + E[i];"])
+    within = draw.choice(["", "", "", " E[i] += s;"])
+    step, inner_step, begun = draw.choice(["i++", "i++", "i += 2"]), draw.choice(["k++", "k++", "k += 2"]), draw.choice(["0", "i", "D[i]", "7"])
+    return (
+        f"    #pragma omp parallel for{clause}\n    for (uint64_t i = {first}; i < {count - 70}; {step}) {{\n        uint64_t s = {begun};\n"
+        f"        {before}for (uint64_t k = {draw.choice([0, 0, 1])}; k < {end}; {inner_step}) {{\n            {changes(draw)}{within}\n        }}\n        {behind}\n    }}\n"
+    )
+
+
 def text_of(seed):
     """The text of a seed."""
     draw = random.Random(seed)
     rows, width = draw.choice([300, 350]), draw.choice([300, 420])
     declared = "".join(f"uint64_t {it}[{rows}][{width}];\n" for it in ARRAYS)
+    count = draw.choice([1000, 7000, 20000])
+    declared += f"uint64_t D[{count}];\nuint64_t E[{count}];\nuint64_t F[32];\nuint64_t G[32][{count}];\n"
     begun = f"    for (uint64_t i = 0; i < {rows}; i++) {{\n        for (uint64_t j = 0; j < {width}; j++) {{\n            A[i][j] = i * 7 + j * j;\n            B[i][j] = i ^ j * 5;\n            C[i][j] = i + j;\n        }}\n    }}\n"
-    return f"#include <stdint.h>\n\n{declared}\nvoid kernel(void)\n{{\n{begun}{loop(draw, rows, width)}{loop(draw, rows, width)}}}\n"
+    begun += f"    for (uint64_t i = 0; i < {count}; i++) {{\n        D[i] = i * i + 5;\n        for (uint64_t k = 0; k < 32; k++) {{\n            F[k] = 3 * k + 1;\n            G[k][i] = k * i;\n        }}\n    }}\n"
+    return f"#include <stdint.h>\n\n{declared}\nvoid kernel(void)\n{{\n{begun}{loop(draw, rows, width)}{loop(draw, rows, width)}{folded(draw, count)}}}\n"
 
 
 def main():

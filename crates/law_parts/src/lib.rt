@@ -2,7 +2,7 @@
 //! that no turn writes, leaves in its own cells what the turns leave one after another. Each law is the contract of a function that does nothing.
 #![tactic(auto)]
 
-ghost use Rattle.law_parts.specs.Parts.{TurnsKeepOthers, TurnsRunInParts};
+ghost use Rattle.law_parts.specs.Parts.{TurnsApartAreLanes, TurnsKeepOthers, TurnsRunInParts};
 
 /// Where each turn writes cells of its own places alone, turns leave all other cells (C11 6.8.5, 5.1.2.3).
 pub fn turns_keep_others()
@@ -14,4 +14,10 @@ pub fn turns_keep_others()
 /// there one after another (C11 6.8.5, 5.1.2.3).
 pub fn turns_run_in_parts()
     ensures { TurnsRunInParts }
+{}
+
+/// Where each turn writes cells of its own places alone, and reads of the places of other turns none, any of them, one behind another, may be run in
+/// lanes: instruction by instruction, each for all turns (C11 6.8.5, 5.1.2.3).
+pub fn turns_apart_are_lanes()
+    ensures { TurnsApartAreLanes }
 {}

@@ -120,7 +120,8 @@ fn is_plain_static(clause: Option<Schedule>, runtime: Sched) -> bool {
     matches!(sched_of(clause, runtime), Sched::PlainStatic)
 }
 
-// Runs a loop in place, if its chunks are those of plain static and it is seen that it may be; else it changes nothing, and tells so.
+// Runs a loop in place, if its chunks are told apart by no more than who runs them, and are those of plain static, and it is seen that it may be; else it
+// changes nothing, and tells so.
 fn is_run_in_place<'l, R: Threads + Wait + Sync, G: Gate + Sync>(
     construct: &'l TeamLoop<'_>,
     team: &Teaming<'_, '_, '_, 'l, R, G>,
@@ -137,6 +138,10 @@ fn is_run_in_place<'l, R: Threads + Wait + Sync, G: Gate + Sync>(
     ensures refusal { IfErr result (λ refusal. refusal ≡ Refusal.OutOfMemory) }
     ensures shape { lengths_of store.new ≡ lengths_of store.old }
 {
+    let in_chunks = matches!(construct.way, Way::Chunks);
+    if !in_chunks && team.workers.get() != 1 {
+        return Ok(false);
+    }
     if !is_plain_static(construct.lowered.schedule, team.sched) {
         return Ok(false);
     }
@@ -148,35 +153,6 @@ fn is_run_in_place<'l, R: Threads + Wait + Sync, G: Gate + Sync>(
     };
     let done = run_by_parts(&crew, construct, registers, store)?;
     Ok(done)
-}
-
-// Runs a loop by the team: in place, if it is seen that it may be, and else in chunks (OpenMP 5.2, 11.5).
-fn run_chunk_loop<'l, R: Threads + Wait + Sync, G: Gate + Sync, S: Sink>(
-    construct: &'l TeamLoop<'_>,
-    team: &Teaming<'_, '_, '_, 'l, R, G>,
-    registers: &mut Vec<u64>,
-    store: &mut Store,
-    sink: &mut S,
-) -> Result<(), Refusal>
-    requires chunks { construct.now.way ≡ Chunks }
-    requires room { S.failed sink.old + 1 < 2 ^ 64 }
-    ensures ran { OnOk result ((layout : List Laid) (mark : ℕ) (R : LineData) (serial : List Loop)
-        → Fits layout mark R serial (Team construct.now)
-        → Walks layout mark (performed R serial (Team construct.now))
-        (stage registers.old.items store.old (S.told sink.old))
-        (stage registers.new.items store.new (S.told sink.new))) }
-    ensures beginning { (layout : List Laid) (mark : ℕ) (R : LineData) (serial : List Loop)
-        → Fits layout mark R serial (Team construct.now)
-        → Begins layout mark (performed R serial (Team construct.now))
-        (stage registers.old.items store.old (S.told sink.old)) (S.told sink.new) }
-    ensures sound { OnOk result (S.failed sink.new ≡ S.failed sink.old) }
-    ensures refusal { IfErr result (Refuses (S.failed sink.old) (S.failed sink.new)) }
-    ensures shape { lengths_of store.new ≡ lengths_of store.old }
-{
-    if is_run_in_place(construct, team, registers, store)? {
-        return Ok(());
-    }
-    run_team_loop(construct, team, registers, store, sink)
 }
 
 // Runs a scan by the team in two passes: the input phase first, which this loop is (OpenMP 5.2, 5.6).
@@ -256,7 +232,7 @@ fn run_wave_loop<'l, R: Threads + Wait + Sync, G: Gate + Sync>(
 }
 
 // Runs a parallel loop: by the team in the way that it may be run, and as any other statement where there is one worker.
-fn run_parallel_loop<'l, R: Threads + Wait + Sync, G: Gate + Sync, S: Sink>(
+fn run_by_way<'l, R: Threads + Wait + Sync, G: Gate + Sync, S: Sink>(
     construct: &'l TeamLoop<'_>,
     team: &Teaming<'_, '_, '_, 'l, R, G>,
     registers: &mut Vec<u64>,
@@ -284,13 +260,42 @@ fn run_parallel_loop<'l, R: Threads + Wait + Sync, G: Gate + Sync, S: Sink>(
         );
     }
     match &construct.way {
-        Way::Chunks => run_chunk_loop(construct, team, registers, store, sink),
+        Way::Chunks => run_team_loop(construct, team, registers, store, sink),
         Way::Scan(first) => run_scan_loop(construct, first, team, registers, store, sink),
         Way::Waves(sinks) => run_wave_loop(construct, sinks, team, registers, store),
         Way::Alone => run_by_one(
             team.alloc, construct, team.gate, registers, store, bench, sink,
         ),
     }
+}
+
+// Runs a parallel loop: in place, if it is seen that it may be, and else in its way.
+fn run_parallel_loop<'l, R: Threads + Wait + Sync, G: Gate + Sync, S: Sink>(
+    construct: &'l TeamLoop<'_>,
+    team: &Teaming<'_, '_, '_, 'l, R, G>,
+    registers: &mut Vec<u64>,
+    store: &mut Store,
+    bench: &mut Bench,
+    sink: &mut S,
+) -> Result<(), Refusal>
+    requires room { S.failed sink.old + 1 < 2 ^ 64 }
+    ensures ran { OnOk result ((layout : List Laid) (mark : ℕ) (R : LineData) (serial : List Loop)
+        → Fits layout mark R serial (Team construct.now)
+        → Walks layout mark (performed R serial (Team construct.now))
+        (stage registers.old.items store.old (S.told sink.old))
+        (stage registers.new.items store.new (S.told sink.new))) }
+    ensures beginning { (layout : List Laid) (mark : ℕ) (R : LineData) (serial : List Loop)
+        → Fits layout mark R serial (Team construct.now)
+        → Begins layout mark (performed R serial (Team construct.now))
+        (stage registers.old.items store.old (S.told sink.old)) (S.told sink.new) }
+    ensures sound { OnOk result (S.failed sink.new ≡ S.failed sink.old) }
+    ensures refusal { IfErr result (Refuses (S.failed sink.old) (S.failed sink.new)) }
+    ensures shape { lengths_of store.new ≡ lengths_of store.old }
+{
+    if is_run_in_place(construct, team, registers, store)? {
+        return Ok(());
+    }
+    run_by_way(construct, team, registers, store, bench, sink)
 }
 
 // Runs a statement, each parallel loop in it by the team (C11 6.8; OpenMP 5.2, 11.5).

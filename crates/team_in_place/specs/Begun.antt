@@ -49,7 +49,7 @@ pub record IsBegun (x : Nesting) (registers : List ℕ) (nest : Nest) (t : Rise)
   pub variable : nest.variable ≡ x.variable
   pub is : nested_in nest ≡ nested_with x (stepped nest.first nest.by) nest.count nest.next
   pub up : x.counted.now.course ≡ Up
-  pub wide : nest.inner.limit ≤ length registers
+  pub wide : nest.limit ≤ length registers
   pub turns : AreItsTurns x.variable x.end x.by (flat (nested_with x (stepped nest.first nest.by) nest.count nest.next)) registers t.first t.by t.count t.next
   pub inner : IsInner x.variable x.counted.now.end x.counted.now.by (nested_with x (stepped nest.first nest.by) nest.count nest.next) registers nest.first nest.by
   pub some : 0 < t.count

@@ -51,7 +51,7 @@ pub record IsNestPlannedFor (x : Nesting) (registers : List ℕ) (cells : ℕ) (
   pub variable : p.nest.variable ≡ x.variable
   pub is : nested_in p.nest ≡ nested_with x (stepped p.nest.first p.nest.by) p.nest.count p.nest.next
   pub up : x.counted.now.course ≡ Up
-  pub wide : p.nest.inner.limit ≤ length registers
+  pub wide : p.nest.limit ≤ length registers
   pub turns : AreItsTurns x.variable x.end x.by (flat (nested_with x (stepped p.nest.first p.nest.by) p.nest.count p.nest.next)) registers p.rise.first p.rise.by p.rise.count p.rise.next
   pub inner : IsInner x.variable x.counted.now.end x.counted.now.by (nested_with x (stepped p.nest.first p.nest.by) p.nest.count p.nest.next) registers p.nest.first p.nest.by
   pub some : 0 < p.rise.count

@@ -70,8 +70,8 @@ pub(crate) struct Plan<'c> {
     pub(crate) window: Window,
 }
 
-/// The body of a counted loop that may be run in lanes as it is.
-pub(crate) fn laned_body(counted: &Counted) -> Option<Laned<'_>>
+// The body of a counted loop that may be run in lanes as it is.
+fn laned_body(counted: &Counted) -> Option<Laned<'_>>
     ensures { IfSome result (λ l. (l.ops.now ≡ counted.now.ops.items)
         × (l.variable ≡ counted.now.variable) × (l.limit ≡ counted.now.limit)
         × (0 < counted.now.limit)) }

@@ -69,7 +69,7 @@ fn run_share<R: Threads + Sync, G: Gate + Sync>(
         chunks: workers,
     });
     let mut tools = Tools::new(team.alloc)?;
-    run_part(team.alloc, team.shared, from, count, own, &mut tools)?;
+    run_part(team.shared, from, count, own, &mut tools)?;
     Ok(tools.into_registers())
 }
 

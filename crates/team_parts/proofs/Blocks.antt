@@ -1,14 +1,14 @@
 -- A part of the turns, over its own cells and those that all turns leave, does there what all turns do.
-use Rattle.std.proofs.Common.{◌≡◌, ◌⊎◌, inl, inr, ℕ, zero, suc, ◌+◌, ◌-◌, ◌*◌, ◌%◌, ◌^◌, ◌<◌, ◌≤◌, List, ◌++◌, length, take, drop, refl, sym, ap, ◌∙◌, subst, arith}
-use Rattle.std.specs.Prelude.{slice_index, slice_set}
+use Rattle.std.proofs.Common.{◌≡◌, ◌⊎◌, inl, inr, ℕ, ◌+◌, ◌-◌, ◌*◌, ◌%◌, ◌^◌, ◌<◌, ◌≤◌, List, ◌++◌, length, take, drop, sym, ap, ◌∙◌, subst, arith}
+use Rattle.std.specs.Prelude.{slice_index}
 use Rattle.std.proofs.Math.Nat.{mul-add}
+use Rattle.std.proofs.Math.Path.{fun_ext}
 use Rattle.std.proofs.lemmas.Bool.{cases_lt}
 use Rattle.std.proofs.lemmas.List.{get_or_append_left, get_or-append-add, get_or-take, get_or-drop, length-append, take_at}
 use Rattle.lower_machine.specs.Machine.{Machine, machine}
-use Rattle.lower_op.specs.declared.op.Op.{Op}
-use Rattle.lower_op.specs.Steps.{steps}
-use Rattle.law_lanes.specs.Lanes.{turns}
+use Rattle.law_lanes.specs.Lanes.{AreLanes, turns}
 use Rattle.law_parts.specs.Parts.{IsBetween, IsBeside, IsPartOf, LeavesPart, later}
+use Rattle.law_parts.proofs.Lanes.{lanes_law}
 use Rattle.law_parts.proofs.Parts.{parts_law}
 use Rattle.lane_rows.specs.Lanes.{stepped}
 use Rattle.team_parts.specs.declared.shared.Shared.{Shared}
@@ -17,13 +17,6 @@ use Rattle.team_parts.specs.Turned.{ops_of, variable_of}
 use Rattle.team_parts.specs.Placed.{IsPlaced, LeavesOwn, IsPartDone, left_by}
 use Rattle.team_parts.specs.Window.{bound_of}
 use Rattle.team_parts.proofs.Places.{parted_length, before_at, own_at, behind_at}
-
--- turns by numbers that are the same turn by turn
-turns_alike : (variable : ℕ) (v w : ℕ → ℕ) (ops : List Op) (n : ℕ) (m : Machine) → ((k : ℕ) → v k ≡ w k) → turns variable v ops n m ≡ turns variable w ops n m
-turns_alike variable v w ops zero m same = refl
-turns_alike variable v w ops (suc n) m same =
-    ap (λ (k : Machine). steps ops (machine (slice_set k.registers variable (v n)) k.cells)) (turns_alike variable v w ops n m same)
-    ∙ ap (λ x. steps ops (machine (slice_set (turns variable w ops n m).registers variable x) (turns variable w ops n m).cells)) (same n)
 
 -- so many steps, and more
 stepped_behind : (first by j k : ℕ) → stepped (stepped first by j) by k ≡ stepped first by (j + k)
@@ -90,28 +83,37 @@ module _ (s : Shared) (from count : ℕ) (mine cells : List ℕ) (placed : IsPla
   pub leaves_part : LeavesPart (bound_of s.window from) (bound_of s.window (from + count)) ((0 < count) × (from + count ≡ s.count)) mine_turns (left_by s cells)
   leaves_part = parts_law (variable_of s.turned) (stepped s.first s.by) (ops_of s.turned) s.count (machine s.registers.now cells) (bound_of s.window) from count part placed.apart within is_part
 
-  pub leaves_own : (first : ℕ) (m : Machine) → first ≡ stepped s.first s.by from → m ≡ turns (variable_of s.turned) (stepped first s.by) (ops_of s.turned) count (machine s.registers.now part)
-      → LeavesOwn s from count (take (width * count) (drop (length s.before.now + width * from) m.cells)) m.registers cells
-  leaves_own first m is ran =
-      let same : m ≡ mine_turns
-      = ran
-      ∙ turns_alike (variable_of s.turned) (stepped first s.by) (later (stepped s.first s.by) from) (ops_of s.turned) count (machine s.registers.now part)
-      (λ k. ap (λ f. stepped f s.by k) is ∙ stepped_behind s.first s.by from k) in
-      record {
-        own = λ k lt.
-            let low = placed.low in
-            let at : length s.before.now + width * from + k ≡ s.window.low + width * from + k = omega (arith, low) in
-            get_or-take (width * count) (drop (length s.before.now + width * from) m.cells) k 0 lt
-            ∙ get_or-drop (length s.before.now + width * from) m.cells k 0
-            ∙ ap (slice_index m.cells) at
-            ∙ ap (λ (x : Machine). slice_index x.cells (s.window.low + width * from + k)) same
-            ∙ leaves_part.cells (s.window.low + width * from + k) (record { low = omega arith; high = omega (arith, lt, through) });
-        registers = λ some last. ap (λ (x : Machine). x.registers) same ∙ leaves_part.registers (some, last);
-      }
+  module _ (first : ℕ) (m : Machine) (is : first ≡ stepped s.first s.by from)
+      (ran : AreLanes (variable_of s.turned) (stepped first s.by) (ops_of s.turned) count (machine s.registers.now part)
+      → m ≡ turns (variable_of s.turned) (stepped first s.by) (ops_of s.turned) count (machine s.registers.now part)) where
+    numbers : stepped first s.by ≡ later (stepped s.first s.by) from
+    numbers = fun_ext (λ k. ap (λ f. stepped f s.by k) is ∙ stepped_behind s.first s.by from k)
+
+    are_lanes : AreLanes (variable_of s.turned) (stepped first s.by) (ops_of s.turned) count (machine s.registers.now part)
+    are_lanes =
+        subst (λ (v : ℕ → ℕ). AreLanes (variable_of s.turned) v (ops_of s.turned) count (machine s.registers.now part)) (sym numbers)
+        (lanes_law (variable_of s.turned) (stepped s.first s.by) (ops_of s.turned) s.count (machine s.registers.now cells) (bound_of s.window) from count part placed.apart within)
+
+    same : m ≡ mine_turns
+    same = ran are_lanes ∙ ap (λ (v : ℕ → ℕ). turns (variable_of s.turned) v (ops_of s.turned) count (machine s.registers.now part)) numbers
+
+    pub leaves_own : LeavesOwn s from count (take (width * count) (drop (length s.before.now + width * from) m.cells)) m.registers cells
+    leaves_own = record {
+      own = λ k lt.
+          let low = placed.low in
+          let at : length s.before.now + width * from + k ≡ s.window.low + width * from + k = omega (arith, low) in
+          get_or-take (width * count) (drop (length s.before.now + width * from) m.cells) k 0 lt
+          ∙ get_or-drop (length s.before.now + width * from) m.cells k 0
+          ∙ ap (slice_index m.cells) at
+          ∙ ap (λ (x : Machine). slice_index x.cells (s.window.low + width * from + k)) same
+          ∙ leaves_part.cells (s.window.low + width * from + k) (record { low = omega arith; high = omega (arith, lt, through) });
+      registers = λ some last. ap (λ (x : Machine). x.registers) same ∙ leaves_part.registers (some, last);
+    }
 
 -- a part that was run over copies of its own cells
 pub part_done : (s : Shared) (from count first : ℕ) (mine new : List ℕ) (m : Machine) → from + count ≤ s.count → length mine ≡ s.window.width * count → first ≡ stepped s.first s.by from
-    → m ≡ turns (variable_of s.turned) (stepped first s.by) (ops_of s.turned) count (machine s.registers.now (parted s.before.now (s.window.width * from) mine (s.window.width * (s.count - from - count)) s.behind.now))
+    → (AreLanes (variable_of s.turned) (stepped first s.by) (ops_of s.turned) count (machine s.registers.now (parted s.before.now (s.window.width * from) mine (s.window.width * (s.count - from - count)) s.behind.now))
+    → m ≡ turns (variable_of s.turned) (stepped first s.by) (ops_of s.turned) count (machine s.registers.now (parted s.before.now (s.window.width * from) mine (s.window.width * (s.count - from - count)) s.behind.now)))
     → new ≡ take (s.window.width * count) (drop (length s.before.now + s.window.width * from) m.cells) → length new ≡ length mine → IsPartDone s from count mine new m.registers
 part_done s from count first mine new m within long is ran taken kept = record {
   long = kept;

@@ -1,4 +1,6 @@
+pub mod Advances
 pub mod Blocks
+pub mod Lents
 pub mod NestPlaces
 pub mod Nests
 pub mod Onces

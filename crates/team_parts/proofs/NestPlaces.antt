@@ -50,7 +50,7 @@ other_step : (outer first by factor r : ℕ) (registers : List ℕ) → (r == ou
 other_step outer first by factor r registers e = ap (λ b. (cond b (stride (factor * first % 2 ^ 64) (factor * by % 2 ^ 64)) (stride (factor * slice_index registers r % 2 ^ 64) 0)).step) e
 
 -- sums of what two registers make, with the constant in front
-shares_mod : (c one two x y : ℕ) → ((((c + one) + two) % 2 ^ 64 + x) % 2 ^ 64 + y) % 2 ^ 64 ≡ ((c + (one + x)) + (two + y)) % 2 ^ 64
+shares_mod : (c one two x y : ℕ) → ((((c + one) + two) % 2 ^ 64 % 2 ^ 64 + x) % 2 ^ 64 + y) % 2 ^ 64 ≡ ((c + (one + x)) + (two + y)) % 2 ^ 64
 shares_mod c one two x y = omega arith
 
 module _ (outer first by inner inner_first inner_by : ℕ) (registers : List ℕ) (k : ℕ) (apart : (outer == inner) ≡ false) (there : outer < length registers) where

@@ -73,7 +73,7 @@ work_placed v n op = refl
 
 -- the form of a near place, where a test says whether its register is the variable
 abbrev near_placed : ℕ → Register → Bool → Form
-near_placed n a b = record { constant = 0 + cond b (1 * n) 0 + cond b (0 * n) 0; left_factor = cond b 0 1; left = a; right_factor = cond b 0 0; right = a }
+near_placed n a b = record { constant = (0 + cond b (1 * n) 0 + cond b (0 * n) 0) % 2 ^ 64; left_factor = cond b 0 1; left = a; right_factor = cond b 0 0; right = a }
 
 form_placed : (v n : ℕ) (op : Op) → (work_saves (part_of op).work || work_loads (part_of op).work) ≡ true → (part_of (placed_at v n op)).form ≡ form_at v n (part_of op).form
 form_placed v n (Load to a) h = go (a.at == v)
@@ -188,7 +188,7 @@ module _ (w : Window) (nest : Nest) (outer inner : Turns) (fits : NestFits nest 
       go (inl front) = fits.front op front
       go (inr back) = fits.back op back
 
-  pub nest_kept_apart : 0 < nest.count → inner.variable ≡ nest.inner.variable.at → inner.first ≡ nest.first → inner.by ≡ nest.by → inner.count ≡ nest.count
+  pub nest_kept_apart : 0 < nest.count → inner.variable ≡ nest.inner.at → inner.first ≡ nest.first → inner.by ≡ nest.by → inner.count ≡ nest.count
       → ReadsItsOwn outer.variable (nested_in nest)
       → KeepApart outer.variable (stepped outer.first outer.by) (flat (nested_in nest)) outer.count (machine outer.registers.now cells) (bound_of w)
   nest_kept_apart some v f b n own = apart_law outer.variable (stepped outer.first outer.by) (nested_in nest) outer.count (machine outer.registers.now cells) (bound_of w) (record {
@@ -198,17 +198,17 @@ module _ (w : Window) (nest : Nest) (outer inner : Turns) (fits : NestFits nest 
     inner = own.inner;
     rise = λ j k le. let up = width_rises w outer.count few room j k le in omega (arith, up);
     around = λ op t among lt. keeps_to op t lt (around_fits op among);
-    inside = λ op t k among lt less. keeps_to (placed_at nest.inner.variable.at (stepped nest.first nest.by k) op) t lt (placed op k among less);
+    inside = λ op t k among lt less. keeps_to (placed_at nest.inner.at (stepped nest.first nest.by k) op) t lt (placed op k among less);
   })
     where
-      placed : (op : Op) (k : ℕ) → Contains nest.inner.ops.now op → k < nest.count
-          → FitsWindow w outer.variable outer.first outer.by outer.count outer.registers.now (placed_at nest.inner.variable.at (stepped nest.first nest.by k) op)
+      placed : (op : Op) (k : ℕ) → Contains nest.ops.now op → k < nest.count
+          → FitsWindow w outer.variable outer.first outer.by outer.count outer.registers.now (placed_at nest.inner.at (stepped nest.first nest.by k) op)
       placed op k among less = rw (← v, ← f, ← b) ((fits.inside op among).each k (omega (arith, less, n)))
 
 -- a window in which all fits, where there is one
 pub apart_where_some : (found : Option Window) (nest : Nest) (outer inner : Turns) (limit : ℕ) → IfSome found (λ w. NestFits nest w outer inner) → IfSome found (λ w. IsBelow w outer.count limit)
     → outer.variable < length outer.registers.now → ((r : ℕ) → slice_index outer.registers.now r < 2 ^ 64)
-    → 0 < nest.count → inner.variable ≡ nest.inner.variable.at → inner.first ≡ nest.first → inner.by ≡ nest.by → inner.count ≡ nest.count → ReadsItsOwn outer.variable (nested_in nest)
+    → 0 < nest.count → inner.variable ≡ nest.inner.at → inner.first ≡ nest.first → inner.by ≡ nest.by → inner.count ≡ nest.count → ReadsItsOwn outer.variable (nested_in nest)
     → IfSome found (λ w. (cells : List ℕ) → KeepApart outer.variable (stepped outer.first outer.by) (flat (nested_in nest)) outer.count (machine outer.registers.now cells) (bound_of w))
 apart_where_some None nest outer inner limit fits below there words some v f b n own = tt
 apart_where_some (Some w) nest outer inner limit fits below there words some v f b n own = λ cells. nest_kept_apart w nest outer inner fits below.few below.room there words cells some v f b n own

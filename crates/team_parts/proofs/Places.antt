@@ -1,7 +1,7 @@
 -- Cells in parts, place by place.
-use Rattle.std.proofs.Common.{◌≡◌, ◌⊎◌, inl, inr, ℕ, zero, suc, ◌+◌, ◌-◌, ◌<◌, ◌≤◌, List, [], ◌∷◌, ◌++◌, length, replicate, take, drop, min, refl, sym, ap, ◌∙◌, subst, arith}
+use Rattle.std.proofs.Common.{◌≡◌, ℕ, ◌+◌, ◌-◌, ◌<◌, ◌≤◌, List, [], ◌∷◌, ◌++◌, length, replicate, take, drop, min, refl, sym, ap, ◌∙◌, arith}
 use Rattle.std.specs.Prelude.{slice_index, slice_set, ◌^◌}
-use Rattle.std.proofs.lemmas.List.{get_or_append_left, get_or-append-add, get_or-take, get_or-drop, length-append, length-replicate, length-take, length-drop, append_assoc, drop_at, take_at, set-append_left, set-append_right, length-set}
+use Rattle.std.proofs.lemmas.List.{get_or_append_left, get_or-append-add, get_or-take, get_or-drop, length-append, length-replicate, length-take, length-drop, set-append_left, set-append_right, length-set}
 use Rattle.lower_op.specs.Stretches.{IsStretch, written}
 use Rattle.team_parts.specs.Parted.{parted, cells_held}
 
@@ -87,40 +87,12 @@ module _ (before : List ℕ) (left : ℕ) (own : List ℕ) (right : ℕ) (behind
       → IsStretch first count (parted before left own right behind) (take count (drop (first - (length before + left)) own))
   own_stretch first count low high few = stretch_at own (length before + left) first count low high (omega (arith, parted_length)) few own_at
 
-  pub before_stretch : (first count : ℕ) → first + count ≤ length before → length (parted before left own right behind) < 2 ^ 63
-      → IsStretch first count (parted before left own right behind) (take count (drop first before))
-  before_stretch first count high few =
-      subst (λ n. IsStretch first count (parted before left own right behind) (take count (drop n before))) (let e : first - 0 ≡ first = omega arith in e)
-      (stretch_at before 0 first count (omega arith) (omega (arith, high)) (omega (arith, parted_length)) few (λ k lt. ap (slice_index (parted before left own right behind)) (let e : 0 + k ≡ k = omega arith in e) ∙ before_at k lt))
-
   pub behind_stretch : (first count : ℕ) → length before + left + length own + right ≤ first → first + count ≤ length before + left + length own + right + length behind → length (parted before left own right behind) < 2 ^ 63
       → IsStretch first count (parted before left own right behind) (take count (drop (first - (length before + left + length own + right)) behind))
   behind_stretch first count low high few = stretch_at behind (length before + left + length own + right) first count low high (omega (arith, parted_length)) few (λ k lt. behind_at k)
-
-  -- its own cells
-  pub own_part : take (length own) (drop (length before + left) (parted before left own right behind)) ≡ own
-  own_part =
-      ap (λ l. take (length own) (drop (length before + left) l)) (sym (append_assoc before (replicate left 0) (own ++ (replicate right 0 ++ behind))))
-      ∙ ap (take (length own)) (drop_at (before ++ replicate left 0) (own ++ (replicate right 0 ++ behind)) (length before + left) (length-append before (replicate left 0) ∙ ap (λ n. length before + n) (length-replicate {A = ℕ} left 0)))
-      ∙ take_at own (replicate right 0 ++ behind) (length own) refl
 
 -- ---- all in one list
 
 pub held_none : (all parts : List ℕ) → all ≡ [] → cells_held all parts ≡ parts
 held_none [] parts e = refl
 held_none (x ∷ xs) parts e = absurd cc
-
-pub held_some : (all parts : List ℕ) → (all ≡ [] → ⊥) → cells_held all parts ≡ all
-held_some [] parts some = absurd (some refl)
-held_some (x ∷ xs) parts some = refl
-
-pub held_long : (all parts : List ℕ) → (all ≡ []) ⊎ (length all ≡ length parts) → length (cells_held all parts) ≡ length parts
-held_long [] parts is = refl
-held_long (x ∷ xs) parts (inl e) = absurd cc
-held_long (x ∷ xs) parts (inr e) = e
-
-pub held_set : (cells parts : List ℕ) (i n : ℕ) → length cells ≡ length parts → cells_held (slice_set cells i n) parts ≡ slice_set cells i n
-held_set [] [] i n e = refl
-held_set [] (p ∷ parts) i n e = absurd (omega arith)
-held_set (c ∷ cells) parts zero n e = refl
-held_set (c ∷ cells) parts (suc i) n e = refl

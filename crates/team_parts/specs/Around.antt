@@ -24,4 +24,4 @@ pub record FitsInside (w : Window) (outer inner : Turns) (op : Op) : Type 0 wher
 pub record NestFits (nest : Nest) (w : Window) (outer inner : Turns) : Type 0 where
   pub front : (op : Op) → Contains nest.front.now op → FitsWindow w outer.variable outer.first outer.by outer.count outer.registers.now op
   pub back : (op : Op) → Contains nest.back.now op → FitsWindow w outer.variable outer.first outer.by outer.count outer.registers.now op
-  pub inside : (op : Op) → Contains nest.inner.ops.now op → FitsInside w outer inner op
+  pub inside : (op : Op) → Contains nest.ops.now op → FitsInside w outer inner op

@@ -10,8 +10,7 @@ abbrev pub cells_held : List ℕ → List ℕ → List ℕ
 cells_held [] parts = parts
 cells_held (x ∷ xs) parts = x ∷ xs
 
--- what contracts see: the cells, and which of them are a thread's own
-pub record Held : Type 0 where
-  pub cells : List ℕ
-  pub first : ℕ
-  pub count : ℕ
+-- memory for all cells: what it holds, and for how many it has room
+pub record Kept : Type 0 where
+  pub items : List ℕ
+  pub room : ℕ

@@ -110,7 +110,7 @@ fn nest_fits(nest: &Nest<'_>, window: Window, turns: Turns<'_>, inner: Turns<'_>
     if !all_fit(nest.back, window, turns) {
         return false;
     }
-    all_inner_fit(nest.inner.ops, window, turns, inner)
+    all_inner_fit(nest.ops, window, turns, inner)
 }
 
 // The lowest place from which instructions read cells beside those that they write, and not as far away as the next turn's.
@@ -131,16 +131,41 @@ fn read_from(ops: &[Op], window: Window, turns: Turns<'_>, inner: Turns<'_>) -> 
     low
 }
 
+// The lower of two windows, where there are two.
+fn lower_of(one: Option<Window>, other: Option<Window>) -> Option<Window> {
+    let Some(window) = one else {
+        return other;
+    };
+    match other {
+        Some(more) if more.low < window.low => other,
+        _ => Some(window),
+    }
+}
+
+// The lowest place that instructions of the first turn write, and how far they go from turn to turn; none where they write none. Whether the turns keep
+// to these places is another question.
+fn written_in(nest: &Nest<'_>, turns: Turns<'_>, inner: Turns<'_>) -> Option<Window> {
+    let around = lower_of(
+        written_from(nest.front, turns),
+        written_from(nest.back, turns),
+    );
+    let Some(along) = written_from(nest.ops, turns) else {
+        return around;
+    };
+    let low = written_from(nest.ops, inner)?.low;
+    let width = along.width;
+    lower_of(Some(Window { low, width }), around)
+}
+
 // The cells that each turn has to itself, below a number of cells, by the inner turns of the first one.
 fn window_along(nest: &Nest<'_>, turns: Turns<'_>, inner: Turns<'_>, cells: u64) -> Option<Window>
     requires inner { AreInner turns inner }
     ensures fits { IfSome result (λ w. NestFits nest.now w turns.entry inner.entry) }
     ensures below { IfSome result (λ w. IsBelow w turns.entry.count cells) }
 {
-    let low = written_from(nest.inner.ops, inner)?.low;
-    let width = written_from(nest.inner.ops, turns)?.width;
-    let written = Window { low, width };
-    let low = read_from(nest.inner.ops, written, turns, inner);
+    let written = written_in(nest, turns, inner)?;
+    let low = read_from(nest.ops, written, turns, inner);
+    let width = written.width;
     let window = Window { low, width };
     if !is_below(window, turns.count, cells) {
         return None;
@@ -187,7 +212,7 @@ pub fn nest_window_of(
         w.low + w.width * turns.entry.count < 2 ^ 62)) }
     ensures few { IfOk result (λ o. IfSome o (λ _. turns.entry.count ≤ 2 ^ 24)) }
 {
-    if nest.count == 0 || nest.variable.at == nest.inner.variable.at {
+    if nest.count == 0 || nest.variable.at == nest.inner.at {
         return Ok(None);
     }
     if !reads_its_own(alloc, nest)? {
@@ -195,7 +220,7 @@ pub fn nest_window_of(
     }
     let registers = begun(alloc, turns)?;
     let inner = Turns {
-        variable: nest.inner.variable.at,
+        variable: nest.inner.at,
         first: nest.first,
         by: nest.by,
         count: nest.count,

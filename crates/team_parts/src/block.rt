@@ -1,31 +1,31 @@
 //! A part of the turns of a loop, block by block.
 
-ghost use Rattle.std.specs.Prelude.{◌≡◌, ◌+◌, ◌*◌, ◌<◌, ◌≤◌, true, false, length, OnOk};
+ghost use Rattle.std.specs.Prelude.{◌≡◌, ◌+◌, ◌*◌, ◌<◌, ◌≤◌, true, false, length, take, drop, OnOk};
+ghost use Rattle.lane_rows.specs.Lanes.{stepped};
+ghost use Rattle.law_lanes.specs.Lanes.{AreLanes, turns};
+ghost use Rattle.lower_machine.specs.Machine.{machine};
+ghost use Rattle.lower_runner.specs.Turning.{ConstantsStand};
+ghost use Rattle.team_parts.specs.Lent.{lent_cells, stands};
 ghost use Rattle.team_parts.specs.Placed.{IsPartDone};
+ghost use Rattle.team_parts.specs.Turned.{limit_of, most_of, ops_of, variable_of};
 
-use crate::cells::Parted;
+use crate::cells::{Parted, settle};
+use crate::reserve::Reserve;
 use crate::shared::Shared;
+use crate::surroundings::Surroundings;
 use crate::turning::run_over;
 use lane_rows::Bench;
 use lower_lanes::new_bench;
 use std::alloc::{AllocError, Global};
 use std::marker::Model;
-use std::mem;
 
-/// The most turns that are run over one copy of their cells.
-const BLOCK: u64 = 4096;
-
-/// The most cells that are copied at once, so that the copy stays in a processor's cache, but for those of one turn.
-const COPIED: u64 = 1 << 15;
-
-/// What a thread runs turns with: registers, room for rows, the cells of a block, and memory that all cells have room in, which is written only where
+/// What a thread runs turns with: registers, room for rows, and memory that all cells have room in, which is written only where
 /// a turn writes cells that are not its own. Contracts see the registers.
 #[derive(Drop)]
 pub struct Tools {
     registers: Vec<u64>,
     bench: Bench,
-    block: Vec<u64>,
-    memory: Vec<u64>,
+    reserve: Reserve,
 }
 
 impl Model for Tools {
@@ -45,30 +45,37 @@ fn copy_into(to: &mut Vec<u64>, numbers: &[u64]) -> Result<(), AllocError>
     Ok(())
 }
 
-// Runs so many turns from one on over copies of their own cells, and writes these back.
-fn run_block(
-    alloc: Global,
+// Runs so many turns from one on over cells of which some are lent.
+fn run_among(
     shared: Shared<'_, '_>,
     from: u64,
     count: u64,
-    own: &mut [u64],
-    tools: &mut Tools,
-) -> Result<(), AllocError>
-    requires few { count ≤ 16384 }
-    requires within { from + count ≤ shared.count }
-    requires own { length own.old ≡ shared.window.width * count }
-    ensures { OnOk result (IsPartDone shared.entry from count
-        own.old own.new tools.new) }
+    registers: &mut [u64],
+    cells: &mut Parted<'_, '_>,
+    bench: &mut Bench,
+)
+    requires few { count ≤ most_of shared.turned }
+    requires inside { limit_of shared.turned ≤ length registers.old }
+    requires stand { ConstantsStand shared.compiled.now registers.old }
+    ensures does { AreLanes (variable_of shared.entry.turned)
+        (stepped (stepped shared.entry.first shared.entry.by from) shared.entry.by)
+        (ops_of shared.entry.turned) count (machine registers.old
+        (lent_cells cells.old.surroundings cells.old.own.now cells.old.reserve.now))
+        → machine registers.new
+        (lent_cells cells.new.surroundings cells.new.own.now cells.new.reserve.now)
+        ≡ turns (variable_of shared.entry.turned)
+        (stepped (stepped shared.entry.first shared.entry.by from) shared.entry.by)
+        (ops_of shared.entry.turned) count (machine registers.old
+        (lent_cells cells.old.surroundings cells.old.own.now cells.old.reserve.now)) }
+    ensures own { cells.new.own.ghost_name ≡ cells.old.own.ghost_name }
+    ensures reserve { cells.new.reserve.ghost_name ≡ cells.old.reserve.ghost_name }
+    ensures long { length cells.new.own.now ≡ length cells.old.own.now }
+    ensures first { length cells.new.surroundings.before.now + cells.new.surroundings.left
+        ≡ length cells.old.surroundings.before.now + cells.old.surroundings.left }
+    ensures stand { stands cells.new.surroundings cells.new.own.now cells.new.reserve.now
+        ≡ stands cells.old.surroundings cells.old.own.now cells.old.reserve.now }
 {
-    copy_into(&mut tools.registers, shared.registers)?;
-    copy_into(&mut tools.block, own)?;
-    let left = shared.cells_of(from);
-    let right = shared.cells_of(shared.count - from - count);
-    let block = mem::replace(&mut tools.block, Vec::new(alloc));
-    let memory = mem::replace(&mut tools.memory, Vec::new(alloc));
-    let mut cells = Parted::over(shared.before, left, block, right, shared.behind, memory)?;
     let first = shared.first.wrapping_add(from.wrapping_mul(shared.by));
-    let registers = tools.registers.as_mut_slice();
     run_over(
         shared.compiled,
         shared.turned,
@@ -76,23 +83,43 @@ fn run_block(
         shared.by,
         count,
         registers,
-        &mut cells,
-        &mut tools.bench,
+        cells,
+        bench,
     );
-    let (block, memory) = cells.take_own();
-    own.copy_from_slice(&block);
-    tools.block = block;
-    tools.memory = memory;
-    Ok(())
 }
 
-// Whether so many turns are run over one copy of their cells.
-fn is_block(shared: Shared<'_, '_>, count: u64) -> bool
-    requires within { count ≤ shared.count }
-    ensures few { result ≡ true → count ≤ 16384 }
-    ensures some { result ≡ false → 1 < count }
+// Runs so many turns from one on over their own cells.
+fn run_block(
+    shared: Shared<'_, '_>,
+    from: u64,
+    count: u64,
+    own: &mut [u64],
+    tools: &mut Tools,
+) -> Result<(), AllocError>
+    requires few { count ≤ most_of shared.turned }
+    requires within { from + count ≤ shared.count }
+    requires own { length own.old ≡ shared.window.width * count }
+    ensures { OnOk result (IsPartDone shared.entry from count
+        own.old own.new tools.new) }
 {
-    count < 2 || count <= BLOCK && shared.cells_of(count) <= COPIED
+    copy_into(&mut tools.registers, shared.registers)?;
+    let left = shared.cells_of(from);
+    let mine = shared.cells_of(count);
+    let right = shared.cells_of(shared.count - from - count);
+    let Some(surroundings) = Surroundings::of(shared.before, left, mine, right, shared.behind)
+    else {
+        return Err(AllocError);
+    };
+    tools.reserve.make_room(surroundings.all as usize)?;
+    let mut cells = Parted {
+        surroundings,
+        own,
+        reserve: &mut tools.reserve,
+    };
+    let registers = tools.registers.as_mut_slice();
+    run_among(shared, from, count, registers, &mut cells, &mut tools.bench);
+    settle(&mut cells);
+    Ok(())
 }
 
 /// Runs so many turns from one on over their own cells. The tools hold the registers as these turns leave them.
@@ -101,7 +128,6 @@ fn is_block(shared: Shared<'_, '_>, count: u64) -> bool
 ///
 /// Where memory is refused: some of the cells may be written then.
 pub fn run_part(
-    alloc: Global,
     shared: Shared<'_, '_>,
     from: u64,
     count: u64,
@@ -113,13 +139,13 @@ pub fn run_part(
     ensures { OnOk result (IsPartDone shared.entry from count
         own.old own.new tools.new) }
 {
-    if is_block(shared, count) {
-        return run_block(alloc, shared, from, count, own, tools);
+    if count <= shared.turned.most() {
+        return run_block(shared, from, count, own, tools);
     }
     let half = count / 2;
     let (front, back) = own.split_at_mut(shared.cells_of(half) as usize);
-    run_part(alloc, shared, from, half, front, tools)?;
-    run_part(alloc, shared, from + half, count - half, back, tools)?;
+    run_part(shared, from, half, front, tools)?;
+    run_part(shared, from + half, count - half, back, tools)?;
     Ok(())
 }
 
@@ -134,8 +160,7 @@ impl Tools {
         Ok(Tools {
             registers: Vec::new(alloc),
             bench,
-            block: Vec::new(alloc),
-            memory: Vec::new(alloc),
+            reserve: Reserve::new(alloc),
         })
     }
 

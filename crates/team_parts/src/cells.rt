@@ -1,46 +1,23 @@
-//! Cells of which a part is a thread's own.
+//! Cells of which a part is lent to a thread.
 
-ghost use Rattle.std.specs.Prelude.{◌≡◌, ◌↔◌, ◌+◌, ◌<◌, ◌≤◌, ◌^◌, ◌++◌, ◌∷◌, [], length, take, drop, replicate, slice_index, slice_set, IsTrue, IfOk, IfSome};
-ghost use Rattle.std.specs.Vec.{vec_capacity};
+ghost use Rattle.std.specs.Prelude.{◌≡◌, ◌↔◌, ◌+◌, ◌<◌, ◌≤◌, ◌^◌, ◌++◌, ◌∷◌, [], true, length, take, drop, slice_index, IsTrue, IfSome};
 ghost use Rattle.store.specs.Kept.{overlaid};
-ghost use Rattle.lower_op.specs.Stretches.{IsStretch, written};
-ghost use Rattle.team_parts.specs.Parted.{parted, cells_held};
+ghost use Rattle.lower_op.specs.Stretches.{IsStretch};
+ghost use Rattle.team_parts.specs.Parted.{parted};
+ghost use Rattle.team_parts.specs.Lent.{lent_cells, stands};
 
+use crate::reserve::Reserve;
+use crate::surroundings::Surroundings;
 use lower_op::Cells;
-use std::alloc::AllocError;
-use std::marker::Model;
 
 /// Cells as one of several threads has them: those in front of the places of all threads and those behind these are lent, at the places of other
-/// threads stands 0, and its own ones are in memory of its own. As soon as another cell is written, all stand in memory that was
+/// threads stands 0, and its own ones are lent to be written. As soon as another cell is written, all stand in memory that was
 /// taken for that.
 #[derive(Drop)]
-pub struct Parted<'c> {
-    before: &'c [u64],
-    left: u64,
-    own: Vec<u64>,
-    right: u64,
-    behind: &'c [u64],
-    all: Vec<u64>,
-}
-
-impl<'c> Model for Parted<'c> {
-    ghost use Rattle.std.specs.Prelude.{◌≡◌, ◌⊎◌, ◌+◌, ◌<◌, ◌≤◌, ◌^◌, [], length};
-    ghost use Rattle.std.specs.Vec.{vec_capacity};
-    ghost use Rattle.team_parts.specs.Parted.{Held, parted, cells_held};
-
-    ghost Value = { Held };
-
-    ghost view = { λ p. record {
-      cells = cells_held p.all.items (parted p.before.now p.left p.own.items p.right p.behind.now);
-      first = length p.before.now + p.left;
-      count = length p.own.items;
-    } };
-
-    ghost invariant = { λ p.
-        (length (parted p.before.now p.left p.own.items p.right p.behind.now) ≤ vec_capacity p.all)
-        × (length (parted p.before.now p.left p.own.items p.right p.behind.now) < 2 ^ 63)
-        × ((p.all.items ≡ []) ⊎ (length p.all.items
-        ≡ length (parted p.before.now p.left p.own.items p.right p.behind.now))) };
+pub(crate) struct Parted<'c, 'o> {
+    pub(crate) surroundings: Surroundings<'c>,
+    pub(crate) own: &'o mut [u64],
+    pub(crate) reserve: &'o mut Reserve,
 }
 
 // What stands at a place, and 0 outside.
@@ -54,26 +31,6 @@ fn entry(cells: &[u64], place: u64) -> u64
     }
 }
 
-// Writes at a place, and nothing outside.
-#[inline]
-fn set_entry(cells: &mut Vec<u64>, place: u64, value: u64)
-    ensures items { cells.new.items ≡ slice_set cells.old.items place value }
-    ensures capacity { vec_capacity cells.new ≡ vec_capacity cells.old }
-{
-    if (place as usize) < cells.len() {
-        cells[place as usize] = value;
-    }
-}
-
-// Writes these values over cells from one on.
-fn overwrite(cells: &mut Vec<u64>, first: u64, values: &[u64])
-    requires { first + length values.now ≤ length cells.old.items }
-    ensures { cells.new.items ≡ overlaid cells.old.items first values.now }
-{
-    let part = &mut cells[first as usize..first as usize + values.len()];
-    part.copy_from_slice(values);
-}
-
 // So many of some cells, from one on.
 fn part(cells: &[u64], first: u64, count: u64) -> &[u64]
     requires { first + count ≤ length cells.now }
@@ -84,254 +41,169 @@ fn part(cells: &[u64], first: u64, count: u64) -> &[u64]
     row
 }
 
-// These numbers behind others, for which there is room.
-fn add(all: &mut Vec<u64>, numbers: &[u64])
-    requires { length all.old.items + length numbers.now ≤ vec_capacity all.old }
-    ensures items { all.new.items ≡ all.old.items ++ numbers.now }
-    ensures capacity { vec_capacity all.new ≡ vec_capacity all.old }
+// Writes these values over cells from one on.
+fn overwrite(cells: &mut [u64], first: u64, values: &[u64])
+    requires { first + length values.now ≤ length cells.old }
+    ensures { cells.new ≡ overlaid cells.old first values.now }
 {
-    'add: for at in 0..numbers.len() {
-        all.push_reserved(numbers[at]);
-    }
-}
-
-// So many zeros behind others, for which there is room.
-fn add_zeros(all: &mut Vec<u64>, count: u64)
-    requires { length all.old.items + count ≤ vec_capacity all.old }
-    ensures items { all.new.items ≡ all.old.items ++ replicate count 0 }
-    ensures capacity { vec_capacity all.new ≡ vec_capacity all.old }
-{
-    'add: for _zero in 0..count {
-        all.push_reserved(0);
-    }
+    let part = &mut cells[first as usize..first as usize + values.len()];
+    part.copy_from_slice(values);
 }
 
 // What stands at a place of cells in parts, and 0 outside.
 #[inline]
-fn value_at(before: &[u64], left: u64, own: &[u64], right: u64, behind: &[u64], place: u64) -> u64
-    ensures { result ≡ slice_index (parted before.now left own.now right behind.now) place }
+fn value_at(surroundings: &Surroundings<'_>, own: &[u64], place: u64) -> u64
+    requires { length own.now ≡ surroundings.now.count }
+    ensures { result ≡ slice_index (parted surroundings.now.before.now surroundings.now.left own.now
+        surroundings.now.right surroundings.now.behind.now) place }
 {
+    let before = surroundings.before;
     if place < before.len() as u64 {
         return entry(before, place);
     }
     let place = place - before.len() as u64;
-    if place < left {
+    if place < surroundings.left {
         return 0;
     }
-    let place = place - left;
-    if place < own.len() as u64 {
+    let place = place - surroundings.left;
+    if place < surroundings.count {
         return entry(own, place);
     }
-    let place = place - own.len() as u64;
-    if place < right {
+    let place = place - surroundings.count;
+    if place < surroundings.right {
         return 0;
     }
-    entry(behind, place - right)
+    entry(surroundings.behind, place - surroundings.right)
 }
 
-// Whether so many places from one on are all among those of these cells, which begin at another.
-fn fit(cells: &[u64], start: u64, first: u64, count: u64) -> bool
-    ensures { IsTrue result ↔ ((start ≤ first) × (first + count ≤ start + length cells.now)) }
+// Whether so many places from one on are all among those of so many cells, which begin at another.
+fn fit(length: u64, start: u64, first: u64, count: u64) -> bool
+    ensures { IsTrue result ↔ ((start ≤ first) × (first + count ≤ start + length)) }
 {
     if first < start {
         return false;
     }
     let inside = first - start;
-    let length = cells.len() as u64;
     inside <= length && count <= length - inside
 }
 
 // So many cells of cells in parts, where they are in one of those that stand in memory.
 fn row_in<'r>(
-    before: &'r [u64],
-    left: u64,
+    surroundings: &Surroundings<'r>,
     own: &'r [u64],
-    right: u64,
-    behind: &'r [u64],
     first: u64,
     count: u64,
 ) -> Option<&'r [u64]>
-    requires { length (parted before.now left own.now right behind.now) < 2 ^ 63 }
-    ensures { IfSome result
-        (λ row. IsStretch first count (parted before.now left own.now right behind.now) row.now) }
+    requires { length own.now ≡ surroundings.now.count }
+    ensures { IfSome result (λ row. IsStretch first count (parted surroundings.now.before.now
+        surroundings.now.left own.now surroundings.now.right surroundings.now.behind.now) row.now) }
 {
-    let start = before.len() as u64 + left;
-    if fit(own, start, first, count) {
+    let before = surroundings.before;
+    let behind = surroundings.behind;
+    let start = before.len() as u64 + surroundings.left;
+    if fit(surroundings.count, start, first, count) {
         return Some(part(own, first - start, count));
     }
-    if fit(before, 0, first, count) {
+    if fit(before.len() as u64, 0, first, count) {
         return Some(part(before, first, count));
     }
-    let end = start + own.len() as u64 + right;
-    if fit(behind, end, first, count) {
+    let end = start + surroundings.count + surroundings.right;
+    if fit(behind.len() as u64, end, first, count) {
         return Some(part(behind, first - end, count));
     }
     None
 }
 
-// How many cells there are in parts, if they are not more than memory holds.
-fn count_all(before: &[u64], left: u64, own: &[u64], right: u64, behind: &[u64]) -> Option<usize>
-    ensures count { IfSome result
-        (λ n. n ≡ length (parted before.now left own.now right behind.now)) }
-    ensures few { IfSome result (λ n. n < 2 ^ 63) }
+// Whether as many cells are a thread's own as have their places, and there is room for all.
+#[inline]
+fn stands(surroundings: &Surroundings<'_>, own: &[u64], reserve: &Reserve) -> bool
+    ensures { result ≡ stands surroundings.now own.now reserve.now }
 {
-    let front = (before.len() as u64).checked_add(left)?;
-    let through = front.checked_add(own.len() as u64)?;
-    let back = through.checked_add(right)?;
-    let count = back.checked_add(behind.len() as u64)?;
-    if count < 1 << 63 {
-        Some(count as usize)
-    } else {
-        None
-    }
+    own.len() as u64 == surroundings.count && reserve.room() == surroundings.all
 }
 
-// All cells, in memory that has room for them.
-fn put_all(all: &mut Vec<u64>, before: &[u64], left: u64, own: &[u64], right: u64, behind: &[u64])
-    requires room { length (parted before.now left own.now right behind.now) ≤ vec_capacity all.old }
-    requires none { all.old.items ≡ [] }
-    ensures items { all.new.items ≡ parted before.now left own.now right behind.now }
-    ensures capacity { vec_capacity all.new ≡ vec_capacity all.old }
+/// Has a thread's own cells hold what they are as all are, also where these stand in memory.
+pub(crate) fn settle(cells: &mut Parted<'_, '_>)
+    requires { stands cells.old.surroundings cells.old.own.now cells.old.reserve.now ≡ true }
+    ensures cells { cells.new.own.now ≡ take (length cells.old.own.now)
+        (drop (length cells.old.surroundings.before.now + cells.old.surroundings.left)
+        (lent_cells cells.old.surroundings cells.old.own.now cells.old.reserve.now)) }
+    ensures own { cells.new.own.ghost_name ≡ cells.old.own.ghost_name }
+    ensures reserve { cells.new.reserve.ghost_name ≡ cells.old.reserve.ghost_name }
 {
-    add(all, before);
-    add_zeros(all, left);
-    add(all, own);
-    add_zeros(all, right);
-    add(all, behind);
+    let surroundings = cells.surroundings;
+    let own = &mut *cells.own;
+    let reserve = &mut *cells.reserve;
+    if reserve.is_empty() {
+        return;
+    }
+    let first = surroundings.before.len() as u64 + surroundings.left;
+    own.copy_from_slice(part(reserve.numbers(), first, surroundings.count));
 }
 
-// Has all cells stand in one list, where they stand in parts.
-fn join(all: &mut Vec<u64>, before: &[u64], left: u64, own: &[u64], right: u64, behind: &[u64])
-    requires room { length (parted before.now left own.now right behind.now) ≤ vec_capacity all.old }
-    ensures items { all.new.items
-        ≡ cells_held all.old.items (parted before.now left own.now right behind.now) }
-    ensures capacity { vec_capacity all.new ≡ vec_capacity all.old }
-{
-    if all.is_empty() {
-        put_all(all, before, left, own, right, behind);
-    }
-}
+impl<'c, 'o> Cells for Parted<'c, 'o> {
+    ghost cells = { λ p. lent_cells p.surroundings p.own.now p.reserve.now };
 
-impl<'c> Parted<'c> {
-    /// Cells in front of the places of all threads, so many places of others, cells of its own, more places of others, and the cells behind, with
-    /// memory that may have to hold all.
-    ///
-    /// # Errors
-    ///
-    /// Where memory is refused.
-    pub fn over(
-        before: &'c [u64],
-        left: u64,
-        own: Vec<u64>,
-        right: u64,
-        behind: &'c [u64],
-        memory: Vec<u64>,
-    ) -> Result<Parted<'c>, AllocError>
-        ensures cells { IfOk result (λ p. p.cells
-            ≡ parted before.now left own.items right behind.now) }
-        ensures first { IfOk result (λ p. p.first ≡ length before.now + left) }
-        ensures count { IfOk result (λ p. p.count ≡ length own.items) }
-    {
-        let Some(count) = count_all(before, left, own.as_slice(), right, behind) else {
-            return Err(AllocError);
-        };
-        let mut all = memory;
-        all.clear();
-        all.reserve(count)?;
-        Ok(Parted {
-            before,
-            left,
-            own,
-            right,
-            behind,
-            all,
-        })
-    }
-
-    /// Its own cells, and the memory that it was made with.
-    pub fn take_own(self) -> (Vec<u64>, Vec<u64>)
-        ensures own { result.0.items
-            ≡ take self.entry.count (drop self.entry.first self.entry.cells) }
-        ensures count { length result.0.items ≡ self.entry.count }
-    {
-        let Parted {
-            before,
-            left,
-            own,
-            right: _,
-            behind: _,
-            all,
-        } = self;
-        if all.is_empty() {
-            return (own, all);
-        }
-        let mut own = own;
-        let first = before.len() as u64 + left;
-        let count = own.len() as u64;
-        own.copy_from_slice(part(&all, first, count));
-        (own, all)
-    }
-}
-
-impl<'c> Cells for Parted<'c> {
-    ghost cells = { λ p. p.cells };
-
-    ghost shape = { λ p. (p.first ∷ p.count ∷ []) ∷ [] };
+    ghost shape = { λ p. (p.own.ghost_name ∷ p.reserve.ghost_name ∷ length p.own.now
+        ∷ p.reserve.now.room ∷ (length p.surroundings.before.now + p.surroundings.left) ∷ p.surroundings.count
+        ∷ p.surroundings.all ∷ []) ∷ [] };
 
     #[inline]
     fn read(&self, place: u64) -> u64 {
-        if self.all.is_empty() {
-            value_at(
-                self.before,
-                self.left,
-                &self.own,
-                self.right,
-                self.behind,
-                place,
-            )
+        if !stands(&self.surroundings, self.own, self.reserve) {
+            return 0;
+        }
+        if self.reserve.is_empty() {
+            value_at(&self.surroundings, self.own, place)
         } else {
-            entry(&self.all, place)
+            entry(self.reserve.numbers(), place)
         }
     }
 
     #[inline]
     fn write(&mut self, place: u64, n: u64) {
-        let first = self.before.len() as u64 + self.left;
-        if self.all.is_empty() && fit(&self.own, first, place, 1) {
-            set_entry(&mut self.own, place - first, n);
+        let surroundings = self.surroundings;
+        let own = &mut *self.own;
+        let reserve = &mut *self.reserve;
+        if !stands(&surroundings, own, reserve) {
             return;
         }
-        join(
-            &mut self.all,
-            self.before,
-            self.left,
-            &self.own,
-            self.right,
-            self.behind,
+        let first = surroundings.before.len() as u64 + surroundings.left;
+        if reserve.is_empty() && fit(surroundings.count, first, place, 1) {
+            own[(place - first) as usize] = n;
+            return;
+        }
+        reserve.join(
+            surroundings.before,
+            surroundings.left,
+            own,
+            surroundings.right,
+            surroundings.behind,
         );
-        set_entry(&mut self.all, place, n);
+        reserve.write(place, n);
     }
 
     // They stand so where all are in one of the parts that stand in memory.
     fn stretch(&self, first: u64, count: u64) -> Option<&[u64]> {
-        if !self.all.is_empty() {
+        if !stands(&self.surroundings, self.own, self.reserve) {
             return None;
         }
-        row_in(
-            self.before,
-            self.left,
-            &self.own,
-            self.right,
-            self.behind,
-            first,
-            count,
-        )
+        if !self.reserve.is_empty() {
+            return None;
+        }
+        row_in(&self.surroundings, self.own, first, count)
     }
 
     fn write_beside(&mut self, first: u64, numbers: &[u64]) {
-        let start = self.before.len() as u64 + self.left;
-        if self.all.is_empty() && fit(&self.own, start, first, numbers.len() as u64) {
-            overwrite(&mut self.own, first - start, numbers);
+        let surroundings = self.surroundings;
+        let own = &mut *self.own;
+        let reserve = &mut *self.reserve;
+        let start = surroundings.before.len() as u64 + surroundings.left;
+        if stands(&surroundings, own, reserve)
+            && reserve.is_empty()
+            && fit(surroundings.count, start, first, numbers.len() as u64)
+        {
+            overwrite(own, first - start, numbers);
             return;
         }
         for (k, n) in numbers.iter().enumerate() {

@@ -2,10 +2,14 @@
 //! those of the store.
 #![tactic(auto)]
 
+mod abreast;
 mod around;
 mod block;
 mod cells;
+mod placing;
+mod reserve;
 mod shared;
+mod surroundings;
 mod turned;
 mod turning;
 mod unrolling;
@@ -13,7 +17,6 @@ mod window;
 
 pub use around::nest_window_of;
 pub use block::{Tools, run_part};
-pub use cells::Parted;
 pub use shared::Shared;
 pub use turned::{Nest, Turned};
 pub use window::{Window, window_of};

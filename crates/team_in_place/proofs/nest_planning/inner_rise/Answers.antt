@@ -1,13 +1,9 @@
 use Rattle.std.proofs.Common.{◌+◌, ◌*◌, ◌<◌, sym, ◌∙◌, subst, arith}
 use Rattle.lane_rows.specs.Lanes.{stepped}
-use Rattle.team_parts.proofs.Windows.{variable_there}
 use Rattle.team_in_place.proofs.nest_planning.inner_rise.Goals as goal
 
 pub returns : goal.returns
 returns c =
-    let x = c.args.nesting.now in
-    let registers = c.args.registers.now in
-    let inner = x.counted.now in
     let t = c.in_ok-rise.rise in
     let rise = c.in_ok-rise.ensures in
     let end_left = c.is_left.ensures c.if-not-is_left.false in
@@ -16,8 +12,8 @@ returns c =
     let by = c.register_value-by.ensures in
     record {
       inner = record {
-        steady = inner.steady c.requires.lanes;
-        there = variable_there inner.limit inner.variable.at inner.ops.items registers (inner.laned c.requires.lanes) c.requires.wide;
+        steady = c.requires.steady;
+        there = c.requires.there;
         small = omega (arith, rise.first);
         step_small = omega (arith, rise.by);
         begins = λ rs cells kept. c.in_ok-first.ensures (stepped t.first t.by) t.count t.next rs cells kept ∙ sym rise.first;

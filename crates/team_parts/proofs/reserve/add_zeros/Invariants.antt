@@ -1,6 +1,6 @@
 use Rattle.std.proofs.Common.{◌≡◌, ◌++◌, replicate}
 use Rattle.std.specs.Vec.{vec_capacity}
-use Rattle.team_parts.proofs.cells.add_zeros.Given as goal
+use Rattle.team_parts.proofs.reserve.add_zeros.Given as goal
 
 abbrev pub invariant-add : goal.invariant-add
 invariant-add l = record {

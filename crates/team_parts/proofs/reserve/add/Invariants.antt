@@ -1,6 +1,6 @@
 use Rattle.std.proofs.Common.{◌≡◌, ◌++◌, take}
 use Rattle.std.specs.Vec.{vec_capacity}
-use Rattle.team_parts.proofs.cells.add.Given as goal
+use Rattle.team_parts.proofs.reserve.add.Given as goal
 
 abbrev pub invariant-add : goal.invariant-add
 invariant-add l = record {
