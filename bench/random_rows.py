@@ -61,18 +61,18 @@ def loop(draw, rows, width):
 
 def changes(draw):
     """What a local becomes from turn to turn of an inner loop."""
-    near = draw.choice(["D[i+k]", "D[i+k-1]", "D[i+31-k]", "D[i]", "F[k]", "F[31-k]", "G[k][i]", "k", "i", "D[i+2*k]"])
+    near = draw.choice(["D[i+k]", "D[i+k-1]", "D[i+400-k]", "D[i]", "F[k]", "F[400-k]", "G[k][i]", "k", "i", "D[i+2*k]"])
     return draw.choice([f"s += {near};", f"s = s * {draw.randrange(2, 9)} + {near};", f"s ^= {near}; s += s << {draw.randrange(1, 9)};", f"s = s * {near} ^ F[k];", f"if ({near} < s) s = {near};"])
 
 
 def folded(draw, count):
     """A parallel loop over elements, each made by a loop that changes a local."""
-    clause, first, end = draw.choice(["", " schedule(static)"]), draw.choice([1, 2]), draw.choice([2, 9, 16, 30])
+    clause, first, end = draw.choice(["", " schedule(static)"]), draw.choice([1, 2]), draw.choice([9, 30, 270, 300, 400])
     before, behind = draw.choice(["", "E[i] = i; ", "E[i] += F[3]; "]), draw.choice(["E[i] = s;", "E[i] += s;", "E[i] = s / 3 + E[i];"])
     within = draw.choice(["", "", "", " E[i] += s;"])
     step, inner_step, begun = draw.choice(["i++", "i++", "i += 2"]), draw.choice(["k++", "k++", "k += 2"]), draw.choice(["0", "i", "D[i]", "7"])
     return (
-        f"    #pragma omp parallel for{clause}\n    for (uint64_t i = {first}; i < {count - 70}; {step}) {{\n        uint64_t s = {begun};\n"
+        f"    #pragma omp parallel for{clause}\n    for (uint64_t i = {first}; i < {count - 5}; {step}) {{\n        uint64_t s = {begun};\n"
         f"        {before}for (uint64_t k = {draw.choice([0, 0, 1])}; k < {end}; {inner_step}) {{\n            {changes(draw)}{within}\n        }}\n        {behind}\n    }}\n"
     )
 
@@ -82,10 +82,10 @@ def text_of(seed):
     draw = random.Random(seed)
     rows, width = draw.choice([300, 350]), draw.choice([300, 420])
     declared = "".join(f"uint64_t {it}[{rows}][{width}];\n" for it in ARRAYS)
-    count = draw.choice([1000, 7000, 20000])
-    declared += f"uint64_t D[{count}];\nuint64_t E[{count}];\nuint64_t F[32];\nuint64_t G[32][{count}];\n"
+    count = draw.choice([900, 1500, 3000])
+    declared += f"uint64_t D[{count + 1000}];\nuint64_t E[{count}];\nuint64_t F[401];\nuint64_t G[401][{count}];\n"
     begun = f"    for (uint64_t i = 0; i < {rows}; i++) {{\n        for (uint64_t j = 0; j < {width}; j++) {{\n            A[i][j] = i * 7 + j * j;\n            B[i][j] = i ^ j * 5;\n            C[i][j] = i + j;\n        }}\n    }}\n"
-    begun += f"    for (uint64_t i = 0; i < {count}; i++) {{\n        D[i] = i * i + 5;\n        for (uint64_t k = 0; k < 32; k++) {{\n            F[k] = 3 * k + 1;\n            G[k][i] = k * i;\n        }}\n    }}\n"
+    begun += f"    for (uint64_t i = 0; i < {count + 1000}; i++) {{\n        D[i] = i * i + 5;\n    }}\n    for (uint64_t k = 0; k < 401; k++) {{\n        F[k] = 3 * k + 1;\n        for (uint64_t i = 0; i < {count}; i++) {{\n            G[k][i] = k * i;\n        }}\n    }}\n"
     return f"#include <stdint.h>\n\n{declared}\nvoid kernel(void)\n{{\n{begun}{loop(draw, rows, width)}{loop(draw, rows, width)}{folded(draw, count)}}}\n"
 
 

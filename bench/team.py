@@ -115,27 +115,27 @@ void kernel(void)
     }
 }
 """
-# an inner loop of few turns, each of which changes a local
-FILTER = """uint64_t A[1000008];
-uint64_t C[8];
-uint64_t B[1000000];
+# an inner loop that changes a local, and is too long to be written out
+POLYNOMIAL = """uint64_t X[100000];
+uint64_t C[300];
+uint64_t Y[100000];
 
 void kernel(void)
 {
-    for (uint64_t i = 0; i < 1000008; i++) {
-        A[i] = i * 31 & 255;
+    for (uint64_t i = 0; i < 100000; i++) {
+        X[i] = i * 777 ^ 5;
     }
-    for (uint64_t k = 0; k < 8; k++) {
-        C[k] = 3 * k + 1;
+    for (uint64_t k = 0; k < 300; k++) {
+        C[k] = 7 * k + 3;
     }
     /* timed from here on */
     #pragma omp parallel for schedule(static)
-    for (uint64_t i = 0; i < 1000000; i++) {
-        uint64_t s = 0;
-        for (uint64_t k = 0; k < 8; k++) {
-            s += A[i+k] * C[k];
+    for (uint64_t i = 0; i < 100000; i++) {
+        uint64_t y = 0;
+        for (uint64_t k = 0; k < 300; k++) {
+            y = y * X[i] + C[k];
         }
-        B[i] = s;
+        Y[i] = y;
     }
 }
 """
@@ -309,7 +309,7 @@ KERNELS = {
     "product": PRODUCT,
     "map": MAP,
     "stencil": STENCIL,
-    "filter": FILTER,
+    "polynomial": POLYNOMIAL,
     "sum": reduced("+", "s += A[i] + i;"),
     "max": reduced("max", "if ((A[i] ^ i) > s) s = (A[i] ^ i);"),
     "xor": reduced("^", "s ^= A[i] + i;"),
@@ -323,7 +323,7 @@ COMPUTED = ("hash", "product")
 LIGHT = ("distance", "sweep")
 
 # how often the body of a kernel runs where its loops are timed alone
-OFTEN = {"hash": 3, "product": 9, "map": 17, "stencil": 9, "filter": 17, "sum": 57, "max": 57, "xor": 57, "local": 513, "prefix": 5, "distance": 9, "sweep": 9, "relax": 5}
+OFTEN = {"hash": 3, "product": 9, "map": 17, "stencil": 9, "polynomial": 5, "sum": 57, "max": 57, "xor": 57, "local": 513, "prefix": 5, "distance": 9, "sweep": 9, "relax": 5}
 
 
 class Runner:

@@ -179,60 +179,61 @@ for workers in 1 2 3 64; do
     fi
 done
 
-# loops with an inner loop that waits for itself, run for many turns at once, and one that writes two arrays
+# loops with a long inner loop that waits for itself, run for many turns at once, and one that writes two arrays
 cat >"$work/abreast.c" <<'END'
-uint64_t A[20010];
-uint64_t C[8];
-uint64_t B[20000];
-uint64_t P[20000];
-uint64_t Q[20000];
-uint64_t M[30][5000];
-uint64_t S[5000];
+uint64_t A[3000];
+uint64_t C[300];
+uint64_t B[2000];
+uint64_t P[2000];
+uint64_t Q[2000];
+uint64_t M[300][2000];
+uint64_t S[2000];
 void kernel(void)
 {
-    for (uint64_t i = 0; i < 20010; i++) { A[i] = i * i + 3 * i; }
-    for (uint64_t k = 0; k < 8; k++) { C[k] = 3 * k + 1; }
-    for (uint64_t i = 0; i < 30; i++) { for (uint64_t j = 0; j < 5000; j++) { M[i][j] = i * j + 7; } }
+    for (uint64_t i = 0; i < 3000; i++) { A[i] = i * i + 3 * i; }
+    for (uint64_t k = 0; k < 300; k++) { C[k] = 3 * k + 1; }
+    for (uint64_t i = 0; i < 300; i++) { for (uint64_t j = 0; j < 2000; j++) { M[i][j] = i * j + 7; } }
     #pragma omp parallel for
-    for (uint64_t i = 0; i < 20000; i++) { uint64_t s = i; for (uint64_t k = 0; k < 8; k++) { s += A[i + k] * C[k]; } B[i] = s; }
+    for (uint64_t i = 0; i < 2000; i++) { uint64_t s = i; for (uint64_t k = 0; k < 300; k++) { s += A[i + k] * C[k]; } B[i] = s; }
     #pragma omp parallel for
-    for (uint64_t i = 0; i < 20000; i++) { uint64_t y = 0; for (uint64_t k = 0; k < 8; k++) { y = y * A[i] + C[7 - k]; } P[i] = y; }
+    for (uint64_t i = 0; i < 2000; i++) { uint64_t y = 0; for (uint64_t k = 0; k < 300; k++) { y = y * A[i] + C[299 - k]; } P[i] = y; }
     #pragma omp parallel for
-    for (uint64_t i = 1; i < 20000; i++) { uint64_t s = 0; for (uint64_t k = 0; k < 8; k += 3) { s = s * 5 ^ A[i + k - 1]; s = s * 3 + k; } Q[i] = s + B[i]; }
+    for (uint64_t i = 1; i < 2000; i++) { uint64_t s = 0; for (uint64_t k = 0; k < 900; k += 3) { s = s * 5 ^ A[i + k - 1]; s = s * 3 + k; } Q[i] = s + B[i]; }
     #pragma omp parallel for
-    for (uint64_t j = 0; j < 5000; j++) { uint64_t s = j; for (uint64_t i = 0; i < 30; i++) { s += M[i][j] ^ i; } S[j] = s; }
+    for (uint64_t j = 0; j < 2000; j++) { uint64_t s = j; for (uint64_t i = 0; i < 300; i++) { s += M[i][j] ^ i; } S[j] = s; }
     #pragma omp parallel for schedule(static)
-    for (uint64_t i = 0; i < 20000; i++) { P[i] += 2; uint64_t h = P[i]; for (uint64_t k = 0; k < 9; k++) { h = h * 31 + k; } P[i] ^= h; }
+    for (uint64_t i = 0; i < 2000; i++) { P[i] += 2; uint64_t h = P[i]; for (uint64_t k = 0; k < 400; k++) { h = h * 31 + k; P[i] ^= h; } P[i] += h; }
     #pragma omp parallel for
-    for (uint64_t i = 0; i < 20000; i++) { uint64_t h = A[i]; for (uint64_t k = 0; k < 5; k++) { h = h * 31 + k; } P[i] += h; Q[i] ^= h; }
+    for (uint64_t i = 0; i < 2000; i++) { uint64_t h = A[i]; for (uint64_t k = 0; k < 300; k++) { h = h * 31 + k; } P[i] += h; Q[i] ^= h; }
 }
 END
 python3 - >"$work/abreast.out" <<'END'
 word = (1 << 64) - 1
-A = [i * i + 3 * i for i in range(20010)]
-C = [3 * k + 1 for k in range(8)]
-M = [[i * j + 7 for j in range(5000)] for i in range(30)]
-B = [i + sum(A[i + k] * C[k] for k in range(8)) & word for i in range(20000)]
-P, Q = [], [0] * 20000
-for i in range(20000):
+A = [i * i + 3 * i for i in range(3000)]
+C = [3 * k + 1 for k in range(300)]
+M = [[i * j + 7 for j in range(2000)] for i in range(300)]
+B = [i + sum(A[i + k] * C[k] for k in range(300)) & word for i in range(2000)]
+P, Q = [], [0] * 2000
+for i in range(2000):
     y = 0
-    for k in range(8):
-        y = y * A[i] + C[7 - k] & word
+    for k in range(300):
+        y = y * A[i] + C[299 - k] & word
     P.append(y)
-for i in range(1, 20000):
+for i in range(1, 2000):
     s = 0
-    for k in range(0, 8, 3):
+    for k in range(0, 900, 3):
         s = (s * 5 & word ^ A[i + k - 1]) * 3 + k & word
     Q[i] = s + B[i] & word
-S = [j + sum(M[i][j] ^ i for i in range(30)) & word for j in range(5000)]
-for i in range(20000):
+S = [j + sum(M[i][j] ^ i for i in range(300)) & word for j in range(2000)]
+for i in range(2000):
     h = P[i] = P[i] + 2 & word
-    for k in range(9):
+    for k in range(400):
         h = h * 31 + k & word
-    P[i] ^= h
-for i in range(20000):
+        P[i] ^= h
+    P[i] = P[i] + h & word
+for i in range(2000):
     h = A[i]
-    for k in range(5):
+    for k in range(300):
         h = h * 31 + k & word
     P[i], Q[i] = P[i] + h & word, Q[i] ^ h
 for name, values in (("A", A), ("C", C), ("B", B), ("P", P), ("Q", Q), ("M", sum(M, [])), ("S", S)):
