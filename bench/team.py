@@ -1,20 +1,23 @@
 #!/usr/bin/env python3
 """Times teams: parallel loops by `ompk run` with 1, 2 and 4 workers, beside the same loops by one thread and by `gcc -O2 -fopenmp`.
 
-    python3 bench/team.py [PROGRAM [PART..]]     the program as it is proved here, or another one; all parts, or these: `whole`, `alone`, `ones`,
-                                                 `turns` and `waves`
+    python3 bench/team.py [PROGRAM [PART..] [KERNEL..]]     the program as it is proved here, or another one; all parts, or these: `whole`,
+                                                            `alone`, `ones`, `turns` and `waves`; all kernels, or these
 
 A line for each kernel: seconds from start to end (the median of five rounds, in each of which all programs run in turn), of its parallel
 loops by so many workers, of the same text without its directive lines, and of gcc with as many threads. Then a line for each with its loops
 alone, in milliseconds: the kernel's body many times and once, and the difference by how often more, so that starting and writing count for
-nothing (the median of three rounds). Then chunks of one iteration: nanoseconds for each, and bytes of memory for each beside the store, of a
-million chunks and of 2^24. Then a loop of 8 iterations inside 10,000 turns of a serial loop: microseconds a turn, also by more workers than
-there are processors. Then 100,000 waves of one, two and four iterations with a loop in each: microseconds that a wave takes beside its work,
-which is what one thread takes for the text without its directive lines. Every program has to print the same. The machine should be idle. The status is 1 where a target is missed. Of the loops
-alone: by one worker at most 1.5 times the time of the text without directive lines, of a scan 2.2 times; of a doacross nest of light iterations at
-most the time of gcc; on four processors at least 2.5 times the speed by 4 workers of a hash and a product, and a scan faster by 4 than by one. A chunk of one
-iteration below 500 ns, and at most 64 bytes for it beside the 16 of its write; and on four processors at most 3 us a turn by 4, and 2 us a wave.
+nothing (the median of three rounds), and of ten everyday kernels the geometric mean of the ratios to gcc. Then chunks of one iteration: nanoseconds
+for each, and bytes of memory for each beside the store, of a million chunks and of 2^24. Then a loop of 8 iterations inside 10,000 turns of a
+serial loop: microseconds a turn, also by more workers than there are processors. Then 100,000 waves of one, two and four iterations with a loop
+in each: microseconds that a wave takes beside its work, which is what one thread takes for the text without its directive lines. Every program
+has to print the same. The machine should be idle. The status is 1 where a target is missed. Of the loops alone: by one worker at most 1.5 times
+the time of the text without directive lines, of a scan 2.2 times; of a doacross nest of light iterations at most the time of gcc; on four
+processors at least 2.5 times the speed by 4 workers of a hash and a product, a scan faster by 4 than by one, and of the everyday kernels by 4 a
+mean of at most 1.5. A chunk of one iteration below 500 ns, and at most 64 bytes for it beside the 16 of its write; and on four processors at most
+3 us a turn by 4, and 2 us a wave.
 """
+import math
 import os
 import pathlib
 import re
@@ -37,9 +40,35 @@ SCAN_SLOWER = 2.2
 ALONE_ROUNDS = 3
 TURN = 3
 WAVE = 2
+MEAN = 1.5
 WAVES = 100000
 PARTS = ("whole", "alone", "ones", "turns", "waves")
 TIMED = "    /* timed from here on */\n"
+# what prints the arrays of gcc's programs, faster than printf
+PRINTING = """
+static char line[1 << 16];
+static size_t used;
+static void put(char c)
+{
+    if (used == sizeof line) { fwrite(line, 1, used, stdout); used = 0; }
+    line[used++] = c;
+}
+static void put_array(const char *name, const uint64_t *numbers, size_t count)
+{
+    while (*name) put(*name++);
+    put(' ');
+    put('=');
+    for (size_t i = 0; i < count; i++) {
+        char digits[20];
+        size_t many = 0;
+        uint64_t n = numbers[i];
+        do { digits[many++] = '0' + n % 10; n /= 10; } while (n);
+        put(' ');
+        while (many) put(digits[--many]);
+    }
+    put('\\n');
+}
+"""
 
 HASH = """uint64_t A[1000000];
 
@@ -115,6 +144,115 @@ void kernel(void)
     }
 }
 """
+QUOTIENT = """uint64_t A[1000][1000];
+uint64_t B[1000][1000];
+
+void kernel(void)
+{
+    for (uint64_t i = 0; i < 1000; i++) {
+        for (uint64_t j = 0; j < 1000; j++) {
+            A[i][j] = i * 7000 + j * 91;
+        }
+    }
+    /* timed from here on */
+    #pragma omp parallel for schedule(static)
+    for (uint64_t i = 1; i < 999; i++) {
+        for (uint64_t j = 1; j < 999; j++) {
+            B[i][j] = (A[i][j] + A[i-1][j] + A[i+1][j] + A[i][j-1] + A[i][j+1]) / 5;
+        }
+    }
+    #pragma omp parallel for schedule(static)
+    for (uint64_t i = 1; i < 999; i++) {
+        for (uint64_t j = 1; j < 999; j++) {
+            A[i][j] = (B[i][j] + B[i-1][j] + B[i+1][j] + B[i][j-1] + B[i][j+1]) / 5;
+        }
+    }
+}
+"""
+TRIAD = """uint64_t A[1000000];
+uint64_t B[1000000];
+uint64_t C[1000000];
+uint64_t c;
+
+void kernel(void)
+{
+    c = 3;
+    for (uint64_t i = 0; i < 1000000; i++) {
+        A[i] = 1;
+        B[i] = i * 7 + 1;
+        C[i] = i * 13 + 5;
+    }
+    /* timed from here on */
+    c += 2;
+    #pragma omp parallel for schedule(static)
+    for (uint64_t i = 0; i < 1000000; i++) {
+        A[i] = B[i] + C[i] * c;
+    }
+}
+"""
+TRIANGLE = """uint64_t A[400][400];
+uint64_t B[400][400];
+uint64_t C[400][400];
+
+void kernel(void)
+{
+    for (uint64_t i = 0; i < 400; i++) {
+        for (uint64_t j = 0; j < 400; j++) {
+            A[i][j] = i + j;
+            B[i][j] = 3 * i + j;
+        }
+    }
+    /* timed from here on */
+    #pragma omp parallel for schedule(dynamic, 4)
+    for (uint64_t i = 0; i < 400; i++) {
+        for (uint64_t j = 0; j < i; j++) {
+            uint64_t s = C[i][j];
+            for (uint64_t k = j; k < i; k++) {
+                s += A[i][k] * B[j][k];
+            }
+            C[i][j] = s;
+        }
+    }
+}
+"""
+COLLATZ = """uint64_t A[1000000];
+
+void kernel(void)
+{
+    for (uint64_t i = 0; i < 1000000; i++) {
+        A[i] = i * 6364136223846793005ull + 1442695040888963407ull >> 1;
+        A[i] ^= A[i] >> 31;
+    }
+    /* timed from here on */
+    #pragma omp parallel for schedule(static)
+    for (uint64_t i = 0; i < 1000000; i++) {
+        if ((A[i] & 1) == 1) A[i] = 3 * A[i] + 1;
+        else A[i] = A[i] >> 1;
+    }
+}
+"""
+FOLDS = """uint64_t A[4000000];
+uint64_t s;
+uint64_t low;
+uint64_t high;
+
+void kernel(void)
+{
+    for (uint64_t i = 0; i < 4000000; i++) {
+        A[i] = i * 6364136223846793005ull + 1442695040888963407ull >> 1;
+        A[i] ^= A[i] >> 31;
+    }
+    low = A[0];
+    /* timed from here on */
+    A[7] += s;
+    #pragma omp parallel for reduction(+: s) reduction(min: low) reduction(max: high)
+    for (uint64_t i = 0; i < 4000000; i++) {
+        s += A[i];
+        if (A[i] < low) low = A[i];
+        if (A[i] > high) high = A[i];
+    }
+}
+"""
 # an inner loop that changes a local, and is too long to be written out
 POLYNOMIAL = """uint64_t X[100000];
 uint64_t C[300];
@@ -139,13 +277,14 @@ void kernel(void)
     }
 }
 """
+# places that fall, so that the loop is run in chunks
 ONES = """uint64_t A[1000000];
 
 void kernel(void)
 {
     #pragma omp parallel for schedule(dynamic, 1)
     for (uint64_t i = 0; i < 1000000; i++) {
-        A[i] = A[i] * 3 + i;
+        A[1000000 - 1 - i] = A[1000000 - 1 - i] * 3 + i;
     }
 }
 """
@@ -308,11 +447,16 @@ KERNELS = {
     "hash": HASH,
     "product": PRODUCT,
     "map": MAP,
+    "triad": TRIAD,
+    "collatz": COLLATZ,
     "stencil": STENCIL,
+    "quotient": QUOTIENT,
+    "triangle": TRIANGLE,
     "polynomial": POLYNOMIAL,
     "sum": reduced("+", "s += A[i] + i;"),
     "max": reduced("max", "if ((A[i] ^ i) > s) s = (A[i] ^ i);"),
     "xor": reduced("^", "s ^= A[i] + i;"),
+    "folds": FOLDS,
     "local": LOCAL,
     "prefix": PREFIX,
     "distance": DISTANCE,
@@ -321,9 +465,14 @@ KERNELS = {
 }
 COMPUTED = ("hash", "product")
 LIGHT = ("distance", "sweep")
+# ten everyday kernels, of whose ratios to gcc the mean is told
+EVERYDAY = ("map", "triad", "product", "hash", "quotient", "triangle", "folds", "prefix", "distance", "collatz")
 
 # how often the body of a kernel runs where its loops are timed alone
-OFTEN = {"hash": 3, "product": 9, "map": 17, "stencil": 9, "polynomial": 5, "sum": 57, "max": 57, "xor": 57, "local": 513, "prefix": 5, "distance": 9, "sweep": 9, "relax": 5}
+OFTEN = {
+    "hash": 5, "product": 33, "map": 33, "triad": 65, "collatz": 33, "stencil": 17, "quotient": 33, "triangle": 17, "polynomial": 5,
+    "sum": 57, "max": 57, "xor": 57, "folds": 65, "local": 513, "prefix": 9, "distance": 17, "sweep": 17, "relax": 9,
+}
 
 
 class Runner:
@@ -340,14 +489,12 @@ class Runner:
 
     def compiled(self, name, text):
         """The program of gcc, which prints what ours does."""
-        dump = "".join(
-            f'printf("{array} ="); for (long i = 0; i < (long)(sizeof {array} / 8); i++) printf(" %lu", ((uint64_t *)&{array})[i]); printf("\\n");\n'
-            for array in re.findall(r"^uint64_t (\w+)", text, re.M)
-        )
+        dump = "".join(f'put_array("{array}", (const uint64_t *)&{array}, sizeof {array} / 8);\n' for array in re.findall(r"^uint64_t (\w+)", text, re.M))
         # the clause `doacross` of OpenMP 5.2 is `depend` in the compilers of 5.1 and before
         text = re.sub(r"doacross\(sink: (.*)\)", r"depend(sink: \1)", text).replace("doacross(source:)", "depend(source)")
         path = self.folder / f"{name}_main.c"
-        path.write_text(f"#include <stdint.h>\n#include <stdio.h>\n{text}int main(void)\n{{\nkernel();\n{dump}return 0;\n}}\n")
+        main = f"int main(void)\n{{\nkernel();\n{dump}fwrite(line, 1, used, stdout);\nreturn 0;\n}}\n"
+        path.write_text(f"#include <stdint.h>\n#include <stdio.h>\n{text}{PRINTING}{main}")
         subprocess.run(["gcc", "-O2", "-fopenmp", "-o", self.folder / name, path], check=True)
         return self.folder / name
 
@@ -475,22 +622,42 @@ def small_waves(runner):
     return missed
 
 
-def main(program, parts):
+def whole(runner, kernels):
+    """Prints how long the kernels take from start to end."""
+    for kernel in kernels:
+        found = medians(runner, kernel, KERNELS[kernel])
+        print(f"{kernel:10}" + "".join(f"{it:11.3f}" for it in found.values()), flush=True)
+
+
+def loops_alone(runner, kernels):
+    """Prints how long the loops of the kernels take, and the mean of the everyday ones' ratios to gcc; gives the targets that they miss."""
+    missed, ratios = [], {workers: [] for workers in TEAMS}
+    for kernel in kernels:
+        found = alone(runner, kernel, KERNELS[kernel])
+        print(f"{kernel:10}" + "".join(f"{1e3 * it:11.2f}" for it in found.values()), flush=True)
+        missed += misses(kernel, KERNELS[kernel], found)
+        if kernel in EVERYDAY:
+            for workers in TEAMS:
+                ratios[workers].append(found[f"{workers} workers"] / found[f"gcc {workers}"])
+    if set(EVERYDAY) <= set(kernels):
+        means = {workers: math.exp(statistics.fmean(map(math.log, of_team))) for workers, of_team in ratios.items()}
+        print(f"{'mean ratio':10}" + "".join(f"{mean:11.2f}" for mean in means.values()), flush=True)
+        if os.cpu_count() >= 4 and means[4] > MEAN:
+            missed.append(f"everyday kernels by 4 workers take {means[4]:.2f} times the time of gcc")
+    return missed
+
+
+def main(program, parts, kernels):
     missed = []
     with tempfile.TemporaryDirectory() as name:
         runner = Runner(program, pathlib.Path(name))
         columns = "".join(f"{it:>11}" for it in [*(f"{w} workers" for w in TEAMS), "serial", *(f"gcc {w}" for w in TEAMS)])
         if "whole" in parts:
             print(f"{'seconds':10}{columns}")
-            for kernel, text in KERNELS.items():
-                found = medians(runner, kernel, text)
-                print(f"{kernel:10}" + "".join(f"{it:11.3f}" for it in found.values()), flush=True)
+            whole(runner, kernels)
         if "alone" in parts:
             print(f"{'ms alone':10}{columns}")
-            for kernel, text in KERNELS.items():
-                found = alone(runner, kernel, text)
-                print(f"{kernel:10}" + "".join(f"{1e3 * it:11.1f}" for it in found.values()), flush=True)
-                missed += misses(kernel, text, found)
+            missed += loops_alone(runner, kernels)
         if "ones" in parts:
             for count in (1000000, 1 << 24):
                 missed += chunks_of_one(runner, count)
@@ -505,7 +672,9 @@ def main(program, parts):
 
 if __name__ == "__main__":
     resource.setrlimit(resource.RLIMIT_CORE, (0, 0))
-    words = sys.argv[2:] or PARTS
-    if not set(words) <= set(PARTS):
+    words = sys.argv[2:]
+    if not set(words) <= {*PARTS, *KERNELS}:
         sys.exit(__doc__)
-    sys.exit(main(pathlib.Path(sys.argv[1]) if len(sys.argv) > 1 else PROGRAM, words))
+    chosen = [word for word in words if word in PARTS] or PARTS
+    timed = [word for word in words if word in KERNELS] or list(KERNELS)
+    sys.exit(main(pathlib.Path(sys.argv[1]) if len(sys.argv) > 1 else PROGRAM, chosen, timed))

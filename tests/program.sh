@@ -66,7 +66,7 @@ printf 'uint64_t x;\nuint64_t B[2][2];\nvoid kernel(void)\n{\n}\n' >"$work/empty
 printf 'B 1 2 3 18446744073709551615\n' >"$work/input"
 expect 0 $'x = 0\nB = 1 2 3 18446744073709551615\n' '' run "$work/empty.c" --input "$work/input"
 
-# loops of many turns, run in place and in chunks
+# loops of many turns, run in place and in chunks, under schedules of each kind
 cat >"$work/long.c" <<'END'
 uint64_t n;
 uint64_t A[300000];
@@ -81,13 +81,13 @@ void kernel(void)
     for (uint64_t i = 0; i < 300002; i++) { B[i] = i * i; }
     #pragma omp parallel for schedule(static)
     for (uint64_t i = 0; i < 300000; i++) { A[i] = B[i] + B[i + 1] * 3 + B[i + 2]; }
-    #pragma omp parallel for lastprivate(last)
+    #pragma omp parallel for lastprivate(last) schedule(static, 1000)
     for (uint64_t i = 1; i < 299999; i++) { C[i][1] = A[i]; last = A[i] + i; C[i][0] = last + n; }
-    #pragma omp parallel for
+    #pragma omp parallel for schedule(dynamic, 1)
     for (uint64_t i = 0; i < 300000; i += 1) { D[3 * i + 1] += C[i][1] - i; }
     #pragma omp parallel for
     for (uint64_t i = 0; i < 300000; i++) { E[i] = A[299999 - i]; }
-    #pragma omp parallel for
+    #pragma omp parallel for schedule(guided)
     for (uint64_t i = 0; i < 300000; i++) { if (E[i] % 3 == 1) { E[i] = E[i] / 3; } }
 }
 END
@@ -136,7 +136,7 @@ void kernel(void)
         #pragma omp parallel for schedule(static)
         for (uint64_t i = 1; i < 499; i++) { for (uint64_t j = 1; j < 599; j++) { A[i][j] = B[i][j] + t; } }
     }
-    #pragma omp parallel for
+    #pragma omp parallel for schedule(dynamic, 7)
     for (uint64_t i = 0; i < 500; i++) { for (uint64_t j = 1; j < 600; j++) { B[i][j] += B[i][j - 1] + i; } }
     #pragma omp parallel for
     for (uint64_t i = 0; i < 500; i++) { for (uint64_t j = 0; j < 600; j++) { uint64_t x = A[i][j]; T[i][j][1] = x; T[i][j][0] = x ^ j; } }
@@ -195,7 +195,7 @@ void kernel(void)
     for (uint64_t i = 0; i < 300; i++) { for (uint64_t j = 0; j < 2000; j++) { M[i][j] = i * j + 7; } }
     #pragma omp parallel for
     for (uint64_t i = 0; i < 2000; i++) { uint64_t s = i; for (uint64_t k = 0; k < 300; k++) { s += A[i + k] * C[k]; } B[i] = s; }
-    #pragma omp parallel for
+    #pragma omp parallel for schedule(dynamic)
     for (uint64_t i = 0; i < 2000; i++) { uint64_t y = 0; for (uint64_t k = 0; k < 300; k++) { y = y * A[i] + C[299 - k]; } P[i] = y; }
     #pragma omp parallel for
     for (uint64_t i = 1; i < 2000; i++) { uint64_t s = 0; for (uint64_t k = 0; k < 900; k += 3) { s = s * 5 ^ A[i + k - 1]; s = s * 3 + k; } Q[i] = s + B[i]; }

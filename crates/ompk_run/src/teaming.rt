@@ -115,13 +115,8 @@ fn run_team_loop<'l, R: Threads + Wait + Sync, G: Gate + Sync, S: Sink>(
     Ok(())
 }
 
-// Whether a loop's chunks are those of plain static.
-fn is_plain_static(clause: Option<Schedule>, runtime: Sched) -> bool {
-    matches!(sched_of(clause, runtime), Sched::PlainStatic)
-}
-
-// Runs a loop in place, if its chunks are told apart by no more than who runs them, and are those of plain static, and it is seen that it may be; else it
-// changes nothing, and tells so.
+// Runs a loop in place, if its chunks are told apart by no more than who runs them, and it is seen that it may be; else it changes nothing, and tells so. Its
+// turns are alike, so that no schedule would share them better than plain static does (OpenMP 5.2, 11.5.3).
 fn is_run_in_place<'l, R: Threads + Wait + Sync, G: Gate + Sync>(
     construct: &'l TeamLoop<'_>,
     team: &Teaming<'_, '_, '_, 'l, R, G>,
@@ -140,9 +135,6 @@ fn is_run_in_place<'l, R: Threads + Wait + Sync, G: Gate + Sync>(
 {
     let in_chunks = matches!(construct.way, Way::Chunks);
     if !in_chunks && team.workers.get() != 1 {
-        return Ok(false);
-    }
-    if !is_plain_static(construct.lowered.schedule, team.sched) {
         return Ok(false);
     }
     let crew = Crew {

@@ -11,6 +11,9 @@ use std::thread::{Threads, join_mut};
 use team_parts::{Shared, Tools, run_part};
 use team_worker::{Gate, Taken};
 
+/// How many workers a team has at most whose threads are started one after another.
+const SMALL: u64 = 8;
+
 /// What the workers of a team have in common.
 #[derive(Drop)]
 pub(crate) struct Team<'t, 'k, R: Threads + Sync, G: Gate + Sync> {
@@ -73,6 +76,16 @@ fn run_share<R: Threads + Sync, G: Gate + Sync>(
     Ok(tools.into_registers())
 }
 
+// Of how many workers the next thread runs the shares, of some and not of all. The threads of a small team are all started by the one that calls, since two that
+// start threads at once were seen to be given one processor for both; those of a large team start half of what is left to them each.
+fn shares_of_next(number: u64) -> u64
+    requires { 2 ≤ number }
+    ensures some { 0 < result }
+    ensures others { result < number }
+{
+    if number > SMALL { number / 2 } else { 1 }
+}
+
 /// Runs so many turns from one on over their own cells, by so many workers from one on, each its share under plain static in a thread of its own.
 /// The registers are as the last of them leaves them (OpenMP 5.2, 11.5.3).
 ///
@@ -97,8 +110,8 @@ pub(crate) fn run_shares<R: Threads + Sync, G: Gate + Sync>(
         return run_share(team, worker, from, count, own);
     }
     let _most = team.workers.get();
-    let half = number / 2;
-    let (second, others) = (worker + half, number - half);
+    let shares = shares_of_next(number);
+    let (second, others) = (worker + shares, number - shares);
     let some = turns_before(&team.shared, team.workers, second, from, count);
     let (next, rest) = (from + some, count - some);
     let (front, back) = own.split_at_mut(team.shared.cells_of(some) as usize);
@@ -106,13 +119,13 @@ pub(crate) fn run_shares<R: Threads + Sync, G: Gate + Sync>(
         team.rt,
         &mut || -> Result<Vec<u64>, AllocError>
             requires sync { IsSync R.row × IsSync G.row }
-            requires some { 0 < half }
-            requires workers { worker + half ≤ team.now.workers }
+            requires some { 0 < shares }
+            requires workers { worker + shares ≤ team.now.workers }
             requires within { from + some ≤ team.now.shared.count }
             requires own { length front.now ≡ team.now.shared.window.width * some }
             ensures { IfOk result (λ rs. IsPartDone team.entry.now.shared from some
                 front.entry.now front.exit.now rs.items) }
-        { run_shares(team, worker, half, from, some, front) },
+        { run_shares(team, worker, shares, from, some, front) },
         &mut || -> Result<Vec<u64>, AllocError>
             requires sync { IsSync R.row × IsSync G.row }
             requires some { 0 < others }
