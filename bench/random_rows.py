@@ -3,7 +3,7 @@
 
     bench/random_rows.py [--program PROGRAM] FIRST COUNT
 
-Makes a text for each seed from FIRST on: three arrays of some 300 rows, and two parallel loops under plain static over rows of one of them, each with a
+Makes a text for each seed from FIRST on: three arrays of some 300 rows, and two parallel loops under schedules of each kind over rows of one of them, each with a
 loop of random steps and ends inside, which reads the others near the place that it writes, and the row itself; and one over an element each, with a loop inside
 that changes a local by itself and by elements near. So most are long enough to be run in place, and some are not, or may not be. What an accepted text leaves by `run` with 1, 2, 3, 5 and 64 workers has to be what `seq` leaves. A line for each seed that
 differs; the last line says how many were run, refused and differ. The status is 1 where one does.
@@ -22,6 +22,7 @@ from differential import TOP
 WORKERS = (1, 2, 3, 5, 64)
 ARRAYS = "ABC"
 NEAR = ("", "-1", "+1", "-2", "+2")
+CLAUSES = ("", "", " schedule(static)", " schedule(static, 7)", " schedule(dynamic, 3)", " schedule(guided)")
 
 
 def operand(draw, others):
@@ -51,7 +52,7 @@ def loop(draw, rows, width):
             f"{own}[i][j] += {written};",
         ]
     )
-    clause, before = draw.choice(["", " schedule(static)"]), draw.choice(["", "uint64_t y = i * 3; "])
+    clause, before = draw.choice(CLAUSES), draw.choice(["", "uint64_t y = i * 3; "])
     step, inner_step, end = draw.choice(["i++", "i++", "i += 2"]), draw.choice(["j++", "j++", "j += 2", "j += 3"]), width - draw.choice([2, 3])
     return (
         f"    #pragma omp parallel for{clause}\n    for (uint64_t i = 2; i < {rows - 2}; {step}) {{\n"
@@ -67,7 +68,7 @@ def changes(draw):
 
 def folded(draw, count):
     """A parallel loop over elements, each made by a loop that changes a local."""
-    clause, first, end = draw.choice(["", " schedule(static)"]), draw.choice([1, 2]), draw.choice([9, 30, 270, 300, 400])
+    clause, first, end = draw.choice(CLAUSES), draw.choice([1, 2]), draw.choice([9, 30, 270, 300, 400])
     before, behind = draw.choice(["", "E[i] = i; ", "E[i] += F[3]; "]), draw.choice(["E[i] = s;", "E[i] += s;", "E[i] = s / 3 + E[i];"])
     within = draw.choice(["", "", "", " E[i] += s;"])
     step, inner_step, begun = draw.choice(["i++", "i++", "i += 2"]), draw.choice(["k++", "k++", "k += 2"]), draw.choice(["0", "i", "D[i]", "7"])

@@ -2,6 +2,7 @@ pub mod Beside
 pub mod Gathered
 pub mod Lent
 pub mod Near
+pub mod NumberRows
 pub mod Overlays
 pub mod Runs
 pub mod Tables

@@ -86,7 +86,7 @@ sound_empty t masked covers small none sized zeros clear =
       within = λ p e. let z = clear p in absurd (omega arith);
     }
 
-at_range : {X : Type 0} (f : ℕ → X) (n i : ℕ) (d : X) → i < n → get_or (map f (range_with_len 0 n)) i d ≡ f i
+pub at_range : {X : Type 0} (f : ℕ → X) (n i : ℕ) (d : X) → i < n → get_or (map f (range_with_len 0 n)) i d ≡ f i
 at_range f n i d lt = get_or-map-range_with_len f 0 n i i d lt (omega arith)
 
 pub length_slots : (t : Table) → length (slots t) ≡ t.size

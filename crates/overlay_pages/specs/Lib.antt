@@ -1,3 +1,4 @@
+pub mod NumberRows
 pub mod Over
 pub mod Runs
 pub mod Seen

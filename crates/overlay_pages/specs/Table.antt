@@ -19,7 +19,7 @@ pub record Table : Type 0 where
   pub values : List ℕ
 
 abbrev pub table_of : Pages → Table
-table_of p = record { size = p.size; masks = p.masks.items; numbers = p.numbers.items; entered = p.entered.items; values = p.values.items }
+table_of p = record { size = p.size; masks = p.masks; numbers = p.numbers; entered = p.entered.items; values = p.values.items }
 
 -- the number of the page of a place
 abbrev pub number_at : Table → ℕ → ℕ
@@ -105,8 +105,8 @@ StandFrom t first count start = (k : ℕ) → k < count → (bit t (first + k) �
 -- tables, with room for all pages
 pub record IsRoomy (p : Pages) : Type 0 where
   pub sound : IsSound (table_of p)
-  pub entered : length p.numbers.items ≤ vec_capacity p.entered
-  pub values : 64 * suc (length p.numbers.items) ≤ vec_capacity p.values
+  pub entered : length p.numbers ≤ vec_capacity p.entered
+  pub values : 64 * suc (length p.numbers) ≤ vec_capacity p.values
 
 -- the values before a spot that change these cells, gathered
 abbrev pub up_to : List ℕ → Table → ℕ → Writes

@@ -65,7 +65,7 @@ fn gather_bits(
 {
     let page = pages.entered[k];
     let start = 64 * (k as u64 + 1);
-    let mut rest = pages.masks[page as usize];
+    let mut rest = pages.masks.get(page);
     for _turn in 0..64u64 {
         if rest == 0 {
             return Ok(());
@@ -88,7 +88,7 @@ fn whole_page<'p>(store: &Store, pages: &'p Pages, k: usize) -> Option<&'p [u64]
         (λ values. IsWhole (values_of store.now) (table_of pages.now) k values.now) }
 {
     let page = pages.entered[k];
-    if pages.masks[page as usize] != u64::MAX {
+    if pages.masks.get(page) != u64::MAX {
         return None;
     }
     let start = 64 * (k + 1);
@@ -106,7 +106,7 @@ fn row_of_page<'p>(store: &Store, pages: &'p Pages, k: usize) -> Option<(u64, &'
     requires there { k < length pages.now.entered.items }
     ensures some { IfSome result (λ r. 1 ≤ length r.1.now) }
     ensures few { IfSome result (λ r. r.0 + length r.1.now ≤ 64) }
-    ensures mask { IfSome result (λ r. slice_index pages.now.masks.items
+    ensures mask { IfSome result (λ r. slice_index pages.now.masks
         (slice_index pages.now.entered.items k) ≡ 2 ^ (r.0 + length r.1.now) - 2 ^ r.0) }
     ensures values { IfSome result (λ r. r.1.now
         ≡ take (length r.1.now) (drop (64 * suc k + r.0) pages.now.values.items)) }
@@ -170,7 +170,7 @@ fn gather_page(
 fn count(pages: &Pages) -> usize {
     let mut count = 0usize;
     for page in &pages.entered {
-        let mask = pages.masks.get(*page as usize).copied().unwrap_or(0);
+        let mask = pages.masks.get(*page);
         count = count.saturating_add(mask.count_ones() as usize);
     }
     count

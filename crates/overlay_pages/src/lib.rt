@@ -8,6 +8,7 @@ mod laws;
 mod own;
 mod pages;
 mod rows;
+mod sparse;
 
 pub use changes::{Change, Changes};
 pub use chunk::Chunk;

@@ -6,14 +6,15 @@ ghost use Rattle.overlay_pages.specs.Over.{or_else};
 ghost use Rattle.overlay_pages.specs.Table.{table_of, number_at, slot, slots, IsSound, IsRoomy, entering, setting};
 
 use crate::rows::{on_page, ones};
+use crate::sparse::{Sparse, fill};
 use std::alloc::{AllocError, Global};
 
 /// Which cells are written, and with what, by pages of 64 cells.
 #[derive(Drop)]
 pub struct Pages {
     pub size: u64,
-    pub masks: Vec<u64>,
-    pub numbers: Vec<u64>,
+    pub masks: Sparse,
+    pub numbers: Sparse,
     pub entered: Vec<u64>,
     pub values: Vec<u64>,
 }
@@ -24,29 +25,21 @@ pub fn slot_at(pages: &Pages, place: u64) -> Option<u64>
     requires { IsSound (table_of pages.now) }
     ensures { result ≡ slot (table_of pages.now) place }
 {
-    let page = (place / 64) as usize;
-    match pages.masks.get(page) {
-        Some(mask) => {
-            if (*mask >> (place % 64)) & 1 == 1 {
-                let at = 64 * pages.numbers[page] + place % 64;
-                Some(pages.values[at as usize])
-            } else {
-                None
-            }
-        }
-        None => None,
+    let page = place / 64;
+    if (pages.masks.get(page) >> (place % 64)) & 1 == 1 {
+        let at = 64 * pages.numbers.get(page) + place % 64;
+        Some(pages.values[at as usize])
+    } else {
+        None
     }
 }
 
 // Which cells of a page are written, and none where there is no such page.
 #[inline]
 pub fn mask_of(pages: &Pages, page: u64) -> u64
-    ensures { result ≡ slice_index pages.now.masks.items page }
+    ensures { result ≡ slice_index pages.now.masks page }
 {
-    match pages.masks.get(page as usize) {
-        Some(mask) => *mask,
-        None => 0,
-    }
+    pages.masks.get(page)
 }
 
 /// Whether none of so many cells side by side is written.
@@ -55,7 +48,7 @@ pub fn are_bare(pages: &Pages, first: u64, count: u64) -> bool
     ensures bare { result ≡ true
         → (k : ℕ) → k < count → slot (table_of pages.now) (first + k) ≡ None }
     ensures told { ((page : ℕ) → first / 64 ≤ page → 64 * page < first + count
-        → slice_index pages.now.masks.items page ≡ 0) → result ≡ true }
+        → slice_index pages.now.masks page ≡ 0) → result ≡ true }
 {
     let mut done = 0;
     while done < count {
@@ -71,25 +64,12 @@ pub fn are_bare(pages: &Pages, first: u64, count: u64) -> bool
 }
 
 // Masks and numbers for so many pages, none entered.
-fn tables(alloc: Global, pages: u64) -> Result<(Vec<u64>, Vec<u64>), AllocError>
-    ensures { IfOk result (λ r. (r.0.items ≡ replicate pages 0)
-        × (r.1.items ≡ replicate pages 0)) }
+fn tables(alloc: Global, pages: u64) -> Result<(Sparse, Sparse), AllocError>
+    ensures { IfOk result (λ r. (r.0 ≡ replicate pages 0) × (r.1 ≡ replicate pages 0)) }
 {
-    let masks = Vec::from_elem(alloc, 0u64, pages as usize)?;
-    let numbers = Vec::from_elem(alloc, 0u64, pages as usize)?;
+    let masks = Sparse::new(alloc, pages)?;
+    let numbers = Sparse::new(alloc, pages)?;
     Ok((masks, numbers))
-}
-
-// Zeros behind these values until there are so many, for which there is room.
-fn fill(values: &mut Vec<u64>, count: u64)
-    requires { count ≤ vec_capacity values.old }
-    ensures items { values.new.items
-        ≡ values.old.items ++ replicate (count - length values.old.items) 0 }
-    ensures capacity { vec_capacity values.new ≡ vec_capacity values.old }
-{
-    for _zero in 0..count.saturating_sub(values.len() as u64) {
-        values.push_reserved(0);
-    }
 }
 
 // The list of the pages that were entered, and their values: room for all, and the values that no cell has.
@@ -132,14 +112,14 @@ pub fn empty_pages(alloc: Global, size: u64) -> Result<Pages, AllocError>
 #[inline(never)]
 fn enter(pages: &mut Pages, page: u64)
     requires roomy { IsRoomy pages.old }
-    requires there { page < length pages.old.numbers.items }
-    requires new { slice_index pages.old.numbers.items page ≡ 0 }
+    requires there { page < length pages.old.numbers }
+    requires new { slice_index pages.old.numbers page ≡ 0 }
     ensures roomy { IsRoomy pages.new }
     ensures entered { table_of pages.new ≡ entering (table_of pages.old) page }
 {
     pages.entered.push_reserved(page);
     let number = pages.entered.len() as u64;
-    pages.numbers[page as usize] = number;
+    pages.numbers.set(page, number);
     fill(&mut pages.values, 64 * (number + 1));
 }
 
@@ -152,10 +132,12 @@ fn set(pages: &mut Pages, place: u64, n: u64)
     ensures roomy { IsRoomy pages.new }
     ensures set { table_of pages.new ≡ setting (table_of pages.old) place n }
 {
-    let page = (place / 64) as usize;
-    let at = 64 * pages.numbers[page] + place % 64;
+    let page = place / 64;
+    let number = pages.numbers.get(page);
+    let at = 64 * number + place % 64;
     pages.values[at as usize] = n;
-    pages.masks[page] |= 1 << (place % 64);
+    let mask = pages.masks.get(page);
+    pages.masks.set(page, mask | (1 << (place % 64)));
 }
 
 // Enters the page of a place where it was not entered.
@@ -169,7 +151,7 @@ pub fn reach(pages: &mut Pages, place: u64)
     ensures size { pages.new.size ≡ pages.old.size }
 {
     let page = place / 64;
-    if pages.numbers[page as usize] == 0 {
+    if pages.numbers.get(page) == 0 {
         enter(pages, page);
     }
 }
@@ -209,9 +191,9 @@ pub fn clear(pages: &mut Pages)
     ensures none { slots (table_of pages.new) ≡ replicate pages.old.size None }
 {
     for k in 0..pages.entered.len() {
-        let page = pages.entered[k] as usize;
-        pages.numbers[page] = 0;
-        pages.masks[page] = 0;
+        let page = pages.entered[k];
+        pages.numbers.set(page, 0);
+        pages.masks.set(page, 0);
     }
     pages.entered.clear();
 }

@@ -41,10 +41,7 @@ fn spot_of(pages: &Pages, place: u64) -> u64
     requires { IsSound (table_of pages.now) }
     ensures { result ≡ spot (table_of pages.now) place }
 {
-    match pages.numbers.get((place / 64) as usize) {
-        Some(number) => 64 * *number + place % 64,
-        None => place % 64,
-    }
+    64 * pages.numbers.get(place / 64) + place % 64
 }
 
 // Whether each of so many cells side by side is written, and their values stand side by side from a spot on.
@@ -113,10 +110,13 @@ fn set_row(pages: &mut Pages, first: u64, numbers: &[u64])
     ensures roomy { IsRoomy pages.new }
     ensures set { table_of pages.new ≡ setting_row (table_of pages.old) first numbers.now }
 {
-    let page = (first / 64) as usize;
-    let start = 64 * pages.numbers[page] + first % 64;
+    let page = first / 64;
+    let number = pages.numbers.get(page);
+    let start = 64 * number + first % 64;
     overwrite(&mut pages.values, start, numbers);
-    pages.masks[page] |= ones(first % 64, numbers.len() as u64);
+    let mask = pages.masks.get(page);
+    let bits = ones(first % 64, numbers.len() as u64);
+    pages.masks.set(page, mask | bits);
 }
 
 // Writes cells side by side of one page.

@@ -9,23 +9,12 @@ use Rattle.overlay_pages.proofs.Tables.{page_there}
 use Rattle.overlay_pages.proofs.Gathered.{gathering_from, gathering_on}
 use Rattle.overlay_pages.proofs.gathering.gather_bits.Goals as goal
 
-pub index-rest-requires : goal.index-rest-requires
-index-rest-requires c =
-    let p = c.args.pages.now in
-    let page : c.index-page.result.now ≡ slice_index p.entered.items c.args.k = get_or_read p.entered.items c.args.k _ c.requires.there c.index-page.ensures 0 in
-    let there = page_there (table_of p) c.requires.sound c.args.k c.requires.there in
-    let masked = c.requires.sound.masked in
-    let o = p.masks.ok.0 in
-    omega arith
-
 pub loop-turn-init : goal.loop-turn-init
 loop-turn-init c =
     let p = c.args.pages.now in
     let page : c.index-page.result.now ≡ slice_index p.entered.items c.args.k = get_or_read p.entered.items c.args.k _ c.requires.there c.index-page.ensures 0 in
-    let there = page_there (table_of p) c.requires.sound c.args.k c.requires.there in
-    let masked = c.requires.sound.masked in
-    gathering_from (values_of c.args.store.now) (table_of p) c.args.k c.index-rest.result.now c.args.changes.now
-    (get_or_read p.masks.items c.index-page.result.now _ (omega arith) c.index-rest.ensures 0 ∙ ap (slice_index p.masks.items) page)
+    gathering_from (values_of c.args.store.now) (table_of p) c.args.k c.get-rest.result c.args.changes.now
+    (c.get-rest.ensures ∙ ap (slice_index p.masks) page)
     c.requires.so_far
 
 pub overflow_mul-place : goal.overflow_mul-place

@@ -7,15 +7,6 @@ use Rattle.overlay_pages.specs.Table.{table_of}
 use Rattle.overlay_pages.proofs.Tables.{page_there}
 use Rattle.overlay_pages.proofs.gathering.whole_page.Goals as goal
 
-pub index-requires : goal.index-requires
-index-requires c =
-    let p = c.args.pages.now in
-    let page : c.index-page.result.now ≡ slice_index p.entered.items c.args.k = get_or_read p.entered.items c.args.k _ c.requires.there c.index-page.ensures 0 in
-    let there = page_there (table_of p) c.requires.sound c.args.k c.requires.there in
-    let masked = c.requires.sound.masked in
-    let o = p.masks.ok.0 in
-    omega arith
-
 pub overflow_mul-page : goal.overflow_mul-page
 overflow_mul-page c =
     let p = c.args.pages.now in
@@ -38,14 +29,12 @@ returns-then-all_differ c =
     let p = c.args.pages.now in
     let k = c.args.k in
     let page : c.index-page.result.now ≡ slice_index p.entered.items k = get_or_read p.entered.items k _ c.requires.there c.index-page.ensures 0 in
-    let there = page_there (table_of p) c.requires.sound k c.requires.there in
-    let masked = c.requires.sound.masked in
     let vs = take (64 * (k + 1) + 64 - 64 * (k + 1)) (drop (64 * (k + 1)) c.deref.result.now) in
     let many : 64 * (k + 1) + 64 - 64 * (k + 1) ≡ 64 = omega arith in
     let from : 64 * (k + 1) ≡ 64 * suc k = omega arith in
     let both = c.all_differ.ensures.0 c.if-all_differ.true in
     record {
-      mask = ap (slice_index p.masks.items) (sym page) ∙ sym (get_or_read p.masks.items c.index-page.result.now _ (omega arith) c.index.ensures 0) ∙ c.if-index.false;
+      mask = ap (slice_index p.masks) (sym page) ∙ sym c.get.ensures ∙ c.if-get.false;
       values = (λ i. take (many i) (drop (from i) c.deref.result.now)) ∙ ap (λ l. take 64 (drop (64 * suc k) l)) c.deref.ensures.value;
       inside = subst (λ n. 64 * n + length vs ≤ length (values_of c.args.store.now)) page both.0;
       differ = subst (λ n. AllDiffer (values_of c.args.store.now) (64 * n) vs) page both.1;

@@ -1,40 +1,10 @@
-use Rattle.std.proofs.Common.{Vec, Global, ◌≡◌, ℕ, ◌+◌, ◌<◌, ◌≤◌, length, replicate, None, ap, sym, ◌∙◌, subst, arith}
+use Rattle.std.proofs.Common.{Vec, Global, List, ◌≡◌, ℕ, ◌+◌, ◌<◌, ◌≤◌, length, replicate, None, ap, sym, ◌∙◌, subst, arith}
 use Rattle.std.specs.Prelude.{slice_index, slice_set}
 use Rattle.std.proofs.lemmas.List.{get_or_read}
 use Rattle.std.specs.Vec.{vec_capacity}
 use Rattle.overlay_pages.specs.Table.{Table, table_of}
-use Rattle.overlay_pages.proofs.Tables.{sound_empty, slots_empty, Clearing, clearing_on, cleared_numbers, cleared_bits, page_there}
+use Rattle.overlay_pages.proofs.Tables.{sound_empty, slots_empty, Clearing, clearing_on, cleared_numbers, cleared_bits}
 use Rattle.overlay_pages.proofs.pages.clear.Goals as goal
-
-pub index_mut-requires : goal.index_mut-requires
-index_mut-requires c =
-    let old = c.args.pages.now in
-    let k = c.loop-k.k in
-    let inv = c.loop-k.invariant in
-    let test = c.loop-k-test.true in
-    let ends = c.len-k-end.ensures in
-    let less : k < length old.entered.items = (let o = old.entered.ok.0 in omega arith) in
-    let same : length c.loop-k.pages.entered.items ≡ length old.entered.items = ap (λ (v : Vec ℕ Global). length v.items) inv.entered in
-    let page : c.index.result.now ≡ slice_index old.entered.items k = get_or_read c.loop-k.pages.entered.items k _ (omega arith) c.index.ensures 0 ∙ ap (λ (v : Vec ℕ Global). slice_index v.items k) inv.entered in
-    let there = page_there (table_of old) c.requires.sound k less in
-    let numbered = inv.cleared.numbered in
-    let o = c.loop-k.pages.numbers.ok.0 in
-    omega arith
-
-pub index_mut-requires-in-loop-k : goal.index_mut-requires-in-loop-k
-index_mut-requires-in-loop-k c =
-    let old = c.args.pages.now in
-    let k = c.loop-k.k in
-    let inv = c.loop-k.invariant in
-    let test = c.loop-k-test.true in
-    let ends = c.len-k-end.ensures in
-    let less : k < length old.entered.items = (let o = old.entered.ok.0 in omega arith) in
-    let same : length c.loop-k.pages.entered.items ≡ length old.entered.items = ap (λ (v : Vec ℕ Global). length v.items) inv.entered in
-    let page : c.index.result.now ≡ slice_index old.entered.items k = get_or_read c.loop-k.pages.entered.items k _ (omega arith) c.index.ensures 0 ∙ ap (λ (v : Vec ℕ Global). slice_index v.items k) inv.entered in
-    let there = page_there (table_of old) c.requires.sound k less in
-    let masked = inv.cleared.masked in
-    let o = c.loop-k.pages.masks.ok.0 in
-    omega arith
 
 pub loop-k-preserved : goal.loop-k-preserved
 loop-k-preserved c =
@@ -45,14 +15,18 @@ loop-k-preserved c =
     let ends = c.len-k-end.ensures in
     let less : k < length old.entered.items = (let o = old.entered.ok.0 in omega arith) in
     let same : length c.loop-k.pages.entered.items ≡ length old.entered.items = ap (λ (v : Vec ℕ Global). length v.items) inv.entered in
-    let page : c.index.result.now ≡ slice_index old.entered.items k = get_or_read c.loop-k.pages.entered.items k _ (omega arith) c.index.ensures 0 ∙ ap (λ (v : Vec ℕ Global). slice_index v.items k) inv.entered in
+    let page : c.index-page.result.now ≡ slice_index old.entered.items k = get_or_read c.loop-k.pages.entered.items k _ (omega arith) c.index-page.ensures 0 ∙ ap (λ (v : Vec ℕ Global). slice_index v.items k) inv.entered in
+    let q = slice_index old.entered.items k in
+    let numbers : c.set.new.self ≡ slice_set c.loop-k.pages.numbers q 0 = c.set.ensures ∙ ap (λ (q : ℕ). slice_set c.loop-k.pages.numbers q 0) page in
+    let masks : c.set-in-loop-k.new.self ≡ slice_set c.loop-k.pages.masks q 0 = c.set-in-loop-k.ensures ∙ ap (λ (q : ℕ). slice_set c.loop-k.pages.masks q 0) page in
     record {
       size = inv.size;
       entered = inv.entered;
       values = inv.values;
       cleared =
-          subst (λ (q : ℕ). Clearing (table_of old) (k + 1) (slice_set c.loop-k.pages.numbers.items q 0) (slice_set c.loop-k.pages.masks.items q 0)) (sym page)
-          (clearing_on (table_of old) c.requires.sound k less c.loop-k.pages.numbers.items c.loop-k.pages.masks.items inv.cleared);
+          subst (λ (l : List ℕ). Clearing (table_of old) (k + 1) l c.set-in-loop-k.new.self) (sym numbers)
+          (subst (λ (l : List ℕ). Clearing (table_of old) (k + 1) (slice_set c.loop-k.pages.numbers q 0) l) (sym masks)
+          (clearing_on (table_of old) c.requires.sound k less c.loop-k.pages.numbers c.loop-k.pages.masks inv.cleared));
     }
 
 pub returns-clause-roomy : goal.returns-clause-roomy
@@ -63,7 +37,7 @@ returns-clause-roomy c =
     let ends = c.len-k-end.ensures in
     let done : length old.entered.items ≤ k = (let o = old.entered.ok.0 in omega arith) in
     let inv = c.loop-k.invariant in
-    let t : Table = record { size = c.loop-k.pages.size; masks = c.loop-k.pages.masks.items; numbers = c.loop-k.pages.numbers.items; entered = c.clear.new.self.items; values = c.loop-k.pages.values.items } in
+    let t : Table = record { size = c.loop-k.pages.size; masks = c.loop-k.pages.masks; numbers = c.loop-k.pages.numbers; entered = c.clear.new.self.items; values = c.loop-k.pages.values.items } in
     let sound = c.requires.sound in
     let numbered = inv.cleared.numbered in
     let masked = inv.cleared.masked in
@@ -91,6 +65,6 @@ returns-clause-none c =
     let test = c.loop-k-test.false in
     let ends = c.len-k-end.ensures in
     let done : length c.args.pages.now.entered.items ≤ c.loop-k.k = (let o = c.args.pages.now.entered.ok.0 in omega arith) in
-    let t : Table = record { size = c.loop-k.pages.size; masks = c.loop-k.pages.masks.items; numbers = c.loop-k.pages.numbers.items; entered = c.clear.new.self.items; values = c.loop-k.pages.values.items } in
+    let t : Table = record { size = c.loop-k.pages.size; masks = c.loop-k.pages.masks; numbers = c.loop-k.pages.numbers; entered = c.clear.new.self.items; values = c.loop-k.pages.values.items } in
     slots_empty t (cleared_bits (table_of c.args.pages.now) c.requires.sound c.loop-k.k done t.numbers t.masks c.loop-k.invariant.cleared)
     ∙ ap (λ n. replicate n None) c.loop-k.invariant.size

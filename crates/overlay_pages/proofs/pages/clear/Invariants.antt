@@ -9,5 +9,5 @@ invariant-loop-k l =
       size : l.pages.size ≡ l.initial.pages.size;
       entered : l.pages.entered ≡ l.initial.pages.entered;
       values : l.pages.values ≡ l.initial.pages.values;
-      cleared : Clearing (table_of l.initial.pages) l.k l.pages.numbers.items l.pages.masks.items;
+      cleared : Clearing (table_of l.initial.pages) l.k l.pages.numbers l.pages.masks;
     }

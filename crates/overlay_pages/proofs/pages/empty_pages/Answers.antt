@@ -8,7 +8,7 @@ pub returns-clause-right : goal.returns-clause-right
 returns-clause-right c =
     let pages = c.args.size / 64 + 1 in
     let z : ℕ = 0 in
-    let t : Table = record { size = c.args.size; masks = c.in_ok-masks.masks.items; numbers = c.in_ok-masks.numbers.items; entered = c.in_ok-entered.entered.items; values = c.in_ok-entered.values.items } in
+    let t : Table = record { size = c.args.size; masks = c.in_ok-masks.masks; numbers = c.in_ok-masks.numbers; entered = c.in_ok-entered.entered.items; values = c.in_ok-entered.values.items } in
     let masked = ap (λ (l : List ℕ). length l) c.in_ok-masks.ensures.0 ∙ length-replicate pages z in
     let numbered = ap (λ (l : List ℕ). length l) c.in_ok-masks.ensures.1 ∙ length-replicate pages z in
     let count : c.in-Some.count ≡ (pages + 1) * 64 = search rules in
@@ -26,5 +26,5 @@ returns-clause-right c =
 
 pub returns-clause-none : goal.returns-clause-none
 returns-clause-none c =
-    let t : Table = record { size = c.args.size; masks = c.in_ok-masks.masks.items; numbers = c.in_ok-masks.numbers.items; entered = c.in_ok-entered.entered.items; values = c.in_ok-entered.values.items } in
+    let t : Table = record { size = c.args.size; masks = c.in_ok-masks.masks; numbers = c.in_ok-masks.numbers; entered = c.in_ok-entered.entered.items; values = c.in_ok-entered.values.items } in
     slots_empty t (bits_of_zeros t (c.args.size / 64 + 1) c.in_ok-masks.ensures.0)
