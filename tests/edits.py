@@ -198,7 +198,7 @@ def read_all(rt):
 
 def main(words):
     started = time.time()
-    if any(it.startswith("--") and it not in SWITCHES for it in words):
+    if any(it.startswith("--") and it not in SWITCHES for it in words) or ("--read" in words and len(words) > 1):
         sys.exit(__doc__)
     os.chdir(TOP)
     rt = kit.load()
