@@ -1,7 +1,7 @@
 use Rattle.team_in_place.proofs.sharing.+fn-run_shares-join_mut+arg2+fn-run_shares-join_mut+arg3+run_shares.Given as goal
 
 abbrev pub decreases-join_mut+arg2 : goal.decreases-join_mut+arg2
-decreases-join_mut+arg2 g l = l.half
+decreases-join_mut+arg2 g l = l.shares
 
 abbrev pub decreases-join_mut+arg3 : goal.decreases-join_mut+arg3
 decreases-join_mut+arg3 g l = l.others
