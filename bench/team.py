@@ -333,13 +333,13 @@ void kernel(void)
     r += s;
 }
 """
-PREFIX = """uint64_t A[16000000];
+PREFIX = """uint64_t A[4000000];
 uint64_t s;
 
 void kernel(void)
 {
     #pragma omp parallel for reduction(inscan, +: s)
-    for (uint64_t i = 0; i < 16000000; i++) {
+    for (uint64_t i = 0; i < 4000000; i++) {
         s += i * 3 ^ 5;
         #pragma omp scan inclusive(s)
         A[i] = s;
@@ -471,7 +471,7 @@ EVERYDAY = ("map", "triad", "product", "hash", "quotient", "triangle", "folds", 
 # how often the body of a kernel runs where its loops are timed alone
 OFTEN = {
     "hash": 5, "product": 33, "map": 33, "triad": 65, "collatz": 33, "stencil": 17, "quotient": 33, "triangle": 17, "polynomial": 5,
-    "sum": 57, "max": 57, "xor": 57, "folds": 65, "local": 513, "prefix": 9, "distance": 17, "sweep": 17, "relax": 9,
+    "sum": 57, "max": 57, "xor": 57, "folds": 65, "local": 513, "prefix": 33, "distance": 17, "sweep": 17, "relax": 9,
 }
 
 
