@@ -639,7 +639,10 @@ def loops_alone(runner, kernels):
         if kernel in EVERYDAY:
             for workers in TEAMS:
                 ratios[workers].append(found[f"{workers} workers"] / found[f"gcc {workers}"])
-    if set(EVERYDAY) <= set(kernels):
+    told = [it for of_team in ratios.values() for it in of_team]
+    if set(EVERYDAY) <= set(kernels) and min(told) <= 0:
+        print("mean ratio: none, since rounds of a kernel differ by more than its loops take", flush=True)
+    elif set(EVERYDAY) <= set(kernels):
         means = {workers: math.exp(statistics.fmean(map(math.log, of_team))) for workers, of_team in ratios.items()}
         print(f"{'mean ratio':10}" + "".join(f"{mean:11.2f}" for mean in means.values()), flush=True)
         if os.cpu_count() >= 4 and means[4] > MEAN:
