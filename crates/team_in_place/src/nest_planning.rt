@@ -222,7 +222,7 @@ fn are_abreast(counted: &Counted, nest: &Nest<'_>, turns: Turns<'_>) -> bool {
         count: nest.count,
         registers: turns.registers,
     };
-    let in_lanes = counted.limit != 0 || counted.fold.is_some();
+    let in_lanes = counted.limit != 0 || counted.recurrence.is_some();
     if in_lanes && nest.count >= SHORT && go_along(nest.ops, inner) {
         return false;
     }

@@ -44,6 +44,43 @@ fn folds_run(rt: HostRuntime) {
     no_other(&rt, first_other(rt.alloc(), ROWS));
 }
 
+/// Prefix sums, inclusive and exclusive, by several operators, of elements and of what is made of them, over rows, steps and falling loops, in place and
+/// beside, and such as no lanes run: elements that the turn before wrote, and two changes of the local in a turn.
+#[test]
+fn prefix_sums_run(rt: HostRuntime) {
+    const ROWS: &[(&str, u64)] = &[
+        (
+            "uint64_t x = 3; for (uint64_t i = 0; i < 20000; i++) { x += A[i]; B[i] = x; } s = x; for (uint64_t i = 0; i < 17; i++) { x ^= B[i]; A[i] = x; } for (uint64_t i = 0; i < 257; i++) { s = s * (A[i] | 1); B[i] = s + i; }",
+            17522354210765885407,
+        ),
+        (
+            "uint64_t x = 5; for (uint64_t i = 0; i < 20000; i++) { B[i] = x; x += A[i]; } s = x; for (uint64_t i = 0; i < 300; i++) { A[i] = s; s += i * 7 ^ 5; } for (uint64_t i = 0; i < 300; i++) { A[i + 300] = s; s += B[i] * i; }",
+            2863846791481601478,
+        ),
+        (
+            "for (uint64_t i = 0; i < 19990; i++) { s ^= i * 3 ^ A[i + 5]; A[i] = s; } uint64_t x = 0; for (uint64_t i = 0; i < 900; i++) { uint64_t t = B[i]; B[i] = x; x += t; } s += x;",
+            9591198114941135881,
+        ),
+        (
+            "for (uint64_t i = 0; i < 60; i++) { uint64_t x = i; for (uint64_t j = 0; j < 70; j++) { x += M[i][j]; N[i][j] = x; } uint64_t y = x; for (uint64_t j = i; j < 70; j++) { M[j - i][j] = y * 3; y += M[i][j] * N[i][j]; } s += y; }",
+            13029303403045915207,
+        ),
+        (
+            "uint64_t x = 1; for (uint64_t i = 0; i < 700; i++) { x += B[i]; B[i + 1] = x; } for (uint64_t i = 0; i < 700; i++) { x += A[i]; if (x % 3 == 0) B[i] = x; A[i + 700] = x * x; } for (uint64_t i = 20000; i > 0; i--) { x += A[i - 1]; A[i - 1] = x; } s = x;",
+            11231422502342736793,
+        ),
+        (
+            "uint64_t x = 9; for (uint64_t i = 0; i < 600; i++) { A[i] = x; x = x * 3 + 1; } for (uint64_t i = 0; i < 600; i++) { x += A[i]; x += B[i]; B[i] = x; } for (uint64_t i = 0; i < 600; i++) { x += A[3 * i]; B[2 * i] = x; B[2 * i + 1] = x + A[i]; } for (uint64_t i = 0; i < 600; i++) { x += B[i]; A[7] = x; } s = x;",
+            11313650725304754880,
+        ),
+        (
+            "uint64_t x = 1; for (uint64_t i = 0; i < 500; i++) { A[i] = x; x += A[i]; } for (uint64_t i = 0; i < 500; i++) { A[i + 1] = x; x += A[i]; } for (uint64_t i = 0; i < 500; i++) { A[i] = x; x -= A[i + 1]; } for (uint64_t i = 0; i < 500; i++) { B[i] = x + s; x |= A[2 * i]; B[i + 500] = x; } s = x;",
+            4154684976074062005,
+        ),
+    ];
+    no_other(&rt, first_other(rt.alloc(), ROWS));
+}
+
 /// The least and the greatest number in a local, of elements and of what is made of them, in short loops and up to computed ends, and two of them in one body.
 #[test]
 fn least_and_greatest_numbers_run(rt: HostRuntime) {
