@@ -133,7 +133,7 @@ fn is_run_in_place<'l, R: Threads + Wait + Sync, G: Gate + Sync>(
     ensures refusal { IfErr result (λ refusal. refusal ≡ Refusal.OutOfMemory) }
     ensures shape { lengths_of store.new ≡ lengths_of store.old }
 {
-    let in_chunks = matches!(construct.way, Way::Chunks);
+    let in_chunks = matches!(construct.way, Way::Chunks | Way::Scan(_));
     if !in_chunks && team.workers.get() != 1 {
         return Ok(false);
     }

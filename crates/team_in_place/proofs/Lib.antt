@@ -2,6 +2,11 @@ pub mod Cells
 pub mod Front
 pub mod NestTurns
 pub mod Planned
+pub mod Promoted
+pub mod ScanCells
+pub mod ScanWhole
+pub mod Shares
 pub mod Spins
+pub mod Starts
 pub mod Turned
 pub mod Whole

@@ -1,5 +1,5 @@
 -- All turns of a loop that is run in place are the loop.
-use Rattle.std.proofs.Common.{◌≡◌, ℕ, ◌^◌, ◌<◌, List, sym, ap, ◌∙◌, subst, refl}
+use Rattle.std.proofs.Common.{◌≡◌, ℕ, ◌^◌, ◌<◌, List, length, sym, ap, ◌∙◌, subst, refl}
 use Rattle.std.specs.Prelude.{slice_set}
 use Rattle.semantics.specs.Meaning.Runs.{greatest_trip_count}
 use Rattle.lower_machine.specs.Machine.{Running, machine, running}
@@ -22,10 +22,12 @@ use Rattle.team_parts.specs.Turned.{nested_in, ops_of, variable_of}
 use Rattle.team_parts.proofs.Windows.{variable_there}
 use Rattle.team_in_place.specs.Counting.{counted, AreEntered, IsPlannedFor}
 use Rattle.team_in_place.specs.Nesting.{IsNestPlannedFor, nested_loop, nested_with, turned_by}
+use Rattle.team_in_place.specs.Scanning.{IsScanPlannedFor}
 use Rattle.team_in_place.specs.Spinning.{AreItsTurns}
 use Rattle.team_in_place.specs.declared.nest_planning.NestPlan.{NestPlan}
 use Rattle.team_in_place.specs.declared.nesting.Nesting.{Nesting}
 use Rattle.team_in_place.specs.declared.planning.Plan.{Plan}
+use Rattle.team_in_place.specs.declared.scan_planning.ScanPlan.{ScanPlan}
 use Rattle.team_in_place.proofs.NestTurns.{nests_law}
 use Rattle.team_in_place.proofs.Spins.{AdvancesAlike, counted_law, spins_law}
 
@@ -59,6 +61,36 @@ module _ (c : Counted) (registers cells : List ℕ) (n : ℕ) (p : Plan) (planne
       ∙ ap (λ (v : ℕ). turns v value c.ops.items p.rise.count (machine registers cells)) planned.variable in
       ap (λ (u : Course). counts greatest_trip_count u c.ops.items c.variable c.end c.by (running (machine registers cells) text)) planned.turns.up
       ∙ counted_law c.ops.items c.variable c.end c.by registers cells p.rise.first p.rise.by p.rise.count p.rise.next its_turns rs cells' did text
+
+-- so are those of a prefix sum
+module _ (c : Counted) (registers cells : List ℕ) (n : ℕ) (p : ScanPlan) (planned : IsScanPlannedFor c registers n p) where
+  its_sums : AreItsTurns c.variable c.end c.by c.ops.items registers p.rise.first p.rise.by p.rise.count p.rise.next
+  its_sums =
+      let rise = planned.turns.rise in
+      let l = p.scanned.laned in
+      record {
+        steady = planned.steady;
+        there = subst (λ (v : Register). v.at < length registers) planned.variable (variable_there l.limit l.variable.at l.ops.now registers l.laned planned.apart.wide);
+        begins = sym rise.first;
+        by_step = sym rise.by;
+        small = subst (λ n. n < 2 ^ 64) (sym rise.first) (planned.words c.variable.at);
+        step_small = subst (λ n. n < 2 ^ 64) (sym rise.by) (planned.words c.by.at);
+        end_small = planned.words c.end.at;
+        below = rise.below;
+        goes_to = rise.next;
+        ends = rise.ends;
+        few = planned.apart.few;
+      }
+
+  pub all_sums : (rs cells' : List ℕ) → machine rs cells' ≡ turns p.scanned.laned.variable.at (stepped p.rise.first p.rise.by) p.scanned.ops.now p.rise.count (machine registers cells)
+      → (text : List ℕ) → counted c (running (machine registers cells) text) ≡ running (machine (slice_set rs c.variable.at p.rise.next) cells') text
+  all_sums rs cells' ran text =
+      let did : machine rs cells' ≡ turns c.variable.at (stepped p.rise.first p.rise.by) c.ops.items p.rise.count (machine registers cells)
+      = ran
+      ∙ ap (λ (ops : List Op). turns p.scanned.laned.variable.at (stepped p.rise.first p.rise.by) ops p.rise.count (machine registers cells)) planned.ops
+      ∙ ap (λ (v : Register). turns v.at (stepped p.rise.first p.rise.by) c.ops.items p.rise.count (machine registers cells)) planned.variable in
+      ap (λ (u : Course). counts greatest_trip_count u c.ops.items c.variable c.end c.by (running (machine registers cells) text)) planned.turns.up
+      ∙ counted_law c.ops.items c.variable c.end c.by registers cells p.rise.first p.rise.by p.rise.count p.rise.next its_sums rs cells' did text
 
 module _ (x : Nesting) (registers cells : List ℕ) (n : ℕ) (p : NestPlan) (planned : IsNestPlannedFor x registers n p) where
   -- a turn by the numbers of its inner loop

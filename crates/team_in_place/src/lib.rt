@@ -5,7 +5,11 @@ mod looping;
 mod nest_planning;
 mod nesting;
 mod planning;
+mod promoting;
 mod running;
+mod scan_planning;
+mod scan_running;
+mod scan_sharing;
 mod sharing;
 
 pub use running::{Crew, run_in_place};

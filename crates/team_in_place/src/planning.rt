@@ -49,8 +49,8 @@ pub(crate) fn rise_between(first: u64, end: u64, by: u64) -> Option<Rise>
     })
 }
 
-// The turns of a counted loop whose variable rises to its end, from where it stands in registers.
-fn rise_of(counted: &Counted, registers: &[u64]) -> Option<Rise>
+/// The turns of a counted loop whose variable rises to its end, from where it stands in registers.
+pub(crate) fn rise_of(counted: &Counted, registers: &[u64]) -> Option<Rise>
     ensures { IfSome result (AreTurnsOf counted.now registers.now) }
 {
     if !matches!(counted.course, Course::Up) {

@@ -76,9 +76,9 @@ fn run_share<R: Threads + Sync, G: Gate + Sync>(
     Ok(tools.into_registers())
 }
 
-// Of how many workers the next thread runs the shares, of some and not of all. The threads of a small team are all started by the one that calls, since two that
-// start threads at once were seen to be given one processor for both; those of a large team start half of what is left to them each.
-fn shares_of_next(number: u64) -> u64
+/// Of how many workers the next thread runs the shares, of some and not of all. The threads of a small team are all started by the one that calls, since two that
+/// start threads at once were seen to be given one processor for both; those of a large team start half of what is left to them each.
+pub(crate) fn shares_of_next(number: u64) -> u64
     requires { 2 ≤ number }
     ensures some { 0 < result }
     ensures others { result < number }

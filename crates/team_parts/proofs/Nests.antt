@@ -44,15 +44,15 @@ nothing_wraps start step k count lt small = let far = last_furthest step k count
 
 -- those of which the last is in front, or the first behind
 pub all_beside : (w : Window) (turns start step count further : ℕ) → start + (count - 1) * step < 2 ^ 62 → further < 2 ^ 38
-    → ((start + (count - 1) * step) + turns * further < w.low) ⊎ (w.low + w.width * turns ≤ start)
+    → ((start + (count - 1) * step) + turns * further < w.low + further) ⊎ (w.low + w.width * turns ≤ start)
     → (k : ℕ) → k < count → LiesBeside w turns (stride (stepped start step k) further)
 all_beside w turns start step count further small short aside k lt =
     let far = last_furthest step k count lt in
     let is = nothing_wraps start step k count lt (omega (arith, small)) in
     record { start = omega (arith, is, far, small); step = short; aside = go far is aside }
   where
-    go : k * step ≤ (count - 1) * step → stepped start step k ≡ start + k * step → ((start + (count - 1) * step) + turns * further < w.low) ⊎ (w.low + w.width * turns ≤ start)
-        → (stepped start step k + turns * further < w.low) ⊎ (w.low + w.width * turns ≤ stepped start step k)
+    go : k * step ≤ (count - 1) * step → stepped start step k ≡ start + k * step → ((start + (count - 1) * step) + turns * further < w.low + further) ⊎ (w.low + w.width * turns ≤ start)
+        → (stepped start step k + turns * further < w.low + further) ⊎ (w.low + w.width * turns ≤ stepped start step k)
     go far is (inl less) = inl (omega (arith, far, is, less))
     go far is (inr more) = inr (omega (arith, is, more))
 

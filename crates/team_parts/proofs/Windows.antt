@@ -24,6 +24,11 @@ use Rattle.team_parts.specs.Window.{Keeps, LiesBeside, FitsWindow, bound_of}
 same_mod : (n : ℕ) → n < 2 ^ 64 → n % 2 ^ 64 ≡ n
 same_mod n lt = omega arith
 
+step_more : (step t : ℕ) → suc t * step ≡ step + t * step
+step_more step t =
+    let one : suc t ≡ t + 1 = omega arith in
+    mul_comm (suc t) step ∙ ap (λ n. step * n) one ∙ mul-add step t 1 ∙ ap (λ n. n + step * 1) (mul_comm step t) ∙ (let e : t * step + step * 1 ≡ step + t * step = omega arith in e)
+
 module _ (w : Window) (count : ℕ) (few : count ≤ 2 ^ 24) (room : w.low + w.width * count < 2 ^ 62) where
   width_more : (t : ℕ) → w.width * suc t ≡ w.width * t + w.width
   width_more t = let one : suc t ≡ t + 1 = omega arith in ap (λ n. w.width * n) one ∙ mul-add w.width t 1 ∙ (let e : w.width * t + w.width * 1 ≡ w.width * t + w.width = omega arith in e)
@@ -44,7 +49,9 @@ module _ (w : Window) (count : ℕ) (few : count ≤ 2 ^ 24) (room : w.low + w.w
 
   place_beside : (s : Stride) (t : ℕ) → LiesBeside w count s → t < count → IsBeside (bound_of w 0) (bound_of w count) (stepped s.start s.step t)
   place_beside s t beside lt =
-      let far = mul-le t s.step count s.step (omega (arith, lt)) (omega arith) in
+      let more = step_more s.step t in
+      let next = mul-le (suc t) s.step count s.step (omega (arith, lt)) (omega arith) in
+      let far : s.step + t * s.step ≤ count * s.step = omega (arith, more, next) in
       let most = mul-le count s.step (2 ^ 24) (2 ^ 38) few (let h = beside.step in omega (arith, h)) in
       let start = beside.start in
       let small : s.start + t * s.step < 2 ^ 64 = omega (arith, far, most, start) in
@@ -52,7 +59,7 @@ module _ (w : Window) (count : ℕ) (few : count ≤ 2 ^ 24) (room : w.low + w.w
       let none : w.width * 0 ≡ 0 = omega arith in
       go far is none beside.aside
     where
-      go : t * s.step ≤ count * s.step → stepped s.start s.step t ≡ s.start + t * s.step → w.width * 0 ≡ 0 → (s.start + count * s.step < w.low) ⊎ (w.low + w.width * count ≤ s.start) → IsBeside (bound_of w 0) (bound_of w count) (stepped s.start s.step t)
+      go : s.step + t * s.step ≤ count * s.step → stepped s.start s.step t ≡ s.start + t * s.step → w.width * 0 ≡ 0 → (s.start + count * s.step < w.low + s.step) ⊎ (w.low + w.width * count ≤ s.start) → IsBeside (bound_of w 0) (bound_of w count) (stepped s.start s.step t)
       go far is none (inl less) = inl (omega (arith, far, is, none, less))
       go far is none (inr more) = inr (omega (arith, is, more))
 

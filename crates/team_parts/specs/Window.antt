@@ -20,7 +20,7 @@ pub record Keeps (w : Window) (s : Stride) : Type 0 where
 pub record LiesBeside (w : Window) (count : ℕ) (s : Stride) : Type 0 where
   pub start : s.start < 2 ^ 62
   pub step : s.step < 2 ^ 38
-  pub aside : (s.start + count * s.step < w.low) ⊎ (w.low + w.width * count ≤ s.start)
+  pub aside : (s.start + count * s.step < w.low + s.step) ⊎ (w.low + w.width * count ≤ s.start)
 
 -- the own places of so many turns, which are not many, are below a number of cells, and each turn has some
 pub record IsBelow (w : Window) (count cells : ℕ) : Type 0 where

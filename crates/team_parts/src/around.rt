@@ -55,7 +55,7 @@ fn all_lie_beside(window: Window, turns: u64, s: Stride, count: u64, step: u64) 
     if last >= 1 << 62 {
         return false;
     }
-    last + turns * step < window.low || s.start >= window.low + window.width * turns
+    last + turns * step < window.low + step || s.start >= window.low + window.width * turns
 }
 
 // Whether the cell that an inner instruction writes is the turns' own in each inner turn, and the one that it reads is too, or no turn's.

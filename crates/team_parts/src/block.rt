@@ -23,9 +23,9 @@ use std::marker::Model;
 /// a turn writes cells that are not its own. Contracts see the registers.
 #[derive(Drop)]
 pub struct Tools {
-    registers: Vec<u64>,
-    bench: Bench,
-    reserve: Reserve,
+    pub registers: Vec<u64>,
+    pub bench: Bench,
+    pub reserve: Reserve,
 }
 
 impl Model for Tools {
@@ -36,8 +36,12 @@ impl Model for Tools {
     ghost view = { λ t. t.registers.items };
 }
 
-// These numbers take the place of others.
-fn copy_into(to: &mut Vec<u64>, numbers: &[u64]) -> Result<(), AllocError>
+/// These numbers take the place of others.
+///
+/// # Errors
+///
+/// Where memory is refused.
+pub fn copy_into(to: &mut Vec<u64>, numbers: &[u64]) -> Result<(), AllocError>
     ensures { OnOk result (to.new.items ≡ numbers.now) }
 {
     to.clear();

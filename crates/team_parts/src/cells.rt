@@ -14,10 +14,10 @@ use lower_op::Cells;
 /// threads stands 0, and its own ones are lent to be written. As soon as another cell is written, all stand in memory that was
 /// taken for that.
 #[derive(Drop)]
-pub(crate) struct Parted<'c, 'o> {
-    pub(crate) surroundings: Surroundings<'c>,
-    pub(crate) own: &'o mut [u64],
-    pub(crate) reserve: &'o mut Reserve,
+pub struct Parted<'c, 'o> {
+    pub surroundings: Surroundings<'c>,
+    pub own: &'o mut [u64],
+    pub reserve: &'o mut Reserve,
 }
 
 // What stands at a place, and 0 outside.
@@ -123,7 +123,7 @@ fn stands(surroundings: &Surroundings<'_>, own: &[u64], reserve: &Reserve) -> bo
 }
 
 /// Has a thread's own cells hold what they are as all are, also where these stand in memory.
-pub(crate) fn settle(cells: &mut Parted<'_, '_>)
+pub fn settle(cells: &mut Parted<'_, '_>)
     requires { stands cells.old.surroundings cells.old.own.now cells.old.reserve.now ≡ true }
     ensures cells { cells.new.own.now ≡ take (length cells.old.own.now)
         (drop (length cells.old.surroundings.before.now + cells.old.surroundings.left)

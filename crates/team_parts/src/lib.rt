@@ -16,7 +16,10 @@ mod unrolling;
 mod window;
 
 pub use around::nest_window_of;
-pub use block::{Tools, run_part};
+pub use block::{Tools, copy_into, run_part};
+pub use cells::{Parted, settle};
+pub use reserve::Reserve;
 pub use shared::Shared;
+pub use surroundings::Surroundings;
 pub use turned::{Nest, Turned};
 pub use window::{Window, window_of};

@@ -9,7 +9,7 @@ use std::marker::Model;
 
 /// Memory that has room for so many numbers, and holds none or all of them.
 #[derive(Drop)]
-pub(crate) struct Reserve {
+pub struct Reserve {
     numbers: Vec<u64>,
     room: u64,
 }
@@ -79,7 +79,7 @@ impl Reserve {
     /// # Errors
     ///
     /// Where memory is refused.
-    pub(crate) fn make_room(&mut self, count: usize) -> Result<(), AllocError>
+    pub fn make_room(&mut self, count: usize) -> Result<(), AllocError>
         ensures { OnOk result ((self.new.items ≡ []) × (self.new.room ≡ count)) }
     {
         self.room = 0;

@@ -5,20 +5,20 @@ ghost use Rattle.std.specs.Prelude.{◌≡◌, ◌+◌, ◌<◌, ◌^◌, length
 /// How a thread's own cells lie: those in front of the places of all threads, how many places of others come then, how many are its own, how many places of
 /// others follow, and those behind the places of all; and how many they all are.
 #[derive(Clone, Copy)]
-pub(crate) struct Surroundings<'c> {
-    pub(crate) before: &'c [u64],
-    pub(crate) left: u64,
-    pub(crate) count: u64,
-    pub(crate) right: u64,
-    pub(crate) behind: &'c [u64],
-    pub(crate) all: u64,
-    pub(crate) ghost sum: { all ≡ length before.now + (left + (count + (right + length behind.now))) },
-    pub(crate) ghost few: { all < 2 ^ 63 },
+pub struct Surroundings<'c> {
+    pub before: &'c [u64],
+    pub left: u64,
+    pub count: u64,
+    pub right: u64,
+    pub behind: &'c [u64],
+    pub all: u64,
+    pub ghost sum: { all ≡ length before.now + (left + (count + (right + length behind.now))) },
+    pub ghost few: { all < 2 ^ 63 },
 }
 
 impl<'c> Surroundings<'c> {
     /// How so many cells of a thread's own lie, if all are not more than memory holds.
-    pub(crate) fn of(
+    pub fn of(
         before: &'c [u64],
         left: u64,
         count: u64,

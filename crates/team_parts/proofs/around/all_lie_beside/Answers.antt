@@ -11,4 +11,4 @@ returns-then-last-turns c h =
     let last = s.start + (c.args.count - 1) * s.step in
     let small : last < 2 ^ 62 = omega (arith, c.if-last.false) in
     let short : c.args.step < 2 ^ 38 = omega (arith, c.if-step.false) in
-    all_beside c.args.window c.args.turns s.start s.step c.args.count c.args.step small short (inl (ltb-true (last + c.args.turns * c.args.step) c.args.window.low h))
+    all_beside c.args.window c.args.turns s.start s.step c.args.count c.args.step small short (inl (ltb-true (last + c.args.turns * c.args.step) (c.args.window.low + c.args.step) h))

@@ -1,0 +1,53 @@
+-- The shares of the first workers and those of the others are all.
+use Rattle.std.proofs.Common.{◌≡◌, ◌+◌, ◌-◌, ◌*◌, ℕ, List, ◌++◌, length, refl, ◌∙◌, subst, arith, rules}
+use Rattle.std.proofs.iter.Serving.{serving}
+use Rattle.team_in_place.specs.Scanning.{AreSums, share_turns}
+use Rattle.team_in_place.proofs.Shares.{cells_both, sums_join}
+use Rattle.team_in_place.proofs.scan_sharing.+add_shares+fn-add_shares-join_mut+arg2+fn-add_shares-join_mut+arg3.Goals as goal
+
+pub split_at_mut-front-requires : goal.split_at_mut-front-requires
+split_at_mut-front-requires g t c =
+    let s = c.args.team.now.prefixes in
+    let w = s.window.width in
+    let workers = c.args.team.now.workers in
+    let worker = c.args.worker in
+    let x = c.shares_of_next-shares.result in
+    let y = c.args.number - x in
+    let both : w * share_turns s.count workers worker c.args.number ≡ w * share_turns s.count workers worker x + w * share_turns s.count workers (worker + x) y =
+    cells_both s.count workers (omega (arith, c.requires.some, c.requires.workers)) worker x y w c.args.number c.shares_of_next-shares.ensures.others refl in
+    omega (arith, both, c.cells_of.ensures, c.requires.own)
+
+pub join_mut-done-requires-after_bounds : goal.join_mut-done-requires-after_bounds
+join_mut-done-requires-after_bounds g t c κs within =
+    let s = c.args.team.now.prefixes in
+    let w = s.window.width in
+    let workers = c.args.team.now.workers in
+    let worker = c.args.worker in
+    let x = c.shares_of_next-shares.result in
+    let y = c.args.number - x in
+    let both : w * share_turns s.count workers worker c.args.number ≡ w * share_turns s.count workers worker x + w * share_turns s.count workers (worker + x) y =
+    cells_both s.count workers (omega (arith, c.requires.some, c.requires.workers)) worker x y w c.args.number c.shares_of_next-shares.ensures.others refl in
+    let front : length c.split_at_mut-front.result.0.now ≡ w * share_turns s.count workers worker x = c.split_at_mut-front.ensures.front_len ∙ c.cells_of.ensures in
+    let back : length c.split_at_mut-front.result.1.now ≡ w * share_turns s.count workers (worker + x) y = omega (arith, both, c.split_at_mut-front.ensures.back_len, c.requires.own, c.cells_of.ensures) in
+    grind serving
+
+pub returns-clause-sums : goal.returns-clause-sums
+returns-clause-sums g t c =
+    let s = c.args.team.now.prefixes in
+    let workers = c.args.team.now.workers in
+    let worker = c.args.worker in
+    let x = c.shares_of_next-shares.result in
+    let y = c.args.number - x in
+    let front = c.split_at_mut-front.result.0.now in
+    let back = c.split_at_mut-front.result.1.now in
+    let sums = c.some-1.given.0 in
+    let sums' = c.rest-1.given.0 in
+    let all : x + y ≡ c.args.number = omega (arith, c.shares_of_next-shares.ensures.others) in
+    let long : length front ≡ s.window.width * share_turns s.count workers worker x = c.split_at_mut-front.ensures.front_len ∙ c.cells_of.ensures in
+    let many : length sums ≡ x = search rules in
+    let whole : front ++ back ≡ c.args.own.now = search rules in
+    let first : AreSums s workers worker x front sums = search rules in
+    let second : AreSums s workers (worker + x) y back sums' = search rules in
+    subst (λ (xs : List ℕ). AreSums s workers worker c.args.number xs (sums ++ sums')) whole
+    (subst (λ n. AreSums s workers worker n (front ++ back) (sums ++ sums')) all
+    (sums_join s workers worker x y (omega (arith, c.requires.some, c.requires.workers)) front back long sums sums' many first second))
