@@ -90,15 +90,16 @@ def text_of(seed):
     return f"#include <stdint.h>\n\n{declared}\nvoid kernel(void)\n{{\n{begun}{loop(draw, rows, width)}{loop(draw, rows, width)}{folded(draw, count)}}}\n"
 
 
-def main():
-    parser = argparse.ArgumentParser(usage=__doc__)
+def compare(usage, text_of):
+    """Runs the texts of the seeds that the command line names, each by teams and by one walk; 1 where one leaves something else."""
+    parser = argparse.ArgumentParser(usage=usage)
     parser.add_argument("--program", type=pathlib.Path, default=TOP / "crates/ompk_cli/out/ompk_cli")
     parser.add_argument("first", type=int)
     parser.add_argument("count", type=int)
     words = parser.parse_args()
     ran = refused = differ = 0
     with tempfile.TemporaryDirectory() as room:
-        path = pathlib.Path(room) / "rows.c"
+        path = pathlib.Path(room) / "kernel.c"
         for seed in range(words.first, words.first + words.count):
             path.write_text(text_of(seed))
             wanted = subprocess.run([words.program, "seq", path], capture_output=True, check=False)
@@ -116,4 +117,4 @@ def main():
 
 
 if __name__ == "__main__":
-    sys.exit(main())
+    sys.exit(compare(__doc__, text_of))

@@ -347,6 +347,25 @@ void kernel(void)
 }
 """
 
+TOTALS = """uint64_t A[4000000];
+uint64_t B[4000000];
+uint64_t s;
+
+void kernel(void)
+{
+    #pragma omp parallel for
+    for (uint64_t i = 0; i < 4000000; i++) {
+        A[i] = i * 3 ^ 5;
+    }
+    #pragma omp parallel for reduction(inscan, +: s)
+    for (uint64_t i = 0; i < 4000000; i++) {
+        s += A[i];
+        #pragma omp scan inclusive(s)
+        B[i] = s;
+    }
+}
+"""
+
 DISTANCE = """uint64_t D[1001][1001];
 
 void kernel(void)
@@ -459,6 +478,7 @@ KERNELS = {
     "folds": FOLDS,
     "local": LOCAL,
     "prefix": PREFIX,
+    "totals": TOTALS,
     "distance": DISTANCE,
     "sweep": SWEEP,
     "relax": RELAX,
@@ -471,7 +491,7 @@ EVERYDAY = ("map", "triad", "product", "hash", "quotient", "triangle", "folds", 
 # how often the body of a kernel runs where its loops are timed alone
 OFTEN = {
     "hash": 5, "product": 33, "map": 33, "triad": 65, "collatz": 33, "stencil": 17, "quotient": 33, "triangle": 17, "polynomial": 5,
-    "sum": 57, "max": 57, "xor": 57, "folds": 65, "local": 513, "prefix": 33, "distance": 17, "sweep": 17, "relax": 9,
+    "sum": 57, "max": 57, "xor": 57, "folds": 65, "local": 513, "prefix": 33, "totals": 33, "distance": 17, "sweep": 17, "relax": 9,
 }
 
 

@@ -248,6 +248,82 @@ for workers in 1 2 3 64; do
     fi
 done
 
+# prefix sums, inclusive and exclusive, of a variable at file scope and of a local, by a directive and without one
+cat >"$work/sums.c" <<'END'
+uint64_t first;
+uint64_t A[70000];
+uint64_t B[140000];
+uint64_t C[70000];
+uint64_t D[70000];
+uint64_t E[70000];
+uint64_t last;
+void kernel(void)
+{
+    uint64_t x;
+    for (uint64_t i = 0; i < 70000; i++) { A[i] = i * i + 3 * i; C[i] = i; E[i] = i % 7; }
+    first = 5;
+    #pragma omp parallel for reduction(inscan, +: first)
+    for (uint64_t i = 0; i < 70000; i++) {
+        first += A[i];
+    #pragma omp scan inclusive(first)
+        B[2 * i + 1] = first;
+    }
+    x = 18446744073709551615ull;
+    #pragma omp parallel for reduction(inscan, +: x)
+    for (uint64_t i = 1; i < 69999; i++) {
+        C[i] = x;
+    #pragma omp scan exclusive(x)
+        x += i * 3 ^ 5;
+    }
+    last = x;
+    for (uint64_t i = 0; i < 70000; i++) { last += C[i]; D[i] = last * 3; }
+    #pragma omp parallel for reduction(inscan, *: last)
+    for (uint64_t i = 0; i < 70000; i++) {
+        last *= A[i] | 1;
+    #pragma omp scan inclusive(last)
+        C[i] = last + i;
+    }
+    #pragma omp parallel for reduction(inscan, +: first)
+    for (uint64_t i = 0; i < 70000; i++) {
+        E[i] = first;
+    #pragma omp scan exclusive(first)
+        first += D[i] / 3;
+    }
+}
+END
+python3 - >"$work/sums.out" <<'END'
+word = (1 << 64) - 1
+A, B = [i * i + 3 * i for i in range(70000)], [0] * 140000
+C, D, E = list(range(70000)), [], []
+first, x = 5, word
+for i in range(70000):
+    first = first + A[i] & word
+    B[2 * i + 1] = first
+for i in range(1, 69999):
+    C[i] = x
+    x = x + (i * 3 ^ 5) & word
+last = x
+for i in range(70000):
+    last = last + C[i] & word
+    D.append(last * 3 & word)
+for i in range(70000):
+    last = last * (A[i] | 1) & word
+    C[i] = last + i & word
+for i in range(70000):
+    E.append(first)
+    first = first + D[i] // 3 & word
+for name, values in (("first", [first]), ("A", A), ("B", B), ("C", C), ("D", D), ("E", E), ("last", [last])):
+    print(name, "=", *values)
+END
+for workers in 1 2 3 64; do
+    "$program" run "$work/sums.c" --workers "$workers" >"$work/out" 2>"$work/err"
+    last=$?
+    if [ "$last" -ne 0 ] || [ -s "$work/err" ] || ! cmp -s "$work/out" "$work/sums.out"; then
+        printf 'prefix sums by %s workers: status %s\n' "$workers" "$last"
+        faults=1
+    fi
+done
+
 # texts
 loop() { printf 'uint64_t A[8];\nvoid kernel(void)\n{\n#pragma omp %s\nfor (uint64_t i = 0; i < %s; i++) { A[i] = i; }\n}\n' "$1" "$2"; }
 refuse 'K01 3:2 syntax' $'void kernel(void)\n{\n}'
