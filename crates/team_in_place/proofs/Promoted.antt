@@ -11,8 +11,8 @@ use Rattle.lane_rows.specs.Lanes.{stepped}
 use Rattle.lane_body.specs.Counted.{counts}
 use Rattle.lane_body.specs.declared.counted.Course.{Course}
 use Rattle.lane_body.specs.declared.counted.Counted.{Counted}
-use Rattle.team_promotion.specs.Promotion.{StandsFor, without_number}
-use Rattle.team_promotion.specs.declared.promotion.Promotion.{Promotion}
+use Rattle.lane_promotion.specs.Promotion.{StandsFor, without_number}
+use Rattle.lane_promotion.specs.declared.promotion.Promotion.{Promotion}
 use Rattle.team_in_place.specs.Counting.{counted}
 use Rattle.team_in_place.specs.Scanning.{AreManyTurns}
 use Rattle.team_in_place.specs.declared.planning.Rise.{Rise}

@@ -1,6 +1,6 @@
 //! A counted loop that keeps a sum in a cell, run in place with the sum in a register.
 
-ghost use Rattle.std.specs.Prelude.{◌≡◌, ◌+◌, ◌-◌, ◌<◌, ◌≤◌, ◌^◌, ◌++◌, ◌∷◌, [], true, ℕ, List, length, take, slice_index, slice_set, Option, None, IfOk, IfSome};
+ghost use Rattle.std.specs.Prelude.{◌≡◌, ◌+◌, ◌-◌, ◌<◌, ◌≤◌, ◌^◌, true, ℕ, List, length, take, slice_index, slice_set, Option, None, IfOk, IfSome};
 ghost use Rattle.store.specs.Flat.{values_of};
 ghost use Rattle.lower_machine.specs.Machine.{machine, running};
 ghost use Rattle.law_lanes.specs.Lanes.{turns};
@@ -20,13 +20,13 @@ use lane_body::{
     recurring_by,
 };
 use lane_part::{Turns, hold_numbers};
+use lane_promotion::{Promotion, promotion_of, with_last};
 use lower_block::Compiled;
 use lower_machine::Register;
 use lower_op::{Cells, Op};
-use std::alloc::{AllocError, Global};
+use std::alloc::AllocError;
 use std::thread::Threads;
 use store::Store;
-use team_promotion::{Promotion, promotion_of};
 use team_worker::Gate;
 
 // The turns of a counted loop from where it stands in registers, where they are many and leave alone what says how many they are.
@@ -46,16 +46,6 @@ fn many_turns(counted: &Counted, registers: &[u64]) -> Option<Rise>
         return None;
     }
     Some(rise)
-}
-
-// Numbers, and one behind them.
-fn with_last(alloc: Global, numbers: &[u64], last: u64) -> Result<Vec<u64>, AllocError>
-    ensures { IfOk result (λ all. all.items ≡ numbers.now ++ last ∷ []) }
-{
-    let mut all = Vec::with_capacity(alloc, numbers.len() + 1)?;
-    all.extend_from_slice(numbers)?;
-    all.push(last)?;
-    Ok(all)
 }
 
 // Whether a code's constants have registers among so many.
@@ -162,10 +152,12 @@ pub(crate) fn run_promoted<R: Threads + Sync, G: Gate + Sync>(
         count: rise.count,
         registers,
     };
-    let cells = store.cells().len() as u64;
-    let Some(promotion) = promotion_of(crew.alloc, &summing.ops, turns, cells)? else {
+    let Some(promotion) = promotion_of(crew.alloc, &summing.ops, turns)? else {
         return Ok(None);
     };
+    if promotion.place >= store.cells().len() as u64 {
+        return Ok(None);
+    }
     let own = with_last(crew.alloc, registers, store.cell(promotion.place))?;
     let ran = run_scanned_turns(
         crew,

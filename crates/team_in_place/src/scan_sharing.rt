@@ -203,6 +203,38 @@ fn scan_one<R: Threads + Sync, G: Gate + Sync>(
     Ok(tools.into_registers())
 }
 
+// The same in a thread of its own, while this one waits.
+fn scan_apart<R: Threads + Sync, G: Gate + Sync>(
+    team: &ScanTeam<'_, '_, R, G>,
+    worker: u64,
+    own: &mut [u64],
+    starts: &[u64],
+) -> Result<Vec<u64>, AllocError>
+    requires worker { worker < team.now.workers }
+    requires own { length own.old ≡ team.now.prefixes.window.width
+        * share_turns team.now.prefixes.count team.now.workers worker 1 }
+    requires one { length starts.now ≡ 1 }
+    ensures { IfOk result (λ rs. AreSharesDone team.now.prefixes team.now.workers worker 1
+        starts.now own.old own.new rs.items) }
+{
+    let _most = team.workers.get();
+    let (done, _) = join_mut(
+        team.rt,
+        &mut || -> Result<Vec<u64>, AllocError>
+            requires sync { IsSync R.row × IsSync G.row }
+            requires worker { worker < team.now.workers }
+            requires own { length own.now ≡ team.now.prefixes.window.width
+                * share_turns team.now.prefixes.count team.now.workers worker 1 }
+            requires one { length starts.now ≡ 1 }
+            ensures { IfOk result (λ rs. AreSharesDone team.entry.now.prefixes
+                team.entry.now.workers worker 1 starts.entry.now own.entry.now own.exit.now
+                rs.items) }
+        { scan_one(team, worker, own, starts) },
+        &mut || {},
+    );
+    done
+}
+
 // Runs the turns of so many workers from one on, each worker's in a thread of its own, where the register holds these numbers as they begin. The
 // registers are as the last of them leaves them.
 fn scan_shares<R: Threads + Sync, G: Gate + Sync>(
@@ -251,7 +283,12 @@ fn scan_shares<R: Threads + Sync, G: Gate + Sync>(
             ensures { IfOk result (λ rs. AreSharesDone team.entry.now.prefixes
                 team.entry.now.workers second others rest.entry.now
                 back.entry.now back.exit.now rs.items) }
-        { scan_shares(team, second, others, back, rest) },
+        {
+            if others < 2 {
+                return scan_apart(team, second, back, rest);
+            }
+            scan_shares(team, second, others, back, rest)
+        },
     );
     done?;
     let registers = end?;

@@ -76,6 +76,36 @@ fn run_share<R: Threads + Sync, G: Gate + Sync>(
     Ok(tools.into_registers())
 }
 
+// The same in a thread of its own, while this one waits. A thread that starts others and then runs turns itself keeps for long the processor on which one of
+// these was put: systems put a new thread beside the one that starts it, where the other processors have just been busy.
+fn run_apart<R: Threads + Sync, G: Gate + Sync>(
+    team: &Team<'_, '_, R, G>,
+    worker: u64,
+    from: u64,
+    count: u64,
+    own: &mut [u64],
+) -> Result<Vec<u64>, AllocError>
+    requires worker { worker < team.now.workers }
+    requires within { from + count ≤ team.now.shared.count }
+    requires own { length own.old ≡ team.now.shared.window.width * count }
+    ensures { IfOk result (λ rs. IsPartDone team.now.shared from count own.old own.new rs.items) }
+{
+    let _most = team.workers.get();
+    let (done, _) = join_mut(
+        team.rt,
+        &mut || -> Result<Vec<u64>, AllocError>
+            requires sync { IsSync R.row × IsSync G.row }
+            requires worker { worker < team.now.workers }
+            requires within { from + count ≤ team.now.shared.count }
+            requires own { length own.now ≡ team.now.shared.window.width * count }
+            ensures { IfOk result (λ rs. IsPartDone team.entry.now.shared from count
+                own.entry.now own.exit.now rs.items) }
+        { run_share(team, worker, from, count, own) },
+        &mut || {},
+    );
+    done
+}
+
 /// Of how many workers the next thread runs the shares, of some and not of all. The threads of a small team are all started by the one that calls, since two that
 /// start threads at once were seen to be given one processor for both; those of a large team start half of what is left to them each.
 pub(crate) fn shares_of_next(number: u64) -> u64
@@ -134,7 +164,12 @@ pub(crate) fn run_shares<R: Threads + Sync, G: Gate + Sync>(
             requires own { length back.now ≡ team.now.shared.window.width * rest }
             ensures { IfOk result (λ rs. IsPartDone team.entry.now.shared next rest
                 back.entry.now back.exit.now rs.items) }
-        { run_shares(team, second, others, next, rest, back) },
+        {
+            if others < 2 {
+                return run_apart(team, second, next, rest, back);
+            }
+            run_shares(team, second, others, next, rest, back)
+        },
     );
     done?;
     let registers = end?;
