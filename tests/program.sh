@@ -248,7 +248,8 @@ for workers in 1 2 3 64; do
     fi
 done
 
-# prefix sums, inclusive and exclusive, of a variable at file scope and of a local, by a directive and without one
+# prefix sums, inclusive and exclusive, of a variable at file scope and of a local, by a directive and without one; a variable at file scope that each
+# turn writes before it reads it
 cat >"$work/sums.c" <<'END'
 uint64_t first;
 uint64_t A[70000];
@@ -289,6 +290,7 @@ void kernel(void)
     #pragma omp scan exclusive(first)
         first += D[i] / 3;
     }
+    for (uint64_t i = 3; i < 69000; i++) { first = E[i] ^ i; A[i] = first * 5; }
 }
 END
 python3 - >"$work/sums.out" <<'END'
@@ -312,6 +314,9 @@ for i in range(70000):
 for i in range(70000):
     E.append(first)
     first = first + D[i] // 3 & word
+for i in range(3, 69000):
+    first = E[i] ^ i
+    A[i] = first * 5 & word
 for name, values in (("first", [first]), ("A", A), ("B", B), ("C", C), ("D", D), ("E", E), ("last", [last])):
     print(name, "=", *values)
 END
