@@ -11,7 +11,7 @@ use crate::own::Own;
 use lower_op::Cells;
 use std::alloc::{AllocError, Global};
 use std::marker::Model;
-use store::Store;
+use store::{Filler, Store};
 
 // Registers and cells hold numbers of 64 bits, as their types say.
 fn fit(registers: &[u64], cells: &[u64])
@@ -142,5 +142,10 @@ impl<'s> Cells for Chunk<'s> {
 
     fn write_beside(&mut self, first: u64, numbers: &[u64]) {
         self.own.write_beside(first, numbers);
+    }
+
+    // They stand in pages, of which each knows what was written.
+    fn fill<F: Filler>(&mut self, _first: u64, _count: u64, _filler: &F) -> bool {
+        false
     }
 }

@@ -1,3 +1,4 @@
 pub mod Kept
 pub mod Flat
 pub mod Placing
+pub mod Filling

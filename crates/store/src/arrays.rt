@@ -5,7 +5,9 @@ ghost use Rattle.semantics.specs.Meaning.Places.{size};
 ghost use Rattle.store.specs.Kept.{overlaid, rewritten_at, HasRoom};
 ghost use Rattle.store.specs.Flat.{values_of, filled, AreFilled, zeros_of};
 ghost use Rattle.store.specs.Placing.{Lie};
+ghost use Rattle.store.specs.Filling.{row_of};
 
+use crate::filling::{Filler, fill_cells};
 use crate::shape::Shape;
 use ktree::VarId;
 use std::alloc::{AllocError, Global};
@@ -220,6 +222,16 @@ impl Store {
         ensures { self.new ≡ filled (overlaid (values_of self.old) first values.now) self.old }
     {
         overwrite(&mut self.cells, first, values);
+    }
+
+    /// Fills so many cells from a place on, among all cells.
+    pub fn fill<F: Filler>(&mut self, first: u64, count: u64, filler: &F)
+        requires inside { first + count ≤ length (values_of self.old) }
+        requires enough { count ≤ F.count filler.now }
+        ensures { self.new ≡ filled (overlaid (values_of self.old) first
+            (row_of (F.number filler.now) count)) self.old }
+    {
+        fill_cells(&mut self.cells, first, count, filler);
     }
 
     /// Writes these values over those of a variable, from a position on, and changes nothing else.

@@ -9,6 +9,7 @@ ghost use Rattle.team_parts.specs.Lent.{lent_cells, stands};
 use crate::reserve::Reserve;
 use crate::surroundings::Surroundings;
 use lower_op::Cells;
+use store::{Filler, fill_cells};
 
 /// Cells as one of several threads has them: those in front of the places of all threads and those behind these are lent, at the places of other
 /// threads stands 0, and its own ones are lent to be written. As soon as another cell is written, all stand in memory that was
@@ -209,5 +210,21 @@ impl<'c, 'o> Cells for Parted<'c, 'o> {
         for (k, n) in numbers.iter().enumerate() {
             Cells::write(self, first + k as u64, *n);
         }
+    }
+
+    // They stand so where all are its own.
+    fn fill<F: Filler>(&mut self, first: u64, count: u64, filler: &F) -> bool {
+        let surroundings = self.surroundings;
+        let own = &mut *self.own;
+        let reserve = &mut *self.reserve;
+        let start = surroundings.before.len() as u64 + surroundings.left;
+        if stands(&surroundings, own, reserve)
+            && reserve.is_empty()
+            && fit(surroundings.count, start, first, count)
+        {
+            fill_cells(own, first - start, count, filler);
+            return true;
+        }
+        false
     }
 }
