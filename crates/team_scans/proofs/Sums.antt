@@ -3,27 +3,32 @@ use Rattle.std.proofs.Common.{◌≡◌, ℕ, zero, suc, ◌+◌, ◌-◌, ◌*�
 use Rattle.std.specs.Prelude.{slice_index, slice_range, slice_set}
 use Rattle.std.specs.List.{list_all}
 use Rattle.std.proofs.Math.Seq.{drop-append-add, drop-append_seam, take-append_seam}
+use Rattle.std.proofs.lemmas.Bool.{and_parts, or_left, or_right}
 use Rattle.std.proofs.lemmas.List.{length-replicate, take-append-drop}
+use Rattle.std.proofs.lemmas.List.Folds.{list_all-append, list_any-append}
 use Rattle.semantics.specs.Tree
 use Rattle.semantics.specs.Meaning.Places.{below}
 use Rattle.ktree.specs.View.{binary_of}
 use Rattle.ktree.specs.declared.expression.BinaryOp.{BinaryOp}
+use Rattle.lower_machine.specs.declared.term.Register.{Register}
 use Rattle.lower_machine.specs.Machine.{machine, operate_or_zero}
 use Rattle.lower_op.specs.declared.op.Op.{Op}
 use Rattle.lower_op.specs.Steps.{steps}
-use Rattle.law_lanes.specs.Reading.{is_written}
+use Rattle.law_lanes.specs.Reading.{is_written, writes}
 use Rattle.law_lanes.specs.Lanes.{Lanes, lanes_of, begun, entered, in_step, is_steady}
 use Rattle.law_lanes.specs.Folds.{folded}
 use Rattle.law_parts.specs.Parts.{IsPartOf, later}
 use Rattle.law_prefix_parts.proofs.Parts.{operands_law}
 use Rattle.law_prefix_parts.proofs.Quiet.{map_twice, quiet_in_step}
 use Rattle.lane_rows.specs.Lanes.{lane, stepped, HasRow}
-use Rattle.lane_part.specs.Parts.{marked}
+use Rattle.lane_part.specs.Parts.{has_room, marked}
 use Rattle.lane_work.specs.Files.{AreKept, files, file, look, total}
 use Rattle.lane_work.proofs.Filing.{map_over, over_alike, over_at, row_lane}
 use Rattle.lane_work.proofs.Folds.{total_folded}
+use Rattle.lower_lanes.specs.Saved.{IsOperand}
 use Rattle.lower_lanes.specs.Tails.{AreOf}
 use Rattle.lower_lanes.proofs.Behind as Behind
+use Rattle.lower_lanes.proofs.Operands.{front_ran, operands}
 use Rattle.lower_lanes.proofs.Turned.{begun_files, begun_kept}
 use Rattle.team_parts.specs.Parted.{parted}
 use Rattle.team_parts.specs.Window.{bound_of}
@@ -64,18 +69,25 @@ small_sum v operand n small =
 pub front_fits : (s : Prefixes) → AreOf s.scanned.laned.limit s.scanned.laned.ops.now (front_of s)
 front_fits s = Behind.front_of s.scanned.laned.limit s.scanned.laned.variable.at s.scanned.laned.ops.now (front_of s) (back_of s) (sym (take-append-drop s.scanned.front s.scanned.laned.ops.now)) s.scanned.laned.laned
 
+-- of instructions that fit both parts do
+pub parts_fit : (limit : ℕ) (every a b : List Op) → AreOf limit every (a ++ b) → AreOf limit every a × AreOf limit every b
+parts_fit limit every a b h =
+    let room = and_parts (list_all (has_room limit) a) (list_all (has_room limit) b) (sym (list_all-append (has_room limit) a b) ∙ h.room) in
+    let steady = and_parts (list_all (is_steady every) a) (list_all (is_steady every) b) (sym (list_all-append (is_steady every) a b) ∙ h.steady) in (
+      record { room = room.0; steady = steady.0; within = λ r w. h.within r (list_any-append (writes r) a b ∙ or_left (is_written a r) (is_written b r) w) },
+      record { room = room.1; steady = steady.1; within = λ r w. h.within r (list_any-append (writes r) a b ∙ or_right (is_written a r) (is_written b r) w) },
+    )
+
 -- where they went over all turns, from rows of none
-pub ran_over : (s : Prefixes) (first n : ℕ) (cells rows new after : List ℕ) (marks : ℕ) (front : List Op) → front ≡ front_of s
-    → ((every : List Op) → list_all (is_steady every) front ≡ true → ((r : ℕ) → is_written front r ≡ true → is_written every r ≡ true) → AreKept s.scanned.laned.variable.at (stepped first s.by) every n s.registers.now rows 0
-    → in_step front (lanes_of (files s.scanned.laned.variable.at (stepped first s.by) rows s.registers.now 0 n) cells) ≡ lanes_of (files s.scanned.laned.variable.at (stepped first s.by) new s.registers.now marks n) after)
-    → in_step (front_of s) (begun s.scanned.laned.variable.at (stepped first s.by) n (machine s.registers.now cells)) ≡ lanes_of (files s.scanned.laned.variable.at (stepped first s.by) new s.registers.now marks n) after
-ran_over s first n cells rows new after marks front is does =
+pub ran_over : (s : Prefixes) (first n : ℕ) (cells rows new after : List ℕ) (marks : ℕ) (ops : List Op) → AreOf s.scanned.laned.limit s.scanned.laned.ops.now ops
+    → ((every : List Op) → list_all (is_steady every) ops ≡ true → ((r : ℕ) → is_written ops r ≡ true → is_written every r ≡ true) → AreKept s.scanned.laned.variable.at (stepped first s.by) every n s.registers.now rows 0
+    → in_step ops (lanes_of (files s.scanned.laned.variable.at (stepped first s.by) rows s.registers.now 0 n) cells) ≡ lanes_of (files s.scanned.laned.variable.at (stepped first s.by) new s.registers.now marks n) after)
+    → in_step ops (begun s.scanned.laned.variable.at (stepped first s.by) n (machine s.registers.now cells)) ≡ lanes_of (files s.scanned.laned.variable.at (stepped first s.by) new s.registers.now marks n) after
+ran_over s first n cells rows new after marks ops fits does =
     let l = s.scanned.laned in
     let v = stepped first s.by in
-    let steady : list_all (is_steady l.ops.now) front ≡ true = subst (λ (o : List Op). list_all (is_steady l.ops.now) o ≡ true) (sym is) (front_fits s).steady in
-    ap (λ (o : List Op). in_step o (begun l.variable.at v n (machine s.registers.now cells))) (sym is)
-    ∙ ap (in_step front) (sym (begun_files l.variable.at v n s.registers.now rows cells))
-    ∙ does l.ops.now steady (λ r w. (front_fits s).within r (subst (λ (o : List Op). is_written o r ≡ true) is w)) (begun_kept l.variable.at v n s.registers.now rows l.ops.now)
+    ap (in_step ops) (sym (begun_files l.variable.at v n s.registers.now rows cells))
+    ∙ does l.ops.now fits.steady fits.within (begun_kept l.variable.at v n s.registers.now rows l.ops.now)
 
 module _ (s : Prefixes) (from n : ℕ) (cells : List ℕ) where
   -- lanes of the instructions in front
@@ -93,6 +105,26 @@ module _ (s : Prefixes) (from n : ℕ) (cells : List ℕ) where
   pub cells_stay : lanes.cells ≡ cells
   cells_stay = ap (λ (l : Lanes). l.cells) each_quiet
 
+  -- where they stand in the row of another register
+  module _ (first : ℕ) (is : first ≡ stepped s.first s.by from) (made moved : List Op) (source : Register) (operand : IsOperand (front_of s) made moved s.scanned.target source) (rows mid : List ℕ) (marks : ℕ)
+      (ran : in_step made (begun s.scanned.laned.variable.at (stepped first s.by) n (machine s.registers.now cells)) ≡ lanes_of (files s.scanned.laned.variable.at (stepped first s.by) rows s.registers.now marks n) mid)
+      (row : marked marks source.at ≡ true) (inside : source.at < length s.registers.now) where
+    abbrev counted : List Op → Lanes
+    counted ops = in_step ops (begun s.scanned.laned.variable.at (stepped first s.by) n (machine s.registers.now cells))
+
+    lanes_begin : lanes ≡ counted (front_of s)
+    lanes_begin = ap (λ (v : ℕ → ℕ). in_step (front_of s) (begun s.scanned.laned.variable.at v n (machine s.registers.now cells))) (sym (numbers_from s.first s.by from first is))
+
+    pub made_in_rows : map (λ r. slice_index r s.scanned.target.at) lanes.registers ≡ map (lane rows source.at) (below n)
+    made_in_rows =
+        ap (λ (l : Lanes). map (λ r. slice_index r s.scanned.target.at) l.registers) lanes_begin
+        ∙ operands (front_of s) made moved s.scanned.target source operand s.scanned.laned.variable.at (stepped first s.by) n s.registers.now cells rows marks mid ran row inside s.scanned.target.at refl (target_there s)
+
+    pub made_cells : mid ≡ cells
+    made_cells =
+        sym (ap (λ (l : Lanes). l.cells) (lanes_begin ∙ front_ran (front_of s) made moved s.scanned.target source operand s.scanned.laned.variable.at (stepped first s.by) n s.registers.now cells rows marks mid ran row inside))
+        ∙ cells_stay
+
   module _ (first : ℕ) (rows after : List ℕ) (marks : ℕ) (is : first ≡ stepped s.first s.by from)
       (ran : in_step (front_of s) (begun s.scanned.laned.variable.at (stepped first s.by) n (machine s.registers.now cells)) ≡ lanes_of (files s.scanned.laned.variable.at (stepped first s.by) rows s.registers.now marks n) after) where
     abbrev variable : ℕ
@@ -107,25 +139,26 @@ module _ (s : Prefixes) (from n : ℕ) (cells : List ℕ) where
     pub same_cells : after ≡ cells
     same_cells = sym (ap (λ (l : Lanes). l.cells) lanes_are) ∙ cells_stay
 
-    -- a row holds the operands
-    module _ (row : List ℕ) (few : n ≤ 256) (has : HasRow rows s.scanned.target.at) (there : marked marks s.scanned.target.at ≡ true) (is_row : row ≡ slice_range rows (s.scanned.target.at * 256) (s.scanned.target.at * 256 + 256)) where
-      in_rows : map (λ r. slice_index r to) lanes.registers ≡ map (lane rows to) (below n)
-      in_rows =
-          ap (λ (l : Lanes). map (λ r. slice_index r to) l.registers) lanes_are
-          ∙ map_over (file variable (stepped first s.by) rows s.registers.now marks) (λ r. slice_index r to) (below n)
-          ∙ over_alike (λ k. slice_index (file variable (stepped first s.by) rows s.registers.now marks k) to) (lane rows to) n
-          (λ k lt. over_at (look variable (stepped first s.by) rows s.registers.now marks k) (length s.registers.now) to (target_there s)
-          ∙ ap (λ (b : Bool). cond b (lane rows to k) (slice_index (slice_set s.registers.now variable (stepped first s.by k)) to)) there)
+    -- the row of the register holds the operands
+    pub in_rows : marked marks to ≡ true → map (λ r. slice_index r to) lanes.registers ≡ map (lane rows to) (below n)
+    in_rows there =
+        ap (λ (l : Lanes). map (λ r. slice_index r to) l.registers) lanes_are
+        ∙ map_over (file variable (stepped first s.by) rows s.registers.now marks) (λ r. slice_index r to) (below n)
+        ∙ over_alike (λ k. slice_index (file variable (stepped first s.by) rows s.registers.now marks k) to) (lane rows to) n
+        (λ k lt. over_at (look variable (stepped first s.by) rows s.registers.now marks k) (length s.registers.now) to (target_there s)
+        ∙ ap (λ (b : Bool). cond b (lane rows to k) (slice_index (slice_set s.registers.now variable (stepped first s.by k)) to)) there)
 
-      in_row : (k : ℕ) → k < n → slice_index row k ≡ operand_of s cells (from + k)
-      in_row k lt =
-          row_lane rows row to k is_row has (omega (arith, lt, few))
-          ∙ sym (over_at (lane rows to) n k lt)
-          ∙ ap (λ (l : List ℕ). slice_index l k) (sym in_rows ∙ operands_are)
-          ∙ over_at (λ k. operand_of s cells (from + k)) n k lt
+  -- a row that holds what the register does in each lane
+  pub row_holds : (rows : List ℕ) (at : ℕ) → map (λ r. slice_index r s.scanned.target.at) lanes.registers ≡ map (lane rows at) (below n) → (k : ℕ) → k < n → lane rows at k ≡ operand_of s cells (from + k)
+  row_holds rows at is k lt =
+      sym (over_at (lane rows at) n k lt)
+      ∙ ap (λ (l : List ℕ). slice_index l k) (sym is ∙ operands_are)
+      ∙ over_at (λ k. operand_of s cells (from + k)) n k lt
 
-      pub row_adds : (sum : ℕ) → total plus sum row n ≡ added s cells from sum n
-      row_adds sum = total_folded plus sum row (λ k. operand_of s cells (from + k)) n in_row
+  -- of which the operands are added up
+  pub row_adds : (rows row : List ℕ) (at : ℕ) → n ≤ 256 → HasRow rows at → row ≡ slice_range rows (at * 256) (at * 256 + 256) → ((k : ℕ) → k < n → lane rows at k ≡ operand_of s cells (from + k)) → (sum : ℕ) → total plus sum row n ≡ added s cells from sum n
+  row_adds rows row at few has is_row holds sum =
+      total_folded plus sum row (λ k. operand_of s cells (from + k)) n (λ k lt. row_lane rows row at k is_row has (omega (arith, lt, few)) ∙ holds k lt)
 
 -- ---- what a part adds
 
