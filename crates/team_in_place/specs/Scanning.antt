@@ -51,22 +51,22 @@ pub record AreManyTurns (c : Counted) (registers : List ℕ) (t : Rise) : Type 0
   pub turns : AreItsTurns c.variable c.end c.by c.ops.items registers t.first t.by t.count t.next
   pub many : 2 ^ 16 ≤ t.count
 
--- the first of so many turns that a worker of so many has; behind the last worker all of them
-abbrev pub share_first : ℕ → ℕ → ℕ → ℕ
-share_first count workers worker = count * worker / workers
+-- the first of so many turns behind some that a worker of so many has; behind the last worker all of them
+abbrev pub share_first : ℕ → ℕ → ℕ → ℕ → ℕ
+share_first head count workers worker = head + (count - head) * worker / workers
 
 -- how many turns so many workers from one on have
-abbrev pub share_turns : ℕ → ℕ → ℕ → ℕ → ℕ
-share_turns count workers worker number = share_first count workers (worker + number) - share_first count workers worker
+abbrev pub share_turns : ℕ → ℕ → ℕ → ℕ → ℕ → ℕ
+share_turns head count workers worker number = share_first head count workers (worker + number) - share_first head count workers worker
 
 -- so many workers' turns from a worker on, over their own cells
-abbrev pub AreShares : Prefixes → ℕ → ℕ → ℕ → List ℕ → List ℕ → Type 0
-AreShares s workers worker number mine cells = IsPlaced s (share_first s.count workers worker) (share_turns s.count workers worker number) mine cells
+abbrev pub AreShares : Prefixes → ℕ → ℕ → ℕ → ℕ → List ℕ → List ℕ → Type 0
+AreShares s head workers worker number mine cells = IsPlaced s (share_first head s.count workers worker) (share_turns head s.count workers worker number) mine cells
 
 -- numbers are what the turns of each of so many workers from one on add to the register, but for those of the last worker of all
-pub record AreSums (s : Prefixes) (workers worker number : ℕ) (mine sums : List ℕ) : Type 0 where
-  pub adds : (cells : List ℕ) → AreShares s workers worker number mine cells
-      → (k : ℕ) → k < number → suc (worker + k) < workers → carried_by s cells (share_first s.count workers (suc (worker + k))) ≡ (carried_by s cells (share_first s.count workers (worker + k)) + slice_index sums k) % 2 ^ 64
+pub record AreSums (s : Prefixes) (head workers worker number : ℕ) (mine sums : List ℕ) : Type 0 where
+  pub adds : (cells : List ℕ) → AreShares s head workers worker number mine cells
+      → (k : ℕ) → k < number → suc (worker + k) < workers → carried_by s cells (share_first head s.count workers (suc (worker + k))) ≡ (carried_by s cells (share_first head s.count workers (worker + k)) + slice_index sums k) % 2 ^ 64
 
 -- a first number, and with so many of some numbers added, modulo 2^64
 abbrev pub start_of : ℕ → List ℕ → ℕ → ℕ
@@ -74,11 +74,11 @@ start_of first sums zero = first
 start_of first sums (suc k) = (start_of first sums k + slice_index sums k) % 2 ^ 64
 
 -- numbers are what the register holds as each of so many workers from one on begins
-abbrev pub AreStarts : Prefixes → ℕ → ℕ → ℕ → List ℕ → List ℕ → Type 0
-AreStarts s workers worker number starts cells = (k : ℕ) → k < number → slice_index starts k ≡ carried_by s cells (share_first s.count workers (worker + k))
+abbrev pub AreStarts : Prefixes → ℕ → ℕ → ℕ → ℕ → List ℕ → List ℕ → Type 0
+AreStarts s head workers worker number starts cells = (k : ℕ) → k < number → slice_index starts k ≡ carried_by s cells (share_first head s.count workers (worker + k))
 
 -- the turns of so many workers from one on are done over their own cells, where numbers are what the register holds as each of them begins
-pub record AreSharesDone (s : Prefixes) (workers worker number : ℕ) (starts before after registers : List ℕ) : Type 0 where
+pub record AreSharesDone (s : Prefixes) (head workers worker number : ℕ) (starts before after registers : List ℕ) : Type 0 where
   pub long : length after ≡ length before
-  pub does : (cells : List ℕ) → AreShares s workers worker number before cells → AreStarts s workers worker number starts cells
-      → LeavesOwn s (share_first s.count workers worker) (share_turns s.count workers worker number) after registers cells
+  pub does : (cells : List ℕ) → AreShares s head workers worker number before cells → AreStarts s head workers worker number starts cells
+      → LeavesOwn s (share_first head s.count workers worker) (share_turns head s.count workers worker number) after registers cells

@@ -1,6 +1,6 @@
 //! A prefix sum that is run in place.
 
-ghost use Rattle.std.specs.Prelude.{◌≡◌, ◌+◌, ◌*◌, ◌≤◌, ◌++◌, length, Option, None, IfOk, IfSome};
+ghost use Rattle.std.specs.Prelude.{◌≡◌, ◌+◌, ◌*◌, ◌<◌, ◌≤◌, ◌^◌, ◌++◌, length, Option, None, IfOk, IfSome};
 ghost use Rattle.store.specs.Flat.{values_of};
 ghost use Rattle.lower_machine.specs.Machine.{machine};
 ghost use Rattle.law_lanes.specs.Lanes.{turns};
@@ -20,6 +20,20 @@ use std::thread::Threads;
 use store::Store;
 use team_scans::Prefixes;
 use team_worker::Gate;
+
+// How many of so many turns are run in front of the shares of so many workers: about so many as take a thread the time in which another one adds up a share,
+// which takes it half the time of its turns.
+fn head_of(count: u64, workers: u64) -> u64
+    requires some { 0 < workers }
+    requires many { 2 ^ 16 ≤ count }
+    requires few { workers ≤ 64 }
+    ensures { result + workers ≤ count }
+{
+    if workers == 1 {
+        return 0;
+    }
+    count / (2 * workers + 1)
+}
 
 // Runs all turns of a planned prefix sum over the cells that they have to themselves, between those in front of these and those behind. The registers are as
 // they leave them, but for the variable.
@@ -64,6 +78,7 @@ fn scan_turns<'x, 'k, R: Threads + Sync, G: Gate + Sync>(
         gate: crew.gate,
         workers: crew.workers,
         prefixes,
+        head: head_of(plan.rise.count, crew.workers.get()),
     };
     let first = register_value(registers, plan.scanned.target.at);
     let registers = scan_all(&team, first, own)?;

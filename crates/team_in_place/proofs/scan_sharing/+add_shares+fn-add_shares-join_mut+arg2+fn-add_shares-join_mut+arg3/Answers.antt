@@ -13,8 +13,8 @@ split_at_mut-front-requires g t c =
     let worker = c.args.worker in
     let x = c.shares_of_next-shares.result in
     let y = c.args.number - x in
-    let both : w * share_turns s.count workers worker c.args.number ≡ w * share_turns s.count workers worker x + w * share_turns s.count workers (worker + x) y =
-    cells_both s.count workers (omega (arith, c.requires.some, c.requires.workers)) worker x y w c.args.number c.shares_of_next-shares.ensures.others refl in
+    let both : w * share_turns c.args.team.now.head s.count workers worker c.args.number ≡ w * share_turns c.args.team.now.head s.count workers worker x + w * share_turns c.args.team.now.head s.count workers (worker + x) y =
+    cells_both c.args.team.now.head s.count workers (omega (arith, c.requires.some, c.requires.workers)) worker x y w c.args.number c.shares_of_next-shares.ensures.others refl in
     omega (arith, both, c.cells_of.ensures, c.requires.own)
 
 pub join_mut-done-requires-after_bounds : goal.join_mut-done-requires-after_bounds
@@ -25,10 +25,10 @@ join_mut-done-requires-after_bounds g t c κs within =
     let worker = c.args.worker in
     let x = c.shares_of_next-shares.result in
     let y = c.args.number - x in
-    let both : w * share_turns s.count workers worker c.args.number ≡ w * share_turns s.count workers worker x + w * share_turns s.count workers (worker + x) y =
-    cells_both s.count workers (omega (arith, c.requires.some, c.requires.workers)) worker x y w c.args.number c.shares_of_next-shares.ensures.others refl in
-    let front : length c.split_at_mut-front.result.0.now ≡ w * share_turns s.count workers worker x = c.split_at_mut-front.ensures.front_len ∙ c.cells_of.ensures in
-    let back : length c.split_at_mut-front.result.1.now ≡ w * share_turns s.count workers (worker + x) y = omega (arith, both, c.split_at_mut-front.ensures.back_len, c.requires.own, c.cells_of.ensures) in
+    let both : w * share_turns c.args.team.now.head s.count workers worker c.args.number ≡ w * share_turns c.args.team.now.head s.count workers worker x + w * share_turns c.args.team.now.head s.count workers (worker + x) y =
+    cells_both c.args.team.now.head s.count workers (omega (arith, c.requires.some, c.requires.workers)) worker x y w c.args.number c.shares_of_next-shares.ensures.others refl in
+    let front : length c.split_at_mut-front.result.0.now ≡ w * share_turns c.args.team.now.head s.count workers worker x = c.split_at_mut-front.ensures.front_len ∙ c.cells_of.ensures in
+    let back : length c.split_at_mut-front.result.1.now ≡ w * share_turns c.args.team.now.head s.count workers (worker + x) y = omega (arith, both, c.split_at_mut-front.ensures.back_len, c.requires.own, c.cells_of.ensures) in
     grind serving
 
 pub returns-clause-sums : goal.returns-clause-sums
@@ -43,11 +43,11 @@ returns-clause-sums g t c =
     let sums = c.some-1.given.0 in
     let sums' = c.rest-1.given.0 in
     let all : x + y ≡ c.args.number = omega (arith, c.shares_of_next-shares.ensures.others) in
-    let long : length front ≡ s.window.width * share_turns s.count workers worker x = c.split_at_mut-front.ensures.front_len ∙ c.cells_of.ensures in
+    let long : length front ≡ s.window.width * share_turns c.args.team.now.head s.count workers worker x = c.split_at_mut-front.ensures.front_len ∙ c.cells_of.ensures in
     let many : length sums ≡ x = search rules in
     let whole : front ++ back ≡ c.args.own.now = search rules in
-    let first : AreSums s workers worker x front sums = search rules in
-    let second : AreSums s workers (worker + x) y back sums' = search rules in
-    subst (λ (xs : List ℕ). AreSums s workers worker c.args.number xs (sums ++ sums')) whole
-    (subst (λ n. AreSums s workers worker n (front ++ back) (sums ++ sums')) all
-    (sums_join s workers worker x y (omega (arith, c.requires.some, c.requires.workers)) front back long sums sums' many first second))
+    let first : AreSums s c.args.team.now.head workers worker x front sums = search rules in
+    let second : AreSums s c.args.team.now.head workers (worker + x) y back sums' = search rules in
+    subst (λ (xs : List ℕ). AreSums s c.args.team.now.head workers worker c.args.number xs (sums ++ sums')) whole
+    (subst (λ n. AreSums s c.args.team.now.head workers worker n (front ++ back) (sums ++ sums')) all
+    (sums_join s c.args.team.now.head workers worker x y (omega (arith, c.requires.some, c.requires.workers)) front back long sums sums' many first second))

@@ -13,5 +13,5 @@ returns-clause-sums g c =
     let worker = c.args.worker in
     let sum = c.in_ok-sums.field-0 in
     let held : slice_index (slice_set c.args.sums.now 0 sum) 0 ≡ sum = search rules in
-    let is : IsSum s (share_first s.count workers worker) (share_turns s.count workers worker 1) c.args.own.now sum = search rules in
-    one_sum s workers worker (omega (arith, c.requires.worker)) c.args.own.now (slice_set c.args.sums.now 0 sum) sum held is
+    let is : IsSum s (share_first c.args.team.now.head s.count workers worker) (share_turns c.args.team.now.head s.count workers worker 1) c.args.own.now sum = search rules in
+    one_sum s c.args.team.now.head workers worker (omega (arith, c.requires.worker)) c.args.own.now (slice_set c.args.sums.now 0 sum) sum held is
