@@ -7,7 +7,7 @@ Each program has a kernel many times and a few times; the difference of the two 
 writing count for neither. Times are those of the processor, of one core; all programs of a kernel run in turn, round by round. A line for
 each kernel: the median of nanoseconds an innermost statement, and of the ratios to gcc -O2 in the same round; the geometric
 mean of the ratios at the end. Python and `seq` run in one round. Every program has to leave the same digest of all variables. The status is 1 where a target is
-missed: `run` faster than Lua on each kernel, no ratio above 25, the mean of them at most 10.
+missed: `run` faster than Lua on each kernel; of the ten everyday ones no ratio above 4, each below that of gcc -O0, and the mean of them at most 2.
 """
 import math
 import os

@@ -52,7 +52,7 @@ def scan(draw, number, size):
 def text_of(seed):
     """The text of a seed."""
     draw = random.Random(seed)
-    size = draw.choice([65536, 65540, 70000, 131077, 200000])
+    size = draw.choice([65536, 65540, 131077, 300000, 420000])
     arrays = "".join(f"uint64_t {it}[{2 * size + 9}];\n" for it in "ABCD")
     scalars = draw.choice(["uint64_t s;\nuint64_t t;\n", "uint64_t t;\nuint64_t s;\n"])
     declared = draw.choice([arrays + scalars, scalars + arrays])

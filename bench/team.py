@@ -12,7 +12,7 @@ for each, and bytes of memory for each beside the store, of a million chunks and
 serial loop: microseconds a turn, also by more workers than there are processors. Then 100,000 waves of one, two and four iterations with a loop
 in each: microseconds that a wave takes beside its work, which is what one thread takes for the text without its directive lines. Every program
 has to print the same. The machine should be idle. The status is 1 where a target is missed. Of the loops alone: by one worker at most 1.5 times
-the time of the text without directive lines, of a scan 2.2 times; of a doacross nest of light iterations at most the time of gcc; on four
+the time of the text without directive lines, of a scan 2.2 times; of a scan and of a doacross nest of light iterations at most the time of gcc; on four
 processors at least 2.5 times the speed by 4 workers of a hash and a product, a scan faster by 4 than by one, and of the everyday kernels by 4 a
 mean of at most 1.5. A chunk of one iteration below 500 ns, and at most 64 bytes for it beside the 16 of its write; and on four processors at most
 3 us a turn by 4, and 2 us a wave.
@@ -353,10 +353,10 @@ uint64_t s;
 
 void kernel(void)
 {
-    #pragma omp parallel for
     for (uint64_t i = 0; i < 4000000; i++) {
         A[i] = i * 3 ^ 5;
     }
+    /* timed from here on */
     #pragma omp parallel for reduction(inscan, +: s)
     for (uint64_t i = 0; i < 4000000; i++) {
         s += A[i];
@@ -590,7 +590,7 @@ def misses(name, text, found):
         missed.append(f"{name}: 4 workers are {one / four:.1f} times as fast as one")
     if "inscan" in text and os.cpu_count() >= 4 and one < four:
         missed.append(f"{name}: 4 workers are slower than one")
-    if name in LIGHT:
+    if name in LIGHT or "inscan" in text:
         missed += [f"{name}: {workers} workers are slower than gcc with as many threads" for workers in TEAMS if found[f"{workers} workers"] > found[f"gcc {workers}"]]
     if one > (SCAN_SLOWER if "inscan" in text else SLOWER) * found["serial"]:
         missed.append(f"{name}: one worker takes {one / found['serial']:.1f} times the time without directive lines")

@@ -74,11 +74,14 @@ uint64_t B[300002];
 uint64_t C[300000][2];
 uint64_t D[900001];
 uint64_t E[300000];
+uint64_t F[300000];
 uint64_t last;
 void kernel(void)
 {
     #pragma omp parallel for
     for (uint64_t i = 0; i < 300002; i++) { B[i] = i * i; }
+    #pragma omp parallel for
+    for (uint64_t i = 3; i < 300000; i += 2) { F[i - 3] = (3 * i ^ i + 5) - (i - 9) * 7; F[i - 2] = i * 18446744073709551615ull; }
     #pragma omp parallel for schedule(static)
     for (uint64_t i = 0; i < 300000; i++) { A[i] = B[i] + B[i + 1] * 3 + B[i + 2]; }
     #pragma omp parallel for lastprivate(last) schedule(static, 1000)
@@ -103,8 +106,11 @@ for i in range(1, n - 1):
 for i in range(n):
     D[3 * i + 1] = (C[2 * i + 1] - i) % word
 E = [A[n - 1 - i] // 3 if A[n - 1 - i] % 3 == 1 else A[n - 1 - i] for i in range(n)]
+F = [0] * n
+for i in range(3, n, 2):
+    F[i - 3], F[i - 2] = ((3 * i ^ i + 5) - (i - 9) * 7) % word, -i % word
 print("n = 0")
-for name, values in (("A", A), ("B", B), ("C", C), ("D", D), ("E", E)):
+for name, values in (("A", A), ("B", B), ("C", C), ("D", D), ("E", E), ("F", F)):
     print(name, "=", *values)
 print("last =", A[n - 2] + n - 2)
 END
@@ -252,69 +258,69 @@ done
 # turn writes before it reads it
 cat >"$work/sums.c" <<'END'
 uint64_t first;
-uint64_t A[70000];
-uint64_t B[140000];
-uint64_t C[70000];
-uint64_t D[70000];
-uint64_t E[70000];
+uint64_t A[330000];
+uint64_t B[660000];
+uint64_t C[330000];
+uint64_t D[330000];
+uint64_t E[330000];
 uint64_t last;
 void kernel(void)
 {
     uint64_t x;
-    for (uint64_t i = 0; i < 70000; i++) { A[i] = i * i + 3 * i; C[i] = i; E[i] = i % 7; }
+    for (uint64_t i = 0; i < 330000; i++) { A[i] = i * i + 3 * i; C[i] = i; E[i] = i % 7; }
     first = 5;
     #pragma omp parallel for reduction(inscan, +: first)
-    for (uint64_t i = 0; i < 70000; i++) {
+    for (uint64_t i = 0; i < 330000; i++) {
         first += A[i];
     #pragma omp scan inclusive(first)
         B[2 * i + 1] = first;
     }
     x = 18446744073709551615ull;
     #pragma omp parallel for reduction(inscan, +: x)
-    for (uint64_t i = 1; i < 69999; i++) {
+    for (uint64_t i = 1; i < 329999; i++) {
         C[i] = x;
     #pragma omp scan exclusive(x)
         x += i * 3 ^ 5;
     }
     last = x;
-    for (uint64_t i = 0; i < 70000; i++) { last += C[i]; D[i] = last * 3; }
+    for (uint64_t i = 0; i < 330000; i++) { last += C[i]; D[i] = last * 3; }
     #pragma omp parallel for reduction(inscan, *: last)
-    for (uint64_t i = 0; i < 70000; i++) {
+    for (uint64_t i = 0; i < 330000; i++) {
         last *= A[i] | 1;
     #pragma omp scan inclusive(last)
         C[i] = last + i;
     }
     #pragma omp parallel for reduction(inscan, +: first)
-    for (uint64_t i = 0; i < 70000; i++) {
+    for (uint64_t i = 0; i < 330000; i++) {
         E[i] = first;
     #pragma omp scan exclusive(first)
         first += D[i] / 3;
     }
-    for (uint64_t i = 3; i < 69000; i++) { first = E[i] ^ i; A[i] = first * 5; }
+    for (uint64_t i = 3; i < 329000; i++) { first = E[i] ^ i; A[i] = first * 5; }
 }
 END
 python3 - >"$work/sums.out" <<'END'
 word = (1 << 64) - 1
-A, B = [i * i + 3 * i for i in range(70000)], [0] * 140000
-C, D, E = list(range(70000)), [], []
+A, B = [i * i + 3 * i for i in range(330000)], [0] * 660000
+C, D, E = list(range(330000)), [], []
 first, x = 5, word
-for i in range(70000):
+for i in range(330000):
     first = first + A[i] & word
     B[2 * i + 1] = first
-for i in range(1, 69999):
+for i in range(1, 329999):
     C[i] = x
     x = x + (i * 3 ^ 5) & word
 last = x
-for i in range(70000):
+for i in range(330000):
     last = last + C[i] & word
     D.append(last * 3 & word)
-for i in range(70000):
+for i in range(330000):
     last = last * (A[i] | 1) & word
     C[i] = last + i & word
-for i in range(70000):
+for i in range(330000):
     E.append(first)
     first = first + D[i] // 3 & word
-for i in range(3, 69000):
+for i in range(3, 329000):
     first = E[i] ^ i
     A[i] = first * 5 & word
 for name, values in (("first", [first]), ("A", A), ("B", B), ("C", C), ("D", D), ("E", E), ("last", [last])):

@@ -1,6 +1,7 @@
 //! Loops of many turns that a team runs in place: each worker's turns over cells of its own.
 #![tactic(auto)]
 
+mod busy;
 mod looping;
 mod nest_planning;
 mod nesting;

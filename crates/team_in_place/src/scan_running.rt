@@ -9,6 +9,7 @@ ghost use Rattle.lower_runner.specs.Turning.{ConstantsStand, LeavesConstants};
 ghost use Rattle.seqrun.specs.Ran.{lengths_of};
 ghost use Rattle.team_in_place.specs.Scanning.{IsScanApart};
 
+use crate::busy::busy_workers;
 use crate::running::{Crew, spare_constants};
 use crate::scan_planning::ScanPlan;
 use crate::scan_sharing::{ScanTeam, scan_all};
@@ -60,7 +61,9 @@ fn scan_turns<'x, 'k, R: Threads + Sync, G: Gate + Sync>(
         (stepped plan.entry.rise.first plan.entry.rise.by) plan.entry.scanned.ops.now
         plan.entry.rise.count (machine registers.now (before.now ++ (own.old ++ behind.now)))) }
 {
-    let _most = crew.workers.get();
+    let instructions = plan.scanned.laned.ops.len() as u64;
+    let workers = busy_workers(crew.workers, plan.rise.count, instructions);
+    let head = head_of(plan.rise.count, workers.get());
     let prefixes = Prefixes {
         compiled,
         scanned: plan.scanned,
@@ -76,9 +79,9 @@ fn scan_turns<'x, 'k, R: Threads + Sync, G: Gate + Sync>(
         rt: crew.rt,
         alloc: crew.alloc,
         gate: crew.gate,
-        workers: crew.workers,
+        workers,
         prefixes,
-        head: head_of(plan.rise.count, crew.workers.get()),
+        head,
     };
     let first = register_value(registers, plan.scanned.target.at);
     let registers = scan_all(&team, first, own)?;
