@@ -26,40 +26,40 @@ pub steps-some-requires-clause-room : goal.steps-some-requires-clause-room
 steps-some-requires-clause-room g c =
     let s = c.args.prefixes in
     let l = s.scanned.laned in
-    let o = c.operand_of-operand.result in
-    let is = subst (λ (x : List Op). IsOperand x o.made.now o.moved.now s.scanned.target o.register) c.split_at.ensures.front c.operand_of-operand.ensures in
+    let o = c.operand_in-operand.result in
+    let is = c.operand_in-operand.ensures in
     have_room_more l.limit 64 o.made.now l.few (fits s o is).0.room
 
 pub steps-some-requires-clause-inside : goal.steps-some-requires-clause-inside
 steps-some-requires-clause-inside g c =
     let s = c.args.prefixes in
     let l = s.scanned.laned in
-    let o = c.operand_of-operand.result in
-    let is = subst (λ (x : List Op). IsOperand x o.made.now o.moved.now s.scanned.target o.register) c.split_at.ensures.front c.operand_of-operand.ensures in
+    let o = c.operand_in-operand.result in
+    let is = c.operand_in-operand.ensures in
     have_room_more l.limit (length s.registers.now) o.made.now s.wide (fits s o is).0.room
 
 pub steps-all-requires-clause-room : goal.steps-all-requires-clause-room
 steps-all-requires-clause-room g c =
     let s = c.args.prefixes in
     let l = s.scanned.laned in
-    let o = c.operand_of-operand.result in
-    let is = subst (λ (x : List Op). IsOperand x o.made.now o.moved.now s.scanned.target o.register) c.split_at.ensures.front c.operand_of-operand.ensures in
+    let o = c.operand_in-operand.result in
+    let is = c.operand_in-operand.ensures in
     have_room_more l.limit 64 o.moved.now l.few (fits s o is).1.room
 
 pub steps-all-requires-clause-inside : goal.steps-all-requires-clause-inside
 steps-all-requires-clause-inside g c =
     let s = c.args.prefixes in
     let l = s.scanned.laned in
-    let o = c.operand_of-operand.result in
-    let is = subst (λ (x : List Op). IsOperand x o.made.now o.moved.now s.scanned.target o.register) c.split_at.ensures.front c.operand_of-operand.ensures in
+    let o = c.operand_in-operand.result in
+    let is = c.operand_in-operand.ensures in
     have_room_more l.limit (length s.registers.now) o.moved.now s.wide (fits s o is).1.room
 
 pub returns-then-has_row-clause-operands : goal.returns-then-has_row-clause-operands
 returns-then-has_row-clause-operands g c =
     let s = c.args.prefixes in
     let l = s.scanned.laned in
-    let o = c.operand_of-operand.result in
-    let is = subst (λ (x : List Op). IsOperand x o.made.now o.moved.now s.scanned.target o.register) c.split_at.ensures.front c.operand_of-operand.ensures in
+    let o = c.operand_in-operand.result in
+    let is = c.operand_in-operand.ensures in
     let first = (s.first + c.args.from * s.by % 2 ^ 64) % 2 ^ 64 in
     let cells = g.M.Cells.cells in
     let old = cells c.args.cells.now in
@@ -72,8 +72,8 @@ pub returns-then-has_row-clause-cells : goal.returns-then-has_row-clause-cells
 returns-then-has_row-clause-cells g c =
     let s = c.args.prefixes in
     let l = s.scanned.laned in
-    let o = c.operand_of-operand.result in
-    let is = subst (λ (x : List Op). IsOperand x o.made.now o.moved.now s.scanned.target o.register) c.split_at.ensures.front c.operand_of-operand.ensures in
+    let o = c.operand_in-operand.result in
+    let is = c.operand_in-operand.ensures in
     let first = (s.first + c.args.from * s.by % 2 ^ 64) % 2 ^ 64 in
     let cells = g.M.Cells.cells in
     let old = cells c.args.cells.now in
@@ -85,8 +85,8 @@ pub returns-clause-operands : goal.returns-clause-operands
 returns-clause-operands g c =
     let s = c.args.prefixes in
     let l = s.scanned.laned in
-    let o = c.operand_of-operand.result in
-    let is = subst (λ (x : List Op). IsOperand x o.made.now o.moved.now s.scanned.target o.register) c.split_at.ensures.front c.operand_of-operand.ensures in
+    let o = c.operand_in-operand.result in
+    let is = c.operand_in-operand.ensures in
     let first = (s.first + c.args.from * s.by % 2 ^ 64) % 2 ^ 64 in
     let cells = g.M.Cells.cells in
     let old = cells c.args.cells.now in
@@ -109,8 +109,8 @@ pub returns-clause-cells : goal.returns-clause-cells
 returns-clause-cells g c =
     let s = c.args.prefixes in
     let l = s.scanned.laned in
-    let o = c.operand_of-operand.result in
-    let is = subst (λ (x : List Op). IsOperand x o.made.now o.moved.now s.scanned.target o.register) c.split_at.ensures.front c.operand_of-operand.ensures in
+    let o = c.operand_in-operand.result in
+    let is = c.operand_in-operand.ensures in
     let first = (s.first + c.args.from * s.by % 2 ^ 64) % 2 ^ 64 in
     let cells = g.M.Cells.cells in
     let old = cells c.args.cells.now in
