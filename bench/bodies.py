@@ -1,5 +1,5 @@
 #!/usr/bin/env python3
-"""Times the bodies of serial loops: `ompk run --workers 1` and `ompk seq` beside gcc -O2 and -O0, Lua 5.4 and Python.
+"""Times the bodies of serial loops: `ompk run --workers 1` and `ompk seq` beside gcc -O2 and -O0, Lua 5.4 where there is one, and Python.
 
     python3 bench/bodies.py [PROGRAM [KERNEL..]]     the program as it is proved here, or another one
 
@@ -12,6 +12,7 @@ missed: `run` faster than Lua on each kernel; of the ten everyday ones no ratio 
 import math
 import os
 import pathlib
+import shutil
 import statistics
 import subprocess
 import sys
@@ -24,6 +25,7 @@ LONGER = 8
 MASK = (1 << 64) - 1
 WORST = 4
 MEAN = 2
+WAYS = [way for way in ("gcc -O2", "run", "gcc -O0", "lua", "seq", "python") if way != "lua" or shutil.which("lua5.4")]
 EVERYDAY = ("map", "triad", "product ikj", "xorshift", "collatz", "prefix", "stencil / 5", "triangle", "three folds", "distance")
 
 C_MAIN = """
@@ -624,7 +626,7 @@ def made(kernel, rounds, slow_rounds, folder, name, program):
     (folder / f"{name}.lua").write_text(lua + "".join(f"add({v}) " for v in kernel.variables) + '\nprint(string.format("%d", d))\n')
     python = "M = (1 << 64) - 1\n" + kernel.python.replace("ROUNDS", str(slow_rounds)) + PYTHON_END
     (folder / f"{name}.py").write_text(python + "".join(f"d = add(d, {v})\n" for v in kernel.variables) + "print(d)\n")
-    return {
+    programs = {
         "run": ([program, "run", folder / f"{name}.c", "--workers", "1"], dump_digest),
         "seq": ([program, "seq", folder / f"{name}.c"], dump_digest),
         "gcc -O2": ([folder / f"{name}-O2"], digest),
@@ -632,6 +634,7 @@ def made(kernel, rounds, slow_rounds, folder, name, program):
         "lua": (["lua5.4", folder / f"{name}.lua"], digest),
         "python": ([sys.executable, folder / f"{name}.py"], digest),
     }
+    return {way: programs[way] for way in WAYS}
 
 
 def same_digests(kernel, programs):
@@ -668,7 +671,7 @@ def measure(kernel, folder, program):
 def misses(name, found, ratios):
     """The targets that a kernel misses, by its times and their ratios to those of gcc -O2."""
     missed = []
-    if found["run"] >= found["lua"]:
+    if "lua" in found and found["run"] >= found["lua"]:
         missed.append(f"{name} is no faster than Lua")
     if name in EVERYDAY and ratios["run"] > WORST:
         missed.append(f"{name} takes {ratios['run']:.1f} times the time of gcc -O2")
@@ -681,8 +684,7 @@ def main(words):
     program = pathlib.Path(words[0]).resolve() if words else PROGRAM
     if not words:
         subprocess.run([TOP / "ompk", "--help"], check=True, stdout=subprocess.DEVNULL)
-    ways = ["gcc -O2", "run", "gcc -O0", "lua", "seq", "python"]
-    print(f"{'ns/statement':14}" + "".join(f"{way:>9}" + ("   ratio" if way != "gcc -O2" else "") for way in ways), flush=True)
+    print(f"{'ns/statement':14}" + "".join(f"{way:>9}" + ("   ratio" if way != "gcc -O2" else "") for way in WAYS), flush=True)
     ratios, missed = [], []
     with tempfile.TemporaryDirectory() as name:
         for kernel in KERNELS:
@@ -691,16 +693,16 @@ def main(words):
             times = measure(kernel, pathlib.Path(name), program)
             found = {way: statistics.median(each) for way, each in times.items()}
             line = f"{kernel.name:14}"
-            here = {way: statistics.median(own / best for own, best in zip(times[way], times["gcc -O2"])) for way in ways}
-            for way in ways:
+            here = {way: statistics.median(own / best for own, best in zip(times[way], times["gcc -O2"])) for way in WAYS}
+            for way in WAYS:
                 line += f"{found[way]:9.2f}" + (f"{here[way]:8.1f}" if way != "gcc -O2" else "")
             print(line, flush=True)
             missed += misses(kernel.name, found, here)
             if kernel.name in EVERYDAY:
                 ratios.append(here)
     if len(ratios) == len(EVERYDAY):
-        means = {way: math.exp(statistics.fmean(math.log(here[way]) for here in ratios)) for way in ways}
-        print(f"{'mean':14}" + "".join(" " * 9 + (f"{means[way]:8.2f}" if way != "gcc -O2" else "") for way in ways))
+        means = {way: math.exp(statistics.fmean(math.log(here[way]) for here in ratios)) for way in WAYS}
+        print(f"{'mean':14}" + "".join(" " * 9 + (f"{means[way]:8.2f}" if way != "gcc -O2" else "") for way in WAYS))
         if means["run"] > MEAN:
             missed.append(f"the mean of the everyday kernels is {means['run']:.2f}")
     for line in missed:

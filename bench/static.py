@@ -70,7 +70,8 @@ def programs_of(kernel, rounds, folder, program):
     programs["gcc -O2"] = ([serial], None, bodies.digest)
     for n in TEAMS:
         programs[f"openmp {n}"] = ([openmp], n, bodies.digest)
-    programs["lua"] = (["lua5.4", folder / "kernel.lua"], None, bodies.digest)
+    if "lua" in bodies.WAYS:
+        programs["lua"] = (["lua5.4", folder / "kernel.lua"], None, bodies.digest)
     return programs
 
 
