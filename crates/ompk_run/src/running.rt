@@ -30,8 +30,8 @@ fn others(checked: &Checked, workers: Workers) -> u64 {
 
 /// Runs an accepted kernel on an input by a team, and writes what the C program without the directive lines writes
 /// (C11 5.1.2.3, 6): what it prints, and a line for each file-scope variable as it leaves them. Each loop behind a directive line
-/// is run by the team (OpenMP 5.2, 11.5), whose threads stand by for the whole run, all else by the thread that calls. `sched` stands for `schedule(runtime)` (OpenMP 5.2,
-/// 11.5.3). One worker runs such a loop as any other statement, and `gate` is told then, once for each time that the loop is reached and before it runs, that the only worker has
+/// is run by the team (OpenMP 5.2, 11.5), whose threads stand by for the whole run; a doacross nest of light iterations, and all else, by the thread that
+/// calls. `sched` stands for `schedule(runtime)` (OpenMP 5.2, 11.5.3). One worker runs such a loop as any other statement, and `gate` is told then, once for each time that the loop is reached and before it runs, that the only worker has
 /// taken the only chunk, also where there is no iteration.
 ///
 /// # Errors

@@ -1,5 +1,5 @@
 -- Cells in parts, place by place.
-use Rattle.std.proofs.Common.{◌≡◌, ℕ, ◌+◌, ◌-◌, ◌<◌, ◌≤◌, List, [], ◌∷◌, ◌++◌, length, replicate, take, drop, min, refl, sym, ap, ◌∙◌, arith}
+use Rattle.std.proofs.Common.{◌≡◌, ℕ, ◌+◌, ◌-◌, ◌<◌, ◌≤◌, List, [], ◌∷◌, ◌++◌, length, replicate, take, drop, min, refl, sym, ap, ◌∙◌, subst, arith}
 use Rattle.std.specs.Prelude.{slice_index, slice_set, ◌^◌}
 use Rattle.std.proofs.lemmas.List.{get_or_append_left, get_or-append-add, get_or-take, get_or-drop, length-append, length-replicate, length-take, length-drop, set-append_left, set-append_right, length-set}
 use Rattle.lower_op.specs.Stretches.{IsStretch, written}
@@ -86,6 +86,13 @@ module _ (before : List ℕ) (left : ℕ) (own : List ℕ) (right : ℕ) (behind
   pub own_stretch : (first count : ℕ) → length before + left ≤ first → first + count ≤ length before + left + length own → length (parted before left own right behind) < 2 ^ 63
       → IsStretch first count (parted before left own right behind) (take count (drop (first - (length before + left)) own))
   own_stretch first count low high few = stretch_at own (length before + left) first count low high (omega (arith, parted_length)) few own_at
+
+  pub before_stretch : (first count : ℕ) → first + count ≤ length before → length (parted before left own right behind) < 2 ^ 63
+      → IsStretch first count (parted before left own right behind) (take count (drop first before))
+  before_stretch first count high few =
+      subst (λ (n : ℕ). IsStretch first count (parted before left own right behind) (take count (drop n before))) (let e : first - 0 ≡ first = omega arith in e)
+      (stretch_at before 0 first count (omega arith) (omega (arith, high)) (omega (arith, parted_length)) few
+      (λ k lt. ap (slice_index (parted before left own right behind)) (let e : 0 + k ≡ k = omega arith in e) ∙ before_at k lt))
 
   pub behind_stretch : (first count : ℕ) → length before + left + length own + right ≤ first → first + count ≤ length before + left + length own + right + length behind → length (parted before left own right behind) < 2 ^ 63
       → IsStretch first count (parted before left own right behind) (take count (drop (first - (length before + left + length own + right)) behind))

@@ -1,6 +1,6 @@
 //! Cells of which a part is lent to a thread.
 
-ghost use Rattle.std.specs.Prelude.{◌≡◌, ◌↔◌, ◌+◌, ◌<◌, ◌≤◌, ◌^◌, ◌++◌, ◌∷◌, [], true, length, take, drop, slice_index, IsTrue, IfSome};
+ghost use Rattle.std.specs.Prelude.{◌≡◌, ◌↔◌, ◌+◌, ◌<◌, ◌≤◌, ◌^◌, ◌++◌, ◌∷◌, [], true, length, take, drop, slice_index, IsTrue, IfSome, List, ℕ};
 ghost use Rattle.store.specs.Kept.{overlaid};
 ghost use Rattle.lower_op.specs.Stretches.{IsStretch};
 ghost use Rattle.team_parts.specs.Parted.{parted};
@@ -88,6 +88,26 @@ fn fit(length: u64, start: u64, first: u64, count: u64) -> bool
     inside <= length && count <= length - inside
 }
 
+/// So many cells from a place on, where they are all in front of the places of all threads, or behind these: whatever a thread's own cells are, they are those
+/// of all cells (C11 6.5.6, 8).
+pub fn lent_row<'c>(surroundings: &Surroundings<'c>, first: u64, count: u64) -> Option<&'c [u64]>
+    ensures { IfSome result (λ row. (own : List ℕ) → length own ≡ surroundings.now.count
+        → IsStretch first count (parted surroundings.now.before.now surroundings.now.left own
+        surroundings.now.right surroundings.now.behind.now) row.now) }
+{
+    let before = surroundings.before;
+    let behind = surroundings.behind;
+    if fit(before.len() as u64, 0, first, count) {
+        return Some(part(before, first, count));
+    }
+    let start = before.len() as u64 + surroundings.left;
+    let end = start + surroundings.count + surroundings.right;
+    if fit(behind.len() as u64, end, first, count) {
+        return Some(part(behind, first - end, count));
+    }
+    None
+}
+
 // So many cells of cells in parts, where they are in one of those that stand in memory.
 fn row_in<'r>(
     surroundings: &Surroundings<'r>,
@@ -99,20 +119,12 @@ fn row_in<'r>(
     ensures { IfSome result (λ row. IsStretch first count (parted surroundings.now.before.now
         surroundings.now.left own.now surroundings.now.right surroundings.now.behind.now) row.now) }
 {
-    let before = surroundings.before;
-    let behind = surroundings.behind;
-    let start = before.len() as u64 + surroundings.left;
+    let start = surroundings.before.len() as u64 + surroundings.left;
     if fit(surroundings.count, start, first, count) {
         return Some(part(own, first - start, count));
     }
-    if fit(before.len() as u64, 0, first, count) {
-        return Some(part(before, first, count));
-    }
-    let end = start + surroundings.count + surroundings.right;
-    if fit(behind.len() as u64, end, first, count) {
-        return Some(part(behind, first - end, count));
-    }
-    None
+    let row = lent_row(surroundings, first, count)?;
+    Some(row)
 }
 
 // Whether as many cells are a thread's own as have their places, and there is room for all.

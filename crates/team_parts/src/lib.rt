@@ -17,7 +17,7 @@ mod window;
 
 pub use around::nest_window_of;
 pub use block::{Tools, copy_into, run_part};
-pub use cells::{Parted, settle};
+pub use cells::{Parted, lent_row, settle};
 pub use reserve::Reserve;
 pub use shared::Shared;
 pub use surroundings::Surroundings;

@@ -22,7 +22,7 @@ use Rattle.team_parts.specs.Parted.{parted}
 use Rattle.team_parts.specs.Window.{bound_of}
 use Rattle.team_parts.proofs.Places.{parted_length, before_at, own_at, behind_at}
 use Rattle.team_scans.specs.declared.prefixes.Prefixes.{Prefixes}
-use Rattle.team_scans.specs.Placed.{IsPlaced, LeavesOwn, IsPartDone, carried_by, left_by}
+use Rattle.team_scans.specs.Placed.{AreCellsDone, IsPlaced, LeavesOwn, IsPartDone, carried_by, left_by}
 
 -- ---- numbers and registers
 
@@ -167,9 +167,17 @@ part_done s start from count first mine new m within long is ran taken kept = re
   does = λ cells placed started. subst (λ l. LeavesOwn s from count l m.registers cells) (sym taken) (leaves_own s from count mine cells placed within long start first m started is ran);
 }
 
+-- the cells of a part that is done, and what the register holds behind it
+pub cells_done : (s : Prefixes) (start next from count : ℕ) (before after rs : List ℕ) → 0 < count → next ≡ slice_index rs s.scanned.target.at → IsPartDone s start from count before after rs → AreCellsDone s start from count before after next
+cells_done s start next from count before after rs some is h = record {
+  long = h.long;
+  own = λ cells k placed started lt. (h.does cells placed started).own k lt;
+  behind = λ cells placed started. is ∙ ap (λ (l : List ℕ). slice_index l s.scanned.target.at) ((h.does cells placed started).registers some);
+}
+
 -- two parts, one behind the other, which begins with what the first leaves in the register
-module _ (s : Prefixes) (start next from a b : ℕ) (front back front' back' rs rs' : List ℕ) (long : length front ≡ s.window.width * a) (ahead : 0 < a) (some : 0 < b)
-    (goes_on : next ≡ slice_index rs s.scanned.target.at) (first : IsPartDone s start from a front front' rs) (second : IsPartDone s next (from + a) b back back' rs') where
+module _ (s : Prefixes) (start next from a b : ℕ) (front back front' back' rs' : List ℕ) (long : length front ≡ s.window.width * a) (some : 0 < b)
+    (first : AreCellsDone s start from a front front' next) (second : IsPartDone s next (from + a) b back back' rs') where
   both : s.window.width * (a + b) ≡ s.window.width * a + s.window.width * b
   both = mul-add s.window.width a b
 
@@ -199,11 +207,8 @@ module _ (s : Prefixes) (start next from a b : ℕ) (front back front' back' rs 
       behind = placed.behind;
     }
 
-    in_first : LeavesOwn s from a front' rs cells
-    in_first = first.does cells placed_front started
-
     in_second : LeavesOwn s (from + a) b back' rs' cells
-    in_second = second.does cells placed_back (goes_on ∙ ap (λ (l : List ℕ). slice_index l s.scanned.target.at) (in_first.registers ahead))
+    in_second = second.does cells placed_back (first.behind cells placed_front started)
 
     abbrev here : ℕ → Type 0
     here k = slice_index (front' ++ back') k ≡ slice_index (left_by s cells s.count).cells (s.window.low + s.window.width * from + k)
@@ -211,7 +216,7 @@ module _ (s : Prefixes) (start next from a b : ℕ) (front back front' back' rs 
     in_front : (k : ℕ) → k < s.window.width * a → here k
     in_front k lt =
         let kept = first.long in
-        get_or_append_left front' back' 0 k (omega (arith, lt, long, kept)) ∙ in_first.own k lt
+        get_or_append_left front' back' 0 k (omega (arith, lt, long, kept)) ∙ first.own cells k placed_front started lt
 
     in_back : (k : ℕ) → k < s.window.width * b → here (length front' + k)
     in_back k lt =

@@ -1,3 +1,4 @@
 pub mod Blocks
 pub mod Sums
 pub mod Loaded
+pub mod Written

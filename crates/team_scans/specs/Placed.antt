@@ -30,6 +30,13 @@ pub record LeavesOwn (s : Prefixes) (from count : ℕ) (mine rs cells : List ℕ
   pub own : (k : ℕ) → k < s.window.width * count → slice_index mine k ≡ slice_index (left_by s cells s.count).cells (s.window.low + s.window.width * from + k)
   pub registers : 0 < count → rs ≡ (left_by s cells (from + count)).registers
 
+-- so many turns from one on have left their own cells as all turns leave them, where a number is what the register holds as they begin, and another one is what it holds behind them
+pub record AreCellsDone (s : Prefixes) (start from count : ℕ) (before after : List ℕ) (next : ℕ) : Type 0 where
+  pub long : length after ≡ length before
+  pub own : (cells : List ℕ) (k : ℕ) → IsPlaced s from count before cells → start ≡ carried_by s cells from → k < s.window.width * count
+      → slice_index after k ≡ slice_index (left_by s cells s.count).cells (s.window.low + s.window.width * from + k)
+  pub behind : (cells : List ℕ) → IsPlaced s from count before cells → start ≡ carried_by s cells from → next ≡ carried_by s cells (from + count)
+
 -- so many turns from one on are done over their own cells, where a number is what the register holds as they begin
 pub record IsPartDone (s : Prefixes) (start from count : ℕ) (before after registers : List ℕ) : Type 0 where
   pub long : length after ≡ length before

@@ -5,6 +5,7 @@
 mod adding;
 mod prefixes;
 mod scanning;
+mod straight;
 
 pub use adding::add_part;
 pub use prefixes::Prefixes;

@@ -3,7 +3,7 @@ use Rattle.std.proofs.Common.{◌≡◌, ◌+◌, ◌-◌, ◌*◌, ◌<◌, ◌
 use Rattle.std.specs.Prelude.{slice_index}
 use Rattle.std.proofs.Math.Nat.{mul-add}
 use Rattle.team_scans.specs.Placed.{IsPartDone}
-use Rattle.team_scans.proofs.Blocks.{parts_join}
+use Rattle.team_scans.proofs.Blocks.{cells_done, parts_join}
 use Rattle.team_in_place.proofs.scan_sharing.scan_both.Goals as goal
 
 -- the cells behind those of the turns in front
@@ -45,6 +45,7 @@ returns g c =
     let done : IsPartDone s c.register_value-carried.result t.head behind c.scan_ahead.new.rest rest' rs = search rules in
     subst (λ (xs : List ℕ). IsPartDone s c.args.first 0 s.count xs (front' ++ rest') rs) whole
     (subst (λ n. IsPartDone s c.args.first 0 n (front ++ rest) (front' ++ rest') rs) all
-    (parts_join s c.args.first c.register_value-carried.result 0 t.head behind front rest front' rest' c.in_ok-registers.registers.items rs long ahead some carried first
+    (parts_join s c.args.first c.register_value-carried.result 0 t.head behind front rest front' rest' rs long some
+    (cells_done s c.args.first c.register_value-carried.result 0 t.head front front' c.in_ok-registers.registers.items ahead carried first)
     (subst (λ n. IsPartDone s c.register_value-carried.result n behind rest rest' rs) (let e : t.head ≡ 0 + t.head = omega arith in e)
     (subst (λ (xs : List ℕ). IsPartDone s c.register_value-carried.result t.head behind xs rest' rs) c.scan_ahead.ensures.kept done))))

@@ -3,12 +3,12 @@ use Rattle.std.proofs.Common.{◌≡◌, ◌+◌, ◌-◌, ◌*◌, ◌/◌, ◌
 use Rattle.std.specs.Prelude.{slice_index}
 use Rattle.std.proofs.Math.Nat.{mul-add}
 use Rattle.team_scans.specs.Placed.{IsPartDone}
-use Rattle.team_scans.proofs.Blocks.{parts_join}
-use Rattle.team_scans.proofs.scanning.+scan_part.Goals as goal
+use Rattle.team_scans.proofs.Blocks.{cells_done, parts_join}
+use Rattle.team_scans.proofs.scanning.+scan_halves.Goals as goal
 
 -- src/scanning.rt
-pub scan_part-requires-2 : goal.scan_part-requires-2
-scan_part-requires-2 t c =
+pub scan_halves-requires-2 : goal.scan_halves-requires-2
+scan_halves-requires-2 t c =
     let w = c.args.prefixes.window.width in
     let half = c.args.count / 2 in
     let rest = c.args.count - half in
@@ -34,8 +34,9 @@ returns t c =
     let some : 0 < rest = omega (arith, many) in
     let long : length front ≡ s.window.width * half = search rules in
     let whole : front ++ back ≡ c.args.own.now = search rules in
-    let goes_on : c.register_value-carried.result ≡ slice_index c.scan_part.new.tools s.scanned.target.at = search rules in
-    let done : IsPartDone s c.args.start from (half + rest) (front ++ back) (c.scan_part.new.own ++ c.scan_part-2.new.own) c.scan_part-2.new.tools
-    = parts_join s c.args.start c.register_value-carried.result from half rest front back c.scan_part.new.own c.scan_part-2.new.own c.scan_part.new.tools c.scan_part-2.new.tools long ahead some goes_on c.in_ok-scan_part.ensures c.in_ok-scan_part-2.ensures in
-    subst (λ xs. IsPartDone s c.args.start from c.args.count xs (c.scan_part.new.own ++ c.scan_part-2.new.own) c.scan_part-2.new.tools) whole
-    (subst (λ n. IsPartDone s c.args.start from n (front ++ back) (c.scan_part.new.own ++ c.scan_part-2.new.own) c.scan_part-2.new.tools) all done)
+    let goes_on : c.register_value-carried.result ≡ slice_index c.scan_halves.new.tools s.scanned.target.at = search rules in
+    let done : IsPartDone s c.args.start from (half + rest) (front ++ back) (c.scan_halves.new.own ++ c.scan_halves-2.new.own) c.scan_halves-2.new.tools
+    = parts_join s c.args.start c.register_value-carried.result from half rest front back c.scan_halves.new.own c.scan_halves-2.new.own c.scan_halves-2.new.tools long some
+    (cells_done s c.args.start c.register_value-carried.result from half front c.scan_halves.new.own c.scan_halves.new.tools ahead goes_on c.in_ok-scan_halves.ensures) c.in_ok-scan_halves-2.ensures in
+    subst (λ xs. IsPartDone s c.args.start from c.args.count xs (c.scan_halves.new.own ++ c.scan_halves-2.new.own) c.scan_halves-2.new.tools) whole
+    (subst (λ n. IsPartDone s c.args.start from n (front ++ back) (c.scan_halves.new.own ++ c.scan_halves-2.new.own) c.scan_halves-2.new.tools) all done)
