@@ -38,7 +38,7 @@ pub(crate) struct NestPlan<'c> {
 
 impl<'c> NestPlan<'c> {
     /// What a turn is, and how turns are run.
-    pub(crate) fn turned(self) -> Turned<'c>
+    pub(crate) fn turn(self) -> Turned<'c>
         ensures variable { variable_of result ≡ self.entry.nest.variable.at }
         ensures ops { ops_of result ≡ flat (nested_in self.entry.nest) }
         ensures limit { limit_of result ≡ self.entry.nest.limit }

@@ -29,7 +29,8 @@ pub(crate) struct ScanTeam<'t, 'k, R: Threads + Sync, G: Gate + Sync> {
 // The first turn of a worker's share, all of them being as long or one turn longer; behind the last worker the number of turns.
 fn first_of<R: Threads + Sync, G: Gate + Sync>(team: &ScanTeam<'_, '_, R, G>, worker: u64) -> u64
     requires { worker ≤ team.now.workers }
-    ensures is { result ≡ share_first team.now.head team.now.prefixes.count team.now.workers worker }
+    ensures is { result
+        ≡ share_first team.now.head team.now.prefixes.count team.now.workers worker }
     ensures within { result ≤ team.now.prefixes.count }
 {
     let workers = team.workers.get();
@@ -43,9 +44,10 @@ fn turns_of<R: Threads + Sync, G: Gate + Sync>(
     number: u64,
 ) -> u64
     requires { worker + number ≤ team.now.workers }
-    ensures is { result ≡ share_turns team.now.head team.now.prefixes.count team.now.workers worker number }
-    ensures within { share_first team.now.head team.now.prefixes.count team.now.workers worker + result
-        ≤ team.now.prefixes.count }
+    ensures is { result
+        ≡ share_turns team.now.head team.now.prefixes.count team.now.workers worker number }
+    ensures within { share_first team.now.head team.now.prefixes.count team.now.workers worker
+        + result ≤ team.now.prefixes.count }
 {
     first_of(team, worker + number) - first_of(team, worker)
 }
@@ -120,8 +122,8 @@ fn add_shares<R: Threads + Sync, G: Gate + Sync>(
     requires own { length own.old ≡ team.now.prefixes.window.width
         * share_turns team.now.head team.now.prefixes.count team.now.workers worker number }
     requires one { length sums.old ≡ number }
-    ensures sums { OnOk result (AreSums team.now.prefixes team.now.head team.now.workers worker number
-        own.old sums.new) }
+    ensures sums { OnOk result (AreSums team.now.prefixes team.now.head team.now.workers worker
+        number own.old sums.new) }
     ensures kept { own.new ≡ own.old }
 {
     if number < 2 {
@@ -141,8 +143,8 @@ fn add_shares<R: Threads + Sync, G: Gate + Sync>(
             requires own { length front.now ≡ team.now.prefixes.window.width
                 * share_turns team.now.head team.now.prefixes.count team.now.workers worker shares }
             requires one { length some.now ≡ shares }
-            ensures sums { OnOk result (AreSums team.entry.now.prefixes team.entry.now.head team.entry.now.workers
-                worker shares front.entry.now some.exit.now) }
+            ensures sums { OnOk result (AreSums team.entry.now.prefixes team.entry.now.head
+                team.entry.now.workers worker shares front.entry.now some.exit.now) }
             ensures kept { front.exit.now ≡ front.entry.now }
         { add_shares(team, worker, shares, front, some) },
         &mut || -> Result<(), AllocError>
@@ -152,8 +154,8 @@ fn add_shares<R: Threads + Sync, G: Gate + Sync>(
             requires own { length back.now ≡ team.now.prefixes.window.width
                 * share_turns team.now.head team.now.prefixes.count team.now.workers second others }
             requires one { length rest.now ≡ others }
-            ensures sums { OnOk result (AreSums team.entry.now.prefixes team.entry.now.head team.entry.now.workers
-                second others back.entry.now rest.exit.now) }
+            ensures sums { OnOk result (AreSums team.entry.now.prefixes team.entry.now.head
+                team.entry.now.workers second others back.entry.now rest.exit.now) }
             ensures kept { back.exit.now ≡ back.entry.now }
         { add_shares(team, second, others, back, rest) },
     );
@@ -188,8 +190,8 @@ fn scan_one<R: Threads + Sync, G: Gate + Sync>(
     requires own { length own.old ≡ team.now.prefixes.window.width
         * share_turns team.now.head team.now.prefixes.count team.now.workers worker 1 }
     requires one { length starts.now ≡ 1 }
-    ensures { IfOk result (λ rs. AreSharesDone team.now.prefixes team.now.head team.now.workers worker 1
-        starts.now own.old own.new rs.items) }
+    ensures { IfOk result (λ rs. AreSharesDone team.now.prefixes team.now.head team.now.workers
+        worker 1 starts.now own.old own.new rs.items) }
 {
     let workers = team.workers.get();
     team.gate.entered(Taken {
@@ -216,8 +218,8 @@ fn scan_apart<R: Threads + Sync, G: Gate + Sync>(
     requires own { length own.old ≡ team.now.prefixes.window.width
         * share_turns team.now.head team.now.prefixes.count team.now.workers worker 1 }
     requires one { length starts.now ≡ 1 }
-    ensures { IfOk result (λ rs. AreSharesDone team.now.prefixes team.now.head team.now.workers worker 1
-        starts.now own.old own.new rs.items) }
+    ensures { IfOk result (λ rs. AreSharesDone team.now.prefixes team.now.head team.now.workers
+        worker 1 starts.now own.old own.new rs.items) }
 {
     let _most = team.workers.get();
     let (done, _) = join_mut(
@@ -229,8 +231,8 @@ fn scan_apart<R: Threads + Sync, G: Gate + Sync>(
                 * share_turns team.now.head team.now.prefixes.count team.now.workers worker 1 }
             requires one { length starts.now ≡ 1 }
             ensures { IfOk result (λ rs. AreSharesDone team.entry.now.prefixes
-                team.entry.now.head team.entry.now.workers worker 1 starts.entry.now own.entry.now own.exit.now
-                rs.items) }
+                team.entry.now.head team.entry.now.workers worker 1 starts.entry.now
+                own.entry.now own.exit.now rs.items) }
         { scan_one(team, worker, own, starts) },
         &mut || {},
     );
@@ -251,8 +253,8 @@ fn scan_shares<R: Threads + Sync, G: Gate + Sync>(
     requires own { length own.old ≡ team.now.prefixes.window.width
         * share_turns team.now.head team.now.prefixes.count team.now.workers worker number }
     requires one { length starts.now ≡ number }
-    ensures { IfOk result (λ rs. AreSharesDone team.now.prefixes team.now.head team.now.workers worker number
-        starts.now own.old own.new rs.items) }
+    ensures { IfOk result (λ rs. AreSharesDone team.now.prefixes team.now.head team.now.workers
+        worker number starts.now own.old own.new rs.items) }
 {
     if number < 2 {
         return scan_one(team, worker, own, starts);

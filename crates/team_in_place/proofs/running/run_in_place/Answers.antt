@@ -26,4 +26,4 @@ returns-clause-ran g c layout mark f performs text s stand some =
     let turned : (text : List ℕ) → loop (running (machine own (values_of ks)) text) ≡ running (machine new (values_of ks')) text = search rules in
     let fits : Fits (machine new (values_of ks')) = search rules in
     arrives layout mark f compiled performs s entered.wide ks text (wider layout mark s registers entered.wide ks entered.same entered.kept stand) entered.room new ks' text
-    (ran_in_place compiled loop front registers (values_of ks) own new (values_of ks') entered is turned text) fits (c.run_looped.ensures.shape ∙ ap lengths_of c.entered.ensures.kept) some
+    (ran_in_place compiled loop front registers (values_of ks) own new (values_of ks') entered is turned text) fits (c.run_looped.ensures.shape ∙ ap lengths_of c.registers_behind.ensures.kept) some

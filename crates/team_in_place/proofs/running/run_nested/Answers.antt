@@ -28,8 +28,8 @@ run_over_store-requires-clause-apart g c κs within =
       few = planned.few;
       room = planned.room;
       apart = λ all.
-          subst (λ (v : ℕ). KeepApart v value (ops_of c.turned.result) plan.rise.count (machine registers all) bound) (sym c.turned.ensures.variable)
-          (subst (λ (ops : List Op). KeepApart plan.nest.variable.at value ops plan.rise.count (machine registers all) bound) (sym c.turned.ensures.ops) (planned.apart all));
+          subst (λ (v : ℕ). KeepApart v value (ops_of c.turn.result) plan.rise.count (machine registers all) bound) (sym c.turn.ensures.variable)
+          (subst (λ (ops : List Op). KeepApart plan.nest.variable.at value ops plan.rise.count (machine registers all) bound) (sym c.turn.ensures.ops) (planned.apart all));
     }
 
 pub returns-clause-does : goal.returns-clause-does
@@ -38,7 +38,7 @@ returns-clause-does g c text =
     let registers = c.args.registers.now in
     let ks = c.args.store.now in
     let plan = c.in-Some.nested in
-    let turned = c.turned.result in
+    let turned = c.turn.result in
     let rs = c.in_ok-own.own.items in
     let new = c.put.new.registers in
     let cells = values_of c.run_over_store.new.store in
@@ -49,7 +49,7 @@ returns-clause-does g c text =
     let back : take c.in_ok-own.own.len (new ++ drop (length new) rs) ≡ new = put_back c.in_ok-own.own.len new rs (search rules) (search rules) in
     let did : machine rs cells ≡ turns plan.nest.variable.at value (flat (nested_in plan.nest)) plan.rise.count began =
     c.in_ok-own.ensures.does
-    ∙ ap (λ (v : ℕ). turns v value (ops_of turned) plan.rise.count began) c.turned.ensures.variable
-    ∙ ap (λ (ops : List Op). turns plan.nest.variable.at value ops plan.rise.count began) c.turned.ensures.ops in
+    ∙ ap (λ (v : ℕ). turns v value (ops_of turned) plan.rise.count began) c.turn.ensures.variable
+    ∙ ap (λ (ops : List Op). turns plan.nest.variable.at value ops plan.rise.count began) c.turn.ensures.ops in
     all_nested x registers (values_of ks) (length (values_of ks)) plan planned rs cells did text
     ∙ ap (λ r. running (machine r cells) text) (sym (back ∙ is))

@@ -1,7 +1,7 @@
 use Rattle.std.proofs.Common.{ℕ, List, length, ap, ◌∙◌, arith}
 use Rattle.std.specs.Prelude.{slice_index}
 use Rattle.lower_run.proofs.Beside.{index_pushed, length_pushed}
-use Rattle.team_in_place.proofs.running.widened.Goals as goal
+use Rattle.team_in_place.proofs.running.copy_with_room.Goals as goal
 
 pub loop-own-preserved : goal.loop-own-preserved
 loop-own-preserved c =
