@@ -87,7 +87,7 @@ fn item_takes(item: &Item, variable: VarId, value: &Expr) -> bool
 
 /// Whether an `if` with this test and this branch, and no `else`, updates a `min` or `max` reduction variable: the test compares a value with the variable, and the branch assigns the
 /// same value to it (OpenMP 5.2, 5.5.8).
-pub fn is_choice(test: &Cond, then: &Stmt, reductions: &[Reduction]) -> bool
+pub(crate) fn is_choice(test: &Cond, then: &Stmt, reductions: &[Reduction]) -> bool
     ensures { result
         ≡ wanted.is_choice (reduced reductions.now) (cond_of test.now) (stmt_of then.now) }
 {

@@ -11,7 +11,7 @@ use ktree::{Cond, Expr, Increment, Place, PrintPart, Source, Target};
 
 /// Where an expression first names a reduction variable, if it does.
 #[cycle(naming)]
-pub fn named_in_expression(expression: &Expr, reductions: &[Reduction]) -> Option<Place>
+pub(crate) fn named_in_expression(expression: &Expr, reductions: &[Reduction]) -> Option<Place>
     ensures { is_none result
         ≡ names_expr (is_plain (reduced reductions.now)) (expr_of expression.now) }
 {
@@ -52,7 +52,7 @@ fn named_in_subscripts(subscripts: &[Expr], reductions: &[Reduction]) -> Option<
 
 /// Where a condition first names a reduction variable, if it does.
 #[cycle(naming)]
-pub fn named_in_condition(condition: &Cond, reductions: &[Reduction]) -> Option<Place>
+pub(crate) fn named_in_condition(condition: &Cond, reductions: &[Reduction]) -> Option<Place>
     ensures { is_none result
         ≡ names_cond (is_plain (reduced reductions.now)) (cond_of condition.now) }
 {
@@ -72,7 +72,7 @@ pub fn named_in_condition(condition: &Cond, reductions: &[Reduction]) -> Option<
 }
 
 /// Where a right side first names a reduction variable, if it does.
-pub fn named_in_source(value: &Source, reductions: &[Reduction]) -> Option<Place>
+pub(crate) fn named_in_source(value: &Source, reductions: &[Reduction]) -> Option<Place>
     ensures { is_none result
         ≡ names_source (is_plain (reduced reductions.now)) (source_of value.now) }
 {

@@ -9,7 +9,7 @@ use ktree::{BinaryOp, CompareOp, Cond, Expr, Suffix, UnaryOp, VarId};
 
 /// Whether two expressions are the same tree, whatever their places: constants compare by their names, variables by their declarations.
 #[cycle(same)]
-pub fn same_expression(left: &Expr, right: &Expr) -> bool
+pub(crate) fn same_expression(left: &Expr, right: &Expr) -> bool
     ensures { result ≡ same_expr (expr_of left.now) (expr_of right.now) }
 {
     match right {

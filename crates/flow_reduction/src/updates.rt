@@ -64,7 +64,11 @@ pub(crate) fn combines_by(operator: ReductionOperator, by: BinaryOp) -> bool
 
 /// What a number that is assigned to a reduction variable combines with it by its operator: `e` of `s = s + e`. None where the
 /// assignment is no update (OpenMP 5.2, 5.5.8).
-pub fn number_operand(operator: ReductionOperator, variable: VarId, value: &Expr) -> Option<&Expr>
+pub(crate) fn number_operand(
+    operator: ReductionOperator,
+    variable: VarId,
+    value: &Expr,
+) -> Option<&Expr>
     ensures { option_map (λ e. Number (expr_of e.now)) result
         ≡ operand (operator_of operator) variable.0 (Number (expr_of value.now)) }
 {
@@ -81,7 +85,11 @@ pub fn number_operand(operator: ReductionOperator, variable: VarId, value: &Expr
 }
 
 /// The same of a condition: `c` of `s = s && c` and of `s = s || c`.
-pub fn truth_operand(operator: ReductionOperator, variable: VarId, value: &Cond) -> Option<&Cond>
+pub(crate) fn truth_operand(
+    operator: ReductionOperator,
+    variable: VarId,
+    value: &Cond,
+) -> Option<&Cond>
     ensures { option_map (λ c. Truth (cond_of c.now)) result
         ≡ operand (operator_of operator) variable.0 (Truth (cond_of value.now)) }
 {
