@@ -14,8 +14,8 @@ ghost use Rattle.flow.specs.Told.{Finds, TellsOfRead, TellsOfLast};
 
 use crate::fault::DataFault;
 use crate::name_lists::{ListKind, listed_names};
-use flow_definite::{DefinitelyAssigned, forget_all, forget_line, judge};
-use ktree::{Item, Place, Refusal, Stmt, VarId};
+use flow_definite::{DefinitelyAssigned, ReadFault, forget_all, forget_line, judge};
+use ktree::{Item, Place, Stmt, VarId};
 use pragma_named::{LineClauses, Named};
 use std::alloc::{AllocError, Global};
 use std::collections::HashMap;
@@ -46,14 +46,14 @@ fn known_first(
 ///
 /// # Errors
 ///
-/// `MayBeUnassigned` at the first name that may not be read, and `OutOfMemory`.
+/// `Unassigned` at the first name that may not be read, and `OutOfMemory`.
 fn judge_first(
     alloc: Global,
     statement: &Stmt,
     line: u32,
     lines: &LineClauses,
     files: usize,
-) -> Result<DefinitelyAssigned, Refusal>
+) -> Result<DefinitelyAssigned, ReadFault>
     ensures ok { IfOk result (λ known. definite no_privates (stmt_of statement.now)
         (all_but (assigned_first (roles_known (kept lines.now) files line)))
         ≡ Some (known_of known)) }
@@ -82,8 +82,8 @@ pub(crate) fn read_fault(
 {
     match judge_first(alloc, statement, line, lines, files) {
         Ok(_) => None,
-        Err(Refusal::MayBeUnassigned(place)) => Some(DataFault::Unassigned(place)),
-        Err(_) => Some(DataFault::OutOfMemory),
+        Err(ReadFault::Unassigned(place)) => Some(DataFault::Unassigned(place)),
+        Err(ReadFault::OutOfMemory) => Some(DataFault::OutOfMemory),
     }
 }
 
@@ -160,10 +160,10 @@ fn body_fault(
             None => None,
             Some(place) => Some(DataFault::LastUnassigned(place)),
         },
-        Err(Refusal::MayBeUnassigned(place)) => Some(DataFault::LastUnassigned(first_left_out(
+        Err(ReadFault::Unassigned(place)) => Some(DataFault::LastUnassigned(first_left_out(
             names, body,
         ).unwrap_or(place))),
-        Err(_) => Some(DataFault::OutOfMemory),
+        Err(ReadFault::OutOfMemory) => Some(DataFault::OutOfMemory),
     }
 }
 

@@ -5,13 +5,14 @@ use Rattle.std.proofs.lemmas.List.{length-map}
 use Rattle.semantics.specs.Tree
 use Rattle.semantics.specs.Tree.{Items}
 use Rattle.semantics.specs.Meaning.Definite.{DefinitelyAssigned, Privates, known_with, without, may_test, may_take, may_step, privates_in, after_both, if_stepped, definite, definite_items, known_at_start, IsDefinite}
-use Rattle.ktree.specs.declared.refusal.Refusal.{Refusal}
+use Rattle.flow_definite.specs.declared.fault.ReadFault.{ReadFault}
+use Rattle.flow_definite.specs.declared.fault.ReadFault.TheVariants.{Unassigned, OutOfMemory}
 use Rattle.ktree.specs.declared.statement.Declaration.{Declaration}
 use Rattle.ktree.specs.declared.statement.Kernel.{Kernel}
 use Rattle.ktree.specs.declared.statement.Item.{Item}
 use Rattle.ktree.specs.View.{items_of, with_item, declaration_of, kernel_of}
 use Rattle.pragma_named.specs.Lines.{line_in}
-use Rattle.flow_definite.specs.Judged.{known_of, pending, Refuses, RefusesAnyhow, MayBeUnassigned}
+use Rattle.flow_definite.specs.Judged.{known_of, pending, Refuses, RefusesAnyhow, refusal_of, MayBeUnassigned}
 use Rattle.flow_definite.proofs.KnownLemmas.{first}
 use Rattle.flow_definite.proofs.PrivatesLemmas.{from_here}
 
@@ -27,7 +28,7 @@ module _ (P : Privates) where
     item_judged k' line same f = on ∙ f (items_of (drop (i + 1) is)) ∙ ap (λ l. definite_items P (pending P l) (items_of (drop (i + 1) is)) k') (sym same)
 
     -- an item after which nothing is
-    pub item_refused : (r : Refusal) → RefusesAnyhow (λ rest. definite_items P (pending P before) (with_item e rest) k) r → Refuses whole r
+    pub item_refused : (r : ReadFault) → RefusesAnyhow (λ rest. definite_items P (pending P before) (with_item e rest) k) r → Refuses whole r
     item_refused r (inl o) = inl o
     item_refused r (inr (n, f)) = inr (n, on ∙ f (items_of (drop (i + 1) is)))
 
@@ -45,7 +46,7 @@ module _ (P : Privates) where
     entered = may_take k start && may_test there test
 
     -- a loop whose start or test reads what may not be
-    pub loop_not_entered : (r : Refusal) → Refuses (cond entered (Some k) None) r → Refuses loop r
+    pub loop_not_entered : (r : ReadFault) → Refuses (cond entered (Some k) None) r → Refuses loop r
     loop_not_entered r h = go entered refl h
       where
         go : (b : Bool) → entered ≡ b → Refuses (cond b (Some k) None) r → Refuses loop r
@@ -59,7 +60,7 @@ module _ (P : Privates) where
           ap (λ b. cond b (if_stepped (λ after. may_step after step) (definite P body there) behind) None) ok ∙ ap (λ i. if_stepped (λ after. may_step after step) (definite P body i) behind) (sym is)
 
       -- one whose body does
-      pub body_refused : (r : Refusal) → Refuses (definite P body inside) r → Refuses loop r
+      pub body_refused : (r : ReadFault) → Refuses (definite P body inside) r → Refuses loop r
       body_refused r (inl o) = inl o
       body_refused r (inr (n, f)) = inr (n, loop_entered ∙ ap (λ o. if_stepped (λ after. may_step after step) o behind) f)
 
@@ -77,10 +78,11 @@ module _ (P : Privates) where
   text_judged n o e h = subst IsSome (sym e) h
 
   -- and refused by them
-  pub text_refused : (n : Kernel) (o : Option DefinitelyAssigned) → definite_items P [] (items_of n.body.items) (known_at_start (map declaration_of n.variables.items)) ≡ o → (r : Refusal) → Refuses o r
-      → MayBeUnassigned P n r
-  text_refused n o e r (inl h) = inl h
-  text_refused n o e r (inr (ten, f)) = inr (ten, λ h. no_some _ (e ∙ f) h)
+  pub text_refused : (n : Kernel) (o : Option DefinitelyAssigned) → definite_items P [] (items_of n.body.items) (known_at_start (map declaration_of n.variables.items)) ≡ o → (r : ReadFault) → Refuses o r
+      → MayBeUnassigned P n (refusal_of r)
+  text_refused n o e OutOfMemory h = inl refl
+  text_refused n o e (Unassigned place) (inl h) = cc
+  text_refused n o e (Unassigned place) (inr (name, f)) = inr (refl, λ h. no_some _ (e ∙ f) h)
     where
       no_some : (o : Option DefinitelyAssigned) → o ≡ None → IsSome o → ⊥
       no_some None e h = cc

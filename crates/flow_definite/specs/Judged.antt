@@ -8,8 +8,10 @@ use Rattle.pragma_named.specs.Known.{Known, lines_known}
 use Rattle.ktree.specs.Numbers.{number_of}
 use Rattle.ktree.specs.View.{kernel_of}
 use Rattle.ktree.specs.declared.refusal.Refusal.{Refusal}
-use Rattle.ktree.specs.declared.refusal.Refusal.TheVariants.{OutOfMemory}
+use Rattle.ktree.specs.declared.refusal.Refusal.TheVariants as refusals
 use Rattle.ktree.specs.declared.statement.Kernel.{Kernel}
+use Rattle.flow_definite.specs.declared.fault.ReadFault.{ReadFault}
+use Rattle.flow_definite.specs.declared.fault.ReadFault.TheVariants.{Unassigned, OutOfMemory}
 
 -- what is known of a variable, or of each behind the last
 abbrev pub known_at : Bool → Option Bool → Bool
@@ -37,17 +39,27 @@ pending P (Some line) = P line
 abbrev pub Unread : {E : Type 0} → Bool → E → Type 0
 Unread ok name = ok ≡ false
 
--- want of memory, or K10 where nothing is known after it, since something is read that may not be
-abbrev pub Refuses : Option DefinitelyAssigned → Refusal → Type 0
-Refuses after refusal = (refusal ≡ OutOfMemory) ⊎ ((number_of refusal ≡ 10) × (after ≡ None))
+-- a fault tells of a name that may be read unassigned
+abbrev pub TellsOfName : ReadFault → Type 0
+TellsOfName (Unassigned place) = Unit {0}
+TellsOfName OutOfMemory = ⊥
 
--- want of memory, or K10 where nothing is known after an item, whatever comes behind it
-abbrev pub RefusesAnyhow : (Items → Option DefinitelyAssigned) → Refusal → Type 0
-RefusesAnyhow after refusal = (refusal ≡ OutOfMemory) ⊎ ((number_of refusal ≡ 10) × ((rest : Items) → after rest ≡ None))
+-- want of memory, or such a name where nothing is known after it, since something is read that may not be
+abbrev pub Refuses : Option DefinitelyAssigned → ReadFault → Type 0
+Refuses after fault = (fault ≡ OutOfMemory) ⊎ (TellsOfName fault × (after ≡ None))
+
+-- want of memory, or such a name where nothing is known after an item, whatever comes behind it
+abbrev pub RefusesAnyhow : (Items → Option DefinitelyAssigned) → ReadFault → Type 0
+RefusesAnyhow after fault = (fault ≡ OutOfMemory) ⊎ (TellsOfName fault × ((rest : Items) → after rest ≡ None))
+
+-- the refusal that tells a fault
+abbrev pub refusal_of : ReadFault → Refusal
+refusal_of (Unassigned place) = refusals.MayBeUnassigned place
+refusal_of OutOfMemory = refusals.OutOfMemory
 
 -- want of memory, or K10 where a local of the text may be read before it is assigned
 abbrev pub MayBeUnassigned : Privates → Kernel → Refusal → Type 0
-MayBeUnassigned P kernel refusal = (refusal ≡ OutOfMemory) ⊎ ((number_of refusal ≡ 10) × (IsDefinite P (kernel_of kernel) → ⊥))
+MayBeUnassigned P kernel refusal = (refusal ≡ refusals.OutOfMemory) ⊎ ((number_of refusal ≡ 10) × (IsDefinite P (kernel_of kernel) → ⊥))
 
 -- of one part of what printf writes
 abbrev pub may_part : DefinitelyAssigned → Tree.PrintPart → Bool

@@ -8,6 +8,7 @@ ghost use Rattle.pragma_named.specs.Known.{kept};
 ghost use Rattle.pragma_named.specs.Lines.{line_in};
 ghost use Rattle.flow_definite.specs.Judged.{MayBeUnassigned, Refuses, RefusesAnyhow, private_locals, pending, known_of};
 
+use crate::fault::ReadFault;
 use crate::known::DefinitelyAssigned;
 use crate::privates::{forget_inside, forget_line};
 use crate::reading::{read, read_all, read_parts, read_source, read_step, read_test};
@@ -30,7 +31,8 @@ pub fn definite(alloc: Global, kernel: &Kernel, lines: &LineClauses) -> Result<(
 {
     let files = kernel.variables.len();
     let mut known = DefinitelyAssigned::first(alloc, files)?;
-    block(&kernel.body, lines, files, &mut known)
+    block(&kernel.body, lines, files, &mut known)?;
+    Ok(())
 }
 
 /// Judges a statement where these variables may be read, and leaves those that may be read behind it (C11 6.8); `files` variables
@@ -38,14 +40,14 @@ pub fn definite(alloc: Global, kernel: &Kernel, lines: &LineClauses) -> Result<(
 ///
 /// # Errors
 ///
-/// `MayBeUnassigned` at the first name that may not be read, and `OutOfMemory`; so for all below.
+/// `Unassigned` at the first name that may not be read, and `OutOfMemory`; so for all below.
 #[cycle(judging)]
 pub fn judge(
     stmt: &Stmt,
     lines: &LineClauses,
     files: usize,
     known: &mut DefinitelyAssigned,
-) -> Result<(), Refusal>
+) -> Result<(), ReadFault>
     ensures after { OnOk result (definite (private_locals (kept lines.now) files)
         (stmt_of stmt.now) (known_of known.old) ≡ Some (known_of known.new)) }
     ensures refused { IfErr result (Refuses (definite (private_locals (kept lines.now) files)
@@ -86,7 +88,7 @@ fn block(
     lines: &LineClauses,
     files: usize,
     known: &mut DefinitelyAssigned,
-) -> Result<(), Refusal>
+) -> Result<(), ReadFault>
     ensures after { OnOk result (definite_items (private_locals (kept lines.now) files) []
         (items_of items.now) (known_of known.old) ≡ Some (known_of known.new)) }
     ensures refused { IfErr result (Refuses (definite_items (private_locals (kept lines.now) files)
@@ -108,7 +110,7 @@ fn judge_item(
     lines: &LineClauses,
     files: usize,
     known: &mut DefinitelyAssigned,
-) -> Result<(), Refusal>
+) -> Result<(), ReadFault>
     ensures after { OnOk result ((rest : Items)
         → definite_items (private_locals (kept lines.now) files)
         (pending (private_locals (kept lines.now) files) before) (with_item item.now rest)
@@ -134,7 +136,7 @@ fn judge_item(
 }
 
 /// Judges a local's initialiser; without one the local may not be read from here on (C11 6.7.9, 10).
-fn declare(local: &Local, known: &mut DefinitelyAssigned) -> Result<(), Refusal>
+fn declare(local: &Local, known: &mut DefinitelyAssigned) -> Result<(), ReadFault>
     ensures after { OnOk result (declared_known (known_of known.old) local.now.variable.0
         (start_of local.now.start) ≡ Some (known_of known.new)) }
     ensures refused { IfErr result
@@ -155,7 +157,7 @@ fn declare(local: &Local, known: &mut DefinitelyAssigned) -> Result<(), Refusal>
 }
 
 /// Judges an assignment, behind which its variable may be read (C11 6.5.16).
-fn assign(target: &Target, source: &Source, known: &mut DefinitelyAssigned) -> Result<(), Refusal>
+fn assign(target: &Target, source: &Source, known: &mut DefinitelyAssigned) -> Result<(), ReadFault>
     ensures after { OnOk result (where_ok
         (may_read_all (known_of known.old) (exprs_of target.now.subscripts.items)
         && may_take (known_of known.old) (source_of source.now))
@@ -172,7 +174,7 @@ fn assign(target: &Target, source: &Source, known: &mut DefinitelyAssigned) -> R
 }
 
 /// Judges an `op=`, which reads its own variable too (C11 6.5.16.2).
-fn update(target: &Target, expr: &Expr, known: &DefinitelyAssigned) -> Result<(), Refusal>
+fn update(target: &Target, expr: &Expr, known: &DefinitelyAssigned) -> Result<(), ReadFault>
     ensures after { OnOk result (where_ok
         (known_of known.now target.now.variable.0
         && may_read_all (known_of known.now) (exprs_of target.now.subscripts.items)
@@ -196,7 +198,7 @@ fn enter(
     lines: &LineClauses,
     files: usize,
     known: &DefinitelyAssigned,
-) -> Result<DefinitelyAssigned, Refusal>
+) -> Result<DefinitelyAssigned, ReadFault>
     ensures inside { IfOk result (λ inside. known_of inside
         ≡ without (known_with (known_of known.now) head.now.variable.0 true)
         (privates_in (private_locals (kept lines.now) files) (stmt_of body.now))) }

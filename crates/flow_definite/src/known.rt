@@ -2,10 +2,10 @@
 
 ghost use Rattle.std.specs.Prelude.{◌≡◌, ◌≤◌, ◌&&◌, [], true, false, OnOk, IfOk, IfErr, replicate, vec_len};
 ghost use Rattle.semantics.specs.Meaning.Definite.{known_with};
-ghost use Rattle.ktree.specs.Numbers.{number_of};
-ghost use Rattle.flow_definite.specs.Judged.{known_of, Unread};
+ghost use Rattle.flow_definite.specs.Judged.{known_of, Unread, TellsOfName};
 
-use ktree::{Place, Refusal, VarId};
+use crate::fault::ReadFault;
+use ktree::{Place, VarId};
 use std::alloc::{AllocError, Global};
 use std::marker::Model;
 
@@ -15,11 +15,11 @@ pub(crate) struct Unassigned {
     place: Place,
 }
 
-impl From<Unassigned> for Refusal {
-    ghost from_gives = { λ _ refusal. number_of refusal ≡ 10 };
+impl From<Unassigned> for ReadFault {
+    ghost from_gives = { λ _ fault. TellsOfName fault };
 
-    fn from(name: Unassigned) -> Refusal {
-        Refusal::MayBeUnassigned(name.place)
+    fn from(name: Unassigned) -> ReadFault {
+        ReadFault::Unassigned(name.place)
     }
 }
 
