@@ -17,3 +17,4 @@ pub use bodies::nest_body;
 pub use classifying::classify;
 pub use environment::{LoopRoles, ParallelLoop};
 pub use fault::DataFault;
+pub use sharing::declares;

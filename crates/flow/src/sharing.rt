@@ -15,9 +15,10 @@ use crate::name_lists::{ListKind, has_role, is_listed};
 use ktree::{Item, Stmt, Target, VarId};
 use pragma_named::LineClauses;
 
-/// Whether a statement declares a variable, as that of a loop or as a block's local.
+/// Whether a statement declares a variable, as that of a loop's head or as a block's local, at any depth (C11 6.8.2 and 6.8.5.3);
+/// in the body of a parallel loop such variables are private without a clause (OpenMP 5.2, 5.1.1).
 #[cycle(declaring)]
-fn declares(statement: &Stmt, variable: VarId) -> bool
+pub fn declares(statement: &Stmt, variable: VarId) -> bool
     ensures { result ≡ is_among (declared_in (stmt_of statement.now)) variable.0 }
 {
     match statement {

@@ -1,11 +1,11 @@
--- What a block's items assign and declare, one after another.
+-- What a block's items assign, one after another.
 use Rattle.std.specs.Prelude.{ℕ, Bool, true, false, ◌≡◌, ◌+◌, ◌<◌, ◌||◌, ◌&&◌, ◌==◌, if◌then◌else◌, List, [], ◌∷◌, ◌++◌, length, get_or, drop, filter}
 use Rattle.std.proofs.Common.{refl, sym, ap, ◌∙◌, arith}
 use Rattle.std.proofs.lemmas.Bool.{eqb-true}
 use Rattle.std.proofs.lemmas.List.Folds.{list_any-append}
 use Rattle.semantics.specs.Tree
 use Rattle.semantics.specs.Tree.{Variable}
-use Rattle.semantics.specs.Meaning.Agrees.{is_among, declared_in, declared_among}
+use Rattle.semantics.specs.Meaning.Agrees.{is_among}
 use Rattle.law_commute.specs.Targets.{scalar, targets, targets_among}
 use Rattle.ktree.specs.View.{exprs_of, stmt_of, items_of, with_item}
 use Rattle.ktree.specs.declared.expression.Expr.{Expr}
@@ -28,12 +28,6 @@ among_both xs ys x = list_any-append (λ y. y == x) xs ys
 among_alone : (xs : List Variable) (x : Variable) → is_among (xs ++ []) x ≡ is_among xs x
 among_alone xs x = among_both xs [] x ∙ or_false (is_among xs x)
 
-declared_cut : (x : Variable) (i : Item) (rest : Tree.Items)
-    → is_among (declared_among (with_item i rest)) x ≡ (is_among (declared_among (with_item i Tree.no_items)) x || is_among (declared_among rest) x)
-declared_cut x (Directive place) rest = refl
-declared_cut x (Local l) rest = ap (λ b. b || is_among (declared_among rest) x) (sym (or_false (l.variable.0 == x)))
-declared_cut x (Statement' p s) rest = among_both (declared_in (stmt_of s)) (declared_among rest) x ∙ ap (λ b. b || is_among (declared_among rest) x) (sym (among_alone (declared_in (stmt_of s)) x))
-
 assigned_cut : (x : Variable) (i : Item) (rest : Tree.Items)
     → is_among (targets_among (with_item i rest)) x ≡ (is_among (targets_among (with_item i Tree.no_items)) x || is_among (targets_among rest) x)
 assigned_cut x (Directive place) rest = refl
@@ -41,18 +35,6 @@ assigned_cut x (Local l) rest = refl
 assigned_cut x (Statement' p s) rest = among_both (targets (stmt_of s)) (targets_among rest) x ∙ ap (λ b. b || is_among (targets_among rest) x) (sym (among_alone (targets (stmt_of s)) x))
 
 -- an item, and what is behind it
-module _ (x : Variable) (is : List Item) (i : ℕ) (e : Item) (lt : i < length is) (at : e ≡ get_or is i e) (left : is_among (declared_among (items_of (drop i is))) x ≡ is_among (declared_among (items_of is)) x) where
-  declared_next : is_among (declared_among (items_of is)) x ≡ (is_among (declared_among (with_item e Tree.no_items)) x || is_among (declared_among (items_of (drop (i + 1) is))) x)
-  declared_next = sym left ∙ ap (λ items. is_among (declared_among items) x) (next_item is i e lt at) ∙ declared_cut x e (items_of (drop (i + 1) is))
-
-  -- this item declares it
-  pub declared_here : is_among (declared_among (with_item e Tree.no_items)) x ≡ true → is_among (declared_among (items_of is)) x ≡ true
-  declared_here here = declared_next ∙ ap (λ b. b || is_among (declared_among (items_of (drop (i + 1) is))) x) here
-
-  -- it does not
-  pub declared_later : is_among (declared_among (with_item e Tree.no_items)) x ≡ false → is_among (declared_among (items_of (drop (i + 1) is))) x ≡ is_among (declared_among (items_of is)) x
-  declared_later here = sym (declared_next ∙ ap (λ b. b || is_among (declared_among (items_of (drop (i + 1) is))) x) here)
-
 module _ (x : Variable) (is : List Item) (i : ℕ) (e : Item) (lt : i < length is) (at : e ≡ get_or is i e) (left : is_among (targets_among (items_of (drop i is))) x ≡ is_among (targets_among (items_of is)) x) where
   assigned_next : is_among (targets_among (items_of is)) x ≡ (is_among (targets_among (with_item e Tree.no_items)) x || is_among (targets_among (items_of (drop (i + 1) is))) x)
   assigned_next = sym left ∙ ap (λ items. is_among (targets_among items) x) (next_item is i e lt at) ∙ assigned_cut x e (items_of (drop (i + 1) is))

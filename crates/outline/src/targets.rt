@@ -2,10 +2,11 @@
 
 ghost use Rattle.std.specs.Prelude.{◌≡◌};
 ghost use Rattle.semantics.specs.Tree.{no_items};
-ghost use Rattle.semantics.specs.Meaning.Agrees.{is_among, declared_in, declared_among};
+ghost use Rattle.semantics.specs.Meaning.Agrees.{is_among};
 ghost use Rattle.law_commute.specs.Targets.{scalar, targets, targets_among, targets_outside};
 ghost use Rattle.ktree.specs.View.{stmt_of, with_item, items_of, exprs_of};
 
+use flow::declares;
 use ktree::{Item, Stmt, Target, VarId};
 
 // Whether the object that is assigned is this scalar (C11 6.5.16).
@@ -63,52 +64,6 @@ fn item_assigns(item: &Item, variable: VarId) -> bool
         Item::Directive(_) => false,
         Item::Local(_) => false,
         Item::Statement(stmt) => assigns(stmt, variable),
-    }
-}
-
-// Whether a statement declares a variable, as that of a loop or as a block's local.
-#[cycle(declaring)]
-fn declares(stmt: &Stmt, variable: VarId) -> bool
-    ensures { result ≡ is_among (declared_in (stmt_of stmt.now)) variable.0 }
-{
-    match stmt {
-        Stmt::Assign(_, _) => false,
-        Stmt::Update(_, _, _) => false,
-        Stmt::If(_, then, other) => {
-            let first = declares(then, variable);
-            match other {
-                None => first,
-                Some(other) => first || declares(other, variable),
-            }
-        }
-        Stmt::For(head, body) => head.variable == variable || declares(body, variable),
-        Stmt::Block(items) => declared_in_block(items, variable),
-        Stmt::Print(_, _) => false,
-    }
-}
-
-// Whether one of a block's items does.
-#[cycle(declaring)]
-fn declared_in_block(items: &[Item], variable: VarId) -> bool
-    ensures { result ≡ is_among (declared_among (items_of items.now)) variable.0 }
-{
-    for item in items {
-        if item_declares(item, variable) {
-            return true;
-        }
-    }
-    false
-}
-
-// Whether an item does.
-#[cycle(declaring)]
-fn item_declares(item: &Item, variable: VarId) -> bool
-    ensures { result ≡ is_among (declared_among (with_item item.now no_items)) variable.0 }
-{
-    match item {
-        Item::Directive(_) => false,
-        Item::Local(local) => local.variable == variable,
-        Item::Statement(stmt) => declares(stmt, variable),
     }
 }
 
