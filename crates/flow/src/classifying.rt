@@ -58,12 +58,17 @@ fn classify_loop(
     rest: &[Item],
     loops: &mut Vec<ParallelLoop>,
 ) -> Result<(), DataFault>
-    ensures ok { OnOk result (LineHas directives.now (KeepsRolesThere (data_known (kept lines.now) files place.line)) []
-        place.line (items_of rest.now)) }
-    ensures added { OnOk result (Adds (IsOfLine directives.now (data_known (kept lines.now) files) place.line (items_of rest.now)) loops.old.items loops.new.items) }
-    ensures err { IfErr result (RefusesFor (LineHas directives.now (KeepsRolesThere (data_known (kept lines.now) files place.line)) []
-        place.line (items_of rest.now))
-        (λ f. TellsOfLine f directives.now (data_known (kept lines.now) files) place.line (items_of rest.now))) }
+    ensures ok { OnOk result (LineHas directives.now
+        (KeepsRolesThere (data_known (kept lines.now) files place.line)) [] place.line
+        (items_of rest.now)) }
+    ensures added { OnOk result (Adds
+        (IsOfLine directives.now (data_known (kept lines.now) files) place.line
+        (items_of rest.now)) loops.old.items loops.new.items) }
+    ensures err { IfErr result (RefusesFor (LineHas directives.now
+        (KeepsRolesThere (data_known (kept lines.now) files place.line)) [] place.line
+        (items_of rest.now))
+        (λ f. TellsOfLine f directives.now (data_known (kept lines.now) files) place.line
+        (items_of rest.now))) }
 {
     if let Some(fault) = loop_fault(alloc, directives, lines, files, place, rest) {
         return Err(fault);
@@ -82,11 +87,13 @@ fn classify_line(
     rest: &[Item],
     loops: &mut Vec<ParallelLoop>,
 ) -> Result<(), DataFault>
-    ensures ok { OnOk result (FirstLineKeepsRoles directives.now (data_known (kept lines.now) files)
-        (with_item item.now no_items) (items_of rest.now)) }
-    ensures added { OnOk result (Adds (FirstLineIs directives.now (data_known (kept lines.now) files)
+    ensures ok { OnOk result (FirstLineKeepsRoles directives.now
+        (data_known (kept lines.now) files) (with_item item.now no_items) (items_of rest.now)) }
+    ensures added { OnOk result (Adds
+        (FirstLineIs directives.now (data_known (kept lines.now) files)
         (with_item item.now no_items) (items_of rest.now)) loops.old.items loops.new.items) }
-    ensures err { IfErr result (RefusesFor (FirstLineKeepsRoles directives.now (data_known (kept lines.now) files)
+    ensures err { IfErr result (RefusesFor
+        (FirstLineKeepsRoles directives.now (data_known (kept lines.now) files)
         (with_item item.now no_items) (items_of rest.now))
         (λ f. TellsOfFirstLine f directives.now (data_known (kept lines.now) files)
         (with_item item.now no_items) (items_of rest.now))) }
@@ -110,20 +117,25 @@ fn classify_in(
     statement: &Stmt,
     loops: &mut Vec<ParallelLoop>,
 ) -> Result<(), DataFault>
-    ensures ok { OnOk result (LoopsKeepRoles directives.now (data_known (kept lines.now) files) [] (stmt_of statement.now)) }
-    ensures added { OnOk result (Adds (LoopsAre directives.now (data_known (kept lines.now) files) (stmt_of statement.now)) loops.old.items loops.new.items) }
-    ensures err { IfErr result (RefusesFor (LoopsKeepRoles directives.now (data_known (kept lines.now) files) [] (stmt_of statement.now))
-        (λ f. TellsOfLoops f directives.now (data_known (kept lines.now) files) (stmt_of statement.now))) }
+    ensures ok { OnOk result (LoopsKeepRoles directives.now (data_known (kept lines.now) files) []
+        (stmt_of statement.now)) }
+    ensures added { OnOk result (Adds (LoopsAre directives.now (data_known (kept lines.now) files)
+        (stmt_of statement.now)) loops.old.items loops.new.items) }
+    ensures err { IfErr result (RefusesFor
+        (LoopsKeepRoles directives.now (data_known (kept lines.now) files) []
+        (stmt_of statement.now))
+        (λ f. TellsOfLoops f directives.now (data_known (kept lines.now) files)
+        (stmt_of statement.now))) }
 {
     match statement {
         Stmt::Assign(_, _) => Ok(()),
         Stmt::Update(_, _, _) => Ok(()),
         Stmt::If(_, then, other) => match other {
             None => classify_in(alloc, directives, lines, files, then, loops),
-            Some(other) => match classify_in(alloc, directives, lines, files, then, loops) {
-                Err(fault) => Err(fault),
-                Ok(()) => classify_in(alloc, directives, lines, files, other, loops),
-            },
+            Some(other) => {
+                classify_in(alloc, directives, lines, files, then, loops)?;
+                classify_in(alloc, directives, lines, files, other, loops)
+            }
         },
         Stmt::For(_, body) => classify_in(alloc, directives, lines, files, body, loops),
         Stmt::Block(items) => classify_among(alloc, directives, lines, files, items, loops),
@@ -141,11 +153,13 @@ fn classify_item(
     item: &Item,
     loops: &mut Vec<ParallelLoop>,
 ) -> Result<(), DataFault>
-    ensures ok { OnOk result (FirstLoopsKeepRoles directives.now (data_known (kept lines.now) files)
-        (with_item item.now no_items)) }
-    ensures added { OnOk result (Adds (FirstLoopsAre directives.now (data_known (kept lines.now) files)
+    ensures ok { OnOk result (FirstLoopsKeepRoles directives.now
+        (data_known (kept lines.now) files) (with_item item.now no_items)) }
+    ensures added { OnOk result (Adds
+        (FirstLoopsAre directives.now (data_known (kept lines.now) files)
         (with_item item.now no_items)) loops.old.items loops.new.items) }
-    ensures err { IfErr result (RefusesFor (FirstLoopsKeepRoles directives.now (data_known (kept lines.now) files)
+    ensures err { IfErr result (RefusesFor
+        (FirstLoopsKeepRoles directives.now (data_known (kept lines.now) files)
         (with_item item.now no_items))
         (λ f. TellsOfFirstLoops f directives.now (data_known (kept lines.now) files)
         (with_item item.now no_items))) }
@@ -169,28 +183,20 @@ fn classify_among(
     items: &[Item],
     loops: &mut Vec<ParallelLoop>,
 ) -> Result<(), DataFault>
-    ensures ok { OnOk result (ItemsKeepRoles directives.now (data_known (kept lines.now) files) [] (items_of items.now)) }
-    ensures added { OnOk result (Adds (ItemsAre directives.now (data_known (kept lines.now) files) (items_of items.now)) loops.old.items loops.new.items) }
-    ensures err { IfErr result (RefusesFor (ItemsKeepRoles directives.now (data_known (kept lines.now) files) [] (items_of items.now))
-        (λ f. TellsOfItems f directives.now (data_known (kept lines.now) files) (items_of items.now))) }
+    ensures ok { OnOk result (ItemsKeepRoles directives.now (data_known (kept lines.now) files) []
+        (items_of items.now)) }
+    ensures added { OnOk result (Adds (ItemsAre directives.now (data_known (kept lines.now) files)
+        (items_of items.now)) loops.old.items loops.new.items) }
+    ensures err { IfErr result (RefusesFor
+        (ItemsKeepRoles directives.now (data_known (kept lines.now) files) []
+        (items_of items.now))
+        (λ f. TellsOfItems f directives.now (data_known (kept lines.now) files)
+        (items_of items.now))) }
 {
     for (i, item) in items.iter().enumerate() {
-        match classify_line(
-            alloc,
-            directives,
-            lines,
-            files,
-            item,
-            &items[i + 1..],
-            loops,
-        ) {
-            Err(fault) => return Err(fault),
-            Ok(()) => {}
-        }
-        match classify_item(alloc, directives, lines, files, item, loops) {
-            Err(fault) => return Err(fault),
-            Ok(()) => {}
-        }
+        let rest = &items[i + 1..];
+        classify_line(alloc, directives, lines, files, item, rest, loops)?;
+        classify_item(alloc, directives, lines, files, item, loops)?;
     }
     Ok(())
 }
