@@ -37,7 +37,7 @@ use Rattle.law_turns.proofs.Iterating.{nested, values_kept}
 use Rattle.law_independence.proofs.Rectangular.{wider_loop}
 use Rattle.law_independence.proofs.Sums.{stretch}
 use Rattle.law_independence.proofs.Counted.{AreNatural}
-use Rattle.law_doacross.proofs.Touched.{longer}
+use Rattle.law_independence.proofs.LyingApart.{longer}
 
 -- ---- a loop between two numbers
 

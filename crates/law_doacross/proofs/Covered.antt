@@ -1,5 +1,5 @@
 -- Of two iterations of a shown nest that conflict, its sinks put one before the other.
-use Rattle.std.specs.Prelude.{ℕ, zero, suc, true, ◌≡◌, ◌-◌, ◌≤◌, ◌⊎◌, ℤ, pos, List, [], ◌∷◌, length, map, Contains, Some, IsSome}
+use Rattle.std.specs.Prelude.{ℕ, true, ◌≡◌, ◌-◌, ◌≤◌, ◌⊎◌, ℤ, pos, List, length, map, Contains, Some, IsSome}
 use Rattle.std.specs.List.{list_all}
 use Rattle.std.proofs.Common.{refl, sym, ap, ◌∙◌, subst, arith, inl, inr}
 use Rattle.std.proofs.lemmas.Option.{same_Some}
@@ -16,18 +16,17 @@ use Rattle.pairtest_cover.specs.Behind.{LiesBehind, LieApart, at_counters}
 use Rattle.pairtest_cover.proofs.Leading.{lead_there}
 use Rattle.flow_doacross.specs.Nests.{counts_up}
 use Rattle.nest.specs.Nests.{Has, StaysInside}
-use Rattle.deptest_verdict.specs.Shown.{IsShownBody, IsShownNest, IsShownLoop, no_loops}
-use Rattle.law_turns.specs.Turns.{AreEntered, IsIteration}
-use Rattle.law_turns.proofs.Laws.{entered_join, entered_are_levels, outside_is_a_turn, iterations_are_turns}
+use Rattle.deptest_verdict.specs.Shown.{IsShownBody, IsShownLoop, no_loops}
+use Rattle.law_turns.specs.Turns.{IsIteration}
+use Rattle.law_turns.proofs.Laws.{entered_are_levels, outside_is_a_turn, iterations_are_turns}
 use Rattle.law_independence.specs.Inside.{LoopsAreRead}
 use Rattle.law_independence.specs.IndependenceLaws.{IsNestOf}
 use Rattle.law_independence.proofs.Counted.{counts_of}
-use Rattle.law_independence.proofs.IndependentNests.{loop_there, IsBodyThere, body_there, longer as longer_nest}
-use Rattle.law_independence.proofs.Links.{one_entered}
+use Rattle.law_independence.proofs.IndependentNests.{nest_there}
+use Rattle.law_independence.proofs.LyingApart.{nest_counters, lie_apart, natural}
 use Rattle.law_independence.proofs.Sums.{stretch}
 use Rattle.law_doacross.specs.Covering.{ShownNestsAreCovered}
 use Rattle.law_doacross.proofs.Counting.{HasSpace, space_there, iterations_there, same_numbers, moved_behind, stretch-length, entered_length}
-use Rattle.law_doacross.proofs.Touched.{nest_counters, lie_apart, steps_natural}
 
 -- ---- at a turn of the serial loops
 
@@ -36,7 +35,7 @@ module _ (ds : List Declaration) (sinks : List Distance) (round now : Nesting) (
     (turn : IsTurn round.levels steps) (at : AtTurn round.box (values_at round.levels steps) outer) (are : iterations loops outer ≡ Some us) (up : list_all counts_up loops ≡ true) where
   -- an iteration's counters
   abbrev counters : (ℕ → ℤ) → List ℕ
-  counters s = nest_counters ds sinks round now loops body steps outer us nested shown turn at are s
+  counters s = nest_counters round now s
 
   counters_are : (s : ℕ → ℤ) → counters s ≡ stretch (length round.levels) (length loops) (counts_of s)
   counters_are s = let many = entered_length loops round now nested.entered in ap (λ n. stretch (length round.levels) n (counts_of s)) (let same : length now.levels - length round.levels ≡ length loops = omega (arith, many) in same)
@@ -48,7 +47,7 @@ module _ (ds : List Declaration) (sinks : List Distance) (round now : Nesting) (
     vector_is : (u : Vector) (s : ℕ → ℤ) → IsIteration round now loops steps outer u s → u ≡ at_counters space.turns (counters s)
     vector_is u s it =
         same_numbers u (at_counters space.turns (counters s))
-        (it.values ∙ space.values s (counts_of s) (steps_natural ds sinks round now loops body steps outer us nested shown turn at are u s it) ∙ ap (λ ks. map pos (at_counters space.turns ks)) (sym (counters_are s)))
+        (it.values ∙ space.values s (counts_of s) (natural ds sinks round now loops body steps outer nested shown turn s u it) ∙ ap (λ ks. map pos (at_counters space.turns ks)) (sym (counters_are s)))
 
     as_many : (s : ℕ → ℤ) → length (counters s) ≡ length space.turns
     as_many s = ap length (counters_are s) ∙ stretch-length (length loops) (length round.levels) (counts_of s) ∙ sym space.as_many
@@ -76,7 +75,7 @@ module _ (ds : List Declaration) (sinks : List Distance) (round now : Nesting) (
       let p = iterations_are_turns round now loops steps outer us u nested.entered at are in_u in
       let q = iterations_are_turns round now loops steps outer us v nested.entered at are in_v in
       let space = space_there loops round now p.0 up nested.entered nested.levels (p.1.whole turn) in
-      by p.0 q.0 p.1 q.1 space (lie_apart ds sinks round now loops body steps outer us nested shown turn at are u v p.0 q.0 p.1 q.1 conflict)
+      by p.0 q.0 p.1 q.1 space (lie_apart ds sinks round now loops body steps outer nested shown turn u v p.0 q.0 p.1 q.1 conflict)
     where
       by : (s t : ℕ → ℤ) → IsIteration round now loops steps outer u s → IsIteration round now loops steps outer v t → HasSpace round now loops
           → LieApart sinks (counters s) (counters t) ⊎ LieApart sinks (counters t) (counters s) → Before us sinks u v ⊎ Before us sinks v u
@@ -89,35 +88,9 @@ module _ (ds : List Declaration) (sinks : List Distance) (round now : Nesting) (
 
 -- ---- a nest of the text
 
--- with its loops entered, and each pair of accesses shown
-record IsShownThere (ds : List Declaration) (now : Nesting) (outer : ℕ) (serial : List ℕ) (sinks : List Distance) (n : ℕ) (s : Stmt) : Type 0 where
-  loops : List Loop
-  body : Stmt
-  inner : Nesting
-  is : nest_of n s ≡ Some (loops, body)
-  entered : AreEntered now loops inner
-  shown : IsShownBody inner outer serial sinks body
-  there : IsBodyThere ds inner body
-
-shown_there : (n : ℕ) (ds : List Declaration) (now : Nesting) (outer : ℕ) (serial : List ℕ) (sinks : List Distance) (s : Stmt) → IsShownNest now outer serial sinks n s → IsBodyThere ds now s
-    → IsShownThere ds now outer serial sinks n s
-shown_there zero ds now outer serial sinks s shown there = record { loops = []; body = s; inner = now; is = refl; entered = refl; shown = shown; there = there }
-shown_there (suc n) ds now outer serial sinks s (h, body, is, inner, into, shown) there =
-    let loop = loop_there ds now.box h body s is there.read there.stays in
-    let rest = shown_there n ds inner outer serial sinks body shown (body_there ds now inner h body into loop) in
-    record {
-      loops = h ∷ rest.loops;
-      body = rest.body;
-      inner = rest.inner;
-      is = longer_nest n s h body rest.loops rest.body is rest.is;
-      entered = entered_join now inner rest.inner (h ∷ []) rest.loops (one_entered now inner h.variable h.start h.test h.step body into loop.read) rest.entered;
-      shown = rest.shown;
-      there = rest.there;
-    }
-
 pub shown_nests_are_covered : ShownNestsAreCovered
 shown_nests_are_covered ds serial round sinks n s short entered read stays shown up loop is outer us u v turn are in_u in_v =
-    let nest = shown_there n ds round (length round.levels) (map (λ v. v.most) (inner_loops 0 round.levels)) sinks s shown (record { read = read; stays = stays }) in
+    let nest = nest_there n ds round (length round.levels) (map (λ v. v.most) (inner_loops 0 round.levels)) sinks s shown (record { read = read; stays = stays }) in
     let same : (nest.loops, nest.body) ≡ (loop.loops, loop.body) = same_Some (nest.loops, nest.body) (loop.loops, loop.body) (sym nest.is ∙ is) in
     let it = iterations_are_turns no_loops round serial (λ j. pos 0) outer turn.turns turn.turn entered (outside_is_a_turn (λ j. pos 0) outer) turn.are turn.among in
     subst (λ (p : List Loop × Stmt). iterations p.0 outer ≡ Some us → Conflict p.0 p.1 outer u v → Before us sinks u v ⊎ Before us sinks v u) same
@@ -128,4 +101,4 @@ shown_nests_are_covered ds serial round sinks n s short entered read stays shown
 -- and it is one
 pub shown_nest_is_there : (ds : List Declaration) (round : Nesting) (sinks : List Distance) (n : ℕ) (s : Stmt) → LoopsAreRead round.box s → Has (StaysInside ds) round.box s → IsShownLoop round sinks n s → IsSome (nest_of n s)
 shown_nest_is_there ds round sinks n s read stays shown =
-    subst IsSome (sym (shown_there n ds round (length round.levels) (map (λ v. v.most) (inner_loops 0 round.levels)) sinks s shown (record { read = read; stays = stays })).is) refl
+    subst IsSome (sym (nest_there n ds round (length round.levels) (map (λ v. v.most) (inner_loops 0 round.levels)) sinks s shown (record { read = read; stays = stays })).is) refl

@@ -1,4 +1,3 @@
-pub mod Touched
 pub mod Counting
 pub mod Covered
 pub mod CoveredKernels

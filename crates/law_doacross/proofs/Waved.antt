@@ -48,7 +48,7 @@ use Rattle.law_independence.proofs.Targeted.{outside_visible}
 use Rattle.law_doacross.specs.Waving.{SuitsWaves}
 use Rattle.law_doacross.proofs.Counting.{IsUp, is_up}
 use Rattle.law_doacross.proofs.Covered.{shown_nests_are_covered}
-use Rattle.law_doacross.proofs.Touched.{place_of}
+use Rattle.law_independence.proofs.LyingApart.{place_of}
 
 -- ---- the values of each loop rise
 

@@ -34,7 +34,7 @@ use Rattle.law_independence.proofs.Entered.{entered_loops, inner_are, serial_are
 use Rattle.law_independence.specs.ConflictLaws.{TouchesFirst}
 use Rattle.law_independence.specs.Inside.{HaveShort}
 use Rattle.law_independence.proofs.Backward.{inside_at, first_back, indexes_back}
-use Rattle.law_independence.proofs.Independent.{lengths_short}
+use Rattle.law_independence.proofs.LyingApart.{lengths_short}
 use Rattle.law_independence.proofs.Values.{IsAt, vector_at, IsFirstAt, first_there}
 use Rattle.law_independence.proofs.Rectangular.{heads_of}
 use Rattle.law_independence.proofs.Links.{Link}

@@ -6,6 +6,7 @@ use Rattle.semantics.specs.Tree.{Stmt, Assign, Update, If, IfElse, For, Block, P
 use Rattle.semantics.specs.Meaning.Value.{map_option}
 use Rattle.semantics.specs.Loops.Nest.{Loop, as_loop, only_loop, holds_none, nest_of, iterations}
 use Rattle.semantics.specs.Loops.Access.{Conflict}
+use Rattle.semantics.specs.Loops.Order.{Distance}
 use Rattle.affine.specs.declared.interval.Interval.{Interval}
 use Rattle.affine.specs.declared.interval.Side.{Side}
 use Rattle.nest_loop.specs.declared.head.Canonical.{Canonical}
@@ -71,14 +72,14 @@ body_there ds now inner h body into there =
       stays = subst (λ b. Has (StaysInside ds) b body) box (subst (λ (j : Interval). Has (StaysInside ds) (inside now.box h.variable j) body) same there.stays);
     }
 
--- a nest of the text, its loops entered
-pub record IsNestThere (ds : List Declaration) (now : Nesting) (outer : ℕ) (serial : List ℕ) (n : ℕ) (s : Stmt) : Type 0 where
+-- a nest of the text, its loops entered, and each pair of accesses shown
+pub record IsNestThere (ds : List Declaration) (now : Nesting) (outer : ℕ) (serial : List ℕ) (sinks : List Distance) (n : ℕ) (s : Stmt) : Type 0 where
   pub loops : List Loop
   pub body : Stmt
   pub inner : Nesting
   pub is : nest_of n s ≡ Some (loops, body)
   pub entered : AreEntered now loops inner
-  pub shown : IsShownBody inner outer serial [] body
+  pub shown : IsShownBody inner outer serial sinks body
   pub there : IsBodyThere ds inner body
 
 -- a nest inside one loop more
@@ -87,11 +88,12 @@ longer n s h b ls c e f =
     ap (λ o. option_and_then (λ found. map_option (λ inner. (found.0 ∷ inner.0, inner.1)) (nest_of n found.1)) o) e
     ∙ ap (λ o. map_option (λ inner. (h ∷ inner.0, inner.1)) o) f
 
-pub nest_there : (n : ℕ) (ds : List Declaration) (now : Nesting) (outer : ℕ) (serial : List ℕ) (s : Stmt) → IsShownNest now outer serial [] n s → IsBodyThere ds now s → IsNestThere ds now outer serial n s
-nest_there zero ds now outer serial s shown there = record { loops = []; body = s; inner = now; is = refl; entered = refl; shown = shown; there = there }
-nest_there (suc n) ds now outer serial s (h, body, is, inner, into, shown) there =
+pub nest_there : (n : ℕ) (ds : List Declaration) (now : Nesting) (outer : ℕ) (serial : List ℕ) (sinks : List Distance) (s : Stmt) → IsShownNest now outer serial sinks n s → IsBodyThere ds now s
+    → IsNestThere ds now outer serial sinks n s
+nest_there zero ds now outer serial sinks s shown there = record { loops = []; body = s; inner = now; is = refl; entered = refl; shown = shown; there = there }
+nest_there (suc n) ds now outer serial sinks s (h, body, is, inner, into, shown) there =
     let loop = loop_there ds now.box h body s is there.read there.stays in
-    let rest = nest_there n ds inner outer serial body shown (body_there ds now inner h body into loop) in
+    let rest = nest_there n ds inner outer serial sinks body shown (body_there ds now inner h body into loop) in
     record {
       loops = h ∷ rest.loops;
       body = rest.body;
@@ -105,7 +107,7 @@ nest_there (suc n) ds now outer serial s (h, body, is, inner, into, shown) there
 -- the nest at a turn of the serial loops
 pub shown_loops_are_independent : ShownLoopsAreIndependent
 shown_loops_are_independent ds serial round n s short entered read stays shown =
-    let nest = nest_there n ds round (length round.levels) (map (λ v. v.most) (inner_loops 0 round.levels)) s shown (record { read = read; stays = stays }) in (
+    let nest = nest_there n ds round (length round.levels) (map (λ v. v.most) (inner_loops 0 round.levels)) [] s shown (record { read = read; stays = stays }) in (
       subst IsSome (sym nest.is) refl,
       λ loop is outer us u v turn are in_u in_v.
           let same : (nest.loops, nest.body) ≡ (loop.loops, loop.body) = same_Some (nest.loops, nest.body) (loop.loops, loop.body) (sym nest.is ∙ is) in

@@ -2,6 +2,7 @@ pub mod Targeted
 pub mod Sums
 pub mod Links
 pub mod Counted
+pub mod LyingApart
 pub mod Independent
 pub mod IndependentNests
 pub mod Grammar

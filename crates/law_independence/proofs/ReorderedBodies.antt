@@ -127,7 +127,7 @@ module _ (ds : List Declaration) (box : List Side) (h : Loop) (body : Stmt) wher
 
 -- a nest with its body, which assigns none of the loops' variables
 pub record IsNestRead (ds : List Declaration) (now : Nesting) (outer : ℕ) (serial : List ℕ) (n : ℕ) (s : Stmt) : Type 0 where
-  pub nest : IsNestThere ds now outer serial n s
+  pub nest : IsNestThere ds now outer serial [] n s
   pub inner : IsStmtRead ds nest.inner.box nest.body
   pub outside : (x : Variable) → is_among (targets nest.body) x ≡ true → visible_behind nest.body x ≡ true → visible_behind s x ≡ true
 

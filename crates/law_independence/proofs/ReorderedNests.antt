@@ -50,7 +50,7 @@ pub record IsReady (loops : List Loop) (body : Stmt) (outer : State) (us : List 
   pub differ : AllPairs (λ u v. u ≢ v) us
   pub turn : (u : Vector) → Contains us u → InnerLoopsTurn loops body outer u
 
-nest_ready : (ds : List Declaration) (round : Nesting) (outer : ℕ) (serial : List ℕ) (n : ℕ) (s : Stmt) (nest : IsNestThere ds round outer serial n s) (steps : ℕ → ℤ) (state : State) (us : List Vector)
+nest_ready : (ds : List Declaration) (round : Nesting) (outer : ℕ) (serial : List ℕ) (n : ℕ) (s : Stmt) (nest : IsNestThere ds round outer serial [] n s) (steps : ℕ → ℤ) (state : State) (us : List Vector)
     → AtTurn round.box (values_at round.levels steps) state → iterations nest.loops state ≡ Some us → IsReady nest.loops nest.body state us
 nest_ready ds round outer serial n s nest steps state us at are =
     record {

@@ -17,7 +17,7 @@ use Rattle.nest_loop.specs.Turn.{AtTurn}
 use Rattle.nest_loop.proofs.FormValues.{form_number}
 use Rattle.nest.specs.Nests.{StaysBelow, AllStay, lengths_of}
 use Rattle.law_independence.specs.Inside.{AreShort}
-use Rattle.law_independence.proofs.Independent.{lengths_short}
+use Rattle.law_independence.proofs.LyingApart.{lengths_short}
 use Rattle.law_independence.proofs.Grammar.{decls_short, decls_small, items_read}
 use Rattle.law_ranges.specs.Laws.{RangesHoldAtTurns}
 use Rattle.law_ranges.proofs.Round.{items_round}

@@ -1,4 +1,4 @@
--- Accesses of which each pair is shown to be independent or ordered by a sink, at the counters of two iterations that conflict: what `Independent` of `law_independence` has of nests without sinks.
+-- Where each pair of accesses is shown to be independent or ordered by a sink, iterations that conflict lie some steps of a sink apart.
 use Rattle.std.specs.Prelude.{ℕ, zero, suc, ◌≡◌, ◌≢◌, ◌<◌, ◌≤◌, ◌+◌, ◌-◌, ℤ, pos, ◌⊎◌, List, [], ◌∷◌, ◌++◌, length, map, drop, All, Contains, Some, slice_get, unsigned_abs}
 use Rattle.std.proofs.Common.{refl, sym, inl, inr, ap, ◌∙◌, subst, arith, ⊎_elim}
 use Rattle.std.proofs.lemmas.Bool.{cases_lt}
@@ -6,12 +6,11 @@ use Rattle.std.proofs.lemmas.Option.{none-some, slice_get_within, slice_get_read
 use Rattle.semantics.specs.Tree.{Stmt, Declaration}
 use Rattle.semantics.specs.Meaning.State.{State}
 use Rattle.semantics.specs.Meaning.Value.{values}
-use Rattle.semantics.specs.Loops.Nest.{Loop, Vector, iterations, at_vector}
+use Rattle.semantics.specs.Loops.Nest.{Loop, Vector, at_vector}
 use Rattle.semantics.specs.Loops.Order.{Distance}
 use Rattle.semantics.specs.Loops.Access as meant
 use Rattle.semantics.specs.Loops.Access.{Conflict, Element, Touches, Reaches, accesses}
-use Rattle.nest_loop.specs.Turn.{AtTurn}
-use Rattle.pairtest_counter.specs.Levels.{Nesting, AreLevels, IsTurn, values_at}
+use Rattle.pairtest_counter.specs.Levels.{Nesting, AreLevels, IsTurn}
 use Rattle.nest.specs.Nests.{lengths_of}
 use Rattle.pairtest.specs.declared.access.Access.{Access}
 use Rattle.pairtest.specs.declared.access.Nest.{Nest}
@@ -75,7 +74,7 @@ ordered nest sinks fs x y shown in_x in_y same writes =
 
 -- ---- lengths
 
-lengths_short : (ds : List Declaration) (x : ℕ) → HaveShort ds → AreShort (lengths_of (slice_get ds x))
+pub lengths_short : (ds : List Declaration) (x : ℕ) → HaveShort ds → AreShort (lengths_of (slice_get ds x))
 lengths_short [] x h = tt
 lengths_short (d ∷ ds) zero h = h.0
 lengths_short (d ∷ ds) (suc x) h = lengths_short ds x h.1
@@ -87,9 +86,13 @@ longer [] before after entered = let same : length before.levels ≡ length afte
 longer (h ∷ hs) before after (s, v, is, level, rest) =
     let le : length (v ∷ before.levels) ≤ length after.levels = longer hs (record { box = s ∷ before.box; levels = v ∷ before.levels }) after rest in omega arith
 
-module _ (ds : List Declaration) (sinks : List Distance) (round now : Nesting) (loops : List Loop) (body : Stmt) (steps : ℕ → ℤ) (outer : State) (us : List Vector)
+-- the counters of the nest's loops at an iteration
+abbrev pub nest_counters : Nesting → Nesting → (ℕ → ℤ) → List ℕ
+nest_counters round now s = stretch (length round.levels) (length now.levels - length round.levels) (counts_of s)
+
+module _ (ds : List Declaration) (sinks : List Distance) (round now : Nesting) (loops : List Loop) (body : Stmt) (steps : ℕ → ℤ) (outer : State)
     (nested : IsNestOf ds round loops now body) (shown : IsShownBody now (length round.levels) (map (λ l. l.most) (inner_loops 0 round.levels)) sinks body)
-    (turn : IsTurn round.levels steps) (at : AtTurn round.box (values_at round.levels steps) outer) (are : iterations loops outer ≡ Some us) where
+    (turn : IsTurn round.levels steps) where
   abbrev a : ℕ
   a = length round.levels
 
@@ -190,7 +193,8 @@ module _ (ds : List Declaration) (sinks : List Distance) (round now : Nesting) (
         let l = linked_site ds now shown.sites (accesses [] body) touches.access (linked ds now now [] body shown.sites refl shown.are nested.read nested.stays) touches.there in
         made element mode touches.access touches.reaches touches.mode_is l.0 l.1 l.2
 
-    natural : AreNatural (length now.levels) s1 (counts_of s1)
+    -- these counters are natural numbers, one for each loop that was entered
+    pub natural : AreNatural (length now.levels) s1 (counts_of s1)
     natural = counters_natural now.levels s1 (turns_are_inside now.box now.levels s1 now_levels now_turn).1
 
   -- two iterations with the same counters of the nest are one
@@ -200,13 +204,9 @@ module _ (ds : List Declaration) (sinks : List Distance) (round now : Nesting) (
       steps_tell_iterations round now loops steps outer u v s1 t1 p q
       (λ j le lt. natural s1 u p j lt ∙ ap pos (stretch-tells b a (counts_of s1) (counts_of t1) e j le (omega arith)) ∙ sym (natural t1 v q j lt))
 
-  -- the counters of the nest's loops at an iteration
-  abbrev pub nest_counters : (ℕ → ℤ) → List ℕ
-  nest_counters s1 = stretch a b (counts_of s1)
-
   -- iterations that conflict lie some steps of a sink apart, one way or the other
   pub lie_apart : (u v : Vector) (s1 t1 : ℕ → ℤ) → IsIteration round now loops steps outer u s1 → IsIteration round now loops steps outer v t1 → Conflict loops body outer u v
-      → LieApart sinks (nest_counters s1) (nest_counters t1) ⊎ LieApart sinks (nest_counters t1) (nest_counters s1)
+      → LieApart sinks (nest_counters round now s1) (nest_counters round now t1) ⊎ LieApart sinks (nest_counters round now t1) (nest_counters round now s1)
   lie_apart u v s1 t1 p q conflict =
       let x = made_by s1 u p conflict.element conflict.first conflict.by_first in
       let y = made_by t1 v q conflict.element conflict.second conflict.by_second in
@@ -222,15 +222,11 @@ module _ (ds : List Declaration) (sinks : List Distance) (round now : Nesting) (
       let other : Meet shown.nest y.access x.access y.place x.place = record { first = y.is; second = x.is; together = sym together; apart = λ e. apart (sym e); same_element = back } in
       ⊎_elim
       (λ (o : IsOrdered shown.nest sinks x.access y.access).
-      inl (subst (λ ks. LieApart sinks ks (nest_counters t1)) x.own (subst (λ ks. LieApart sinks x.place.nest ks) y.own (they_lie x.access y.access x.place y.place o one))))
+      inl (subst (λ ks. LieApart sinks ks (nest_counters round now t1)) x.own (subst (λ ks. LieApart sinks x.place.nest ks) y.own (they_lie x.access y.access x.place y.place o one))))
       (λ (o : IsOrdered shown.nest sinks y.access x.access).
-      inr (subst (λ ks. LieApart sinks ks (nest_counters s1)) y.own (subst (λ ks. LieApart sinks y.place.nest ks) x.own (they_lie y.access x.access y.place x.place o other))))
+      inr (subst (λ ks. LieApart sinks ks (nest_counters round now s1)) y.own (subst (λ ks. LieApart sinks y.place.nest ks) x.own (they_lie y.access x.access y.place x.place o other))))
       (ordered shown.nest sinks shown.found x.access y.access shown.shown x.among y.among same_array writes)
     where
       they_lie : (x y : Access) (s t : Turn) → IsOrdered shown.nest sinks x y → Meet shown.nest x y s t → LieApart sinks s.nest t.nest
       they_lie x y s t (inl r) meet = absurd (refuted_pairs_do_not_meet_lem shown.nest x y s t r meet)
       they_lie x y s t (inr c) meet = covered_apart shown.nest sinks x y s t c meet
-
-  -- these counters are natural numbers, one for each loop that was entered
-  pub steps_natural : (u : Vector) (s1 : ℕ → ℤ) → IsIteration round now loops steps outer u s1 → AreNatural (length now.levels) s1 (counts_of s1)
-  steps_natural u s1 it = natural s1 u it
