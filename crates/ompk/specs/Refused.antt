@@ -82,14 +82,15 @@ RefusesData text tree R lines whole r = RefusesScalars text tree R r ⊎ (Refuse
 
 -- the passes before that of the data find nothing wrong, nor does that of the data
 abbrev pub IsNestedRightly : List ℕ → Kernel → Whole → Type 0
-IsNestedRightly text tree whole = IsDirected text tree × AreRightNests text tree × (whole.perfect ≡ true)
+IsNestedRightly text tree whole = IsDirected text tree × IsNested tree × AreRightNests text tree × (whole.perfect ≡ true)
 
 abbrev pub HasRightData : List ℕ → Kernel → LineData → Lines → Whole → Type 0
 HasRightData text tree R lines whole = IsDefinite (privates_by R) tree × ItemsKeepRoles text R [] tree.body × (fit_clauses lines tree ≡ true) × IsRight whole
 
--- the data are wrong, or they are right and a subscript leaves its array
+-- the data are wrong, by one of their numbers, or they are right and a subscript leaves its array
 abbrev pub RefusesDataOrRanges : List ℕ → Kernel → LineData → Lines → Whole → Refusal → Type 0
-RefusesDataOrRanges text tree R lines whole r = RefusesData text tree R lines whole r ⊎ (HasRightData text tree R lines whole × RefusesRanges tree r)
+RefusesDataOrRanges text tree R lines whole r =
+    (TellsOneOf (10 ∷ 14 ∷ 15 ∷ 16 ∷ 17 ∷ 18 ∷ []) r × RefusesData text tree R lines whole r) ⊎ (HasRightData text tree R lines whole × RefusesRanges tree r)
 
 -- memory was refused, or the first pass that finds something wrong tells it: places of lines, then nests, then data, then ranges
 abbrev pub RefusesPasses : List ℕ → Kernel → LineData → Lines → Whole → Refusal → Type 0

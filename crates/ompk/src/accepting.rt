@@ -19,7 +19,7 @@ ghost use Rattle.flow_scan.specs.Scans as scans;
 ghost use Rattle.flow_scan.specs.Views.{scan_part};
 ghost use Rattle.pragma.specs.Plain.{IsDirected};
 ghost use Rattle.pragma_region.specs.NotKnown.{unknown_among};
-ghost use Rattle.nest.specs.Nests.{IsInRange};
+ghost use Rattle.nest.specs.Nests.{IsNested, IsInRange};
 ghost use Rattle.nest.specs.Perfect.{AreRightNests};
 ghost use Rattle.nest.specs.Judged.{IsTableOf};
 ghost use Rattle.deptest.specs.Accepted.{tree_of, clauses_counted, data_counted, AreRegions, IsAccepted};
@@ -135,6 +135,7 @@ fn judge_nests(
     faults: WholeFaults,
 ) -> Result<LoopTable, Refusal>
     ensures ok { IfOk result (λ _. AreRightNests directives.now (kernel_of kernel.now)) }
+    ensures nested { IfOk result (λ _. IsNested (kernel_of kernel.now)) }
     ensures perfect { IfOk result (λ _. (whole_of faults).perfect ≡ true) }
     ensures table { IfOk result (IsTableOf (kernel_of kernel.now)) }
     ensures refusal { IfErr result (λ r. RefusesNests directives.now (kernel_of kernel.now) r

@@ -1,11 +1,12 @@
 use Rattle.std.specs.Prelude.{length, IfErr}
-use Rattle.std.proofs.Common.{inl, inr, rules}
+use Rattle.std.proofs.Common.{rules}
 use Rattle.std.proofs.lemmas.Result.{IfErr-weaker}
 use Rattle.ktree.specs.View.{kernel_of}
 use Rattle.pragma_named.specs.Known.{kept, lines_known}
 use Rattle.flow.specs.Roles.{data_known}
 use Rattle.ompk.specs.Judged.{whole_of}
-use Rattle.ompk.specs.Refused.{RefusesData, RefusesPasses}
+use Rattle.ompk.specs.Refused.{IsNestedRightly, RefusesData, RefusesPasses}
+use Rattle.ompk.proofs.Telling.{data_refused}
 use Rattle.ompk.proofs.accepting.judge.Goals as goal
 
 pub returns-in_err-loops-clause-refusal : goal.returns-in_err-loops-clause-refusal
@@ -15,6 +16,6 @@ returns-in_err-loops-clause-refusal c =
     let R = data_known (kept c.args.lines.now) (length k.variables) in
     let lines = lines_known (kept c.args.lines.now) in
     let whole = whole_of c.args.faults in
+    let right : IsNestedRightly text k whole = search rules in
     let refused : IfErr c.from_residual-in_err-loops.result (RefusesData text k R lines whole) = search rules in
-    IfErr-weaker c.from_residual-in_err-loops.result (RefusesData text k R lines whole) (RefusesPasses text k R lines whole)
-    (λ r h. inr (inr (inr ((c.in_ok-judge_places.ensures.ok, c.in_ok-table.ensures.ok, c.in_ok-table.ensures.perfect), inl h)))) refused
+    IfErr-weaker c.from_residual-in_err-loops.result (RefusesData text k R lines whole) (RefusesPasses text k R lines whole) (λ r h. data_refused text k R lines whole r right h) refused
