@@ -1,2 +1,3 @@
 pub mod Refused
 pub mod Judged
+pub mod Inside

@@ -23,6 +23,7 @@ ghost use Rattle.nest.specs.Nests.{IsNested, IsInRange};
 ghost use Rattle.nest.specs.Perfect.{AreRightNests};
 ghost use Rattle.nest.specs.Judged.{IsTableOf};
 ghost use Rattle.deptest.specs.Accepted.{tree_of, clauses_counted, data_counted, AreRegions, IsAccepted};
+ghost use Rattle.ompk.specs.Inside.{AccessesStayWithin};
 ghost use Rattle.ompk.specs.Judged.{whole_of, whole_found, IsRight, IsToldKernel, IsOfKernel};
 ghost use Rattle.ompk.specs.Refused.{IsJudged, RefusesLines, RefusesUnknown, RefusesPlaces, RefusesNests, RefusesImperfect, RefusesRanges, RefusesScalars, RefusesClauses, RefusesRegions, RefusesWhole, HasRightData, RefusesData, RefusesPasses, RefusesAlone, RefusesKernel, RefusesText};
 
@@ -483,6 +484,7 @@ pub fn check(alloc: Global, text: &[u8]) -> Result<Checked, Refusal>
     ensures stands { IfOk result (λ checked. StandsFor text.now (tree_of checked)) }
     ensures keeps { IfOk result (λ checked. checked.text ≡ text.now) }
     ensures sound { IfOk result IsAccepted }
+    ensures inside { IfOk result (λ checked. AccessesStayWithin (tree_of checked)) }
     ensures refusal { IfErr result (RefusesText text.now) }
 {
     let kernel = parse(alloc, text)?;
