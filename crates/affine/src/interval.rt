@@ -4,6 +4,7 @@ ghost use Rattle.std.specs.Prelude.{◌≡◌, ◌⊎◌, ◌∷◌, ◌↔◌, 
 ghost use Rattle.std.specs.List.{list_any};
 ghost use Rattle.ktree.specs.declared.refusal.Refusal.TheVariants.{Limit, OutOfMemory};
 
+use ktree::limits::LOOP_VALUE;
 use ktree::{Place, Refusal, VarId};
 use smallvec::SmallVec;
 use std::alloc::Global;
@@ -99,9 +100,6 @@ impl Model for VarBox {
     ghost invariant = { λ b. All SideFits b.sides.items };
 }
 
-/// What the ends of a box's intervals are at most, in absolute value.
-const GREATEST: u128 = 1 << 33;
-
 impl VarBox {
     ghost use Rattle.affine.specs.Box.{side, interval_at, IsEmpty, EndsFit};
 
@@ -133,7 +131,8 @@ impl VarBox {
             ⊎ ((refusal ≡ Refusal.Limit place) × (¬ (EndsFit least greatest)))) }
         ensures err { OnErr result (self.new ≡ self.old) }
     {
-        if least.unsigned_abs() > GREATEST || greatest.unsigned_abs() > GREATEST {
+        let limit = u128::from(LOOP_VALUE);
+        if least.unsigned_abs() > limit || greatest.unsigned_abs() > limit {
             return Err(Refusal::Limit(place));
         }
         let interval = Interval {

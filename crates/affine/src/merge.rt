@@ -7,13 +7,10 @@ ghost use Rattle.affine.specs.Arithmetic.{term_before, terms_without, with_multi
 ghost use Rattle.affine.specs.Limits.{IsWithin, TermsFit};
 
 use crate::term::Term;
-use ktree::limits::EQUATION_NUMBER;
+use ktree::limits::{EQUATION_NUMBER, FORM_VARIABLES};
 use ktree::{Place, Refusal, VarId};
 use smallvec::SmallVec;
 use std::alloc::Global;
-
-/// How many variables a form has at most.
-const VARIABLES: usize = 64;
 
 /// Terms in the order of their variables.
 pub(crate) type Terms = SmallVec<Term, 8>;
@@ -65,7 +62,7 @@ fn push_term(
         return Ok(());
     }
     let coefficient = within_limit(coefficient, place)?;
-    if terms.len() == VARIABLES {
+    if terms.len() == FORM_VARIABLES {
         return Err(Refusal::Limit(place));
     }
     terms.push(Term {

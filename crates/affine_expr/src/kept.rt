@@ -8,18 +8,15 @@ ghost use Rattle.affine_expr.specs.Faults.{Refused};
 use crate::faults::{Fault, fault_of_refusal};
 use affine::Form;
 use ktree::Place;
-use ktree::limits::AFFINE_NUMBER;
+use ktree::limits::{AFFINE_NUMBER, AFFINE_VARIABLES};
 use std::alloc::Global;
-
-/// How many variables it has at most: half as many as any form, so that two that are kept have a difference.
-const VARIABLES: usize = 32;
 
 /// The form, where it keeps the limits.
 fn keep_limits(form: Form, place: Place) -> Result<Form, Fault>
     ensures ok { IfOk result (λ kept_form. kept form ≡ Some kept_form) }
     ensures err { IfErr result (λ fault. (fault ≡ Fault.Limit place) × (kept form ≡ None)) }
 {
-    if form.is_within(AFFINE_NUMBER) && form.terms().len() <= VARIABLES {
+    if form.is_within(AFFINE_NUMBER) && form.terms().len() <= AFFINE_VARIABLES {
         Ok(form)
     } else {
         Err(Fault::Limit(place))

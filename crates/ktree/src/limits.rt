@@ -34,8 +34,18 @@ pub const CHUNK_ITERATIONS: u64 = 1 << 24;
 /// The numbers of a bound or subscript, in absolute value: one with a larger number is refused.
 pub const AFFINE_NUMBER: u64 = 1 << 32;
 
+/// The variables of a bound or subscript: one with more is refused.
+pub const AFFINE_VARIABLES: usize = 32;
+
 /// The value of a loop's bound: a loop of which a bound may be larger is refused as one that may wrap (K07).
 pub const BOUND: i128 = 1 << 32;
+
+/// The value of a loop's variable in the dependence test and in the count of a loop's turns, in absolute value: what needs a
+/// larger one is refused.
+pub const LOOP_VALUE: u64 = 1 << 33;
+
+/// The variables of a form, of which the difference of two bounds or subscripts is one: one with more is refused.
+pub const FORM_VARIABLES: usize = 64;
 
 /// The numbers of a form and of an equation of the dependence test, in absolute value: what needs a larger one is refused.
 pub const EQUATION_NUMBER: u128 = 1 << 62;

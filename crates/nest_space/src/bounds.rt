@@ -9,7 +9,7 @@ ghost use Rattle.nest_space.specs.Nests.{given, AreModest, IsRunOf};
 use crate::turns::LoopTurns;
 use affine::{Form, Term};
 use ktree::VarId;
-use ktree::limits::BOUND;
+use ktree::limits::{BOUND, LOOP_VALUE};
 use nest_loop::{Bound, Canonical, Direction, Stride};
 
 /// What a variable holds.
@@ -19,16 +19,13 @@ pub struct Value {
     pub value: u64,
 }
 
-/// What the values are at most.
-const GREATEST: u64 = 1 << 33;
-
 /// Whether no value is too large.
 pub(crate) fn are_modest(values: &[Value]) -> bool
     ensures { IsTrue result ↔ AreModest values.now }
 {
     match values.split_first() {
         None => true,
-        Some((first, rest)) => first.value <= GREATEST && are_modest(rest),
+        Some((first, rest)) => first.value <= LOOP_VALUE && are_modest(rest),
     }
 }
 
