@@ -52,7 +52,7 @@ lexed_push text (u ∷ ts) [] t l h k = absurd h
 
 -- what stands past the end
 abbrev pub no_token : Token
-no_token = record { kind = given.Word; start = 0; length = 0; place = record { line = 0; column = 0 } }
+no_token = record { kind = given.Identifier; start = 0; length = 0; place = record { line = 0; column = 0 } }
 
 pub lexed_next : (text : List ℕ) (ts : List Token) (i : ℕ) (ls new : List Lexeme) (l : Lexeme) → i < length ts → AreLexed text (take i ts) ls → IsLexed text (slice_index_or ts i no_token) l → new ≡ ls ++ l ∷ [] → AreLexed text (take (i + 1) ts) new
 lexed_next text ts i ls new l h k d e =
@@ -88,9 +88,9 @@ few_lines text i h = let l = ends_within (take i text) in let k = length-take i 
 
 -- a kind of token and what it stands for
 kind_same : (text : List ℕ) (t : Token) (line : ℕ) (k : TokenKind) (l : Kind) (m : meant.Token) → length text ≤ 2 ^ 20 → IsKind k m → IsLineOf line m → IsAt text (span_of t) m → IsKindOf (spanned text (span_of t)) k l → IsSame (kind_of line l) m
-kind_same text t line given.Word (seen.Word w) (meant.Word v) small h n a e = ap meant.Word (e ∙ stands_word a)
-kind_same text t line given.Word (seen.Word w) m small h n a e = absurd h
-kind_same text t line given.Word l m small h n a e = absurd e
+kind_same text t line given.Identifier (seen.Identifier w) (meant.Word v) small h n a e = ap meant.Word (e ∙ stands_word a)
+kind_same text t line given.Identifier (seen.Identifier w) m small h n a e = absurd h
+kind_same text t line given.Identifier l m small h n a e = absurd e
 kind_same text t line (given.IntegerConstant value s) (seen.IntegerConstant value' s') (meant.IntegerConstant n u) small h l a e =
     value_same value' n (suffix_of s') u (subst (λ x. SomeIff x (n < 2 ^ 64) n) e.0 h.0) (ap suffix_of (sym e.1) ∙ h.1)
 kind_same text t line (given.IntegerConstant value s) (seen.IntegerConstant value' s') m small h n a e = absurd h

@@ -11,7 +11,7 @@ use Rattle.cparse_cursor.specs.declared.lexeme.Lexeme.{Lexeme}
 
 -- a kind of token with its own bytes; of a string those between its quotes
 abbrev pub IsKindOf : List ℕ → TokenKind → Kind → Type 0
-IsKindOf bytes given.Word (seen.Word w) = w.now ≡ bytes
+IsKindOf bytes given.Identifier (seen.Identifier w) = w.now ≡ bytes
 IsKindOf bytes (given.IntegerConstant value suffix) (seen.IntegerConstant value' suffix') = (value ≡ value') × (suffix ≡ suffix')
 IsKindOf bytes (given.StringLiteral single) (seen.StringLiteral w single') = (single ≡ single') × ((inner : List ℕ) → bytes ≡ 34 ∷ (inner ++ 34 ∷ []) → w.now ≡ inner)
 IsKindOf bytes (given.Punctuator s) (seen.Punctuator s') = s ≡ s'

@@ -34,11 +34,11 @@ fn between_quotes(bytes: &[u8]) -> &[u8]
 
 /// A kind of token with its bytes.
 fn kind(bytes: &[u8], kind: TokenKind) -> Kind<'_>
-    requires { kind ≡ kinds.Word → IsAscii bytes.now }
+    requires { kind ≡ kinds.Identifier → IsAscii bytes.now }
     ensures { IsKindOf bytes.now kind result }
 {
     match kind {
-        TokenKind::Word => Kind::Word(word(bytes)),
+        TokenKind::Identifier => Kind::Identifier(word(bytes)),
         TokenKind::IntegerConstant(value, suffix) => Kind::IntegerConstant(value, suffix),
         TokenKind::StringLiteral(single) => Kind::StringLiteral(between_quotes(bytes), single),
         TokenKind::Punctuator(symbol) => Kind::Punctuator(symbol),

@@ -6,7 +6,7 @@ use Rattle.ktree.specs.declared.place.Place.{Place}
 use Rattle.ctoken.specs.Front.{spelled}
 use Rattle.ctoken.specs.Meant.{symbol_of, number_of}
 use Rattle.cparse_cursor.specs.declared.lexeme.Kind.{Kind}
-use Rattle.cparse_cursor.specs.declared.lexeme.Kind.TheVariants.{Word, IntegerConstant, StringLiteral, Punctuator, Include, Line}
+use Rattle.cparse_cursor.specs.declared.lexeme.Kind.TheVariants.{Identifier, IntegerConstant, StringLiteral, Punctuator, Include, Line}
 use Rattle.cparse_cursor.specs.declared.lexeme.Lexeme.{Lexeme}
 
 -- a literal's value; each that is too great counts as 2^64
@@ -16,7 +16,7 @@ value_of (Some n) = n
 
 -- what a token is, in the line of this number
 abbrev pub kind_of : ℕ → Kind → meant.Token
-kind_of line (Word name) = meant.Word name.now
+kind_of line (Identifier name) = meant.Word name.now
 kind_of line (IntegerConstant value suffix) = meant.IntegerConstant (value_of value) (suffix_of suffix)
 kind_of line (StringLiteral bytes single) = meant.StringLiteral (spelled false bytes.now) single
 kind_of line (Punctuator symbol) = meant.Punctuator (symbol_of symbol)

@@ -7,7 +7,7 @@ use ktree::{Place, Suffix};
 #[derive(Clone, Copy)]
 pub enum Kind<'t> {
     /// A name or a reserved word.
-    Word(&'t str),
+    Identifier(&'t str),
     /// A literal: its value if that is below 2^64, and its suffix.
     IntegerConstant(Option<u64>, Suffix),
     /// A string literal: its bytes between the quotes, and whether it ends in a single `%`.

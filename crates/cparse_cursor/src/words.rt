@@ -26,7 +26,7 @@ pub fn if_word<'s, 't>(
 {
     let (first, rest) = tokens.split_first()?;
     match first.kind {
-        Kind::Word(found) if found == expected => Some((first.place, rest)),
+        Kind::Identifier(found) if found == expected => Some((first.place, rest)),
         _ => None,
     }
 }
@@ -63,7 +63,7 @@ pub fn next_word<'s, 't>(tokens: &'s [Lexeme<'t>], end: Place) -> Result<NextWor
     };
     let place = first.place;
     match first.kind {
-        Kind::Word(name) => Ok(NextWord { name, place, rest }),
+        Kind::Identifier(name) => Ok(NextWord { name, place, rest }),
         _ => Err(Stop::Syntax(place)),
     }
 }

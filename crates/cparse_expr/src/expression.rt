@@ -117,7 +117,7 @@ fn primary<'s, 't>(
     };
     match first.kind {
         Kind::IntegerConstant(value, suffix) => Ok(literal(value, suffix, first.place, rest)),
-        Kind::Word(word) => name(context, room, word, first.place, rest),
+        Kind::Identifier(word) => name(context, room, word, first.place, rest),
         Kind::Punctuator(Symbol::OpenParen) => {
             let inner = whole_inside(context, room, first.place, rest)?;
             let rest = punctuator(Symbol::CloseParen, inner.rest, context.end)?;

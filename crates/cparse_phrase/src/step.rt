@@ -165,7 +165,7 @@ pub fn step<'s, 't>(
     match first.kind {
         Kind::Punctuator(Symbol::PlusPlus) => step_before(context, true, rest),
         Kind::Punctuator(Symbol::MinusMinus) => step_before(context, false, rest),
-        Kind::Word(name) => step_of(context, room, name, first.place, rest),
+        Kind::Identifier(name) => step_of(context, room, name, first.place, rest),
         _ => Err(Stop::Syntax(first.place)),
     }
 }

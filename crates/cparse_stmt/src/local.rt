@@ -30,7 +30,7 @@ pub fn begins_item(tokens: &[Lexeme]) -> bool
     match tokens.first() {
         Some(first) => matches!(
             first.kind,
-            Kind::Line | Kind::Word(_) | Kind::Punctuator(Symbol::OpenBrace)
+            Kind::Line | Kind::Identifier(_) | Kind::Punctuator(Symbol::OpenBrace)
         ),
         None => false,
     }

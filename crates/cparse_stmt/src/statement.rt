@@ -67,7 +67,7 @@ fn count_statement<'s, 't>(
     let tally = spend(tally, place)?;
     match first.kind {
         Kind::Punctuator(Symbol::OpenBrace) => block(setting, scope, room, tally, place, rest),
-        Kind::Word(word) => statement_behind(setting, scope, room, tally, word, place, rest),
+        Kind::Identifier(word) => statement_behind(setting, scope, room, tally, word, place, rest),
         _ => Err(Stop::Syntax(place)),
     }
 }
@@ -191,7 +191,7 @@ fn item<'s, 't>(
                     rest,
                 })
             }
-            Kind::Word(word) if word == "uint64_t" => local_behind(
+            Kind::Identifier(word) if word == "uint64_t" => local_behind(
                 setting, scope, room, tally, rest,
             ),
             _ => statement_item(setting, scope, room, tally, tokens),

@@ -9,7 +9,7 @@ use Rattle.semantics.specs.Source.Text.{starts_with}
 use Rattle.semantics.specs.Source.Token as meant
 use Rattle.semantics.specs.Source.Cuts.{Stands, word, has_trigraph, is_header, headers_first, starts_with_place, places_follow}
 use Rattle.ctoken.specs.declared.token.TokenKind.{TokenKind}
-use Rattle.ctoken.specs.declared.token.TokenKind.TheVariants.{Word, IntegerConstant, StringLiteral, Punctuator, Include, Line}
+use Rattle.ctoken.specs.declared.token.TokenKind.TheVariants.{Identifier, IntegerConstant, StringLiteral, Punctuator, Include, Line}
 use Rattle.ctoken.specs.declared.token.Token.{Token}
 use Rattle.ctoken.specs.Meant.{IsKind, StandFor, span_of, spans_of, CutSo, AreTokensOf, HasNoTokens}
 use Rattle.semantics.specs.Source.Spans.{IsAt, AreAt}
@@ -45,7 +45,7 @@ SameHeader k (meant.Punctuator s) = header_in k ≡ None
 SameHeader k (meant.Line n) = header_in k ≡ None
 
 same_header : (k : TokenKind) (m : meant.Token) → IsKind k m → SameHeader k m
-same_header Word (meant.Word w) h = refl
+same_header Identifier (meant.Word w) h = refl
 same_header (IntegerConstant v s) (meant.IntegerConstant n t) h = refl
 same_header (StringLiteral o) (meant.StringLiteral cs p) h = refl
 same_header (Punctuator s) (meant.Punctuator t) h = refl
@@ -105,7 +105,7 @@ abbrev SamePlace : List ℕ → Token → meant.Token → List meant.Token → T
 SamePlace text t m ms = is_place text t ≡ starts_with_place (m ∷ ms)
 
 same_place : (text : List ℕ) (t : Token) (k : TokenKind) (m : meant.Token) (ms : List meant.Token) → t.kind ≡ k → IsKind k m → t.start + t.length ≤ length text → IsAt text (span_of t) m → SamePlace text t m ms
-same_place text t Word (meant.Word w) ms e h b a =
+same_place text t Identifier (meant.Word w) ms e h b a =
     ap (λ k. is_word k && ((t.length == 6) && starts_with (codes "PRIu64") (drop t.start text))) e ∙ place_is text t.start t.length b
     ∙ ap (λ v. pointwise nat_eq v (codes "PRIu64")) (stands_word a)
 same_place text t (IntegerConstant v s) (meant.IntegerConstant n u) ms e h b a = ap (λ k. is_word k && ((t.length == 6) && starts_with (codes "PRIu64") (drop t.start text))) e
@@ -116,7 +116,7 @@ same_place text t Line (meant.Line n) ms e h b a = ap (λ k. is_word k && ((t.le
 same_place text t k m ms e h b a = absurd h
 
 open_step : (k : TokenKind) (m : meant.Token) (ms : List meant.Token) → IsKind k m → ((not (is_open k) || starts_with_place ms) && places_follow ms) ≡ places_follow (m ∷ ms)
-open_step Word (meant.Word w) ms h = refl
+open_step Identifier (meant.Word w) ms h = refl
 open_step (IntegerConstant v s) (meant.IntegerConstant n u) ms h = refl
 open_step (StringLiteral true) (meant.StringLiteral cs true) ms h = refl
 open_step (StringLiteral false) (meant.StringLiteral cs false) ms h = refl

@@ -252,7 +252,7 @@ whole_name (b ∷ w) h = IsAscii-cons b w (letter_ascii b (first_of (is_letter b
 stands_ascii : {w rest v : List ℕ} → Stands w rest (meant.Word v) → IsAscii w
 stands_ascii (word {w = w} h k) = whole_name w h
 
-word_ascii : (text : List ℕ) (t : Token) (m : meant.Token) → IsKind t.kind m → IsAt text (span_of t) m → t.kind ≡ kinds.Word → IsAscii (spanned text (span_of t))
+word_ascii : (text : List ℕ) (t : Token) (m : meant.Token) → IsKind t.kind m → IsAt text (span_of t) m → t.kind ≡ kinds.Identifier → IsAscii (spanned text (span_of t))
 word_ascii text t (meant.Word w) k p e = stands_ascii p
 word_ascii text t (meant.IntegerConstant n s) k p e = absurd (subst (λ x. IsKind x (meant.IntegerConstant n s)) e k)
 word_ascii text t (meant.StringLiteral cs o) k p e = absurd (subst (λ x. IsKind x (meant.StringLiteral cs o)) e k)

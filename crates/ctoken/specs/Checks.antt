@@ -4,14 +4,14 @@ use Rattle.std.specs.List.{list_any, list_all}
 use Rattle.semantics.specs.Source.Text.{starts_with}
 use Rattle.semantics.specs.Source.Cuts.{is_printable, has_trigraph}
 use Rattle.ctoken.specs.declared.token.TokenKind.{TokenKind}
-use Rattle.ctoken.specs.declared.token.TokenKind.TheVariants.{Word, IntegerConstant, StringLiteral, Punctuator, Include, Line}
+use Rattle.ctoken.specs.declared.token.TokenKind.TheVariants.{Identifier, IntegerConstant, StringLiteral, Punctuator, Include, Line}
 use Rattle.ctoken.specs.declared.token.Token.{Token}
 use Rattle.ctoken.specs.declared.check.Included.{Included}
 use Rattle.ctoken.specs.Meant.{number_of}
 
 -- the header of an include line
 abbrev pub header_in : TokenKind → Option ℕ
-header_in Word = None
+header_in Identifier = None
 header_in (IntegerConstant value suffix) = None
 header_in (StringLiteral single) = None
 header_in (Punctuator symbol) = None
@@ -40,7 +40,7 @@ IsLeading None (Some seen) = ⊥
 IsLeading (Some i) None = ⊥
 
 abbrev pub is_word : TokenKind → Bool
-is_word Word = true
+is_word Identifier = true
 is_word (IntegerConstant value suffix) = false
 is_word (StringLiteral single) = false
 is_word (Punctuator symbol) = false
@@ -48,7 +48,7 @@ is_word (Include header) = false
 is_word Line = false
 
 abbrev pub is_open : TokenKind → Bool
-is_open Word = false
+is_open Identifier = false
 is_open (IntegerConstant value suffix) = false
 is_open (StringLiteral single) = single
 is_open (Punctuator symbol) = false

@@ -12,7 +12,7 @@ use Rattle.ctoken.specs.declared.token.Symbol.TheVariants.{Semicolon, Comma, Ope
 use Rattle.ctoken.specs.declared.token.Header.{Header}
 use Rattle.ctoken.specs.declared.token.Header.TheVariants.{Stdint, Inttypes, Stdio}
 use Rattle.ctoken.specs.declared.token.TokenKind.{TokenKind}
-use Rattle.ctoken.specs.declared.token.TokenKind.TheVariants.{Word, IntegerConstant, StringLiteral, Punctuator, Include, Line}
+use Rattle.ctoken.specs.declared.token.TokenKind.TheVariants.{Identifier, IntegerConstant, StringLiteral, Punctuator, Include, Line}
 use Rattle.ctoken.specs.declared.token.Token.{Token}
 
 abbrev pub symbol_of : Symbol → meant.Symbol
@@ -64,7 +64,7 @@ number_of Stdio = 2
 
 -- what a token is; of a literal, its value where it is below 2^64
 abbrev pub IsKind : TokenKind → meant.Token → Type 0
-IsKind Word (meant.Word w) = Unit {0}
+IsKind Identifier (meant.Word w) = Unit {0}
 IsKind (IntegerConstant value suffix) (meant.IntegerConstant n s) = SomeIff value (n < 2 ^ 64) n × (suffix_of suffix ≡ s)
 IsKind (StringLiteral single) (meant.StringLiteral cs open') = single ≡ open'
 IsKind (Punctuator symbol) (meant.Punctuator s) = symbol_of symbol ≡ s
@@ -109,7 +109,7 @@ pub record AreTokensOf (text : List ℕ) (tokens : List Token) : Type 0 where
 -- a token lies in its text, and a word is ASCII
 pub record LiesIn (text : List ℕ) (t : Token) : Type 0 where
   pub within : t.start + t.length ≤ length text
-  pub ascii : t.kind ≡ Word → IsAscii (spanned text (span_of t))
+  pub ascii : t.kind ≡ Identifier → IsAscii (spanned text (span_of t))
 
 -- tokens lie in their text, and are no more than its bytes
 pub record LieIn (text : List ℕ) (tokens : List Token) : Type 0 where

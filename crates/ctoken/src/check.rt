@@ -102,7 +102,7 @@ pub fn misplaced_include(tokens: &[Token]) -> Option<usize>
 fn is_place(text: &[u8], token: Token) -> bool
     ensures { result ≡ is_place text.now token }
 {
-    matches!(token.kind, TokenKind::Word)
+    matches!(token.kind, TokenKind::Identifier)
         && token.length == 6
         && token.start <= text.len()
         && behind(&text[token.start..], b"PRIu64").is_some()

@@ -23,7 +23,7 @@ fn inside(text: &[u8]) -> Result<Piece, usize>
         return Err(0);
     };
     if is_letter(*first) {
-        Ok(Piece::Token(TokenKind::Word, 0, Class::Word.run(rest) + 1))
+        Ok(Piece::Token(TokenKind::Identifier, 0, Class::Word.run(rest) + 1))
     } else if is_digit(*first) {
         literal(text)
     } else if is_blank(*first) {

@@ -60,7 +60,7 @@ pub enum Header {
 #[derive(Clone, Copy, Debug, PartialEq, Eq)]
 pub enum TokenKind {
     /// A name or a reserved word: the token's own bytes.
-    Word,
+    Identifier,
     /// A literal: its value if that is below 2^64, and its suffix.
     IntegerConstant(Option<u64>, Suffix),
     /// A string literal, and whether it ends in a single `%`.

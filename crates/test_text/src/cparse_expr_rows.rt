@@ -90,7 +90,7 @@ fn products_are_tighter_than_sums(rt: HostRuntime) {
         token(3, Kind::Punctuator(Symbol::PlusSign)),
         token(5, Kind::IntegerConstant(Some(2), Suffix::Bare)),
         token(7, Kind::Punctuator(Symbol::Star)),
-        token(9, Kind::Word("x")),
+        token(9, Kind::Identifier("x")),
     ];
     assert!(rt; are_sum(rt.alloc(), &tokens));
 }
@@ -113,11 +113,11 @@ fn condition_is_no_operand_of_a_product(rt: HostRuntime) {
     let tokens = [
         token(1, Kind::Punctuator(Symbol::MinusSign)),
         token(2, Kind::Punctuator(Symbol::OpenParen)),
-        token(3, Kind::Word("x")),
+        token(3, Kind::Identifier("x")),
         token(4, Kind::Punctuator(Symbol::CloseParen)),
         token(6, Kind::Punctuator(Symbol::Star)),
         token(8, Kind::Punctuator(Symbol::Bang)),
-        token(9, Kind::Word("y")),
+        token(9, Kind::Identifier("y")),
     ];
     assert!(rt; misfit_column(rt.alloc(), &tokens) == Some(6));
 }
@@ -138,7 +138,7 @@ fn operation_at_fault_counts_as_typed(rt: HostRuntime) {
 #[test]
 fn missing_operand_is_told_at_the_end(rt: HostRuntime) {
     let tokens = [
-        token(1, Kind::Word("x")),
+        token(1, Kind::Identifier("x")),
         token(3, Kind::Punctuator(Symbol::PlusSign)),
     ];
     let line = match read(rt.alloc(), &tokens) {

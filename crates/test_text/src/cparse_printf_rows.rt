@@ -86,10 +86,10 @@ fn printf_has_an_argument_for_each_place(rt: HostRuntime) {
     let tokens = [
         token(7, Kind::Punctuator(Symbol::OpenParen)),
         token(8, Kind::StringLiteral(b"s=%", true)),
-        token(14, Kind::Word("PRIu64")),
+        token(14, Kind::Identifier("PRIu64")),
         token(21, Kind::StringLiteral(b"\\n", false)),
         token(25, Kind::Punctuator(Symbol::Comma)),
-        token(27, Kind::Word("s")),
+        token(27, Kind::Identifier("s")),
         token(28, Kind::Punctuator(Symbol::CloseParen)),
         token(29, Kind::Punctuator(Symbol::Semicolon)),
     ];

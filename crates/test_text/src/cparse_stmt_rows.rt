@@ -17,7 +17,7 @@ use std::test::*;
 fn word<'t>(column: u32, name: &'t str) -> Lexeme<'t> {
     let place = Place { line: 1, column };
     Lexeme {
-        kind: Kind::Word(name),
+        kind: Kind::Identifier(name),
         place,
     }
 }

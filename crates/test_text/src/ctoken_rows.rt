@@ -113,7 +113,7 @@ fn cuts_each_kind(rt: HostRuntime) {
     let kinds = [
         TokenKind::Include(Header::Stdio),
         TokenKind::Line,
-        TokenKind::Word,
+        TokenKind::Identifier,
         TokenKind::Punctuator(Symbol::DoubleLess),
         TokenKind::Punctuator(Symbol::EqualSign),
     ];
