@@ -12,13 +12,13 @@ ghost use Rattle.cparse_cursor.specs.Outcome.{Gives, got_of, subscripts_of};
 ghost use Rattle.cparse_operand.specs.OperandViews.{operand_of};
 
 use crate::operand::Operand;
-use crate::typing::{in_int, in_range};
+use crate::typing::in_range;
 use cparse_cursor::lexeme::Lexeme;
 use cparse_cursor::parsed::{Parsed, Subscripts};
 use cparse_cursor::scope::Entity;
 use cparse_cursor::stop::{Fault, Flaw, Stop, earlier, unless};
 use cparse_cursor::written::{Sort, Written};
-use ktree::{Expr, NamePlaces, Place, Source, Suffix, VarId};
+use ktree::{Expr, NamePlaces, Place, Source, Suffix, VarId, int_constant};
 use std::alloc::Global;
 
 /// A literal, of which the value is known if it is below 2^64 (C11 6.4.4.1).
@@ -44,10 +44,14 @@ pub fn literal<'s, 't>(
         Suffix::Bare => Operand {
             source,
             typed: false,
-            constant: in_int(n),
+            constant: int_constant(n),
             plain: true,
             written: Written {
-                sort: Sort::Constant(if fault.is_none() { in_int(n) } else { None }),
+                sort: Sort::Constant(if fault.is_none() {
+                    int_constant(n)
+                } else {
+                    None
+                }),
                 has_ull: false,
                 place,
             },

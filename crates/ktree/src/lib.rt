@@ -1,6 +1,7 @@
 //! The tree of a kernel with the places of its parts, and what may be refused.
 #![tactic(auto)]
 
+mod constant;
 mod directive;
 mod expression;
 pub mod limits;
@@ -9,6 +10,7 @@ mod refusal;
 mod statement;
 mod workers;
 
+pub use constant::{fold_constants, int_constant};
 pub use directive::{
     AssociatedLoops, ChunkSize, Clause, Directive, Offset, ReductionOperator, Schedule,
     SinkElement, Written,
