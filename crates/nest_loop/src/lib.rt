@@ -16,7 +16,6 @@ pub use assigned::assigns;
 pub use entered::{Loop, LoopFacts, enter, go_into, loop_of};
 pub use head::{Canonical, canonical_of};
 pub use mentioned::{mentions, source_mentions};
-pub use most::{distance, greatest_trip_count, trip_count_within};
+pub use most::{distance, end_offset, greatest_trip_count};
 pub use stride::{Bound, Direction, Stride, stride_of};
 pub use walked::side;
-pub use wrapping::wraps;

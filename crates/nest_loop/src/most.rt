@@ -18,8 +18,8 @@ use affine_expr::{Fault, fault_of_refusal};
 use ktree::Place;
 use std::alloc::Global;
 
-/// How much further than the end the number lies that the variable is compared with, below 0.
-fn short(bound: Bound) -> i128
+/// How much further than the end of a loop the number lies that its variable is compared with, below 0 (OpenMP 5.2, 4.4.1).
+pub fn end_offset(bound: Bound) -> i64
     ensures way { (d : Directions) → result ≡ way d (pos 0) (end_shift d bound) }
     ensures within { IsWithin 1 result }
 {
@@ -77,11 +77,12 @@ pub fn distance(alloc: Global, canonical: &Canonical, place: Place) -> Result<Fo
     ensures err { IfErr result (λ fault. fault ≡ OutOfMemory) }
 {
     let apart = apart(canonical, place)?;
-    with_number(alloc, &apart, short(canonical.bound), place)
+    let offset = i128::from(end_offset(canonical.bound));
+    with_number(alloc, &apart, offset, place)
 }
 
 /// How many turns stay within a distance.
-pub fn trip_count_within(distance: i128, by: u32) -> u64
+fn trip_count_within(distance: i128, by: u32) -> u64
     requires by_one { 1 ≤ by }
     requires near { distance ≤ℤ pos (2 ^ 33) }
     ensures turns { AreWithin by distance result }

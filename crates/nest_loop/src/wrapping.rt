@@ -59,7 +59,7 @@ fn are_modest(canonical: &Canonical, bounds: &VarBox) -> bool
 /// # Errors
 ///
 /// `OutOfMemory`.
-pub fn wraps(canonical: &Canonical, bounds: &VarBox, place: Place) -> Result<bool, Fault>
+pub(crate) fn wraps(canonical: &Canonical, bounds: &VarBox, place: Place) -> Result<bool, Fault>
     requires { IsWell canonical.now }
     ensures stays { IfOk result (λ wraps. wraps ≡ false → CannotWrap bounds.now canonical.now) }
     ensures wraps { IfOk result (λ wraps. wraps ≡ true → CannotWrap bounds.now canonical.now → ⊥) }

@@ -1,18 +1,16 @@
 //! Forms in the counters of loops.
 
-ghost use Rattle.std.specs.Prelude.{◌≡◌, ◌⊎◌, ◌<◌, ◌^◌, length, IfOk, IfErr, Some, pos};
+ghost use Rattle.std.specs.Prelude.{◌≡◌, ◌⊎◌, ◌<◌, ◌^◌, length, IfOk, IfErr, Some};
 ghost use Rattle.ktree.specs.declared.refusal.Refusal.TheVariants as refusals;
 ghost use Rattle.affine.specs.Affine.{Affine};
 ghost use Rattle.affine.specs.Arithmetic.{sum_form, multiple_form, constant_form, variable_form};
 ghost use Rattle.affine.specs.Limits.{Fits, IsWithin};
-ghost use Rattle.nest_loop.specs.Most.{way};
-ghost use Rattle.nest_loop.specs.Sides.{end_shift};
 ghost use Rattle.pairtest_counter.specs.Counters.{step_by, Adds, InCounters, AreForms, IsProduct, IsWay, IsStepped, IsReached, AreFormsBetween, Makes};
 
 use crate::level::{EnclosingLoop, Forms};
 use affine::{Form, Term};
 use ktree::{Place, Refusal, VarId};
-use nest_loop::{Bound, Canonical, Direction, Stride};
+use nest_loop::{Canonical, Direction, Stride, end_offset};
 use std::alloc::Global;
 
 /// The form that is this number everywhere.
@@ -98,18 +96,6 @@ fn steps(alloc: Global, counter: VarId, stride: Stride, place: Place) -> Result<
     Form::variable(alloc, counter).scale(step_by(stride), place)
 }
 
-/// How far the end of a loop lies behind what its variable is compared with, on its way.
-fn short(direction: Direction, bound: Bound) -> i64
-    ensures way { result ≡ way direction (pos 0) (end_shift direction bound) }
-    ensures within { IsWithin 1 result }
-{
-    match (direction, bound) {
-        (_, Bound::Inclusive) => 0,
-        (Direction::Rising, _) => -1,
-        (Direction::Falling, _) => -1,
-    }
-}
-
 /// How far one form lies behind another, on the way of a loop.
 fn way(direction: Direction, first: &Form, end: &Form, place: Place) -> Result<Form, Refusal>
     ensures { Makes result place (IsWay direction first.now end.now) }
@@ -144,10 +130,9 @@ fn reach_of(
 ) -> Result<Form, Refusal>
     ensures { Makes result place (IsReached canonical.now start.now limit.now) }
 {
-    let direction = canonical.stride.direction;
-    let apart = way(direction, start, limit, place)?;
-    let short = constant(alloc, short(direction, canonical.bound), place);
-    apart.add(&short, place)
+    let apart = way(canonical.stride.direction, start, limit, place)?;
+    let offset = constant(alloc, end_offset(canonical.bound), place);
+    apart.add(&offset, place)
 }
 
 /// The forms of a loop from its start and what its variable is compared with.

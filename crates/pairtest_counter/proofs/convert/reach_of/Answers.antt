@@ -13,6 +13,6 @@ returns-in_err-apart c =
 
 pub returns : goal.returns
 returns c =
-    let read : to_z w64 (of_z w64 c.short.result) ≡ c.short.result = search (rules, ints) in
-    reached_made c.args.canonical.now c.args.start.now c.args.limit.now c.in_ok-apart.apart c.constant-short.result c.args.place c.add.result c.in_ok-apart.ensures
-    (c.constant-short.ensures ∙ ap constant_form (read ∙ c.short.ensures.way)) c.add.ensures.ok c.add.ensures.fits c.add.ensures.refusal
+    let read : to_z w64 (of_z w64 c.end_offset.result) ≡ c.end_offset.result = search (rules, ints) in
+    reached_made c.args.canonical.now c.args.start.now c.args.limit.now c.in_ok-apart.apart c.constant-offset.result c.args.place c.add.result c.in_ok-apart.ensures
+    (c.constant-offset.ensures ∙ ap constant_form (read ∙ c.end_offset.ensures.way c.args.canonical.now.stride.direction)) c.add.ensures.ok c.add.ensures.fits c.add.ensures.refusal
