@@ -5,7 +5,7 @@ mod evaluation;
 mod making;
 mod term;
 
-pub use evaluation::{compare, is_local, operate, truth, worth};
+pub use evaluation::{compare, is_local, may_exchange, operate, truth, worth};
 pub use making::{
     beside, binary, both, box_both, branch, comparison, conditional, either, element, negation,
     number, repeat, then, unary,
