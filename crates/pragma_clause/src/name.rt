@@ -57,7 +57,7 @@ fn column_behind(place: Place, bytes: usize) -> Place {
 }
 
 /// A name as a text, which it is since it is ASCII.
-fn spelled(word: &[u8]) -> &str
+fn text_of(word: &[u8]) -> &str
     requires { is_name word.now ≡ true }
     ensures { result.now ≡ word.now }
 {
@@ -74,7 +74,7 @@ pub fn name_in(alloc: Global, word: &[u8], place: Place) -> Result<Written, Unre
     if !is_name(word) {
         return Err(Unread::Malformed);
     }
-    let text = spelled(word);
+    let text = text_of(word);
     if is_reserved(text) {
         return Err(Unread::Malformed);
     }

@@ -177,7 +177,7 @@ fn window_along(nest: &Nest<'_>, turns: Turns<'_>, inner: Turns<'_>, cells: u64)
 }
 
 // The registers of turns, in which the variable holds its first number.
-fn begun(alloc: Global, turns: Turns<'_>) -> Result<Vec<u64>, AllocError>
+fn first_registers(alloc: Global, turns: Turns<'_>) -> Result<Vec<u64>, AllocError>
     requires { turns.variable < length turns.registers.now }
     ensures { IfOk result (λ rs. rs.items
         ≡ slice_set turns.entry.registers.now turns.entry.variable turns.entry.first) }
@@ -218,7 +218,7 @@ pub fn nest_window_of(
     if !reads_its_own(alloc, nest)? {
         return Ok(None);
     }
-    let registers = begun(alloc, turns)?;
+    let registers = first_registers(alloc, turns)?;
     let inner = Turns {
         variable: nest.inner.at,
         first: nest.first,

@@ -51,7 +51,8 @@ fn add_zeros(all: &mut Vec<u64>, count: u64)
 
 // All cells, in memory that has room for them.
 fn put_all(all: &mut Vec<u64>, before: &[u64], left: u64, own: &[u64], right: u64, behind: &[u64])
-    requires room { length (parted before.now left own.now right behind.now) ≤ vec_capacity all.old }
+    requires room { length (parted before.now left own.now right behind.now)
+        ≤ vec_capacity all.old }
     requires none { all.old.items ≡ [] }
     ensures items { all.new.items ≡ parted before.now left own.now right behind.now }
     ensures capacity { vec_capacity all.new ≡ vec_capacity all.old }
