@@ -3,6 +3,7 @@ pub mod Swap
 pub mod Order
 pub mod Turning
 pub mod Lanes
+pub mod Below
 pub mod Folds
 pub mod Rows
 pub mod Laws

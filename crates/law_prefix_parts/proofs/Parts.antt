@@ -3,9 +3,10 @@ use Rattle.std.proofs.Common.{◌≡◌, ◌≢◌, ◌⊎◌, inl, inr, ℕ, ze
 use Rattle.std.specs.Prelude.{slice_index, slice_set, ◌==◌, not, ◌&&◌, ◌||◌, Contains}
 use Rattle.std.specs.List.{AllByRecursion as Each, list_all, list_any}
 use Rattle.std.proofs.lemmas.Bool.{and_parts, or_left, or_right, eqb-true, eqb-false, true≢false}
-use Rattle.std.proofs.lemmas.List.{get_or-set_other, length-set, length-append, get_or_append_left, get_or-append_right}
+use Rattle.std.proofs.lemmas.List.{get_or-set_other, length-set}
 use Rattle.std.proofs.lemmas.List.Elements.{Contains-append_left, Contains-append_right}
 use Rattle.std.proofs.lemmas.List.Folds.{list_any-append}
+use Rattle.std.proofs.lemmas.Simd.{map-map}
 use Rattle.semantics.specs.Meaning.Places.{below}
 use Rattle.lower_machine.specs.Machine.{Machine, machine}
 use Rattle.lower_op.specs.declared.op.Op.{Op}
@@ -16,37 +17,14 @@ use Rattle.law_lanes.specs.Folds.{folded}
 use Rattle.law_lanes.proofs.Ops.{at, place_at, source_at}
 use Rattle.law_lanes.proofs.Swap.{reg, cel, Fine, Stay, stays_steps}
 use Rattle.law_lanes.proofs.Turning.{Alike, onto, written_onto, set_alike}
-use Rattle.law_lanes.proofs.Lanes.{Outside, map_push, each_there, fine_there, steps_length, other_kept, begins_alike, end_alike}
+use Rattle.law_lanes.proofs.Lanes.{Outside, each_there, fine_there, steps_length, other_kept, begins_alike, end_alike}
+use Rattle.law_lanes.proofs.Below.{over_same}
 use Rattle.law_lanes.proofs.Folds.{set_there}
 use Rattle.law_parts.specs.Parts.{IsBetween, IsBeside, IsPartOf, later}
 use Rattle.law_parts.proofs.Frames.{WritesNot, ReadsNot, Agree, Went, cells_count, kept_cell, went}
 use Rattle.law_prefixes.specs.Prefixes.{read_of}
 use Rattle.law_prefix_parts.specs.PrefixParts.{ArePrefixes, LeavesPrefixes, PrefixesRunInParts, OperandsInParts, carried, begun_behind}
-use Rattle.law_prefix_parts.proofs.Quiet.{map_twice, quiet_in_step}
-
--- ---- lists of numbers from 0 on
-
-length_over : {A : Type 0} (f : ℕ → A) (n : ℕ) → length (map f (below n)) ≡ n
-length_over f zero = refl
-length_over f (suc n) = ap length (map_push f (below n) n) ∙ length-append (map f (below n)) (f n ∷ []) ∙ (let h : length (map f (below n)) ≡ n = length_over f n in omega arith)
-
-over_at : (f : ℕ → ℕ) (n i : ℕ) → i < n → slice_index (map f (below n)) i ≡ f i
-over_at f zero i lt = absurd (omega arith)
-over_at f (suc n) i lt = ap (λ (xs : List ℕ). slice_index xs i) (map_push f (below n) n) ∙ go (i == n) refl (λ (less : i < n). over_at f n i less)
-  where
-    go : (b : Bool) → (i == n) ≡ b → (i < n → slice_index (map f (below n)) i ≡ f i) → slice_index (map f (below n) ++ f n ∷ []) i ≡ f i
-    go true e more =
-        let is : i ≡ n = eqb-true i n e in
-        let long : length (map f (below n)) ≡ n = length_over f n in
-        get_or-append_right (map f (below n)) (f n ∷ []) n i 0 long (omega arith)
-        ∙ ap (λ (x : ℕ). slice_index (f n ∷ []) x) (let z : i - n ≡ 0 = omega arith in z) ∙ ap f (sym is)
-    go false e more =
-        let ne : i ≢ n = eqb-false i n e in
-        let long : length (map f (below n)) ≡ n = length_over f n in
-        get_or_append_left (map f (below n)) (f n ∷ []) 0 i (omega arith) ∙ more (omega arith)
-
-over_same : (f g : ℕ → ℕ) (n k : ℕ) → map f (below n) ≡ map g (below n) → k < n → f k ≡ g k
-over_same f g n k h lt = sym (over_at f n k lt) ∙ ap (λ (l : List ℕ). slice_index l k) h ∙ over_at g n k lt
+use Rattle.law_prefix_parts.proofs.Quiet.{quiet_in_step}
 
 -- ---- numbers that cannot differ
 
@@ -445,7 +423,7 @@ module _ (variable : ℕ) (value : ℕ → ℕ) (f : ℕ → ℕ → ℕ) (to : 
       lane_is : (k : ℕ) → k < count → in_lane k ≡ operand k
       lane_is k lt =
           over_same in_lane operand count k
-          (sym (map_twice (λ r. slice_index r to) (λ j. reg front (lane (first + j)) part) (below count))
+          (sym (map-map (λ r. slice_index r to) (λ j. reg front (lane (first + j)) part) (below count))
           ∙ sym (ap (λ l. map (λ r. slice_index r to) l.registers) (quiet_in_step front (λ j. lane (first + j)) (below count) part quiet))
           ∙ found)
           lt

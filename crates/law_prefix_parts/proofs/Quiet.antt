@@ -13,10 +13,6 @@ pub map_alike : {A B : Type 0} (f g : A → B) (xs : List A) → ((x : A) → f 
 map_alike f g [] h = refl
 map_alike f g (x ∷ xs) h = ap (λ y. y ∷ map f xs) (h x) ∙ ap (λ l. g x ∷ l) (map_alike f g xs h)
 
-pub map_twice : {A B C : Type 0} (f : B → C) (g : A → B) (xs : List A) → map f (map g xs) ≡ map (λ x. f (g x)) xs
-map_twice f g [] = refl
-map_twice f g (x ∷ xs) = ap (λ l. f (g x) ∷ l) (map_twice f g xs)
-
 quiet_step : (op : Op) (r c : List ℕ) → saves op ≡ false → (step op (machine r c)).cells ≡ c
 quiet_step op r c e = cells_are op r c ∙ resting op r c e
 

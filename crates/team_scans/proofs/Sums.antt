@@ -6,6 +6,7 @@ use Rattle.std.proofs.Math.Seq.{drop-append-add, drop-append_seam, take-append_s
 use Rattle.std.proofs.lemmas.Bool.{and_parts, or_left, or_right}
 use Rattle.std.proofs.lemmas.List.{length-replicate, take-append-drop}
 use Rattle.std.proofs.lemmas.List.Folds.{list_all-append, list_any-append}
+use Rattle.std.proofs.lemmas.Simd.{map-map}
 use Rattle.semantics.specs.Tree
 use Rattle.semantics.specs.Meaning.Places.{below}
 use Rattle.ktree.specs.View.{binary_of}
@@ -19,11 +20,12 @@ use Rattle.law_lanes.specs.Lanes.{Lanes, lanes_of, begun, entered, in_step, is_s
 use Rattle.law_lanes.specs.Folds.{folded}
 use Rattle.law_parts.specs.Parts.{IsPartOf, later}
 use Rattle.law_prefix_parts.proofs.Parts.{operands_law}
-use Rattle.law_prefix_parts.proofs.Quiet.{map_twice, quiet_in_step}
+use Rattle.law_prefix_parts.proofs.Quiet.{quiet_in_step}
 use Rattle.lane_rows.specs.Lanes.{lane, stepped, HasRow}
 use Rattle.lane_part.specs.Parts.{has_room, marked}
 use Rattle.lane_work.specs.Files.{AreKept, files, file, look, total}
-use Rattle.lane_work.proofs.Filing.{map_over, over_alike, over_at, row_lane}
+use Rattle.law_lanes.proofs.Below.{over_alike, over_at}
+use Rattle.lane_work.proofs.Filing.{map_over, row_lane}
 use Rattle.lane_work.proofs.Folds.{total_folded}
 use Rattle.lower_lanes.specs.Saved.{IsOperand}
 use Rattle.lower_lanes.specs.Tails.{AreOf}
@@ -100,7 +102,7 @@ module _ (s : Prefixes) (from n : ℕ) (cells : List ℕ) where
   pub operands_are : map (λ r. slice_index r s.scanned.target.at) lanes.registers ≡ map (λ k. operand_of s cells (from + k)) (below n)
   operands_are =
       ap (λ (l : Lanes). map (λ r. slice_index r s.scanned.target.at) l.registers) each_quiet
-      ∙ map_twice (λ r. slice_index r s.scanned.target.at) (λ k. (steps (front_of s) (entered s.scanned.laned.variable.at (later (stepped s.first s.by) from) k (machine s.registers.now cells))).registers) (below n)
+      ∙ map-map (λ r. slice_index r s.scanned.target.at) (λ k. (steps (front_of s) (entered s.scanned.laned.variable.at (later (stepped s.first s.by) from) k (machine s.registers.now cells))).registers) (below n)
 
   pub cells_stay : lanes.cells ≡ cells
   cells_stay = ap (λ (l : Lanes). l.cells) each_quiet

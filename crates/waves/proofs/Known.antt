@@ -7,6 +7,7 @@ use Rattle.std.proofs.lemmas.Bool.Decides.{nat_tests}
 use Rattle.std.proofs.lemmas.List.{take_all, length-map, length_push, get_or_push, get_or_append_left}
 use Rattle.std.proofs.lemmas.List.Elements.{filter-append}
 use Rattle.std.proofs.lemmas.Option.{none-some, same_Some, slice_get-get_or}
+use Rattle.std.proofs.lemmas.Simd.{map-map}
 use Rattle.std.specs.Global.{Vec}
 use lib.Pointwise.{pointwise}
 use Rattle.semantics.specs.Loops.Nest.{Vector}
@@ -192,16 +193,12 @@ first_vectors space (suc n) le =
 all_vectors : (space : List Vector) → map (vector_at space) (below (length space)) ≡ space
 all_vectors space = first_vectors space (length space) (omega arith) ∙ take_all (length space) space (omega arith)
 
-map_twice : (f : List ℕ → List Vector) (g : ℕ → List ℕ) (is : List ℕ) → map f (map g is) ≡ map (λ i. f (g i)) is
-map_twice f g [] = refl
-map_twice f g (i ∷ is) = ap (λ (us : List (List Vector)). f (g i) ∷ us) (map_twice f g is)
-
 -- the waves of these levels
 pub are_waves : (space : List Vector) (ds : List Distance) (levels : List ℕ) → AreLevels space ds levels → length levels ≡ length space → AreWaves space ds (map (numbers_at levels) (below (one_above levels)))
 are_waves space ds levels are size = subst (λ (ls : List ℕ). AreWaves space ds (map (numbers_at ls) (below (one_above ls)))) (sym all) (record {
   count = length-map (below (wave_count space ds)) (numbers_at (map (level space ds) space)) ∙ length-below (wave_count space ds);
   each = each;
-  iterations = ap (map (map (vector_at space))) each ∙ map_twice (map (vector_at space)) (numbers_of space ds) (below (wave_count space ds))
+  iterations = ap (map (map (vector_at space))) each ∙ map-map (map (vector_at space)) (numbers_of space ds) (below (wave_count space ds))
       ∙ map_below (λ i. map (vector_at space) (numbers_of space ds i)) (wave space ds) (wave_count space ds) (λ i lt. one i);
 })
   where
