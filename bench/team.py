@@ -7,7 +7,8 @@
 A line for each kernel: seconds from start to end (the median of five rounds, in each of which all programs run in turn), of its parallel
 loops by so many workers, of the same text without its directive lines, and of gcc with as many threads. Then a line for each with its loops
 alone, in milliseconds: the kernel's body many times and once, and the difference by how often more, so that starting and writing count for
-nothing (the median of three rounds), and of ten everyday kernels the geometric mean of the ratios to gcc. Then chunks of one iteration: nanoseconds
+nothing (the least of five rounds of the one less the least of the other, since what else the machine does only adds), and of ten everyday
+kernels the geometric mean of the ratios to gcc. What programs print is kept in memory where the machine has a folder for that. Then chunks of one iteration: nanoseconds
 for each, and bytes of memory for each beside the store, of a million chunks and of 2^24. Then a loop of 8 iterations inside 10,000 turns of a
 serial loop: microseconds a turn, also by more workers than there are processors. Then 100,000 waves of one, two and four iterations with a loop
 in each: microseconds that a wave takes beside its work, which is what one thread takes for the text without its directive lines. Every program
@@ -37,11 +38,12 @@ HELD = 64 + 16
 FASTER = 2.5
 SLOWER = 1.5
 SCAN_SLOWER = 2.2
-ALONE_ROUNDS = 3
+ALONE_ROUNDS = 5
 TURN = 3
 WAVE = 2
 MEAN = 1.5
 WAVES = 100000
+MEMORY = pathlib.Path("/dev/shm")
 PARTS = ("whole", "alone", "ones", "turns", "waves")
 TIMED = "    /* timed from here on */\n"
 # what prints the arrays of gcc's programs, faster than printf
@@ -491,7 +493,7 @@ EVERYDAY = ("map", "triad", "product", "hash", "quotient", "triangle", "folds", 
 # how often the body of a kernel runs where its loops are timed alone
 OFTEN = {
     "hash": 5, "product": 33, "map": 33, "triad": 65, "collatz": 33, "stencil": 17, "quotient": 33, "triangle": 17, "polynomial": 5,
-    "sum": 57, "max": 57, "xor": 57, "folds": 65, "local": 513, "prefix": 33, "totals": 33, "distance": 17, "sweep": 17, "relax": 9,
+    "sum": 57, "max": 57, "xor": 57, "folds": 65, "local": 513, "prefix": 129, "totals": 129, "distance": 17, "sweep": 17, "relax": 9,
 }
 
 
@@ -571,15 +573,12 @@ def repeated(text, often):
 
 
 def alone(runner, name, text):
-    """The median seconds of a kernel's body alone, by each of its programs."""
+    """The seconds of a kernel's body alone, by each of its programs."""
     often = OFTEN[name]
     many = programs_of(runner, f"{name}_often", repeated(text, often))
     once = programs_of(runner, f"{name}_once", repeated(text, 1))
-    rounds = []
-    for _round in range(ALONE_ROUNDS):
-        longer, shorter = times_of(name, many), times_of(name, once)
-        rounds.append({it: (longer[it] - shorter[it]) / (often - 1) for it in many})
-    return {it: statistics.median(times[it] for times in rounds) for it in many}
+    rounds = [(times_of(name, many), times_of(name, once)) for _round in range(ALONE_ROUNDS)]
+    return {it: (min(longer[it] for longer, _ in rounds) - min(shorter[it] for _, shorter in rounds)) / (often - 1) for it in many}
 
 
 def misses(name, text, found):
@@ -672,7 +671,7 @@ def loops_alone(runner, kernels):
 
 def main(program, parts, kernels):
     missed = []
-    with tempfile.TemporaryDirectory() as name:
+    with tempfile.TemporaryDirectory(dir=MEMORY if MEMORY.is_dir() else None) as name:
         runner = Runner(program, pathlib.Path(name))
         columns = "".join(f"{it:>11}" for it in [*(f"{w} workers" for w in TEAMS), "serial", *(f"gcc {w}" for w in TEAMS)])
         if "whole" in parts:
