@@ -1,13 +1,13 @@
 -- The data of parallel loops, statement by statement.
-use Rattle.std.specs.Prelude.{ℕ, suc, ◌+◌, ◌-◌, Bool, true, false, ◌||◌, ◌&&◌, ◌==◌, ◌≡◌, ◌<◌, ◌≤◌, ◌↔◌, List, [], ◌∷◌, ◌++◌, length, get_or, take, drop, Option, Some, None, option_map, option_and_then, string_bytes}
-use Rattle.std.proofs.Common.{Box, Global, refl, sym, ap, ◌∙◌, subst, cond, arith, inl, inr}
+use Rattle.std.specs.Prelude.{ℕ, suc, ◌+◌, ◌-◌, Bool, true, false, ◌||◌, ◌&&◌, ◌==◌, ◌≡◌, ◌<◌, ◌↔◌, List, [], ◌∷◌, ◌++◌, length, get_or, take, drop, Option, Some, None, option_map, option_and_then, string_bytes}
+use Rattle.std.proofs.Common.{Box, Global, refl, sym, ap, ◌∙◌, subst, arith, inl, inr}
 use Rattle.std.proofs.lemmas.List.Folds.{list_any-append}
 use Rattle.semantics.specs.Tree
 use Rattle.semantics.specs.Tree.{Variable}
 use Rattle.semantics.specs.Source.Text.{line_at}
 use Rattle.semantics.specs.Meaning.Agrees.{is_among, declared_in, declared_among}
 use Rattle.semantics.specs.Meaning.Value.{map_option}
-use Rattle.semantics.specs.Loops.Nest.{Loop, as_loop, holds_none, nest_of}
+use Rattle.semantics.specs.Loops.Nest.{Loop, as_loop, nest_of}
 use Rattle.ktree.specs.View.{exprs_of, source_of, cond_of, increment_of, stmt_of, items_of, with_item}
 use Rattle.ktree.specs.declared.expression.Expr.{Expr}
 use Rattle.ktree.specs.declared.statement.Stmt.{Stmt, For}
@@ -20,7 +20,7 @@ use Rattle.pragma.proofs.LoopLaw.{read_once}
 use Rattle.ktree.proofs.Trees.{next_item}
 use Rattle.pragma.proofs.PlainLaw.{all_behind}
 use Rattle.flow.specs.declared.fault.DataFault.{DataFault}
-use Rattle.flow.specs.Private.{is_own, keeps, keeps_all, loop_body_of, nest_body_of, only_body_of, first_stmt_of}
+use Rattle.flow.specs.Private.{is_own, keeps, keeps_all, nest_body_of, first_stmt_of}
 use Rattle.flow.specs.Roles.{LoopData, LineData, KeepsItsRoles, KeepsRolesThere, LoopsKeepRoles, ItemsKeepRoles, FirstLineKeepsRoles, FirstLoopsKeepRoles}
 use Rattle.flow.specs.Told.{Finds, IsNest}
 
@@ -81,25 +81,8 @@ pub element : (own : Variable → Bool) (x : Variable) (es : List Expr) → 0 < 
 element own x [] lt = absurd (omega arith)
 element own x (e ∷ es) lt = refl
 
--- an item is left
-holds_item : (i : Item) (rest : Tree.Items) → holds_none (with_item i rest) ≡ false
-holds_item (Directive place) rest = refl
-holds_item (Local l) rest = refl
-holds_item (Statement' p s) rest = refl
-
-two_items : (i j : Item) (rest : Tree.Items) → None ≡ only_body_of (with_item i (with_item j rest))
-two_items (Directive place) j rest = refl
-two_items (Local l) j rest = refl
-two_items (Statement' p s) j rest = ap (λ b. option_map (λ (found : Loop × Tree.Stmt). found.1) (cond b (as_loop (stmt_of s)) None)) (sym (holds_item j rest))
-
--- two items are no loop
-pub no_only_body : (is : List Item) → 2 ≤ length is → None ≡ only_body_of (items_of is)
-no_only_body [] le = absurd (omega arith)
-no_only_body (i ∷ []) le = absurd (omega arith)
-no_only_body (i ∷ j ∷ is) le = two_items i j (items_of is)
-
 -- the body of a nest, loop by loop
-pub nest_on : (n : ℕ) (s : Tree.Stmt) → nest_body_of (suc n) s ≡ option_and_then (nest_body_of n) (loop_body_of s)
+pub nest_on : (n : ℕ) (s : Tree.Stmt) → nest_body_of (suc n) s ≡ option_and_then (λ found. nest_body_of n found.1) (as_loop s)
 nest_on n s = go (as_loop s)
   where
     inner : (l : Loop) (o : Option (List Loop × Tree.Stmt)) → option_map (λ (nest : List Loop × Tree.Stmt). nest.1) (map_option (λ (inner : List Loop × Tree.Stmt). (l ∷ inner.0, inner.1)) o) ≡ option_map (λ (nest : List Loop × Tree.Stmt). nest.1) o
@@ -108,23 +91,23 @@ nest_on n s = go (as_loop s)
 
     go : (o : Option (Loop × Tree.Stmt))
         → option_map (λ (nest : List Loop × Tree.Stmt). nest.1) (option_and_then (λ (found : Loop × Tree.Stmt). map_option (λ (inner : List Loop × Tree.Stmt). (found.0 ∷ inner.0, inner.1)) (nest_of n found.1)) o)
-        ≡ option_and_then (nest_body_of n) (option_map (λ (found : Loop × Tree.Stmt). found.1) o)
+        ≡ option_and_then (λ (found : Loop × Tree.Stmt). nest_body_of n found.1) o
     go None = refl
     go (Some found) = inner found.0 (nest_of n found.1)
 
 module _ (depth i : ℕ) (s body : Tree.Stmt) (lt : i < depth) (left : nest_body_of (depth - i) body ≡ nest_body_of depth s) where
-  nest_left : option_and_then (nest_body_of (depth - (i + 1))) (loop_body_of body) ≡ nest_body_of depth s
+  nest_left : option_and_then (λ (found : Loop × Tree.Stmt). nest_body_of (depth - (i + 1)) found.1) (as_loop body) ≡ nest_body_of depth s
   nest_left =
       let count : depth - i ≡ suc (depth - (i + 1)) = omega arith in
       sym (nest_on (depth - (i + 1)) body) ∙ ap (λ n. nest_body_of n body) (sym count) ∙ left
 
   -- one loop further in
-  pub nest_more : (inner : Tree.Stmt) → Some inner ≡ loop_body_of body → nest_body_of (depth - (i + 1)) inner ≡ nest_body_of depth s
-  nest_more inner is = ap (option_and_then (nest_body_of (depth - (i + 1)))) is ∙ nest_left
+  pub nest_more : (h : Loop) (inner : Tree.Stmt) → as_loop body ≡ Some (h, inner) → nest_body_of (depth - (i + 1)) inner ≡ nest_body_of depth s
+  nest_more h inner is = ap (option_and_then (λ (found : Loop × Tree.Stmt). nest_body_of (depth - (i + 1)) found.1)) (sym is) ∙ nest_left
 
   -- no loop is there
-  pub nest_ends : None ≡ loop_body_of body → None ≡ nest_body_of depth s
-  nest_ends none = ap (option_and_then (nest_body_of (depth - (i + 1)))) none ∙ nest_left
+  pub nest_ends : as_loop body ≡ None → None ≡ nest_body_of depth s
+  nest_ends none = ap (option_and_then (λ (found : Loop × Tree.Stmt). nest_body_of (depth - (i + 1)) found.1)) (sym none) ∙ nest_left
 
 -- a nest with a body
 pub nest_with : (n : ℕ) (s b : Tree.Stmt) → Some b ≡ nest_body_of n s → (loops : List Loop) × (nest_of n s ≡ Some (loops, b))

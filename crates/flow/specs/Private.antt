@@ -2,7 +2,7 @@
 use Rattle.std.specs.Prelude.{ℕ, Bool, true, not, ◌&&◌, List, ◌++◌, Option, Some, None, option_map}
 use Rattle.semantics.specs.Tree.{Variable, Exprs, no_exprs, more_exprs, Stmt, Assign, Update, If, IfElse, For, Block, Print, Items, no_items, mark, local, stmt}
 use Rattle.semantics.specs.Meaning.Agrees.{is_among, declared_in}
-use Rattle.semantics.specs.Loops.Nest.{as_loop, nest_of}
+use Rattle.semantics.specs.Loops.Nest.{nest_of}
 
 -- what is assigned is an element, or one of one's own scalars (OpenMP 5.2, 5.1.1)
 abbrev pub is_own : (Variable → Bool) → Variable → Exprs → Bool
@@ -35,17 +35,9 @@ is_private_body ps body = keeps (is_among (declared_in body ++ ps)) body
 abbrev pub all_but : List Variable → Variable → Bool
 all_but ps x = not (is_among ps x)
 
--- what a loop runs, where this is one
-abbrev pub loop_body_of : Stmt → Option Stmt
-loop_body_of s = option_map (λ found. found.1) (as_loop s)
-
 -- what the innermost of so many loops runs
 abbrev pub nest_body_of : ℕ → Stmt → Option Stmt
 nest_body_of n s = option_map (λ nest. nest.1) (nest_of n s)
-
--- the loop that an item alone is
-abbrev pub only_body_of : Items → Option Stmt
-only_body_of items = loop_body_of (Block items)
 
 -- the statement that stands first
 abbrev pub first_stmt_of : Items → Option Stmt
