@@ -1,5 +1,5 @@
 -- Scans where they stand, in the tree from which their lines are left out.
-use Rattle.std.specs.Prelude.{ℕ, Bool, true, false, not, ◌&&◌, ◌||◌, if◌then◌else◌, ◌≡◌, List, [], ◌∷◌, ◌++◌, Option, Some, None, Contains}
+use Rattle.std.specs.Prelude.{ℕ, true, not, ◌&&◌, if◌then◌else◌, ◌≡◌, List, [], ◌∷◌, ◌++◌, Option, Some, None, Contains}
 use Rattle.std.specs.List.{list_all}
 use Rattle.std.proofs.Common.{refl, sym, ap, ◌∙◌, subst, inl}
 use Rattle.std.proofs.lemmas.Bool.{eqb-true}
@@ -15,12 +15,13 @@ use Rattle.law_commute.proofs.Values.{first_of, second_of}
 use Rattle.law_lines.specs.Without.{without_in, without_among}
 use Rattle.law_scans.specs.Phases.{keeps_phases}
 use Rattle.pragma.specs.Clauses.{Said, loop_of, ReadsLoop}
-use Rattle.pragma.specs.Parallel.{associated, FirstHas, LoopsHave, ItemsHave}
-use Rattle.pragma.specs.Plain.{has_line, has_line_among, IsPlainFor, IsPlainLoop}
+use Rattle.pragma.specs.Parallel.{associated, LoopsHave}
+use Rattle.pragma.specs.Plain.{IsPlainLoop}
 use Rattle.pragma_attach.proofs.LookLaw.{is_on}
 use Rattle.pragma_named.specs.Known.{Lines}
-use Rattle.pragma_region.specs.Regions.{is_scan_line, is_left_out}
-use Rattle.flow.specs.Roles.{LoopsHaveBy, ItemsHaveBy}
+use Rattle.pragma_region.specs.Regions.{is_scan_line, is_left_out, alone}
+use Rattle.flow.specs.Roles.{AskedByLine, LoopsHaveBy}
+use Rattle.flow.proofs.AskedLaw.{AskedBehind, Stand, all_stand, end_stands, line_stands, local_stands, statement_stands, loop_stands}
 use Rattle.flow_scan.specs.Lines.{is_loop, is_loop_line, is_one, associates_one, associates_one_on, suits_scan, sole_of, scanned, is_called}
 use Rattle.nest_lines.specs.Lines.{line_before}
 use Rattle.nest_lines.specs.Inner.{have_line}
@@ -29,14 +30,6 @@ use Rattle.flow_scan.specs.Parts.{Parts, block_parts, body_parts, cut, has_state
 use Rattle.flow_scan.specs.Scans.{ScanPart, has_phases, scans_loop, is_scan_loop, scans_behind, scans_in, scans_among, parts_at, parts_behind, parts_in, parts_among, scans_of}
 use Rattle.flow_scan.specs.Laws.{HasPhases, ScanThere, ScansStandAlone}
 use Rattle.flow_scan.proofs.WithoutLaw.{both_true, phases_kept, cut_joined, count_all}
-
-or_first : (a b : Bool) → (a || b) ≡ false → a ≡ false
-or_first true b e = absurd (cc e)
-or_first false b e = refl
-
-or_second : (a b : Bool) → (a || b) ≡ false → b ≡ false
-or_second true b e = absurd (cc e)
-or_second false b e = e
 
 -- a directive that says what a loop's does is one's
 loop_said : (d : Directive Name) (said : Said) → loop_of d ≡ Some said → is_loop (Some d) ≡ true
@@ -111,6 +104,9 @@ module _ (text : List ℕ) (lines : Lines) (k : Kernel) where
   abbrev left : Items → Items
   left items = without_among (is_left_out text) items
 
+  abbrev there : AskedByLine
+  there = ScanThere text lines k
+
   -- all that these tell is told of the kernel
   abbrev Told : List ScanPart → Type 0
   Told ts = (t : ScanPart) → Contains ts t → Contains (scans_of text lines k) t
@@ -149,61 +145,9 @@ module _ (text : List ℕ) (lines : Lines) (k : Kernel) where
         keeps = phases_kept (is_left_out text) found.reduced.0 found.reduced.1 p.said.inclusive p.front p.back found.keeps;
       }
 
-  -- nothing is asked where no line stands
-  mutual
-    quiet_in : (serial : List Loop) (s : Stmt) → has_line s ≡ false → LoopsHaveBy text (ScanThere text lines k) serial s
-    quiet_in serial (Assign x is e) h = tt
-    quiet_in serial (Update x is op e) h = tt
-    quiet_in serial (If c a) h = quiet_in serial a h
-    quiet_in serial (IfElse c a b) h = (quiet_in serial a (or_first (has_line a) (has_line b) h), quiet_in serial b (or_second (has_line a) (has_line b) h))
-    quiet_in serial (For x name start test step body) h = quiet_in (serial ++ record { variable = x; start = start; test = test; step = step } ∷ []) body h
-    quiet_in serial (Block items) h = quiet_among serial items h
-    quiet_in serial (Print parts) h = tt
-
-    quiet_among : (serial : List Loop) (items : Items) → has_line_among items ≡ false → ItemsHaveBy text (ScanThere text lines k) serial items
-    quiet_among serial no_items h = tt
-    quiet_among serial (mark n rest) h = absurd (cc h)
-    quiet_among serial (local x name start rest) h = quiet_among serial rest h
-    quiet_among serial (stmt s rest) h = (quiet_in serial s (or_first (has_line s) (has_line_among rest) h), quiet_among serial rest (or_second (has_line s) (has_line_among rest) h))
-
-  quiet_loop : (serial : List Loop) (s : Stmt) → IsPlainFor s → LoopsHaveBy text (ScanThere text lines k) serial s
-  quiet_loop serial (For x name start test step body) h = quiet_in (serial ++ record { variable = x; start = start; test = test; step = step } ∷ []) body h
-  quiet_loop serial (Assign x is e) h = absurd h
-  quiet_loop serial (Update x is op e) h = absurd h
-  quiet_loop serial (If c a) h = absurd h
-  quiet_loop serial (IfElse c a b) h = absurd h
-  quiet_loop serial (Block items) h = absurd h
-  quiet_loop serial (Print parts) h = absurd h
-
-  -- a loop that holds no line stands first, behind a line
-  abbrev Plain : Items → Type 0
-  Plain no_items = ⊥
-  Plain (mark n rest) = ⊥
-  Plain (local x name start rest) = ⊥
-  Plain (stmt s rest) = IsPlainFor s
-
-  plain_first : (serial : List Loop) (m : ℕ) (items : Items) → FirstHas IsPlainLoop serial m items → Plain items
-  plain_first serial m no_items h = h
-  plain_first serial m (mark n rest) h = h
-  plain_first serial m (local x name start rest) h = h
-  plain_first serial m (stmt s rest) h = h
-
-  abbrev Standing : Option ℕ → Items → Type 0
-  Standing None items = Unit {0}
-  Standing (Some n) items = Plain items
-
-  abbrev Asked : Option ℕ → List Loop → Items → Type 0
-  Asked None serial items = Unit {0}
-  Asked (Some n) serial items = (j : Option Schedule) (c : Option ℕ) → ReadsLoop (line_at text n) j c → FirstHas (ScanThere text lines k n) serial (associated c) items
-
-  -- where no loop stands first, nothing is asked of it
-  none_stands : (before : Option ℕ) (serial : List Loop) (items : Items) → (Plain items → ⊥) → Standing before items → Asked before serial items
-  none_stands None serial items never h = tt
-  none_stands (Some n) serial items never h = λ j c r. absurd (never h)
-
   -- a loop behind a line
   asked_loop : (n : ℕ) (serial : List Loop) (s : Stmt) → scans_behind text k lines (Some n) s (scans_in text k lines s) ≡ true → Told (parts_behind text lines (Some n) s (parts_in text lines s))
-      → (j : Option Schedule) (c : Option ℕ) → ReadsLoop (line_at text n) j c → ScanThere text lines k n serial (associated c) (without_in (is_left_out text) s)
+      → AskedBehind text there n serial (without_in (is_left_out text) s)
   asked_loop n serial s h told j c r scan =
       let is : is_scan_loop text lines n ≡ true = both_true (loop_read text n j c r) scan in
       let right : scans_loop text k n (lines n) s ≡ true = sym (ap (λ b. if b then scans_loop text k n (lines n) s else scans_in text k lines s) is) ∙ h in
@@ -216,7 +160,7 @@ module _ (text : List ℕ) (lines : Lines) (k : Kernel) where
 
   mutual
     stand_in : (serial : List Loop) (s : Stmt) → scans_in text k lines s ≡ true → Told (parts_in text lines s) → LoopsHave text IsPlainLoop serial (without_in (is_left_out text) s)
-        → LoopsHaveBy text (ScanThere text lines k) serial (without_in (is_left_out text) s)
+        → LoopsHaveBy text there serial (without_in (is_left_out text) s)
     stand_in serial (Assign x is e) h told p = tt
     stand_in serial (Update x is op e) h told p = tt
     stand_in serial (If c a) h told p = stand_in serial a h told p
@@ -225,47 +169,32 @@ module _ (text : List ℕ) (lines : Lines) (k : Kernel) where
       stand_in serial b (second_of (scans_in text k lines a) (scans_in text k lines b) h) (told_right (parts_in text lines a) (parts_in text lines b) told) p.1,
     )
     stand_in serial (For x name start test step body) h told p = stand_in (serial ++ record { variable = x; start = start; test = test; step = step } ∷ []) body h told p
-    stand_in serial (Block items) h told p = (stand_among serial None items h told tt p).1
+    stand_in serial (Block items) h told p = all_stand text there serial (left items) (stand_among serial None items h told) p
     stand_in serial (Print parts) h told p = tt
 
-    stand_among : (serial : List Loop) (before : Option ℕ) (items : Items) → scans_among text k lines before items ≡ true → Told (parts_among text lines before items) → Standing before (left items)
-        → ItemsHave text IsPlainLoop serial (left items) → Asked before serial (left items) × ItemsHaveBy text (ScanThere text lines k) serial (left items)
-    stand_among serial before no_items h told st p = (none_stands before serial no_items (λ e. e) st, tt)
-    stand_among serial before (mark n rest) h told st p =
-        at (is_left_out text n) (second_of (not (is_scan_line text n)) (scans_among text k lines (line_before text before n) rest) h) told st p (stand_among serial before rest) (stand_among serial (Some n) rest)
-      where
-        at : (b : Bool) → scans_among text k lines (if b then before else Some n) rest ≡ true → Told (parts_among text lines (if b then before else Some n) rest)
-            → Standing before (if b then left rest else mark n (left rest)) → ItemsHave text IsPlainLoop serial (if b then left rest else mark n (left rest))
-            → (scans_among text k lines before rest ≡ true → Told (parts_among text lines before rest) → Standing before (left rest) → ItemsHave text IsPlainLoop serial (left rest)
-            → Asked before serial (left rest) × ItemsHaveBy text (ScanThere text lines k) serial (left rest))
-            → (scans_among text k lines (Some n) rest ≡ true → Told (parts_among text lines (Some n) rest) → Standing (Some n) (left rest) → ItemsHave text IsPlainLoop serial (left rest)
-            → Asked (Some n) serial (left rest) × ItemsHaveBy text (ScanThere text lines k) serial (left rest))
-            → Asked before serial (if b then left rest else mark n (left rest)) × ItemsHaveBy text (ScanThere text lines k) serial (if b then left rest else mark n (left rest))
-        at true g told st p same other = same g told st p
-        at false g told st (line, p) same other =
-            let further = other g told (plain_first serial (associated line.1) (left rest) line.3) p in
-            (none_stands before serial (mark n (left rest)) (λ e. e) st, ((line.0, line.1, line.2, further.0 line.0 line.1 line.2), further.1))
-    stand_among serial before (local x name start rest) h told st p =
-        (none_stands before serial (local x name start (left rest)) (λ e. e) st, (stand_among serial None rest h told tt p).1)
-    stand_among serial None (stmt s rest) h told st p =
+    stand_among : (serial : List Loop) (before : Option ℕ) (items : Items) → scans_among text k lines before items ≡ true → Told (parts_among text lines before items) → Stand text there serial before (left items)
+    stand_among serial before no_items h told = end_stands text there serial before
+    stand_among serial before (mark n rest) h told =
+        let next = line_before text before n in
+        let out = is_left_out text n in
+        line_stands text there serial before n (left rest) out (stand_among serial next rest (second_of (not (is_scan_line text n)) (scans_among text k lines next rest) h) told)
+    stand_among serial before (local x name start rest) h told = local_stands text there serial before x name start (left rest) (stand_among serial None rest h told)
+    stand_among serial None (stmt s rest) h told =
         let mine = scans_in text k lines s in
-        let others = scans_among text k lines None rest in (
-          tt,
-          (
-            stand_in serial s (first_of mine others h) (told_left (parts_in text lines s) (parts_among text lines None rest) told) p.0,
-            (stand_among serial None rest (second_of mine others h) (told_right (parts_in text lines s) (parts_among text lines None rest) told) tt p.1).1,
-          ),
-        )
-    stand_among serial (Some n) (stmt s rest) h told st p =
+        let others = scans_among text k lines None rest in
+        let here = parts_in text lines s in
+        let further = parts_among text lines None rest in
+        statement_stands text there serial (without_in (is_left_out text) s) (left rest)
+        (stand_in serial s (first_of mine others h) (told_left here further told))
+        (stand_among serial None rest (second_of mine others h) (told_right here further told))
+    stand_among serial (Some n) (stmt s rest) h told =
         let mine = scans_behind text k lines (Some n) s (scans_in text k lines s) in
         let others = scans_among text k lines None rest in
-        let here = parts_behind text lines (Some n) s (parts_in text lines s) in (
-          asked_loop n serial s (first_of mine others h) (told_left here (parts_among text lines None rest) told),
-          (
-            quiet_loop serial (without_in (is_left_out text) s) st,
-            (stand_among serial None rest (second_of mine others h) (told_right here (parts_among text lines None rest) told) tt p.1).1,
-          ),
-        )
+        let here = parts_behind text lines (Some n) s (parts_in text lines s) in
+        let further = parts_among text lines None rest in
+        loop_stands text there n serial (without_in (is_left_out text) s) (left rest)
+        (asked_loop n serial s (first_of mine others h) (told_left here further told))
+        (stand_among serial None rest (second_of mine others h) (told_right here further told))
 
 pub stand_alone : ScansStandAlone
-stand_alone text lines k h p = (stand_among text lines k [] None k.body h (λ t c. c) tt p).1
+stand_alone text lines k h p = all_stand text (ScanThere text lines k) [] (alone text k).body (stand_among text lines k [] None k.body h (λ t c. c)) p
