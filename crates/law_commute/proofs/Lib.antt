@@ -3,6 +3,7 @@ pub mod Lists
 pub mod Values
 pub mod Paths
 pub mod Matched
+pub mod Effects
 pub mod Framed
 pub mod Orders
 pub mod Changes

@@ -1,5 +1,5 @@
 -- What stands in a list, by recursion.
-use Rattle.std.specs.Prelude.{◌≡◌, ◌⊎◌, List, [], ◌∷◌, ◌++◌, map, Contains}
+use Rattle.std.specs.Prelude.{◌≡◌, ◌⊎◌, List, [], ◌∷◌, ◌++◌, map, Option, Some, Contains}
 use Rattle.std.specs.List.{AllByRecursion as Each}
 use Rattle.std.proofs.Common.{refl, inl, inr, ap, arith}
 use Rattle.std.proofs.lemmas.List.Elements.{Contains-append_right}
@@ -46,3 +46,10 @@ pub among_map : {A B : Type 0} (f : A → B) (xs : List A) (x : A) → Among xs 
 among_map f [] x h = absurd h
 among_map f (y ∷ xs) x (inl e) = inl (ap f e)
 among_map f (y ∷ xs) x (inr h) = inr (among_map f xs x h)
+
+-- results that are all there, the first and the others
+pub first_there : {A B : Type 0} (f : A → Option B) (x : A) (xs : List A) (y : B) (ys : List B) → map f (x ∷ xs) ≡ map Some (y ∷ ys) → f x ≡ Some y
+first_there f x xs y ys e = cc
+
+pub others_there : {A B : Type 0} (f : A → Option B) (x : A) (xs : List A) (y : B) (ys : List B) → map f (x ∷ xs) ≡ map Some (y ∷ ys) → map f xs ≡ map Some ys
+others_there f x xs y ys e = cc

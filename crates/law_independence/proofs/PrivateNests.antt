@@ -48,20 +48,10 @@ module _ (own more : Variable → Bool) (wider : (x : Variable) → own x ≡ tr
         both_true (keeps more s) (keeps_all more rest) (keeps_more s (first_of (keeps own s) (keeps_all own rest) h)) (all_keep_more rest (second_of (keeps own s) (keeps_all own rest) h))
 
 loop_keeps : (own : Variable → Bool) (s : Stmt) (l : Loop) (b : Stmt) → as_loop s ≡ Some (l, b) → keeps own b ≡ true → keeps own s ≡ true
-loop_keeps own (Assign x is e) l b h k = absurd (none-some (l, b) h)
-loop_keeps own (Update x is op e) l b h k = absurd (none-some (l, b) h)
-loop_keeps own (If c a) l b h k = absurd (none-some (l, b) h)
-loop_keeps own (IfElse c a d) l b h k = absurd (none-some (l, b) h)
-loop_keeps own (Print parts) l b h k = absurd (none-some (l, b) h)
 loop_keeps own (For x name start test step inner) l b h k =
     ap (keeps own) (ap (λ (p : Loop × Stmt). p.1) (same_Some (record { variable = x; start = start; test = test; step = step }, inner) (l, b) h)) ∙ k
-loop_keeps own (Block no_items) l b h k = absurd (none-some (l, b) h)
-loop_keeps own (Block (mark line rest)) l b h k = absurd (none-some (l, b) h)
-loop_keeps own (Block (local x name start rest)) l b h k = absurd (none-some (l, b) h)
-loop_keeps own (Block (stmt a (mark line rest))) l b h k = absurd (none-some (l, b) h)
-loop_keeps own (Block (stmt a (local x name start rest))) l b h k = absurd (none-some (l, b) h)
-loop_keeps own (Block (stmt a (stmt c rest))) l b h k = absurd (none-some (l, b) h)
 loop_keeps own (Block (stmt a no_items)) l b h k = both_true (keeps own a) true (loop_keeps own a l b h k) refl
+loop_keeps own _ l b h k = absurd (none-some (l, b) h)
 
 nest_keeps : (own : Variable → Bool) (n : ℕ) (s : Stmt) (loops : List Loop) (body : Stmt) → nest_of n s ≡ Some (loops, body) → keeps own body ≡ true → keeps own s ≡ true
 nest_keeps own zero s loops body h k = ap (keeps own) (ap (λ (p : List Loop × Stmt). p.1) (same_Some ([], s) (loops, body) h)) ∙ k
@@ -92,24 +82,14 @@ record IsEntered (s a : Stmt) (k : DefinitelyAssigned) : Type 0 where
   from : (x : Variable) → visible_behind s x ≡ true → known x ≡ true → k x ≡ true
 
 loop_entered : (s : Stmt) (l : Loop) (b : Stmt) (k : DefinitelyAssigned) → as_loop s ≡ Some (l, b) → IsSome (definite no_privates s k) → IsSome (definite no_privates b (known_with k l.variable true))
-loop_entered (Assign x is e) l b k h d = absurd (none-some (l, b) h)
-loop_entered (Update x is op e) l b k h d = absurd (none-some (l, b) h)
-loop_entered (If c a) l b k h d = absurd (none-some (l, b) h)
-loop_entered (IfElse c a e) l b k h d = absurd (none-some (l, b) h)
-loop_entered (Print parts) l b k h d = absurd (none-some (l, b) h)
 loop_entered (For x name start test step inner) l b k h d =
     let there = some_there (definite no_privates (For x name start test step inner) k) d in
     subst (λ (p : Loop × Stmt). IsSome (definite no_privates p.1 (known_with k p.0.variable true))) (same_Some (record { variable = x; start = start; test = test; step = step }, inner) (l, b) h)
     (ap is_some (loop_known_is x name start test step inner k there.0 there.1).inside)
-loop_entered (Block no_items) l b k h d = absurd (none-some (l, b) h)
-loop_entered (Block (mark line rest)) l b k h d = absurd (none-some (l, b) h)
-loop_entered (Block (local x name start rest)) l b k h d = absurd (none-some (l, b) h)
-loop_entered (Block (stmt a (mark line rest))) l b k h d = absurd (none-some (l, b) h)
-loop_entered (Block (stmt a (local x name start rest))) l b k h d = absurd (none-some (l, b) h)
-loop_entered (Block (stmt a (stmt c rest))) l b k h d = absurd (none-some (l, b) h)
 loop_entered (Block (stmt a no_items)) l b k h d =
     let there = some_there (definite no_privates (Block (stmt a no_items)) k) d in
     loop_entered a l b k h (ap is_some (and_then (λ after. definite_items no_privates [] no_items (without after [])) (definite no_privates a k) there.0 there.1).1)
+loop_entered _ l b k h d = absurd (none-some (l, b) h)
 
 nest_entered : (n : ℕ) (s : Stmt) (loops : List Loop) (body : Stmt) (k : DefinitelyAssigned) → nest_of n s ≡ Some (loops, body) → IsSome (definite no_privates s k) → IsEntered s body k
 nest_entered zero s loops body k h d =

@@ -1,21 +1,19 @@
 -- A scan whose accesses stay inside and which reads what is known has a run with the operands of its input phase in place of their updates. (C11 6.5.13 and 6.5.14; OpenMP 5.2, 5.6)
-use Rattle.std.specs.Prelude.{ℕ, zero, suc, Bool, true, false, ◌≡◌, ◌==◌, ◌<◌, ◌&&◌, ℤ, List, [], ◌∷◌, Option, Some, None}
-use Rattle.std.proofs.Common.{refl, sym, ap, ◌∙◌, subst, cond, arith}
-use Rattle.std.proofs.lemmas.Bool.{eqb-true, or_parts}
+use Rattle.std.specs.Prelude.{ℕ, zero, suc, Bool, true, false, ◌≡◌, ◌==◌, ◌&&◌, ℤ, List, [], ◌∷◌, Option, Some, None}
+use Rattle.std.proofs.Common.{sym, ap, ◌∙◌, subst}
+use Rattle.std.proofs.lemmas.Bool.{or_parts}
 use Rattle.std.proofs.lemmas.Option.{same_Some, none-some}
-use Rattle.semantics.specs.Tree.{Variable, Source, Stmt, For, Items, no_items, mark, local, stmt, Declaration}
+use Rattle.semantics.specs.Tree.{Variable, Stmt, For, Items, no_items, mark, local, stmt, Declaration}
 use Rattle.semantics.specs.Source.Token.{Token}
 use Rattle.semantics.specs.Source.Scope.{Scope, AVariable}
 use Rattle.semantics.specs.Source.Statements.{ReadsStmt, for_loop, block, ReadsItems, no_more, line, empty_local, first_local, statement}
-use Rattle.semantics.specs.Meaning.State.{State, Slot, Empty, Holds, Declared, with_local}
-use Rattle.semantics.specs.Meaning.Value.{source_value}
-use Rattle.semantics.specs.Meaning.Runs.{Effect, declares, declared, run, run_items}
+use Rattle.semantics.specs.Meaning.State.{State}
+use Rattle.semantics.specs.Meaning.Runs.{Effect, run, run_items}
 use Rattle.semantics.specs.Meaning.Definite.{DefinitelyAssigned, known_with, may_take, declared_known, no_privates, definite, definite_items}
 use Rattle.semantics.specs.Meaning.Agrees.{names_source}
 use Rattle.semantics.specs.Loops.Nest.{Loop, nest_of}
 use Rattle.semantics.specs.Loops.Operator.{ReduceOp}
 use Rattle.semantics.proofs.EraseTokenLaw.{first_of, second_of}
-use Rattle.semantics.proofs.NestLaw.{local_same}
 use Rattle.affine.specs.declared.interval.Side.{Side}
 use Rattle.nest_loop.specs.Canonical.{stepped, assigns, assigns_among}
 use Rattle.nest_loop.specs.Loops.{inside}
@@ -23,13 +21,12 @@ use Rattle.nest_loop.proofs.Heads.{head_of}
 use Rattle.nest.specs.Nests.{Has, Have, StaysInside}
 use Rattle.law_nests.proofs.Joined.{first_loop}
 use Rattle.law_roles.specs.Updates.{is_plain, reduces, all_reduce, operands, all_operands}
-use Rattle.law_runs.proofs.Going.{stands, is_held, Ran, ran_nothing, ran_same, ran_then, ran_write, local_later, local_known}
+use Rattle.law_runs.proofs.Going.{Ran, ran_nothing, ran_then}
 use Rattle.law_runs.proofs.Growing.{loop_known_is, grows, known_below, visible_behind}
 use Rattle.law_runs.proofs.Loops.{loop_ran}
 use Rattle.law_runs.proofs.Operands.{operand_loop, all_plain_reduce, all_plain_operands}
-use Rattle.law_runs.proofs.Points.{rises, IsBehind, IsPoint, point_later, point_behind, turn_declared, allowed, and_then}
-use Rattle.law_runs.proofs.StatementsRun.{Keeps, AllKeep, keeps_inside, stmt_goes, items_go}
-use Rattle.law_runs.proofs.There.{There}
+use Rattle.law_runs.proofs.Points.{rises, IsBehind, IsPoint, point_later, point_behind, allowed, and_then}
+use Rattle.law_runs.proofs.StatementsRun.{Keeps, AllKeep, keeps_inside, empty_goes, value_goes, declared_below, stmt_goes, items_go}
 use Rattle.law_runs.proofs.Values.{HaveShort, source_there}
 use Rattle.law_scans.specs.Phases.{joined_items}
 use Rattle.law_scans.specs.Scanning.{whole_of}
@@ -40,40 +37,6 @@ module _ (ds : List Declaration) (short : HaveShort ds) where
   abbrev Goes : List Side → (Variable → ℤ) → DefinitelyAssigned → State → Option Effect → Type 0
   Goes box w k s o = Ran ds (IsBehind ds box w k) s o
 
-  -- ---- declarations
-
-  -- a local that stands behind its declaration
-  record Stood (box : List Side) (w : Variable → ℤ) (k : DefinitelyAssigned) (x : Variable) (s : State) : Type 0 where
-    behind : IsBehind ds box w k s
-    up : stands (s.locals x) ≡ true
-
-  declared_below : {box : List Side} {w : Variable → ℤ} {scope : Scope} {next : ℕ} (b : Bool) (k : DefinitelyAssigned) (s : State) → IsPoint ds box w scope next k s → (y : Variable) → known_with k next b y ≡ true → y < suc next
-  declared_below {next = next} b k s at y h = go (y == next) refl h
-    where
-      go : (t : Bool) → (y == next) ≡ t → cond t b (k y) ≡ true → y < suc next
-      go true e h = let same = eqb-true y next e in omega arith
-      go false e h = let lt = at.below.known y h in omega arith
-
-  stood : (box : List Side) (w : Variable → ℤ) {scope : Scope} {next : ℕ} (slot : Slot) (k : DefinitelyAssigned) (s : State) → stands slot ≡ true → IsPoint ds box w scope next k s → Stood box w (known_with k next (is_held slot)) next (with_local s next slot)
-  stood box w {next = next} slot k s up at =
-      record {
-        behind = record { known = local_known ds s next slot up k at.here.known; turn = turn_declared box w s next slot at.below.counters at.here.turn };
-        up = ap stands (local_same s next slot) ∙ up;
-      }
-
-  -- one without a value, and one with
-  empty_goes : (box : List Side) (w : Variable → ℤ) {scope : Scope} {next : ℕ} (k : DefinitelyAssigned) (s : State) → IsPoint ds box w scope next k s → Ran ds (Stood box w (known_with k next false) next) s (declared s next None)
-  empty_goes box w {next = next} k s at =
-      let room = at.room in
-      ran_write ds (Stood box w (known_with k next false) next) s (Declared next None) (local_later ds s next Empty refl (λ lt e. omega arith)) (stood box w Empty k s refl at)
-
-  value_goes : (box : List Side) (w : Variable → ℤ) {scope : Scope} {next : ℕ} (e : Source) (k : DefinitelyAssigned) (s : State) → IsPoint ds box w scope next k s → There (source_value s e)
-      → Ran ds (Stood box w (known_with k next true) next) s (declared s next (Some e))
-  value_goes box w {next = next} e k s at v =
-      let room = at.room in
-      ran_same (ap (declares next) v.1)
-      (ran_write ds (Stood box w (known_with k next true) next) s (Declared next (Some v.0)) (local_later ds s next (Holds v.0) refl (λ lt e. omega arith)) (stood box w (Holds v.0) k s refl at))
-
   -- ---- the phases, each with operators of its own
 
   module _ (fs bs : List (Variable × ReduceOp)) where
@@ -83,17 +46,17 @@ module _ (ds : List Declaration) (short : HaveShort ds) where
     joined_go no_items back red rest_red box w r k k' s h kept at d = items_go ds short bs box w r k k' s h kept rest_red at d
     joined_go (mark n rest) back red rest_red box w (line r) k k' s h kept at d = joined_go rest back red rest_red box w r k k' s h kept at d
     joined_go (local x name None rest) back red rest_red box w {scope} {next = next} (empty_local free r) k k' s h kept at d =
-        ran_then (run_items (joined_items (all_operands fs rest) (all_operands bs back))) (empty_goes box w k s at)
+        ran_then (run_items (joined_items (all_operands fs rest) (all_operands bs back))) (empty_goes ds box w k s at)
         (λ t l q. joined_go rest back (second_of (is_plain fs next && true) (all_reduce fs rest) red) rest_red box w r (known_with k next false) k' t h.1 kept
-        (point_behind ds box w scope name next k (known_with k next false) s t at l (declared_below false k s at) q.behind q.up) d)
+        (point_behind ds box w scope name next k (known_with k next false) s t at l (declared_below ds false k s at) q.behind q.up) d)
     joined_go (local x name (Some e) rest) back red rest_red box w {scope} {next = next} (first_local free re r) k k' s h kept at d =
         let first = and_then (definite_items no_privates [] (joined_items rest back)) (declared_known k next (Some e)) k' d in
         let ok = allowed (may_take k e) (known_with k next true) first.0 first.1 in
         let d' = ap (definite_items no_privates [] (joined_items rest back)) ok.1 ∙ first.2 in
         let v = source_there ds short ((name, AVariable next 0) ∷ scope) (tt, at.small) s at.good box w at.here.turn k at.here.known re ok.0 h.0 in
-        ran_then (run_items (joined_items (all_operands fs rest) (all_operands bs back))) (value_goes box w e k s at v)
+        ran_then (run_items (joined_items (all_operands fs rest) (all_operands bs back))) (value_goes ds box w e k s at v)
         (λ t l q. joined_go rest back (second_of (is_plain fs next && names_source (is_plain fs) e) (all_reduce fs rest) red) rest_red box w r (known_with k next true) k' t h.1 kept
-        (point_behind ds box w scope name next k (known_with k next true) s t at l (declared_below true k s at) q.behind q.up) d')
+        (point_behind ds box w scope name next k (known_with k next true) s t at l (declared_below ds true k s at) q.behind q.up) d')
     joined_go (stmt a rest) back red rest_red box w {scope} {next = next} (statement {next' = middle} ra r) k k' s h kept at d =
         let first = and_then (definite_items no_privates [] (joined_items rest back)) (definite no_privates a k) k' d in
         let up = rises ra in

@@ -33,7 +33,7 @@ use Rattle.law_independence.specs.Inside.{HaveShort}
 use Rattle.law_independence.specs.OrderLaws.{IsSeen, IsMet}
 
 -- lengths of 64 bits
-each_short : (ns : List ℕ) → inside.AreShort ns → values.AreShort ns
+pub each_short : (ns : List ℕ) → inside.AreShort ns → values.AreShort ns
 each_short [] h = tt
 each_short (n ∷ ns) h = (h.0, each_short ns h.1)
 

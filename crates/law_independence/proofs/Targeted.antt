@@ -105,20 +105,10 @@ no_outside_target a x h = among_outside a x ∙ at (visible_behind a x) ∙ h
 
 -- a loop assigns what its body does
 loop_targets : (s : Stmt) (l : Loop) (b : Stmt) → as_loop s ≡ Some (l, b) → targets s ≡ targets b
-loop_targets (Assign x is e) l b h = absurd (none-some (l, b) h)
-loop_targets (Update x is op e) l b h = absurd (none-some (l, b) h)
-loop_targets (If c a) l b h = absurd (none-some (l, b) h)
-loop_targets (IfElse c a d) l b h = absurd (none-some (l, b) h)
-loop_targets (Print parts) l b h = absurd (none-some (l, b) h)
 loop_targets (For x name start test step inner) l b h =
     ap targets (ap (λ (p : Loop × Stmt). p.1) (same_Some (record { variable = x; start = start; test = test; step = step }, inner) (l, b) h))
-loop_targets (Block no_items) l b h = absurd (none-some (l, b) h)
-loop_targets (Block (mark line rest)) l b h = absurd (none-some (l, b) h)
-loop_targets (Block (local x name start rest)) l b h = absurd (none-some (l, b) h)
-loop_targets (Block (stmt a (mark line rest))) l b h = absurd (none-some (l, b) h)
-loop_targets (Block (stmt a (local x name start rest))) l b h = absurd (none-some (l, b) h)
-loop_targets (Block (stmt a (stmt c rest))) l b h = absurd (none-some (l, b) h)
 loop_targets (Block (stmt a no_items)) l b h = append-nil (targets a) ∙ loop_targets a l b h
+loop_targets _ l b h = absurd (none-some (l, b) h)
 
 pub nest_targets : (n : ℕ) (s : Stmt) (loops : List Loop) (body : Stmt) → nest_of n s ≡ Some (loops, body) → targets s ≡ targets body
 nest_targets zero s loops body h = ap targets (ap (λ (p : List Loop × Stmt). p.1) (same_Some ([], s) (loops, body) h))

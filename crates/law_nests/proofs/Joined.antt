@@ -3,7 +3,7 @@ use Rattle.std.specs.Prelude.{ℕ, zero, suc, Bool, true, false, ◌≡◌, ◌=
 use Rattle.std.proofs.Common.{refl, sym, ap, ◌∙◌}
 use Rattle.std.proofs.lemmas.List.{append-nil}
 use Rattle.std.proofs.lemmas.Option.{same_Some, none-some}
-use Rattle.semantics.specs.Tree.{Variable, Stmt, Assign, Update, If, IfElse, For, Block, Print, no_items, mark, local, stmt}
+use Rattle.semantics.specs.Tree.{Variable, Stmt, For, Block, no_items, stmt}
 use Rattle.semantics.specs.Meaning.State.{State, overwritten}
 use Rattle.semantics.specs.Meaning.Value.{map_option}
 use Rattle.semantics.specs.Meaning.Agrees.{AgreesBehind, declared_in, is_among, visible_behind}
@@ -28,25 +28,15 @@ visible_more s b more y h = at (is_among (declared_in b) y) refl
     at false e = ap not e
 
 loop_declares : (s : Stmt) (l : Loop) (b : Stmt) → as_loop s ≡ Some (l, b) → DeclaresMore s b
-loop_declares (Assign x is e) l b h y k = absurd (none-some (l, b) h)
-loop_declares (Update x is op e) l b h y k = absurd (none-some (l, b) h)
-loop_declares (If c a) l b h y k = absurd (none-some (l, b) h)
-loop_declares (IfElse c a d) l b h y k = absurd (none-some (l, b) h)
-loop_declares (Print parts) l b h y k = absurd (none-some (l, b) h)
 loop_declares (For x name start test step inner) l b h y k =
     or_right (x == y) (is_among (declared_in inner) y) (ap (λ (c : Stmt). is_among (declared_in c) y) (ap (λ (p : Loop × Stmt). p.1) (same_Some (record { variable = x; start = start; test = test; step = step }, inner) (l, b) h)) ∙ k)
   where
     or_right : (a c : Bool) → c ≡ true → (a || c) ≡ true
     or_right true c e = refl
     or_right false c e = e
-loop_declares (Block no_items) l b h y k = absurd (none-some (l, b) h)
-loop_declares (Block (mark line rest)) l b h y k = absurd (none-some (l, b) h)
-loop_declares (Block (local x name start rest)) l b h y k = absurd (none-some (l, b) h)
-loop_declares (Block (stmt a (mark line rest))) l b h y k = absurd (none-some (l, b) h)
-loop_declares (Block (stmt a (local x name start rest))) l b h y k = absurd (none-some (l, b) h)
-loop_declares (Block (stmt a (stmt c rest))) l b h y k = absurd (none-some (l, b) h)
 loop_declares (Block (stmt a no_items)) l b h y k =
     ap (λ (ds : List Variable). is_among ds y) (append-nil (declared_in a)) ∙ loop_declares a l b h y k
+loop_declares _ l b h y k = absurd (none-some (l, b) h)
 
 -- what is known of a nest's first loop
 pub record IsFirst (n : ℕ) (s : Stmt) (all : List Loop) (body : Stmt) : Type 0 where

@@ -1,4 +1,5 @@
 pub mod Steadied
+pub mod Onward
 pub mod Nested
 pub mod Joined
 pub mod Walked

@@ -20,7 +20,7 @@ use Rattle.semantics.proofs.TicketLaw.{times-append, once_below-more}
 use Rattle.law_commute.specs.Commuting.{KeepsToItself, InnerLoopsTurn}
 use Rattle.law_commute.specs.Joining.{plain_loop, DeclaresLocals}
 use Rattle.law_commute.proofs.Framed.{true_not_false}
-use Rattle.law_commute.proofs.Lists.{each_join}
+use Rattle.law_commute.proofs.Lists.{each_join, first_there, others_there}
 use Rattle.law_commute.proofs.Orders.{picked-append}
 use Rattle.law_commute.proofs.Changes.{acted, hit, not_hit}
 use Rattle.law_commute.proofs.Arranged.{counted, times_counted, counted_once}
@@ -123,14 +123,8 @@ module _ (loops : List Loop) (body : Stmt) (outer : State) where
   shared_writes [] [] e = tt
   shared_writes [] (p ∷ ps) e = absurd cc
   shared_writes (c ∷ cs) [] e = absurd cc
-  shared_writes (c ∷ cs) (p ∷ ps) e = (one (run_iterations loops body c outer) (head e), shared_writes cs ps (tail e))
+  shared_writes (c ∷ cs) (p ∷ ps) e = (one (run_iterations loops body c outer) (first_there (piece (plain_loop loops body) outer) c cs p ps e), shared_writes cs ps (others_there (piece (plain_loop loops body) outer) c cs p ps e))
     where
-      head : (map (piece (plain_loop loops body) outer) (c ∷ cs) ≡ map Some (p ∷ ps)) → piece (plain_loop loops body) outer c ≡ Some p
-      head e = cc
-
-      tail : (map (piece (plain_loop loops body) outer) (c ∷ cs) ≡ map Some (p ∷ ps)) → map (piece (plain_loop loops body) outer) cs ≡ map Some ps
-      tail e = cc
-
       one : (o : Option Effect) → map_option (piece_of no_roles outer) o ≡ Some p → Each (IsShared outer) p.writes
       one None k = absurd (none-some p k)
       one (Some f) k = subst (λ (q : Piece). Each (IsShared outer) q.writes) (same_Some (piece_of no_roles outer f) p k) (all_shared outer f.writes)
@@ -263,15 +257,9 @@ module _ (n : ℕ) (s : Stmt) (loops : List Loop) (body : Stmt) (outer : State) 
   apart (vs ∷ chunks) [] different within e = absurd cc
   apart (vs ∷ chunks) (p ∷ ps) different within e =
       let others = flat_map (λ (vs : List Vector). vs) chunks in
-      let one = walked vs p (first_pairs (λ u v. u ≢ v) vs others different) (λ u h. within u (Contains-append_left vs others u h)) (head e) in
-      let rest = apart chunks ps (other_pairs (λ u v. u ≢ v) vs others different) (λ u h. within u (Contains-append_right vs others u h)) (tail e) in
+      let one = walked vs p (first_pairs (λ u v. u ≢ v) vs others different) (λ u h. within u (Contains-append_left vs others u h)) (first_there (piece (plain_loop loops body) outer) vs chunks p ps e) in
+      let rest = apart chunks ps (other_pairs (λ u v. u ≢ v) vs others different) (λ u h. within u (Contains-append_right vs others u h)) (others_there (piece (plain_loop loops body) outer) vs chunks p ps e) in
       record { effects = one.effect ∷ rest.effects; each = λ i. one.ran i ∷ rest.each i; alike = (one.alike, rest.alike); text = λ i. one.text i ++ rest.text i }
-    where
-      head : (map (piece (plain_loop loops body) outer) (vs ∷ chunks) ≡ map Some (p ∷ ps)) → piece (plain_loop loops body) outer vs ≡ Some p
-      head e = cc
-
-      tail : (map (piece (plain_loop loops body) outer) (vs ∷ chunks) ≡ map Some (p ∷ ps)) → map (piece (plain_loop loops body) outer) chunks ≡ map Some ps
-      tail e = cc
 
   -- the piece of an effect, and the effect of a piece
   record Beside (es : List Effect) (ps : List Piece) (k : ℕ) (e : Effect) : Type 0 where

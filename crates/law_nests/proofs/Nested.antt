@@ -1,5 +1,5 @@
 -- A nest does what its iterations do one after another.
-use Rattle.std.specs.Prelude.{ℕ, zero, suc, Bool, true, false, ◌≡◌, ◌==◌, ◌&&◌, ◌||◌, not, List, [], ◌∷◌, ◌++◌, map, Option, Some, None, IsSome, option_and_then, Contains}
+use Rattle.std.specs.Prelude.{ℕ, zero, suc, Bool, true, false, ◌≡◌, ◌==◌, ◌&&◌, ◌||◌, not, List, [], ◌∷◌, ◌++◌, map, Option, Some, None, IsSome, Contains}
 use Rattle.std.specs.List.{AllByRecursion as Each}
 use Rattle.std.proofs.Common.{refl, sym, ap, ◌∙◌, subst, cond}
 use Rattle.std.proofs.lemmas.Bool.{eq-eqb, eqb-true}
@@ -7,26 +7,25 @@ use Rattle.std.proofs.lemmas.List.{append_assoc, append-nil}
 use Rattle.std.proofs.lemmas.Option.{same_Some, none-some}
 use Rattle.std.specs.Cmp.Lexicographic.{same_text}
 use Rattle.semantics.specs.Tree.{Name, Variable, Source, Cond, Increment, Stmt, Assign, Update, If, IfElse, For, Block, Print, no_items, mark, local, stmt}
-use Rattle.semantics.specs.Meaning.State.{State, Slot, Outside, Empty, Holds, Write, Declared, Assigned, slot_of, renewed, same_indexes, with_local, with_cell, assign_at, is_there, written, overwritten, look, look_in}
-use Rattle.semantics.specs.Meaning.Value.{source_value, holds, by_test, both, map_option}
-use Rattle.semantics.specs.Meaning.Runs.{Effect, nothing, one_write, joined, then_from, declares, incremented, turns, run, run_items, greatest_trip_count}
+use Rattle.semantics.specs.Meaning.State.{State, Slot, Outside, Empty, Holds, Write, Declared, Assigned, slot_of, renewed, same_indexes, with_local, with_cell, assign_at, is_there, written, overwritten}
+use Rattle.semantics.specs.Meaning.Value.{map_option}
+use Rattle.semantics.specs.Meaning.Runs.{Effect, nothing, joined, then_from, run, run_items}
 use Rattle.semantics.specs.Meaning.Agrees.{also, declared_in, is_among, names_only, names_source, names_cond, names_step, visible_behind}
-use Rattle.semantics.specs.Loops.Nest.{Loop, Vector, nest_of, at_value, at_vector, values_from, iterations, concat_options}
+use Rattle.semantics.specs.Loops.Nest.{Loop, Vector, nest_of, at_value, at_vector, iterations}
 use Rattle.semantics.specs.Loops.Access.{Access, Mode, Touches, accesses}
 use Rattle.semantics.specs.Loops.Piece.{run_iterations, is_outside}
-use Rattle.semantics.proofs.NestLaw.{local_same, local_twice}
 use Rattle.law_commute.specs.Commuting.{IsOwnWrite, KeepsToItself, InnerLoopsTurn}
-use Rattle.law_commute.specs.Steady.{IsFixedCond, IsFixedStep, IsSteady}
+use Rattle.law_commute.specs.Steady.{IsFixedSource, IsFixedCond, IsFixedStep, IsSteady}
 use Rattle.law_commute.proofs.Lists.{each_left, each_right, each_same, contains_among}
 use Rattle.law_commute.proofs.Same.{Point, apart, also_other, also_more}
-use Rattle.law_commute.proofs.Values.{first_of, second_of, fixed_source, fixed_holds}
+use Rattle.law_commute.proofs.Values.{first_of, second_of}
 use Rattle.law_commute.proofs.Matched.{Matched, overwritten-append}
-use Rattle.law_commute.proofs.Paths.{both_there}
-use Rattle.law_commute.proofs.Framed.{step_number, number_to, step_is, step_same, also_itself, true_not_false}
+use Rattle.law_commute.proofs.Framed.{true_not_false}
 use Rattle.law_commute.proofs.Iterations.{one_iteration}
 use Rattle.law_commute.proofs.Joining.{no_change}
 use Rattle.law_nests.specs.Nests.{NestsRunTheirIterations}
-use Rattle.law_nests.proofs.Steadied.{SameFixed, step_left, same_inner, declared_free}
+use Rattle.law_nests.proofs.Steadied.{SameFixed, same_inner, declared_free}
+use Rattle.law_nests.proofs.Onward.{inner_nest_is, loop_goes}
 
 -- steps one after another, each at one of these
 abbrev runs_by : {A : Type 0} → (A → State → Option Effect) → List A → State → Option Effect
@@ -364,69 +363,16 @@ module _ (whole : Stmt) (outer : State) (there : Like whole outer outer) (body :
             ap (λ c. cond c (Holds w) (r.locals y)) e ∙ beside.locals y h ∙ ap (λ c. cond c (Holds v) ((P t).locals y)) e
             ∙ sym (ap (λ c. cond c (Holds w) ((P t).locals y)) e)
 
-    held : (v : ℕ) (r t : State) → Inside v r t → r.locals x ≡ Holds v
-    held v r t beside = beside.locals x (also_itself K x) ∙ local_same (P t) x (Holds v)
+    -- what is fixed is as at the value before the nest
+    fixed : (v : ℕ) (r t : State) → Inside v r t → SameFixed (also K x) r (at_value (P outer) x v)
+    fixed v r t beside = same_base whole outer (also K x) (Round v) (at_round whole outer K P x v round) r t there beside
 
-    same_test : (v : ℕ) (r t : State) → Inside v r t → holds r l.test ≡ holds (at_value (P outer) x v) l.test
-    same_test v r t beside =
-        fixed_holds (also K x) r (at_value (P outer) x v) (same_base whole outer (also K x) (Round v) (at_round whole outer K P x v round) r t there beside) l.test test_fixed
-
-    abbrev all_inside : ℕ → Option (List Vector)
-    all_inside v = map_option (map (λ u. v ∷ u)) (iterations ls (at_value (P outer) x v))
-
-    abbrev turning : ℕ → State → Option Effect
-    turning k = turns k (λ s. holds s l.test) (run b) (λ s. incremented s l.step)
-
-    abbrev Ends : List Vector → State → State → Effect → Type 0
-    Ends us r t e = NestWent K P (l ∷ ls) us r t e
+    abbrev Ends : List Vector → State → List ℕ → State → Type 0
+    Ends us t text q = Each (Turns (l ∷ ls) P) us → Went (at_iteration (l ∷ ls) P) us t text (Beside whole outer K P q)
 
     -- no turn is left
-    ended : (v : ℕ) (vs : List ℕ) (us : List Vector) (r t : State) (e : Effect) → Inside v r t → [] ≡ vs → concat_options (map all_inside vs) ≡ Some us → Some nothing ≡ Some e → Ends us r t e
-    ended v vs us r t e beside none are ran =
-        let all : [] ≡ us = same_Some [] us (ap (λ (ws : List ℕ). concat_options (map all_inside ws)) none ∙ are) in
-        subst (λ (vs : List Vector). Ends vs r t e) all
-        (subst (λ (f : Effect). Ends [] r t f) (same_Some nothing e ran)
-        (went_nothing (at_iteration (l ∷ ls) P) t (Beside whole outer K P r) (leaves v r t beside)))
-
-    -- the values of the turns from one on
-    record Onward (k v : ℕ) (vs : List ℕ) (us : List Vector) (w : ℕ) : Type 0 where
-      later : List ℕ
-      first_us : List Vector
-      later_us : List Vector
-      first : iterations ls (at_value (P outer) x v) ≡ Some first_us
-      values : values_from k l (at_value (P outer) x w) ≡ Some later
-      rest : concat_options (map all_inside later) ≡ Some later_us
-      all : map (λ u. v ∷ u) first_us ++ later_us ≡ us
-
-    abbrev base : ℕ → State
-    base v = at_value (P outer) x v
-
-    base_holds : (v : ℕ) → (base v).locals x ≡ Holds v
-    base_holds v = local_same (P outer) x (Holds v)
-
-    base_steps : (v w : ℕ) → step_number (base v) l.step ≡ Some w → incremented (base v) l.step ≡ Some (one_write (Assigned x [] w))
-    base_steps v w e = step_is (also K x) (base v) x v l.step (base_holds v) step_fixed ∙ ap (number_to x) e
-
-    base_left : (v w : ℕ) → overwritten (base v) (Assigned x [] w ∷ []) ≡ base w
-    base_left v w = step_left (base v) x v w (base_holds v) ∙ local_twice (P outer) x (Holds v) (Holds w)
-
-    onward : (k v : ℕ) (vs : List ℕ) (us : List Vector) (w : ℕ) → holds (base v) l.test ≡ Some true → step_number (base v) l.step ≡ Some w → values_from (suc k) l (base v) ≡ Some vs
-        → concat_options (map all_inside vs) ≡ Some us → Onward k v vs us w
-    onward k v vs us w tested stepped are all =
-        let next = option_and_then (λ (e : Effect). values_from k l (overwritten (base v) e.writes)) (incremented (base v) l.step) in
-        let goes : both (λ z zs. z ∷ zs) (look (base v) x []) next ≡ Some vs = sym (ap (λ c. by_test c (both (λ z zs. z ∷ zs) (look (base v) x []) next) (Some [])) tested) ∙ are in
-        let p = both_there (λ z zs. z ∷ zs) (look (base v) x []) next vs goes in
-        let here : p.left ≡ v = same_Some p.left v (sym p.first ∙ ap (λ slot. look_in slot (base v) x []) (base_holds v)) in
-        let behind : values_from k l (base w) ≡ Some p.right =
-        ap (values_from k l) (sym (base_left v w)) ∙ sym (ap (option_and_then (λ (e : Effect). values_from k l (overwritten (base v) e.writes))) (base_steps v w stepped)) ∙ p.second in
-        let split : concat_options (map all_inside (v ∷ p.right)) ≡ Some us = ap (λ z. concat_options (map all_inside (z ∷ p.right))) (sym here) ∙ ap (λ zs. concat_options (map all_inside zs)) p.is ∙ all in
-        let q = both_there (λ a c. a ++ c) (all_inside v) (concat_options (map all_inside p.right)) us split in
-        let m = mapped (iterations ls (base v)) (λ u. v ∷ u) q.left q.first in
-        record { later = p.right; first_us = m.0; later_us = q.right; first = m.1; values = behind; rest = q.second; all = ap (λ a. a ++ q.right) m.2 ∙ q.is }
-      where
-        mapped : (o : Option (List Vector)) (f : Vector → Vector) (a : List Vector) → map_option (map f) o ≡ Some a → (b : List Vector) × (o ≡ Some b) × (map f b ≡ a)
-        mapped None f a e = absurd (none-some a e)
-        mapped (Some b) f a e = (b, refl, same_Some (map f b) a e)
+    ended : (v : ℕ) (r t : State) → Inside v r t → Ends [] t [] r
+    ended v r t beside turn = went_nothing (at_iteration (l ∷ ls) P) t (Beside whole outer K P r) (leaves v r t beside)
 
     -- of several lists each has its turns
     each_map : (f : Vector → Vector) (Q : Vector → Type 0) (us : List Vector) → Each Q (map f us) → Each (λ u. Q (f u)) us
@@ -434,87 +380,31 @@ module _ (whole : Stmt) (outer : State) (there : Like whole outer outer) (body :
     each_map f Q (u ∷ us) h = (h.0, each_map f Q us h.1)
 
     -- one turn and those behind it
-    one_turn : (k v : ℕ) (vs : List ℕ) (us : List Vector) (r t : State) (e : Effect) → Inside v r t → holds r l.test ≡ Some true → values_from (suc k) l (base v) ≡ Some vs
-        → concat_options (map all_inside vs) ≡ Some us → Each (Turns (l ∷ ls) P) us → then_from r (run b r) (λ q. then_from q (incremented q l.step) (turning k)) ≡ Some e
-        → ((w : ℕ) (zs : List ℕ) (ws : List Vector) (r' t' : State) (f : Effect) → Inside w r' t' → values_from k l (base w) ≡ Some zs → concat_options (map all_inside zs) ≡ Some ws
-        → Each (Turns (l ∷ ls) P) ws → turning k r' ≡ Some f → Ends ws r' t' f)
-        → Ends us r t e
-    one_turn k v vs us r t e beside tested are all turn ran later = at (step_number (base v) l.step) refl
+    one_turn : (v : ℕ) (first_us later_us : List Vector) (r t : State) (one : Effect) (text : List ℕ) (q : State) → Inside v r t → iterations ls (at_value (P outer) x v) ≡ Some first_us → run b r ≡ Some one
+        → ((t' : State) → Inside v (overwritten r one.writes) t' → Ends later_us t' text q) → Ends (map (λ u. v ∷ u) first_us ++ later_us) t (one.text ++ text) q
+    one_turn v first_us later_us r t one text q beside are ran later turn =
+        let vectors : List Vector = map (λ u. v ∷ u) first_us in
+        let turn_first = each_map (λ u. v ∷ u) (Turns (l ∷ ls) P) first_us (each_left (Turns (l ∷ ls) P) vectors later_us turn) in
+        let inside = inner_nest (also K x) (Round v) b ls first_us r t one (inner_at v) is are turn_first beside ran in
+        let f = at_iteration (l ∷ ls) P in
+        let post = Beside whole outer K P q in
+        subst (λ z. Went f (vectors ++ later_us) t (z ++ text) post) inside.text_is
+        (went_append f vectors later_us t text post inside.effect (runs-map f (λ u. v ∷ u) first_us t ∙ inside.ran)
+        (later (overwritten t inside.effect.writes) inside.after (each_right (Turns (l ∷ ls) P) vectors later_us turn)))
+
+    -- its variable takes the first value
+    begun : (r t : State) → Beside whole outer K P r t → (v : ℕ) → Inside v (with_local r x (Holds v)) t
+    begun r t beside v = record { like = beside.like; cells = beside.cells; locals = λ y h. at y (y == x) refl h }
       where
-        tested_base : holds (base v) l.test ≡ Some true
-        tested_base = sym (same_test v r t beside) ∙ tested
+        at : (y : Variable) (c : Bool) → (y == x) ≡ c → also K x y ≡ true → cond (y == x) (Holds v) (r.locals y) ≡ cond (y == x) (Holds v) ((P t).locals y)
+        at y true k h = ap (λ c. cond c (Holds v) (r.locals y)) k ∙ sym (ap (λ c. cond c (Holds v) ((P t).locals y)) k)
+        at y false k h =
+            ap (λ c. cond c (Holds v) (r.locals y)) k ∙ beside.locals y (also_other K x y h k) ∙ sym (ap (λ c. cond c (Holds v) ((P t).locals y)) k)
 
-        no_values : step_number (base v) l.step ≡ None → values_from (suc k) l (base v) ≡ None
-        no_values stepped =
-            let next = λ (o : Option Effect). option_and_then (λ (e : Effect). values_from k l (overwritten (base v) e.writes)) o in
-            let stuck : incremented (base v) l.step ≡ None = step_is (also K x) (base v) x v l.step (base_holds v) step_fixed ∙ ap (number_to x) stepped in
-            ap (λ c. by_test c (both (λ z zs. z ∷ zs) (look (base v) x []) (next (incremented (base v) l.step))) (Some [])) tested_base
-            ∙ ap (λ o. both (λ z zs. z ∷ zs) (look (base v) x []) (next o)) stuck
-            ∙ ap (λ slot. both {B = List ℕ} (λ z zs. z ∷ zs) (look_in slot (base v) x []) None) (base_holds v)
-
-        at : (o : Option ℕ) → step_number (base v) l.step ≡ o → Ends us r t e
-        at None stepped = absurd (none-some vs (sym (no_values stepped) ∙ are))
-        at (Some w) stepped =
-            let first = parts_of r (run b r) (λ q. then_from q (incremented q l.step) (turning k)) e ran in
-            let r1 : State = overwritten r first.one.writes in
-            let second = parts_of r1 (incremented r1 l.step) (turning k) first.two first.two_is in
-            let o = onward k v vs us w tested_base stepped are all in
-            let turn_all : Each (Turns (l ∷ ls) P) (map (λ u. v ∷ u) o.first_us ++ o.later_us) = subst (λ (ws : List Vector). Each (Turns (l ∷ ls) P) ws) (sym o.all) turn in
-            let turn_first = each_map (λ u. v ∷ u) (Turns (l ∷ ls) P) o.first_us (each_left (Turns (l ∷ ls) P) (map (λ u. v ∷ u) o.first_us) o.later_us turn_all) in
-            let turn_later = each_right (Turns (l ∷ ls) P) (map (λ u. v ∷ u) o.first_us) o.later_us turn_all in
-            let inside = inner_nest (also K x) (Round v) b ls o.first_us r t first.one (inner_at v) is o.first turn_first beside first.one_is in
-            let t1 : State = overwritten t inside.effect.writes in
-            let there_now : Inside v r1 t1 = inside.after in
-            let holds_v = held v r1 t1 there_now in
-            let same = same_base whole outer (also K x) (Round v) (at_round whole outer K P x v round) r1 t1 there there_now in
-            let step_goes : Some (one_write (Assigned x [] w)) ≡ Some second.one =
-            sym (step_is (also K x) r1 x v l.step holds_v step_fixed ∙ ap (number_to x) (step_same (also K x) r1 (base v) same x (also_itself K x) l.step step_fixed ∙ stepped)) ∙ second.one_is in
-            let step_was : one_write (Assigned x [] w) ≡ second.one = same_Some (one_write (Assigned x [] w)) second.one step_goes in
-            let r2 : State = with_local r1 x (Holds w) in
-            let moved : overwritten r1 second.one.writes ≡ r2 = sym (ap (λ (f : Effect). overwritten r1 f.writes) step_was) ∙ step_left r1 x v w holds_v in
-            let others = later w o.later o.later_us r2 t1 second.two (moves v w r1 t1 there_now) o.values o.rest turn_later (ap (turning k) (sym moved) ∙ second.two_is) in
-            let behind : overwritten r2 second.two.writes ≡ overwritten r e.writes =
-            ap (λ q. overwritten q second.two.writes) (sym moved) ∙ sym (overwritten-append r1 second.one.writes second.two.writes)
-            ∙ ap (λ (f : Effect). overwritten r1 f.writes) second.is ∙ sym (overwritten-append r first.one.writes first.two.writes) ∙ ap (λ (f : Effect). overwritten r f.writes) first.is in
-            let texts : inside.effect.text ++ second.two.text ≡ e.text =
-            ap (λ z. z ++ second.two.text) inside.text_is
-            ∙ ap (λ z. first.one.text ++ z) (ap (λ (f : Effect). f.text ++ second.two.text) step_was ∙ ap (λ (f : Effect). f.text) second.is)
-            ∙ ap (λ (f : Effect). f.text) first.is in
-            let f = at_iteration (l ∷ ls) P in
-            let post = λ (q : State). Beside whole outer K P (overwritten r e.writes) q in
-            let more : Went f o.later_us t1 second.two.text post = subst (λ (q : State). Went f o.later_us t1 second.two.text (Beside whole outer K P q)) behind others in
-            subst (λ z. Went f us t z post) texts
-            (subst (λ (ws : List Vector). Went f ws t (inside.effect.text ++ second.two.text) post) o.all
-            (went_append f (map (λ u. v ∷ u) o.first_us) o.later_us t second.two.text post inside.effect (runs-map f (λ u. v ∷ u) o.first_us t ∙ inside.ran) more))
-
-    -- all turns
-    all_turns : (k v : ℕ) (vs : List ℕ) (us : List Vector) (r t : State) (e : Effect) → Inside v r t → values_from k l (base v) ≡ Some vs → concat_options (map all_inside vs) ≡ Some us
-        → Each (Turns (l ∷ ls) P) us → turning k r ≡ Some e → Ends us r t e
-    all_turns zero v vs us r t e beside are all turn ran = at (holds r l.test) refl
-      where
-        at : (c : Option Bool) → holds r l.test ≡ c → Ends us r t e
-        at None tested = absurd (none-some e (sym (ap (λ c. by_test c None (Some nothing)) tested) ∙ ran))
-        at (Some true) tested = absurd (none-some e (sym (ap (λ c. by_test c None (Some nothing)) tested) ∙ ran))
-        at (Some false) tested =
-            ended v vs us r t e beside (same_Some [] vs (sym (ap (λ c. by_test c None (Some [])) (sym (same_test v r t beside) ∙ tested)) ∙ are)) all
-            (sym (ap (λ c. by_test c None (Some nothing)) tested) ∙ ran)
-    all_turns (suc k) v vs us r t e beside are all turn ran = at (holds r l.test) refl (all_turns k)
-      where
-        body_of : Option Effect
-        body_of = then_from r (run b r) (λ q. then_from q (incremented q l.step) (turning k))
-
-        values_of : Option (List ℕ)
-        values_of = both (λ z zs. z ∷ zs) (look (base v) x []) (option_and_then (λ (f : Effect). values_from k l (overwritten (base v) f.writes)) (incremented (base v) l.step))
-
-        at : (c : Option Bool) → holds r l.test ≡ c
-            → ((w : ℕ) (zs : List ℕ) (ws : List Vector) (r' t' : State) (f : Effect) → Inside w r' t' → values_from k l (base w) ≡ Some zs → concat_options (map all_inside zs) ≡ Some ws
-            → Each (Turns (l ∷ ls) P) ws → turning k r' ≡ Some f → Ends ws r' t' f)
-            → Ends us r t e
-        at None tested later = absurd (none-some e (sym (ap (λ c. by_test c body_of (Some nothing)) tested) ∙ ran))
-        at (Some true) tested later = one_turn k v vs us r t e beside tested are all turn (sym (ap (λ c. by_test c body_of (Some nothing)) tested) ∙ ran) later
-        at (Some false) tested later =
-            ended v vs us r t e beside (same_Some [] vs (sym (ap (λ c. by_test c values_of (Some [])) (sym (same_test v r t beside) ∙ tested)) ∙ are)) all
-            (sym (ap (λ c. by_test c body_of (Some nothing)) tested) ∙ ran)
+    all_turns : (name : Name) (us : List Vector) (r t : State) (e : Effect) → IsFixedSource K l.start → iterations (l ∷ ls) (P outer) ≡ Some us → Each (Turns (l ∷ ls) P) us → Beside whole outer K P r t
+        → run (For x name l.start l.test l.step b) r ≡ Some e → NestWent K P (l ∷ ls) us r t e
+    all_turns name us r t e start_fixed are turn beside ran =
+        loop_goes (P outer) l ls K test_fixed step_fixed b Inside Ends fixed moves ended one_turn name us r t e start_fixed (same_base whole outer K P round r t there beside) (begun r t beside) are ran turn
 
   -- a loop from its start
   module _ (n : ℕ) (inner_nest : NestsGo n) (K : Variable → Bool) (P : State → State) (x : Variable) (name : Name) (start : Source) (test : Cond) (step : Increment) (b : Stmt)
@@ -538,65 +428,10 @@ module _ (whole : Stmt) (outer : State) (there : Like whole outer outer) (body :
     names_inside : names_only (also K x) b ≡ true
     names_inside = second_of (names_source K start && names_cond (also K x) test && names_step (also K x) step) (names_only (also K x) b) inner.names
 
-    -- the values of its turns
-    record Values (us : List Vector) : Type 0 where
-      first : ℕ
-      values : List ℕ
-      first_is : source_value (P outer) start ≡ Some first
-      are : values_from greatest_trip_count this (at_value (P outer) x first) ≡ Some values
-      all : concat_options (map (λ v. map_option (map (λ u. v ∷ u)) (iterations ls (at_value (P outer) x v))) values) ≡ Some us
-
-    abbrev joined_values : List ℕ → Option (List Vector)
-    joined_values vs = concat_options (map (λ v. map_option (map (λ u. v ∷ u)) (iterations ls (at_value (P outer) x v))) vs)
-
-    values_there : (us : List Vector) → iterations (this ∷ ls) (P outer) ≡ Some us → Values us
-    values_there us are = at (source_value (P outer) start) refl are
-      where
-        counted : (v : ℕ) → source_value (P outer) start ≡ Some v → (o : Option (List ℕ)) → values_from greatest_trip_count this (at_value (P outer) x v) ≡ o → option_and_then joined_values o ≡ Some us → Values us
-        counted v e None k h = absurd (none-some us h)
-        counted v e (Some vs) k h = record { first = v; values = vs; first_is = e; are = k; all = h }
-
-        at : (o : Option ℕ) → source_value (P outer) start ≡ o
-            → option_and_then joined_values (option_and_then (λ v. values_from greatest_trip_count this (at_value (P outer) x v)) o) ≡ Some us → Values us
-        at None e h = absurd (none-some us h)
-        at (Some v) e h = counted v e (values_from greatest_trip_count this (at_value (P outer) x v)) refl h
-
-    loop_goes : (us : List Vector) (r t : State) (e : Effect) → iterations (this ∷ ls) (P outer) ≡ Some us → Each (Turns (this ∷ ls) P) us → Beside whole outer K P r t
+    from_start : (us : List Vector) (r t : State) (e : Effect) → iterations (this ∷ ls) (P outer) ≡ Some us → Each (Turns (this ∷ ls) P) us → Beside whole outer K P r t
         → run (For x name start test step b) r ≡ Some e → NestWent K P (this ∷ ls) us r t e
-    loop_goes us r t e are turn beside ran =
-        let vs = values_there us are in
-        let starts : source_value r start ≡ Some vs.first =
-        fixed_source K r (P outer) (same_base whole outer K P inner.round r t there beside) start inner.steady.1 ∙ vs.first_is in
-        let turning = turns greatest_trip_count (λ s. holds s test) (run b) (λ s. incremented s step) in
-        let goes : then_from r (Some (one_write (Declared x (Some vs.first)))) turning ≡ Some e = ap (λ o. then_from r (declares x o) turning) (sym starts) ∙ ran in
-        let p = parts_of r (Some (one_write (Declared x (Some vs.first)))) turning e goes in
-        let one : one_write (Declared x (Some vs.first)) ≡ p.one = same_Some (one_write (Declared x (Some vs.first))) p.one p.one_is in
-        let r1 : State = with_local r x (Holds vs.first) in
-        let begun : Beside whole outer (also K x) (λ q. at_value (P q) x vs.first) r1 t = record {
-          like = beside.like;
-          cells = beside.cells;
-          locals = λ y h. at y vs.first (y == x) refl h beside;
-        } in
-        let went = all_turns n inner_nest K P inner.round this b ls is inner.steady.0 inner.steady.2 inner.steady.3 names_inside inner.steady.4 seen_inside greatest_trip_count vs.first vs.values us r1 t p.two begun
-        vs.are vs.all turn (ap (λ (f : Effect). turning (overwritten r f.writes)) one ∙ p.two_is) in
-        let whole_is : joined (one_write (Declared x (Some vs.first))) p.two ≡ e = ap (λ (f : Effect). joined f p.two) one ∙ p.is in
-        subst (NestWent K P (this ∷ ls) us r t) whole_is went
-      where
-        at : (y v : ℕ) (c : Bool) → (y == x) ≡ c → also K x y ≡ true → Beside whole outer K P r t → cond (y == x) (Holds v) (r.locals y) ≡ cond (y == x) (Holds v) ((P t).locals y)
-        at y v true k h beside = ap (λ c. cond c (Holds v) (r.locals y)) k ∙ sym (ap (λ c. cond c (Holds v) ((P t).locals y)) k)
-        at y v false k h beside =
-            ap (λ c. cond c (Holds v) (r.locals y)) k ∙ beside.locals y (also_other K x y h k) ∙ sym (ap (λ c. cond c (Holds v) ((P t).locals y)) k)
-
-  -- of a nest inside a loop
-  inner_nest_is : (n : ℕ) (l : Loop) (b : Stmt) (ls : List Loop) → map_option {B = List Loop × Stmt} (λ (found : List Loop × Stmt). (l ∷ found.0, found.1)) (nest_of n b) ≡ Some (ls, body)
-      → (rest : List Loop) × (nest_of n b ≡ Some (rest, body)) × (l ∷ rest ≡ ls)
-  inner_nest_is n l b ls h = at (nest_of n b) refl h
-    where
-      at : (o : Option (List Loop × Stmt)) → nest_of n b ≡ o → map_option {B = List Loop × Stmt} (λ (found : List Loop × Stmt). (l ∷ found.0, found.1)) o ≡ Some (ls, body) → (rest : List Loop) × (nest_of n b ≡ Some (rest, body)) × (l ∷ rest ≡ ls)
-      at None e k = absurd (none-some (ls, body) k)
-      at (Some p) e k =
-          let same : (l ∷ p.0, p.1) ≡ (ls, body) = same_Some (l ∷ p.0, p.1) (ls, body) k in
-          (p.0, e ∙ ap (λ z. Some (p.0, z)) (ap (λ (q : List Loop × Stmt). q.1) same), ap (λ (q : List Loop × Stmt). q.0) same)
+    from_start us r t e are turn beside ran =
+        all_turns n inner_nest K P inner.round this b ls is inner.steady.0 inner.steady.2 inner.steady.3 names_inside inner.steady.4 seen_inside name us r t e inner.steady.1 are turn beside ran
 
   module _ (n : ℕ) (inner_nest : NestsGo n) where
     no_loop : {Q : Type 0} (p : List Loop × Stmt) → None ≡ Some p → Q
@@ -612,9 +447,9 @@ module _ (whole : Stmt) (outer : State) (there : Like whole outer outer) (body :
     goes (Print parts) K P ls us r t e inner h are turn beside ran = no_loop (ls, body) h
     goes (For x name start test step b) K P ls us r t e inner h are turn beside ran =
         let l : Loop = record { variable = x; start = start; test = test; step = step } in
-        let found = inner_nest_is n l b ls h in
+        let found = inner_nest_is body n l b ls h in
         subst (λ (ks : List Loop). NestWent K P ks us r t e) found.2
-        (loop_goes n inner_nest K P x name start test step b inner found.0 found.1 us r t e (ap (λ ks. iterations ks (P outer)) found.2 ∙ are)
+        (from_start n inner_nest K P x name start test step b inner found.0 found.1 us r t e (ap (λ ks. iterations ks (P outer)) found.2 ∙ are)
         (subst (λ (ks : List Loop). Each (Turns ks P) us) (sym found.2) turn) beside ran)
     goes (Block no_items) K P ls us r t e inner h are turn beside ran = no_loop (ls, body) h
     goes (Block (mark line rest)) K P ls us r t e inner h are turn beside ran = no_loop (ls, body) h

@@ -5,7 +5,7 @@ use Rattle.std.proofs.Common.{refl, sym, ap, ◌∙◌, subst, cond, arith}
 use Rattle.std.proofs.lemmas.Bool.{eq-eqb, eqb-true}
 use Rattle.std.proofs.lemmas.List.{append-nil}
 use Rattle.std.proofs.lemmas.Option.{same_Some, none-some}
-use Rattle.semantics.specs.Tree.{Variable, Stmt, Assign, Update, If, IfElse, For, Block, Print, no_items, mark, local, stmt}
+use Rattle.semantics.specs.Tree.{Variable, Stmt, For, Block, no_items, stmt}
 use Rattle.semantics.specs.Meaning.State.{State, Holds, overwritten}
 use Rattle.semantics.specs.Meaning.Value.{map_option}
 use Rattle.semantics.specs.Meaning.Runs.{Effect, nothing, joined, then_from, run}
@@ -35,21 +35,11 @@ or_right true b e = refl
 or_right false b e = e
 
 -- a loop declares its variable, and besides what stands in it
-loop_own : (s : Stmt) (l : Loop) (b : Stmt) → as_loop s ≡ Some (l, b) → (y : Variable) → is_among (declared_in s) y ≡ ((l.variable == y) || is_among (declared_in b) y)
-loop_own (Assign x is e) l b h y = absurd (none-some (l, b) h)
-loop_own (Update x is op e) l b h y = absurd (none-some (l, b) h)
-loop_own (If c a) l b h y = absurd (none-some (l, b) h)
-loop_own (IfElse c a d) l b h y = absurd (none-some (l, b) h)
-loop_own (Print parts) l b h y = absurd (none-some (l, b) h)
+pub loop_own : (s : Stmt) (l : Loop) (b : Stmt) → as_loop s ≡ Some (l, b) → (y : Variable) → is_among (declared_in s) y ≡ ((l.variable == y) || is_among (declared_in b) y)
 loop_own (For x name start test step inner) l b h y =
     ap (λ (p : Loop × Stmt). (p.0.variable == y) || is_among (declared_in p.1) y) (same_Some (record { variable = x; start = start; test = test; step = step }, inner) (l, b) h)
-loop_own (Block no_items) l b h y = absurd (none-some (l, b) h)
-loop_own (Block (mark line rest)) l b h y = absurd (none-some (l, b) h)
-loop_own (Block (local x name start rest)) l b h y = absurd (none-some (l, b) h)
-loop_own (Block (stmt a (mark line rest))) l b h y = absurd (none-some (l, b) h)
-loop_own (Block (stmt a (local x name start rest))) l b h y = absurd (none-some (l, b) h)
-loop_own (Block (stmt a (stmt c rest))) l b h y = absurd (none-some (l, b) h)
 loop_own (Block (stmt a no_items)) l b h y = ap (λ (ds : List Variable). is_among ds y) (append-nil (declared_in a)) ∙ loop_own a l b h y
+loop_own _ l b h y = absurd (none-some (l, b) h)
 
 -- a nest declares its loops' variables, and besides what its body declares
 nest_own : (n : ℕ) (s : Stmt) (loops : List Loop) (body : Stmt) → nest_of n s ≡ Some (loops, body) → (y : Variable) → is_among (declared_in s) y ≡ (is_of loops y || is_among (declared_in body) y)

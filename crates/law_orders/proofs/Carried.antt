@@ -22,10 +22,10 @@ use Rattle.law_nests.specs.Walks.{entered}
 use Rattle.law_private.proofs.Own.{own_body, DeclaresNone, fixed_is, innermost}
 use Rattle.law_private.proofs.Near.{Beside, beside_first, beside_second, Near, Twin, twin_body, all_inside}
 use Rattle.law_roles.specs.Following.{variables_of}
-use Rattle.law_roles.proofs.Recorded.{own_visible, entered_is}
+use Rattle.law_roles.proofs.Recorded.{own_visible, entered_is, kept_entered}
 use Rattle.law_roles.proofs.Seen.{apart_back}
 use Rattle.law_scans.proofs.Started.{started, started_visible, named, known, keeps_own, same_accesses, begun, same_state, started_runs, own_up}
-use Rattle.law_scans.proofs.Steps.{kept_entered, same_slot, near_self, number_left}
+use Rattle.law_scans.proofs.Steps.{same_slot, near_self, number_left}
 use Rattle.law_orders.proofs.Going.{Goes, scan_turn, Like, follow}
 use Rattle.law_orders.proofs.Mixed.{Pairs, pairs_with, pairs_all, each_weaker, Mixed, mixed_each}
 use Rattle.law_orders.proofs.Turned.{one_turn, Both, Good, good_of, clear_of, Steady, Same, runs_same, stepped, turned}

@@ -1,5 +1,5 @@
 -- Iterations, each begun with its loops' variables alone, in other orders.
-use Rattle.std.specs.Prelude.{ℕ, Bool, true, false, ◌≡◌, List, [], ◌∷◌, ◌++◌, Option, Some, Contains}
+use Rattle.std.specs.Prelude.{ℕ, Bool, true, ◌≡◌, List, [], ◌∷◌, ◌++◌, Option, Some, Contains}
 use Rattle.std.specs.List.{AllByRecursion as Each}
 use Rattle.std.proofs.Common.{refl, sym, ap, ◌∙◌, subst, inl, inr}
 use Rattle.semantics.specs.Tree.{Variable, Stmt}
@@ -15,7 +15,8 @@ use Rattle.law_commute.proofs.Lists.{each_contained}
 use Rattle.law_commute.proofs.Matched.{Matched}
 use Rattle.law_commute.proofs.Framed.{Spot, Fixed, stmt_law}
 use Rattle.law_commute.proofs.Iterations.{cells_at, outside_at}
-use Rattle.law_commute.proofs.Changes.{acted, hit, not_hit, hit_touches, Changed, changed_all}
+use Rattle.law_commute.proofs.Changes.{acted, hit, hit_touches, Changed, changed_all}
+use Rattle.law_waves.proofs.Turned.{untouched, commute}
 use Rattle.law_orders.proofs.Going.{Goes, more, Like, Followed, follow}
 use Rattle.law_orders.proofs.Mixed.{Pairs, pairs_cut, pairs_before, Mixed, mixed_each, passed}
 
@@ -174,42 +175,23 @@ module _ {A : Type 0} (vector : A → Vector) (own : A → Stmt) (loops : List L
 
     -- two neighbours of which none touches what the other writes
     module _ (t u : A) (good_t : Good t) (good_u : Good u) (clear : Clear t u) (clear_back : Clear u t) where
-      untouched : (w z : A) (e : Effect) (c : Clear w z) → ((y : Variable) (j : ℕ) (js : List ℕ) → hit y (j ∷ js) e.writes ≡ true → TouchesAt w Writes y j js)
-          → (y : Variable) (j : ℕ) (js : List ℕ) (mode : Mode) → TouchesAt z mode y j js → (k : Option ℕ) → acted y (j ∷ js) e.writes k ≡ k
-      untouched w z e c hits y j js mode m k = at (hit y (j ∷ js) e.writes) refl
-        where
-          at : (b : Bool) → hit y (j ∷ js) e.writes ≡ b → acted y (j ∷ js) e.writes k ≡ k
-          at true h = absurd (c y j js mode (hits y j js h) m)
-          at false h = not_hit y (j ∷ js) e.writes k h
-
-      commute : (d e : Effect) → ((y : Variable) (j : ℕ) (js : List ℕ) → hit y (j ∷ js) d.writes ≡ true → TouchesAt t Writes y j js)
-          → ((y : Variable) (j : ℕ) (js : List ℕ) → hit y (j ∷ js) e.writes ≡ true → TouchesAt u Writes y j js)
-          → (y : Variable) (j : ℕ) (js : List ℕ) (k : Option ℕ) → acted y (j ∷ js) e.writes (acted y (j ∷ js) d.writes k) ≡ acted y (j ∷ js) d.writes (acted y (j ∷ js) e.writes k)
-      commute d e by_t by_u y j js k = at (hit y (j ∷ js) d.writes) refl
-        where
-          at : (b : Bool) → hit y (j ∷ js) d.writes ≡ b → acted y (j ∷ js) e.writes (acted y (j ∷ js) d.writes k) ≡ acted y (j ∷ js) d.writes (acted y (j ∷ js) e.writes k)
-          at true h =
-              let m = by_t y j js h in
-              untouched u t e clear_back by_u y j js Writes m (acted y (j ∷ js) d.writes k) ∙ ap (acted y (j ∷ js) d.writes) (sym (untouched u t e clear_back by_u y j js Writes m k))
-          at false h = ap (acted y (j ∷ js) e.writes) (not_hit y (j ∷ js) d.writes k h) ∙ sym (not_hit y (j ∷ js) d.writes (acted y (j ∷ js) e.writes k) h)
-
       swapped : (back : List A) → Each Good back → Turns (t ∷ (u ∷ back)) (u ∷ (t ∷ back))
       swapped back good a c st (more d d_is (more e e_is goes)) =
           let a1 = overwritten a d.writes in
           let s1 = stepped t good_t a d st d_is in
           let s2 = stepped u good_u a1 e s1.steady e_is in
           let first : one_turn u a ≡ Some e =
-          runs_same u good_u a a1 st s1.steady (λ y j js mode m. sym (s1.elements y j js ∙ untouched t u d clear s1.hits y j js mode m (a.cells y (j ∷ js)))) ∙ e_is in
+          runs_same u good_u a a1 st s1.steady (λ y j js mode m. sym (s1.elements y j js ∙ untouched TouchesAt t u d clear s1.hits y j js mode m (a.cells y (j ∷ js)))) ∙ e_is in
           let b1 = overwritten a e.writes in
           let t1 = stepped u good_u a e st first in
           let second : one_turn t b1 ≡ Some d =
-          runs_same t good_t b1 a t1.steady st (λ y j js mode m. t1.elements y j js ∙ untouched u t e clear_back t1.hits y j js mode m (a.cells y (j ∷ js))) ∙ d_is in
+          runs_same t good_t b1 a t1.steady st (λ y j js mode m. t1.elements y j js ∙ untouched TouchesAt u t e clear_back t1.hits y j js mode m (a.cells y (j ∷ js))) ∙ d_is in
           let t2 = stepped t good_t b1 d t1.steady second in
           let same : Same (overwritten a1 e.writes) (overwritten b1 d.writes) = record {
             first = s2.steady;
             second = t2.steady;
             elements = λ y j js.
-                s2.elements y j js ∙ ap (acted y (j ∷ js) e.writes) (s1.elements y j js) ∙ commute d e s1.hits t1.hits y j js (a.cells y (j ∷ js))
+                s2.elements y j js ∙ ap (acted y (j ∷ js) e.writes) (s1.elements y j js) ∙ commute TouchesAt t u d e clear_back s1.hits t1.hits y j js (a.cells y (j ∷ js))
                 ∙ ap (acted y (j ∷ js) d.writes) (sym (t1.elements y j js)) ∙ sym (t2.elements y j js);
           } in
           let rest = along good (overwritten b1 d.writes) same goes in

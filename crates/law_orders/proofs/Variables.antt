@@ -17,7 +17,8 @@ use Rattle.law_roles.specs.Following.{variables_of}
 use Rattle.law_roles.specs.Sharing.{IsScalar}
 use Rattle.law_roles.proofs.Moved.{Kept, Shifted, Moved, moved_look, moved_declared, moved_stmt, moved_at}
 use Rattle.law_roles.proofs.Shared.{none_stays}
-use Rattle.law_scans.proofs.Steps.{kept_entered, same_slot}
+use Rattle.law_roles.proofs.Recorded.{kept_entered}
+use Rattle.law_scans.proofs.Steps.{same_slot}
 use Rattle.law_orders.proofs.Going.{scan_turn}
 
 -- ---- the same writes to one variable

@@ -1,12 +1,11 @@
 -- A statement does the same from states that agree in what it reads before it assigns it.
-use Rattle.std.specs.Prelude.{ℕ, zero, suc, Bool, true, false, ◌≡◌, ◌==◌, ◌&&◌, ◌||◌, ◌⊎◌, not, List, [], ◌∷◌, ◌++◌, Option, Some, None, IfSome, option_and_then}
-use Rattle.std.specs.Fmt.{decimal}
+use Rattle.std.specs.Prelude.{ℕ, zero, suc, Bool, true, false, ◌≡◌, ◌==◌, ◌&&◌, ◌||◌, ◌⊎◌, List, [], ◌∷◌, ◌++◌, Option, Some, None, IfSome, option_and_then}
 use Rattle.std.proofs.Common.{refl, sym, ap, ◌∙◌, subst, cond, inl, inr}
 use Rattle.std.proofs.lemmas.Bool.{true≢false, eqb-true}
 use Rattle.std.proofs.lemmas.Option.{same_Some, none-some}
 use Rattle.semantics.specs.Tree.{Variable, Name, Expr, Literal, Bare, Constant, Object, Unary, Binary, Conditional, Exprs, no_exprs, more_exprs, Cond, NotZero, Compare, Not, LogicalAnd, LogicalOr, Source, Number, Truth, BinaryOp, Plus, Minus, Increment, Up, Down, Set, Change, PrintPart, Characters, Decimal, Stmt, Assign, Update, If, IfElse, For, Block, Print, Items, no_items, mark, local, stmt}
 use Rattle.semantics.specs.Meaning.State.{State, Slot, Outside, Empty, Holds, Declared, Assigned, renewed, same_indexes, with_local, with_cell, assign_at, is_there, look, look_in, is_object, is_object_in, written, overwritten}
-use Rattle.semantics.specs.Meaning.Value.{operate, change, compare, map_option, both, both_then, by_test, value, values, holds, source_value}
+use Rattle.semantics.specs.Meaning.Value.{operate, map_option, both, both_then, by_test, value, values, holds, source_value}
 use Rattle.semantics.specs.Meaning.Runs.{Effect, nothing, one_write, joined, then_from, declares, declared, assigned, updated, incremented, print_text, turns, greatest_trip_count, run, run_items}
 use Rattle.semantics.specs.Meaning.Definite.{Privates, DefinitelyAssigned, known_with, without, may_read, may_read_all, may_test, may_take, may_step, may_print, where_ok, after_both, privates_in, if_stepped, definite, definite_items}
 use Rattle.semantics.specs.Meaning.Agrees.{Agrees, also, names_expr, names_exprs, names_cond, names_source, names_step, names_parts, names_only, names_items}
@@ -15,6 +14,7 @@ use Rattle.law_commute.proofs.Same.{also_more}
 use Rattle.law_commute.proofs.Matched.{overwritten-append}
 use Rattle.law_commute.proofs.Values.{first_of, second_of}
 use Rattle.law_private.specs.Known.{IsWithin, KnownStatesRunAlike}
+use Rattle.law_private.proofs.Seen.{value_seen, values_seen, holds_seen, source_seen, text_seen}
 
 -- ---- what may be read is what is named
 
@@ -126,61 +126,21 @@ module _ (V k : Variable → Bool) (K : Variable → Type 0) (s t : State) (m : 
       at Empty = refl
       at (Holds n) = refl
 
-  mutual
-    pub value_alike : (e : Expr) → names_expr k e ≡ true → value s e ≡ value t e
-    value_alike (Literal n suffix) h = refl
-    value_alike (Constant name n) h = refl
-    value_alike (Object x is) h = ap (option_and_then (λ ks. look s x ks)) (values_alike is (second_of (k x) (names_exprs k is) h)) ∙ at (values t is)
-      where
-        at : (o : Option (List ℕ)) → option_and_then (λ ks. look s x ks) o ≡ option_and_then (λ ks. look t x ks) o
-        at None = refl
-        at (Some ks) = look_alike x ks (first_of (k x) (names_exprs k is) h)
-    value_alike (Unary op a) h = ap (map_option (change op)) (value_alike a h)
-    value_alike (Binary op a b) h =
-        let one = value_alike a (first_of (names_expr k a) (names_expr k b) h) in
-        let two = value_alike b (second_of (names_expr k a) (names_expr k b) h) in
-        λ i. both_then (operate op) (one i) (two i)
-    value_alike (Conditional c a b) h =
-        let front = first_of (names_cond k c && names_expr k a) (names_expr k b) h in
-        let test = holds_alike c (first_of (names_cond k c) (names_expr k a) front) in
-        let one = value_alike a (second_of (names_cond k c) (names_expr k a) front) in
-        let two = value_alike b (second_of (names_cond k c && names_expr k a) (names_expr k b) h) in
-        λ i. by_test (test i) (one i) (two i)
+  -- what is made of variables that are known is the same
+  pub value_alike : (e : Expr) → names_expr k e ≡ true → value s e ≡ value t e
+  value_alike = value_seen k s t look_alike
 
-    pub values_alike : (es : Exprs) → names_exprs k es ≡ true → values s es ≡ values t es
-    values_alike no_exprs h = refl
-    values_alike (more_exprs e es) h =
-        let one = value_alike e (first_of (names_expr k e) (names_exprs k es) h) in
-        let others = values_alike es (second_of (names_expr k e) (names_exprs k es) h) in
-        λ i. both (λ n ns. n ∷ ns) (one i) (others i)
+  pub values_alike : (es : Exprs) → names_exprs k es ≡ true → values s es ≡ values t es
+  values_alike = values_seen k s t look_alike
 
-    pub holds_alike : (c : Cond) → names_cond k c ≡ true → holds s c ≡ holds t c
-    holds_alike (NotZero e) h = ap (map_option (λ v. not (v == 0))) (value_alike e h)
-    holds_alike (Compare op a b) h =
-        let one = value_alike a (first_of (names_expr k a) (names_expr k b) h) in
-        let two = value_alike b (second_of (names_expr k a) (names_expr k b) h) in
-        λ i. both (compare op) (one i) (two i)
-    holds_alike (Not c) h = ap (map_option not) (holds_alike c h)
-    holds_alike (LogicalAnd c d) h =
-        let one = holds_alike c (first_of (names_cond k c) (names_cond k d) h) in
-        let two = holds_alike d (second_of (names_cond k c) (names_cond k d) h) in
-        λ i. by_test (one i) (two i) (Some false)
-    holds_alike (LogicalOr c d) h =
-        let one = holds_alike c (first_of (names_cond k c) (names_cond k d) h) in
-        let two = holds_alike d (second_of (names_cond k c) (names_cond k d) h) in
-        λ i. by_test (one i) (Some true) (two i)
+  pub holds_alike : (c : Cond) → names_cond k c ≡ true → holds s c ≡ holds t c
+  holds_alike = holds_seen k s t look_alike
 
   pub source_alike : (e : Source) → names_source k e ≡ true → source_value s e ≡ source_value t e
-  source_alike (Number e) h = value_alike e h
-  source_alike (Truth c) h = ap (map_option (λ b. cond b 1 0)) (holds_alike c h)
+  source_alike = source_seen k s t look_alike
 
   text_alike : (parts : List PrintPart) → names_parts k parts ≡ true → print_text s parts ≡ print_text t parts
-  text_alike [] h = refl
-  text_alike (Characters bs ∷ parts) h = ap (both (λ a b. a ++ b) (Some bs)) (text_alike parts h)
-  text_alike (Decimal e ∷ parts) h =
-      let one = value_alike e (first_of (names_expr k e) (names_parts k parts) h) in
-      let others = text_alike parts (second_of (names_expr k e) (names_parts k parts) h) in
-      λ i. both (λ a b. a ++ b) (map_option decimal (one i)) (others i)
+  text_alike = text_seen k s t look_alike
 
   -- ---- writes
 

@@ -9,11 +9,12 @@ use Rattle.semantics.specs.Meaning.State.{State}
 use Rattle.semantics.specs.Meaning.Runs.{Effect, run}
 use Rattle.semantics.specs.Meaning.Agrees.{is_among, visible_behind}
 use Rattle.semantics.specs.Loops.Nest.{Loop, Vector}
-use Rattle.semantics.specs.Loops.Access.{Access, Element, Mode, Touches, Conflict}
+use Rattle.semantics.specs.Loops.Access.{Access, Element, Mode, Touches, Conflict, accesses}
 use Rattle.semantics.specs.Loops.Piece.{is_outside}
 use Rattle.law_commute.specs.Targets.{targets, targets_outside, is_local}
 use Rattle.law_commute.specs.Commuting.{KeepsToItself, InnerLoopsTurn}
 use Rattle.law_commute.proofs.Values.{first_of, second_of}
+use Rattle.law_commute.proofs.Lists.{first_there, others_there}
 use Rattle.law_nests.specs.Walks.{walk}
 use Rattle.law_nests.specs.Merging.{Cells, left_by, NoneChanges, OneChanges, Merges, WalkApart}
 use Rattle.law_nests.proofs.Joined.{nest_declares, visible_more}
@@ -45,25 +46,43 @@ near_itself xs s h = record {
 pub targets_none : (s : Stmt) → DeclaresNone (targets_outside s) s
 targets_none s x h = (among_filter (visible_behind s) (targets s) x h).0
 
--- ---- accesses of the body are those of the body that declares its own
+-- ---- conflicts
 
+-- those of a body whose iterations touch no more than another's
+pub conflict_by : (loops : List Loop) (less more : Stmt) (s t : State) → ((u : Vector) (element : Element) (mode : Mode) → Touches loops less s u element mode → Touches loops more t u element mode)
+    → (u v : Vector) → Conflict loops less s u v → Conflict loops more t u v
+conflict_by loops less more s t touches u v c = record {
+  differ = c.differ;
+  element = c.element;
+  first = c.first;
+  second = c.second;
+  one_writes = c.one_writes;
+  by_first = touches u c.element c.first c.by_first;
+  by_second = touches v c.element c.second c.by_second;
+}
+
+-- of a body whose accesses are among those of another
+
+module _ (loops : List Loop) (less more : Stmt) (outer : State) (among : (access : Access) → Contains (accesses [] less) access → Contains (accesses [] more) access) where
+  pub less_turning : (u : Vector) → InnerLoopsTurn loops more outer u → InnerLoopsTurn loops less outer u
+  less_turning u turn access there = turn access (among access there)
+
+  more_touches : (u : Vector) (element : Element) (mode : Mode) → Touches loops less outer u element mode → Touches loops more outer u element mode
+  more_touches u element mode t = record { access = t.access; there = among t.access t.there; reaches = t.reaches; mode_is = t.mode_is }
+
+  pub more_conflict : (u v : Vector) → Conflict loops less outer u v → Conflict loops more outer u v
+  more_conflict = conflict_by loops less more outer outer more_touches
+
+-- of one that declares its own
 module _ (xs : List Variable) (loops : List Loop) (body : Stmt) (outer : State) where
-  pub own_turning : (u : Vector) → InnerLoopsTurn loops body outer u → InnerLoopsTurn loops (own_body xs body) outer u
-  own_turning u h access there = h access (subst (λ (found : List Access). Contains found access) (own_accesses xs body) there)
+  own_among : (access : Access) → Contains (accesses [] (own_body xs body)) access → Contains (accesses [] body) access
+  own_among access there = subst (λ (found : List Access). Contains found access) (own_accesses xs body) there
 
-  own_touches : (u : Vector) (element : Element) (mode : Mode) → Touches loops (own_body xs body) outer u element mode → Touches loops body outer u element mode
-  own_touches u element mode t = record { access = t.access; there = subst (λ (found : List Access). Contains found t.access) (own_accesses xs body) t.there; reaches = t.reaches; mode_is = t.mode_is }
+  pub own_turning : (u : Vector) → InnerLoopsTurn loops body outer u → InnerLoopsTurn loops (own_body xs body) outer u
+  own_turning = less_turning loops (own_body xs body) body outer own_among
 
   pub own_conflict : (u v : Vector) → Conflict loops (own_body xs body) outer u v → Conflict loops body outer u v
-  own_conflict u v c = record {
-    differ = c.differ;
-    element = c.element;
-    first = c.first;
-    second = c.second;
-    one_writes = c.one_writes;
-    by_first = own_touches u c.element c.first c.by_first;
-    by_second = own_touches v c.element c.second c.by_second;
-  }
+  own_conflict = more_conflict loops (own_body xs body) body outer own_among
 
 -- ---- effects that leave the same objects
 
@@ -116,15 +135,9 @@ module _ (xs : List Variable) (loops : List Loop) (body own : Stmt) (outer : Sta
   walks_of [] (f ∷ fs) e = absurd cc
   walks_of (us ∷ chunks) [] e = absurd cc
   walks_of (us ∷ chunks) (f ∷ fs) e =
-      let one = beside_second (Near xs) outer outer (walk loops body us outer) (walk loops own us outer) f (walks us) (head e) in
-      let rest = walks_of chunks fs (tail e) in
+      let one = beside_second (Near xs) outer outer (walk loops body us outer) (walk loops own us outer) f (walks us) (first_there (λ (vs : List Vector). walk loops own vs outer) us chunks f fs e) in
+      let rest = walks_of chunks fs (others_there (λ (vs : List Vector). walk loops own vs outer) us chunks f fs e) in
       record { effects = one.effect ∷ rest.effects; each = λ i. one.is i ∷ rest.each i; same = (λ x is. one.after.agrees.cells x is, rest.same); text = λ i. sym one.text i ++ rest.text i }
-    where
-      head : (map (λ us. walk loops own us outer) (us ∷ chunks) ≡ map Some (f ∷ fs)) → walk loops own us outer ≡ Some f
-      head e = cc
-
-      tail : (map (λ us. walk loops own us outer) (us ∷ chunks) ≡ map Some (f ∷ fs)) → map (λ us. walk loops own us outer) chunks ≡ map Some fs
-      tail e = cc
 
 pub private_merge : PrivateChunksMerge
 private_merge n s loops body outer us chunks e nest keeps own_keeps first local_all locals_alone are different turning independent whole ran =

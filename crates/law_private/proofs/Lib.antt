@@ -1,3 +1,4 @@
+pub mod Seen
 pub mod Alike
 pub mod Names
 pub mod More

@@ -10,38 +10,47 @@ use Rattle.law_private.specs.Known.{IsWithin, AreAmong, KnowsMore, MoreIsKnown}
 use Rattle.law_private.proofs.Alike.{may_names, may_names_all, may_names_test, may_names_source, may_names_parts, without_within}
 use Rattle.law_private.proofs.Names.{both_true, expr_more, exprs_more, cond_more, source_more, parts_more}
 
--- the first is none, or both are there and the second knows all that the first does
+-- the first is none, or both are there and stand in this relation
+module _ (R : DefinitelyAssigned → DefinitelyAssigned → Type 0) where
+  abbrev pub MoreBy : Option DefinitelyAssigned → Option DefinitelyAssigned → Type 0
+  MoreBy None p = Unit {0}
+  MoreBy (Some k) None = ⊥
+  MoreBy (Some k) (Some j) = R k j
+
+  pub more_where : (b c : Bool) (k j : DefinitelyAssigned) → (b ≡ true → c ≡ true) → R k j → MoreBy (where_ok b k) (where_ok c j)
+  more_where false c k j h more = tt
+  more_where true c k j h more = subst (λ d. MoreBy (Some k) (where_ok d j)) (sym (h refl)) more
+
+  pub more_if : (b c : Bool) (o p : Option DefinitelyAssigned) → (b ≡ true → c ≡ true) → MoreBy o p → MoreBy (cond b o None) (cond c p None)
+  more_if false c o p h more = tt
+  more_if true c o p h more = subst (λ d. MoreBy o (cond d p None)) (sym (h refl)) more
+
+  pub more_both : ((a b c d : DefinitelyAssigned) → R a c → R b d → R (λ y. a y && b y) (λ y. c y && d y)) → (o p o' p' : Option DefinitelyAssigned) → MoreBy o p → MoreBy o' p'
+      → MoreBy (after_both o o') (after_both p p')
+  more_both join None p o' p' one two = tt
+  more_both join (Some a) p None p' one two = tt
+  more_both join (Some a) None (Some b) p' one two = absurd one
+  more_both join (Some a) (Some c) (Some b) None one two = absurd two
+  more_both join (Some a) (Some c) (Some b) (Some d) one two = join a b c d one two
+
+  pub more_then : (o p : Option DefinitelyAssigned) (f g : DefinitelyAssigned → Option DefinitelyAssigned) → MoreBy o p → ((k j : DefinitelyAssigned) → R k j → MoreBy (f k) (g j))
+      → MoreBy (option_and_then f o) (option_and_then g p)
+  more_then None p f g one two = tt
+  more_then (Some k) None f g one two = absurd one
+  more_then (Some k) (Some j) f g one two = two k j one
+
+  pub more_stepped : (o p a b : Option DefinitelyAssigned) (f g : DefinitelyAssigned → Bool) → MoreBy o p → ((k j : DefinitelyAssigned) → R k j → f k ≡ true → g j ≡ true) → MoreBy a b
+      → MoreBy (if_stepped f o a) (if_stepped g p b)
+  more_stepped None p a b f g one two three = tt
+  more_stepped (Some k) None a b f g one two three = absurd one
+  more_stepped (Some k) (Some j) a b f g one two three = more_if (f k) (g j) a b (two k j one) three
+
+-- the second knows all that the first does
 abbrev More : Option DefinitelyAssigned → Option DefinitelyAssigned → Type 0
-More None p = Unit {0}
-More (Some k) None = ⊥
-More (Some k) (Some j) = IsWithin k j
+More = MoreBy IsWithin
 
-more_where : (b c : Bool) (k j : DefinitelyAssigned) → (b ≡ true → c ≡ true) → IsWithin k j → More (where_ok b k) (where_ok c j)
-more_where false c k j h more = tt
-more_where true c k j h more = subst (λ d. More (Some k) (where_ok d j)) (sym (h refl)) more
-
-more_if : (b c : Bool) (o p : Option DefinitelyAssigned) → (b ≡ true → c ≡ true) → More o p → More (cond b o None) (cond c p None)
-more_if false c o p h more = tt
-more_if true c o p h more = subst (λ d. More o (cond d p None)) (sym (h refl)) more
-
-more_both : (o p o' p' : Option DefinitelyAssigned) → More o p → More o' p' → More (after_both o o') (after_both p p')
-more_both None p o' p' one two = tt
-more_both (Some a) p None p' one two = tt
-more_both (Some a) None (Some b) p' one two = absurd one
-more_both (Some a) (Some c) (Some b) None one two = absurd two
-more_both (Some a) (Some c) (Some b) (Some d) one two = λ y h. both_true (a y) (b y) (c y) (d y) (one y) (two y) h
-
-more_then : (o p : Option DefinitelyAssigned) (f g : DefinitelyAssigned → Option DefinitelyAssigned) → More o p → ((k j : DefinitelyAssigned) → IsWithin k j → More (f k) (g j))
-    → More (option_and_then f o) (option_and_then g p)
-more_then None p f g one two = tt
-more_then (Some k) None f g one two = absurd one
-more_then (Some k) (Some j) f g one two = two k j one
-
-more_stepped : (o p a b : Option DefinitelyAssigned) (f g : DefinitelyAssigned → Bool) → More o p → ((k j : DefinitelyAssigned) → IsWithin k j → f k ≡ true → g j ≡ true) → More a b
-    → More (if_stepped f o a) (if_stepped g p b)
-more_stepped None p a b f g one two three = tt
-more_stepped (Some k) None a b f g one two three = absurd one
-more_stepped (Some k) (Some j) a b f g one two three = more_if (f k) (g j) a b (two k j one) three
+both_within : (a b c d : DefinitelyAssigned) → IsWithin a c → IsWithin b d → IsWithin (λ y. a y && b y) (λ y. c y && d y)
+both_within a b c d one two y h = both_true (a y) (b y) (c y) (d y) (one y) (two y) h
 
 -- ---- variables that are left out
 
@@ -131,7 +140,7 @@ module _ (k j : DefinitelyAssigned) (more : IsWithin k j) where
 
   declared_more : (x : Variable) (start : Option Source) → More (declared_known k x start) (declared_known j x start)
   declared_more x None = known_more k j x false more
-  declared_more x (Some e) = more_where (may_take k e) (may_take j e) (known_with k x true) (known_with j x true) (take_more e) (known_more k j x true more)
+  declared_more x (Some e) = more_where IsWithin (may_take k e) (may_take j e) (known_with k x true) (known_with j x true) (take_more e) (known_more k j x true more)
 
 -- ---- statements
 
@@ -139,18 +148,18 @@ module _ (P Q : Privates) (fewer : (line : ℕ) → AreAmong (Q line) (P line)) 
   mutual
     definite_more : (a : Stmt) (k j : DefinitelyAssigned) → IsWithin k j → More (definite P a k) (definite Q a j)
     definite_more (Assign x is e) k j more =
-        more_where (may_read_all k is && may_take k e) (may_read_all j is && may_take j e) (known_with k x true) (known_with j x true)
+        more_where IsWithin (may_read_all k is && may_take k e) (may_read_all j is && may_take j e) (known_with k x true) (known_with j x true)
         (both_true (may_read_all k is) (may_take k e) (may_read_all j is) (may_take j e) (read_all_more k j more is) (take_more k j more e)) (known_more k j x true more)
     definite_more (Update x is op e) k j more =
-        more_where (k x && may_read_all k is && may_read k e) (j x && may_read_all j is && may_read j e) k j
+        more_where IsWithin (k x && may_read_all k is && may_read k e) (j x && may_read_all j is && may_read j e) k j
         (both_true (k x && may_read_all k is) (may_read k e) (j x && may_read_all j is) (may_read j e)
         (both_true (k x) (may_read_all k is) (j x) (may_read_all j is) (more x) (read_all_more k j more is)) (read_more k j more e)) more
     definite_more (If c a) k j more =
-        more_if (may_test k c) (may_test j c) (after_both (definite P a k) (Some k)) (after_both (definite Q a j) (Some j)) (test_more k j more c)
-        (more_both (definite P a k) (definite Q a j) (Some k) (Some j) (definite_more a k j more) more)
+        more_if IsWithin (may_test k c) (may_test j c) (after_both (definite P a k) (Some k)) (after_both (definite Q a j) (Some j)) (test_more k j more c)
+        (more_both IsWithin both_within (definite P a k) (definite Q a j) (Some k) (Some j) (definite_more a k j more) more)
     definite_more (IfElse c a b) k j more =
-        more_if (may_test k c) (may_test j c) (after_both (definite P a k) (definite P b k)) (after_both (definite Q a j) (definite Q b j)) (test_more k j more c)
-        (more_both (definite P a k) (definite Q a j) (definite P b k) (definite Q b j) (definite_more a k j more) (definite_more b k j more))
+        more_if IsWithin (may_test k c) (may_test j c) (after_both (definite P a k) (definite P b k)) (after_both (definite Q a j) (definite Q b j)) (test_more k j more c)
+        (more_both IsWithin both_within (definite P a k) (definite Q a j) (definite P b k) (definite Q b j) (definite_more a k j more) (definite_more b k j more))
     definite_more (For x name start test step body) k j more =
         let mine = privates_in P body in
         let own = privates_in Q body in
@@ -158,22 +167,22 @@ module _ (P Q : Privates) (fewer : (line : ℕ) → AreAmong (Q line) (P line)) 
         let before = without (known_with k x true) mine in
         let after = without (known_with j x true) own in
         let wider : IsWithin before after = without_fewer mine own (known_with k x true) (known_with j x true) less (known_more k j x true more) in
-        more_if (may_take k start && may_test before test) (may_take j start && may_test after test)
+        more_if IsWithin (may_take k start && may_test before test) (may_take j start && may_test after test)
         (if_stepped (λ l. may_step l step) (definite P body before) (Some (without k mine))) (if_stepped (λ l. may_step l step) (definite Q body after) (Some (without j own)))
         (both_true (may_take k start) (may_test before test) (may_take j start) (may_test after test) (take_more k j more start) (test_more before after wider test))
-        (more_stepped (definite P body before) (definite Q body after) (Some (without k mine)) (Some (without j own)) (λ l. may_step l step) (λ l. may_step l step)
+        (more_stepped IsWithin (definite P body before) (definite Q body after) (Some (without k mine)) (Some (without j own)) (λ l. may_step l step) (λ l. may_step l step)
         (definite_more body before after wider) (λ l m h. step_taken l m h step) (without_fewer mine own k j less more))
     definite_more (Block items) k j more = items_more [] [] items k j (λ y h. h) more
-    definite_more (Print parts) k j more = more_where (may_print k parts) (may_print j parts) k j (print_more k j more parts) more
+    definite_more (Print parts) k j more = more_where IsWithin (may_print k parts) (may_print j parts) k j (print_more k j more parts) more
 
     items_more : (pending pending' : List Variable) (items : Items) (k j : DefinitelyAssigned) → AreAmong pending' pending → IsWithin k j → More (definite_items P pending items k) (definite_items Q pending' items j)
     items_more pending pending' no_items k j less more = more
     items_more pending pending' (mark line rest) k j less more = items_more (P line) (Q line) rest k j (fewer line) more
     items_more pending pending' (local x name start rest) k j less more =
-        more_then (declared_known k x start) (declared_known j x start) (definite_items P [] rest) (definite_items Q [] rest) (declared_more k j more x start)
+        more_then IsWithin (declared_known k x start) (declared_known j x start) (definite_items P [] rest) (definite_items Q [] rest) (declared_more k j more x start)
         (λ l m h. items_more [] [] rest l m (λ y e. e) h)
     items_more pending pending' (stmt a rest) k j less more =
-        more_then (definite P a k) (definite Q a j) (λ l. definite_items P [] rest (without l pending)) (λ m. definite_items Q [] rest (without m pending')) (definite_more a k j more)
+        more_then IsWithin (definite P a k) (definite Q a j) (λ l. definite_items P [] rest (without l pending)) (λ m. definite_items Q [] rest (without m pending')) (definite_more a k j more)
         (λ l m h. items_more [] [] rest (without l pending) (without m pending') (λ y e. e) (without_fewer pending pending' l m less h))
 
 knows_more : (k' : DefinitelyAssigned) (o p : Option DefinitelyAssigned) → More o p → o ≡ Some k' → KnowsMore k' p

@@ -5,7 +5,7 @@ use Rattle.std.proofs.Math.Path.{fun_ext}
 use Rattle.std.proofs.lemmas.Bool.{true≢false, eqb-true, eq-eqb, and_from, or_cases, or_left, or_right}
 use Rattle.std.proofs.lemmas.List.{append-nil}
 use Rattle.std.proofs.lemmas.Option.{same_Some, none-some}
-use Rattle.semantics.specs.Tree.{Variable, Name, Source, Cond, Increment, Stmt, Assign, Update, If, IfElse, For, Block, Print, Items, no_items, mark, local, stmt}
+use Rattle.semantics.specs.Tree.{Variable, Name, Source, Cond, Increment, Stmt, For, Block, Items, no_items, local, stmt}
 use Rattle.semantics.specs.Meaning.Value.{map_option}
 use Rattle.semantics.specs.Meaning.Definite.{DefinitelyAssigned, known_with, without, may_take, may_test, may_step, privates_in, if_stepped, definite, no_privates}
 use Rattle.semantics.specs.Meaning.Agrees.{also, is_among, declared_in, declared_among, visible_behind, names_only, names_items, names_source, names_cond, names_step}
@@ -64,17 +64,7 @@ module _ (body own : Stmt) where
   replace_inside n (Block (stmt a no_items)) l b b' ls h r =
       let found = replace_inside n a l b b' ls h r in
       record { nest = Block (stmt found.nest no_items); is = braces found.is }
-  replace_inside n (Assign x is e) l b b' ls h r = absurd (none-some (l, b) h)
-  replace_inside n (Update x is op e) l b b' ls h r = absurd (none-some (l, b) h)
-  replace_inside n (If c a) l b b' ls h r = absurd (none-some (l, b) h)
-  replace_inside n (IfElse c a d) l b b' ls h r = absurd (none-some (l, b) h)
-  replace_inside n (Print parts) l b b' ls h r = absurd (none-some (l, b) h)
-  replace_inside n (Block no_items) l b b' ls h r = absurd (none-some (l, b) h)
-  replace_inside n (Block (mark line rest)) l b b' ls h r = absurd (none-some (l, b) h)
-  replace_inside n (Block (local x name start rest)) l b b' ls h r = absurd (none-some (l, b) h)
-  replace_inside n (Block (stmt a (mark line rest))) l b b' ls h r = absurd (none-some (l, b) h)
-  replace_inside n (Block (stmt a (local x name start rest))) l b b' ls h r = absurd (none-some (l, b) h)
-  replace_inside n (Block (stmt a (stmt c rest))) l b b' ls h r = absurd (none-some (l, b) h)
+  replace_inside n _ l b b' ls h r = absurd (none-some (l, b) h)
 
   pub replaced : (n : ℕ) (s : Stmt) (ls : List Loop) → nest_of n s ≡ Some (ls, body) → HasReplaced body own n s ls
   replaced zero s ls h =

@@ -3,7 +3,7 @@ use Rattle.std.specs.Prelude.{ℕ, zero, suc, Bool, true, false, not, ◌≡◌,
 use Rattle.std.specs.List.{AllPairs, AllByRecursion as Each}
 use Rattle.std.proofs.Common.{refl, sym, ap, ◌∙◌, subst, cond, arith, inl}
 use Rattle.std.proofs.lemmas.Bool.{true≢false}
-use Rattle.std.proofs.lemmas.List.{append_assoc, append-nil}
+use Rattle.std.proofs.lemmas.List.{append_assoc}
 use Rattle.std.proofs.lemmas.List.Elements.{All-from_recursion}
 use Rattle.std.proofs.lemmas.Option.{same_Some, none-some}
 use Rattle.semantics.specs.Tree.{Variable, Stmt, For, Block, no_items, stmt}
@@ -12,7 +12,7 @@ use Rattle.semantics.specs.Meaning.Value.{map_option}
 use Rattle.semantics.specs.Meaning.Runs.{then_from, run}
 use Rattle.semantics.specs.Meaning.Agrees.{is_among, declared_in, names_source, names_cond, names_step, names_only, visible_behind}
 use Rattle.semantics.specs.Loops.Nest.{Loop, Vector, as_loop, nest_of, at_value, loop_values, concat_options, iterations}
-use Rattle.semantics.specs.Loops.Access.{Access, Element, Mode, Writes, Touches, Conflict, accesses}
+use Rattle.semantics.specs.Loops.Access.{Access, Mode, Writes, Touches, Conflict, accesses}
 use Rattle.semantics.specs.Loops.Operator.{ReduceOp, apply, identity, combined, combined_all}
 use Rattle.law_commute.specs.Commuting.{KeepsToItself, InnerLoopsTurn}
 use Rattle.law_commute.proofs.Lists.{each_join}
@@ -20,7 +20,9 @@ use Rattle.law_commute.proofs.Paths.{both_there}
 use Rattle.law_commute.proofs.Values.{first_of, second_of}
 use Rattle.law_nests.specs.Walks.{entered, enters, walk}
 use Rattle.law_nests.proofs.Joined.{first_loop}
+use Rattle.law_nests.proofs.Walked.{loop_own}
 use Rattle.law_private.proofs.Own.{own_body, own_accesses, KnownInside}
+use Rattle.law_private.proofs.Chunks.{less_turning, more_conflict}
 use Rattle.law_roles.specs.Updates.{operator_of, is_plain, reduces, operands}
 use Rattle.law_roles.specs.Reducing.{partial_of}
 use Rattle.law_roles.specs.Following.{variables_of}
@@ -57,13 +59,6 @@ nest_reduces rs (suc n) s loops body h k =
     let one = loop_reduces rs s first.loop first.inside first.is k in
     let rest = nest_reduces rs n first.inside first.loops body first.rest one.1 in
     subst (λ (ls : List Loop). IsReduced rs ls body) first.all_are (record { plain = (one.0, rest.plain); body_is = rest.body_is })
-
--- a loop declares its variable
-loop_own : (s : Stmt) (l : Loop) (b : Stmt) → as_loop s ≡ Some (l, b) → (y : Variable) → is_among (declared_in s) y ≡ ((l.variable == y) || is_among (declared_in b) y)
-loop_own (For x name start test step inner) l b h y =
-    ap (λ (p : Loop × Stmt). (p.0.variable == y) || is_among (declared_in p.1) y) (same_Some (record { variable = x; start = start; test = test; step = step }, inner) (l, b) h)
-loop_own (Block (stmt a no_items)) l b h y = ap (λ (ds : List Variable). is_among ds y) (append-nil (declared_in a)) ∙ loop_own a l b h y
-loop_own _ l b h y = absurd (none-some (l, b) h)
 
 pub nest_variables : (n : ℕ) (s : Stmt) (loops : List Loop) (body : Stmt) → nest_of n s ≡ Some (loops, body) → (y : Variable) → visible_behind s y ≡ true → is_among (variables_of loops) y ≡ false
 nest_variables zero s loops body h y seen = ap (λ (p : List Loop × Stmt). is_among (variables_of p.0) y) (sym (same_Some ([], s) (loops, body) h))
@@ -157,21 +152,10 @@ module _ (rs : List (Variable × ReduceOp)) (vars : List Variable) (body : Stmt)
   touch_back u mode y j js t = record { access = t.access; there = access_there t.access t.there; reaches = t.reaches; mode_is = t.mode_is }
 
   pub turning_back : (u : Vector) → InnerLoopsTurn loops body o u → InnerLoopsTurn loops (own_body vars shadow) o u
-  turning_back u turn access there = turn access (access_there access there)
-
-  element_back : (u : Vector) (element : Element) (mode : Mode) → Touches loops (own_body vars shadow) o u element mode → Touches loops body o u element mode
-  element_back u element mode t = record { access = t.access; there = access_there t.access t.there; reaches = t.reaches; mode_is = t.mode_is }
+  turning_back = less_turning loops (own_body vars shadow) body o access_there
 
   pub conflict_back : (u v : Vector) → Conflict loops (own_body vars shadow) o u v → Conflict loops body o u v
-  conflict_back u v c = record {
-    differ = c.differ;
-    element = c.element;
-    first = c.first;
-    second = c.second;
-    one_writes = c.one_writes;
-    by_first = element_back u c.element c.first c.by_first;
-    by_second = element_back v c.element c.second c.by_second;
-  }
+  conflict_back = more_conflict loops (own_body vars shadow) body o access_there
 
   pub good_of : (u : Vector) → length u ≡ length loops → InnerLoopsTurn loops body o u → Good vars shadow named known loops o keeps u
   good_of u long turn = (long, λ access there. turn access (access_there access there))

@@ -25,6 +25,7 @@ use Rattle.law_roles.proofs.Partials.{Counts, in_place_counts}
 use Rattle.law_roles.proofs.Starts.{roles_with, start_moved, StartsIn, start_in, identity_seen}
 use Rattle.law_roles.proofs.Chunked.{counts_of}
 use Rattle.law_roles.proofs.Shared.{Ground, CountsAs, shares}
+use Rattle.law_commute.proofs.Lists.{first_there, others_there}
 
 -- ---- these variables as locals
 
@@ -119,15 +120,9 @@ module _ (ps ls : List Variable) (rs : List (Variable × ReduceOp)) (s : Stmt) (
   walks_of (us ∷ cs) [] k = absurd cc
   walks_of (us ∷ cs) (f ∷ fs) k =
       let both : Both (Moved vars) start start' (walk loops body us start) (walk loops body us start') = moved_walk vars loops body us start start' begun in
-      let is : walk loops body us start ≡ Some f = both.same ∙ head k in
-      let rest = walks_of cs fs (tail k) in
+      let is : walk loops body us start ≡ Some f = both.same ∙ first_there (λ (vs : List Vector). walk loops body vs start') us cs f fs k in
+      let rest = walks_of cs fs (others_there (λ (vs : List Vector). walk loops body vs start') us cs f fs k) in
       record { each = λ i. is i ∷ rest.each i; same = (both.left f is, rest.same) }
-    where
-      head : (map (λ us. walk loops body us start') (us ∷ cs) ≡ map Some (f ∷ fs)) → walk loops body us start' ≡ Some f
-      head k = cc
-
-      tail : (map (λ us. walk loops body us start') (us ∷ cs) ≡ map Some (f ∷ fs)) → map (λ us. walk loops body us start') cs ≡ map Some fs
-      tail k = cc
 
   all : Walks chunks inner.effects
   all = walks_of chunks inner.effects inner.each

@@ -13,7 +13,9 @@ use Rattle.semantics.specs.Loops.Piece.{is_outside}
 use Rattle.semantics.proofs.NestLaw.{local_same}
 use Rattle.law_nests.specs.Walks.{entered, enters, walk}
 use Rattle.law_private.proofs.Alike.{Both, both_none, both_some, both_like, both_test, both_steps}
-use Rattle.law_roles.proofs.Seen.{source_seen, value_seen, values_seen, holds_seen, text_seen, look_of, object_of, Only, only_declared, only_assigned}
+use Rattle.law_private.proofs.Seen.{source_seen, value_seen, values_seen, holds_seen, text_seen}
+use Rattle.law_private.proofs.Chunks.{conflict_by}
+use Rattle.law_roles.proofs.Seen.{look_of, object_of, Only, only_declared, only_assigned}
 
 -- ---- everything names some variables
 
@@ -367,12 +369,4 @@ module _ (vars : List Variable) where
       }
 
   pub moved_conflict : (loops : List Loop) (body : Stmt) (s t : State) → Moved s t → (u v : Vector) → Conflict loops body t u v → Conflict loops body s u v
-  moved_conflict loops body s t m u v c = record {
-    differ = c.differ;
-    element = c.element;
-    first = c.first;
-    second = c.second;
-    one_writes = c.one_writes;
-    by_first = moved_touches loops body s t m u c.element c.first c.by_first;
-    by_second = moved_touches loops body s t m v c.element c.second c.by_second;
-  }
+  moved_conflict loops body s t m = conflict_by loops body body t s (moved_touches loops body s t m)

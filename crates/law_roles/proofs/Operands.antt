@@ -18,6 +18,8 @@ use Rattle.law_commute.proofs.Lists.{each_join, each_contained}
 use Rattle.law_commute.proofs.Values.{first_of, second_of}
 use Rattle.law_nests.proofs.Joined.{first_loop}
 use Rattle.law_private.proofs.Alike.{may_names, may_names_all, may_names_test, may_names_source, may_names_parts}
+use Rattle.law_private.proofs.Names.{both_true}
+use Rattle.law_private.proofs.More.{MoreBy, more_where, more_if, more_both, more_then, more_stepped}
 use Rattle.law_roles.specs.Updates.{operator_of, is_plain, combines, is_and_also, is_or_else, operand, sole, assigns, is_selected, is_choice, is_plain_operand, updates, updates_by, reduces, all_reduce, or_else, operand_of, operand_by, operands, all_operands}
 use Rattle.law_roles.proofs.Shadow.{assigns_is}
 
@@ -244,36 +246,10 @@ module _ (rs : List (Variable × ReduceOp)) where
   Less k j = (y : Variable) → k y ≡ true → V y ≡ true → j y ≡ true
 
   abbrev pub More : Option DefinitelyAssigned → Option DefinitelyAssigned → Type 0
-  More None p = Unit {0}
-  More (Some k) None = ⊥
-  More (Some k) (Some j) = Less k j
+  More = MoreBy Less
 
-  more_where : (b c : Bool) (k j : DefinitelyAssigned) → (b ≡ true → c ≡ true) → Less k j → More (where_ok b k) (where_ok c j)
-  more_where false c k j h more = tt
-  more_where true c k j h more = subst (λ d. More (Some k) (where_ok d j)) (sym (h refl)) more
-
-  more_if : (b c : Bool) (o p : Option DefinitelyAssigned) → (b ≡ true → c ≡ true) → More o p → More (cond b o None) (cond c p None)
-  more_if false c o p h more = tt
-  more_if true c o p h more = subst (λ d. More o (cond d p None)) (sym (h refl)) more
-
-  more_both : (o p o' p' : Option DefinitelyAssigned) → More o p → More o' p' → More (after_both o o') (after_both p p')
-  more_both None p o' p' one two = tt
-  more_both (Some a) p None p' one two = tt
-  more_both (Some a) None (Some b) p' one two = absurd one
-  more_both (Some a) (Some c) (Some b) None one two = absurd two
-  more_both (Some a) (Some c) (Some b) (Some d) one two = λ y h k. and_from (c y) (d y) (one y (first_of (a y) (b y) h) k) (two y (second_of (a y) (b y) h) k)
-
-  more_then : (o p : Option DefinitelyAssigned) (f g : DefinitelyAssigned → Option DefinitelyAssigned) → More o p → ((k j : DefinitelyAssigned) → Less k j → More (f k) (g j))
-      → More (option_and_then f o) (option_and_then g p)
-  more_then None p f g one two = tt
-  more_then (Some k) None f g one two = absurd one
-  more_then (Some k) (Some j) f g one two = two k j one
-
-  more_stepped : (o p a b : Option DefinitelyAssigned) (f g : DefinitelyAssigned → Bool) → More o p → ((k j : DefinitelyAssigned) → Less k j → f k ≡ true → g j ≡ true) → More a b
-      → More (if_stepped f o a) (if_stepped g p b)
-  more_stepped None p a b f g one two three = tt
-  more_stepped (Some k) None a b f g one two three = absurd one
-  more_stepped (Some k) (Some j) a b f g one two three = more_if (f k) (g j) a b (two k j one) three
+  both_less : (a b c d : DefinitelyAssigned) → Less a c → Less b d → Less (λ y. a y && b y) (λ y. c y && d y)
+  both_less a b c d one two y h plain = both_true (a y) (b y) (c y) (d y) (λ k. one y k plain) (λ k. two y k plain) h
 
   known_less : (k j : DefinitelyAssigned) (x : Variable) (b : Bool) → Less k j → Less (known_with k x b) (known_with j x b)
   known_less k j x b less y h plain = at (y == x) h
@@ -366,7 +342,7 @@ module _ (rs : List (Variable × ReduceOp)) where
 
     declared_less : (x : Variable) (start : Option Source) → names_start V start ≡ true → More (declared_known k x start) (declared_known j x start)
     declared_less x None v = known_less k j x false less
-    declared_less x (Some e) v = more_where (may_take k e) (may_take j e) (known_with k x true) (known_with j x true) (take_less e v) (known_less k j x true less)
+    declared_less x (Some e) v = more_where Less (may_take k e) (may_take j e) (known_with k x true) (known_with j x true) (take_less e v) (known_less k j x true less)
 
     -- ---- updates
 
@@ -375,9 +351,9 @@ module _ (rs : List (Variable × ReduceOp)) where
     assign_less x e h = at (operator_of rs x) h
       where
         at : (o : Option ReduceOp) → updates rs o x e ≡ true → More (where_ok (may_take k e) (known_with k x true)) (where_ok (may_take j (operand_of o x e)) (known_with j x true))
-        at None v = more_where (may_take k e) (may_take j e) (known_with k x true) (known_with j x true) (take_less e v) (known_less k j x true less)
+        at None v = more_where Less (may_take k e) (may_take j e) (known_with k x true) (known_with j x true) (take_less e v) (known_less k j x true less)
         at (Some op) v =
-            more_where (may_take k e) (may_take j (or_else e (operand op x e))) (known_with k x true) (known_with j x true) (λ t. of (operand op x e) refl v t) (known_less k j x true less)
+            more_where Less (may_take k e) (may_take j (or_else e (operand op x e))) (known_with k x true) (known_with j x true) (λ t. of (operand op x e) refl v t) (known_less k j x true less)
           where
             of : (o : Option Source) → operand op x e ≡ o → is_plain_operand rs o ≡ true → may_take k e ≡ true → may_take j (or_else e o) ≡ true
             of None is v t = absurd (true≢false (sym v))
@@ -392,13 +368,13 @@ module _ (rs : List (Variable × ReduceOp)) where
       where
         at : (o : Option ReduceOp) → operator_of rs x ≡ o → updates_by rs o by e ≡ true → More (where_ok (k x && true && may_read k e) k) (definite P (operand_by o x by e) j)
         at None is v =
-            more_where (k x && true && may_read k e) (j x && true && may_read j e) k j
+            more_where Less (k x && true && may_read k e) (j x && true && may_read j e) k j
             (λ t.
             and_from (j x && true) (may_read j e) (and_from (j x) true (less x (first_of (k x) true (first_of (k x && true) (may_read k e) t)) (ap is_none is)) refl)
             (read_less e v (second_of (k x && true) (may_read k e) t)))
             less
         at (Some op) is v =
-            more_where (k x && true && may_read k e) (may_read j e) k (known_with j x true) (λ t. read_less e (second_of (combines op by) (names_expr V e) v) (second_of (k x && true) (may_read k e) t)) (known_one k j x less)
+            more_where Less (k x && true && may_read k e) (may_read j e) k (known_with j x true) (λ t. read_less e (second_of (combines op by) (names_expr V e) v) (second_of (k x && true) (may_read k e) t)) (known_one k j x less)
 
     choice_less : (P : Privates) (c : Cond) (a : Stmt) (o : Option DefinitelyAssigned) → is_choice rs c a ≡ true → More (cond (may_test k c) (after_both o (Some k)) None) (definite P (sole a) j)
     choice_less P (Compare by e (Object x no_exprs)) a o h =
@@ -452,7 +428,7 @@ module _ (rs : List (Variable × ReduceOp)) where
       definite_operands (Assign x (more_exprs i is) e) h k j less =
           let front = first_of (V x && names_exprs V (more_exprs i is)) (names_source V e) h in
           let es = more_exprs i is in
-          more_where (may_read_all k es && may_take k e) (may_read_all j es && may_take j e) (known_with k x true) (known_with j x true)
+          more_where Less (may_read_all k es && may_take k e) (may_read_all j es && may_take j e) (known_with k x true) (known_with j x true)
           (λ t.
           and_from (may_read_all j es) (may_take j e) (read_all_less k j less es (second_of (V x) (names_exprs V es) front) (first_of (may_read_all k es) (may_take k e) t))
           (take_less k j less e (second_of (V x && names_exprs V es) (names_source V e) h) (second_of (may_read_all k es) (may_take k e) t)))
@@ -461,7 +437,7 @@ module _ (rs : List (Variable × ReduceOp)) where
       definite_operands (Update x (more_exprs i is) by e) h k j less =
           let front = first_of (V x && names_exprs V (more_exprs i is)) (names_expr V e) h in
           let es = more_exprs i is in
-          more_where (k x && may_read_all k es && may_read k e) (j x && may_read_all j es && may_read j e) k j
+          more_where Less (k x && may_read_all k es && may_read k e) (j x && may_read_all j es && may_read j e) k j
           (λ t.
           let t1 = first_of (k x && may_read_all k es) (may_read k e) t in
           and_from (j x && may_read_all j es) (may_read j e)
@@ -475,13 +451,13 @@ module _ (rs : List (Variable × ReduceOp)) where
               → More (cond (may_test k c) (after_both (definite P a k) (Some k)) None) (definite P (cond b (sole a) (If c (operands rs a))) j)
           at true is v inner = choice_less k j less P c a (definite P a k) is
           at false is v inner =
-              more_if (may_test k c) (may_test j c) (after_both (definite P a k) (Some k)) (after_both (definite P (operands rs a) j) (Some j)) (test_less k j less c (first_of (names_cond V c) (reduces rs a) v))
-              (more_both (definite P a k) (definite P (operands rs a) j) (Some k) (Some j) (inner (second_of (names_cond V c) (reduces rs a) v)) less)
+              more_if Less (may_test k c) (may_test j c) (after_both (definite P a k) (Some k)) (after_both (definite P (operands rs a) j) (Some j)) (test_less k j less c (first_of (names_cond V c) (reduces rs a) v))
+              (more_both Less both_less (definite P a k) (definite P (operands rs a) j) (Some k) (Some j) (inner (second_of (names_cond V c) (reduces rs a) v)) less)
       definite_operands (IfElse c a b) h k j less =
           let front = first_of (names_cond V c && reduces rs a) (reduces rs b) h in
-          more_if (may_test k c) (may_test j c) (after_both (definite P a k) (definite P b k)) (after_both (definite P (operands rs a) j) (definite P (operands rs b) j))
+          more_if Less (may_test k c) (may_test j c) (after_both (definite P a k) (definite P b k)) (after_both (definite P (operands rs a) j) (definite P (operands rs b) j))
           (test_less k j less c (first_of (names_cond V c) (reduces rs a) front))
-          (more_both (definite P a k) (definite P (operands rs a) j) (definite P b k) (definite P (operands rs b) j) (definite_operands a (second_of (names_cond V c) (reduces rs a) front) k j less)
+          (more_both Less both_less (definite P a k) (definite P (operands rs a) j) (definite P b k) (definite P (operands rs b) j) (definite_operands a (second_of (names_cond V c) (reduces rs a) front) k j less)
           (definite_operands b (second_of (names_cond V c && reduces rs a) (reduces rs b) h) k j less))
       definite_operands (For x name start test step body) h k j less =
           let inner = second_of (V x && names_source V start && names_cond V test && names_step V step) (reduces rs body) h in
@@ -496,22 +472,22 @@ module _ (rs : List (Variable × ReduceOp)) where
           let wider : Less before after = without_less mine (known_with k x true) (known_with j x true) (known_less k j x true less) in
           subst (λ ps. More (definite P (For x name start test step body) k) (cond (may_take j start && may_test (without (known_with j x true) ps) test) (if_stepped (λ l. may_step l step) (definite P (operands rs body) (without (known_with j x true) ps)) (Some (without j ps))) None))
           (sym (privates_operands body))
-          (more_if (may_take k start && may_test before test) (may_take j start && may_test after test)
+          (more_if Less (may_take k start && may_test before test) (may_take j start && may_test after test)
           (if_stepped (λ l. may_step l step) (definite P body before) (Some (without k mine))) (if_stepped (λ l. may_step l step) (definite P (operands rs body) after) (Some (without j mine)))
           (λ t. and_from (may_take j start) (may_test after test) (take_less k j less start started (first_of (may_take k start) (may_test before test) t)) (test_less before after wider test tested (second_of (may_take k start) (may_test before test) t)))
-          (more_stepped (definite P body before) (definite P (operands rs body) after) (Some (without k mine)) (Some (without j mine)) (λ l. may_step l step) (λ l. may_step l step)
+          (more_stepped Less (definite P body before) (definite P (operands rs body) after) (Some (without k mine)) (Some (without j mine)) (λ l. may_step l step) (λ l. may_step l step)
           (definite_operands body inner before after wider) (λ l m q. step_less l m q step stepped) (without_less mine k j less)))
       definite_operands (Block items) h k j less = items_definite [] items h k j less
-      definite_operands (Print parts) h k j less = more_where (may_print k parts) (may_print j parts) k j (print_less k j less parts h) less
+      definite_operands (Print parts) h k j less = more_where Less (may_print k parts) (may_print j parts) k j (print_less k j less parts h) less
 
       items_definite : (pending : List Variable) (items : Items) → all_reduce rs items ≡ true → (k j : DefinitelyAssigned) → Less k j → More (definite_items P pending items k) (definite_items P pending (all_operands rs items) j)
       items_definite pending no_items h k j less = less
       items_definite pending (mark line rest) h k j less = items_definite (P line) rest h k j less
       items_definite pending (local x name start rest) h k j less =
           let front = first_of (V x && names_start V start) (all_reduce rs rest) h in
-          more_then (declared_known k x start) (declared_known j x start) (definite_items P [] rest) (definite_items P [] (all_operands rs rest))
+          more_then Less (declared_known k x start) (declared_known j x start) (definite_items P [] rest) (definite_items P [] (all_operands rs rest))
           (declared_less k j less x start (second_of (V x) (names_start V start) front)) (λ l m q. items_definite [] rest (second_of (V x && names_start V start) (all_reduce rs rest) h) l m q)
       items_definite pending (stmt a rest) h k j less =
-          more_then (definite P a k) (definite P (operands rs a) j) (λ l. definite_items P [] rest (without l pending)) (λ m. definite_items P [] (all_operands rs rest) (without m pending))
+          more_then Less (definite P a k) (definite P (operands rs a) j) (λ l. definite_items P [] rest (without l pending)) (λ m. definite_items P [] (all_operands rs rest) (without m pending))
           (definite_operands a (first_of (reduces rs a) (all_reduce rs rest) h) k j less)
           (λ l m q. items_definite [] rest (second_of (reduces rs a) (all_reduce rs rest) h) (without l pending) (without m pending) (without_less pending l m q))

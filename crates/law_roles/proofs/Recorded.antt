@@ -50,7 +50,7 @@ entered_is (l ∷ ls) [] s = refl
 entered_is (l ∷ ls) (v ∷ vs) s = entered_is ls vs (at_value s l.variable v)
 
 -- all of the loops' variables are set, so that the others alone are to be the same
-same_entered : (ls : List Loop) (u : Vector) (s t : State) (y : Variable) → length u ≡ length ls → (is_among (variables_of ls) y ≡ false → s.locals y ≡ t.locals y) → (at_vector ls u s).locals y ≡ (at_vector ls u t).locals y
+pub same_entered : (ls : List Loop) (u : Vector) (s t : State) (y : Variable) → length u ≡ length ls → (is_among (variables_of ls) y ≡ false → s.locals y ≡ t.locals y) → (at_vector ls u s).locals y ≡ (at_vector ls u t).locals y
 same_entered [] u s t y long same = same refl
 same_entered (l ∷ ls) [] s t y long same = absurd (omega (arith, long))
 same_entered (l ∷ ls) (v ∷ vs) s t y long same =
@@ -61,7 +61,7 @@ same_entered (l ∷ ls) (v ∷ vs) s t y long same =
     at false e h =
         ap (λ c. cond c (Holds v) (s.locals y)) e ∙ same (ap (λ c. c || is_among (variables_of ls) y) (apart_back y l.variable e) ∙ h) ∙ sym (ap (λ c. cond c (Holds v) (t.locals y)) e)
 
-kept_entered : (ls : List Loop) (u : Vector) (s : State) (y : Variable) → is_among (variables_of ls) y ≡ false → (at_vector ls u s).locals y ≡ s.locals y
+pub kept_entered : (ls : List Loop) (u : Vector) (s : State) (y : Variable) → is_among (variables_of ls) y ≡ false → (at_vector ls u s).locals y ≡ s.locals y
 kept_entered [] u s y h = refl
 kept_entered (l ∷ ls) [] s y h = refl
 kept_entered (l ∷ ls) (v ∷ vs) s y h =

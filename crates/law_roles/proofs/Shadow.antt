@@ -19,7 +19,8 @@ use Rattle.law_commute.proofs.Values.{first_of, second_of}
 use Rattle.law_roles.specs.Updates.{operator_of, is_plain, combines, is_and_also, is_or_else, selects, operand, sole, assigns, is_selected, is_choice, is_plain_operand, updates, updates_by, reduces, all_reduce, or_else, operand_of, operand_by, operands, all_operands, same_expr}
 use Rattle.law_roles.specs.Reducing.{AgreesBut, AreHeld, AreLocal}
 use Rattle.law_roles.proofs.Trees.{same_expr_is}
-use Rattle.law_roles.proofs.Seen.{apart_back, source_seen, value_seen, values_seen, holds_seen, text_seen, look_of, object_of, Only, only_declared, only_assigned, only_look, takes, taken}
+use Rattle.law_private.proofs.Seen.{source_seen, value_seen, values_seen, holds_seen, text_seen}
+use Rattle.law_roles.proofs.Seen.{apart_back, look_of, object_of, Only, only_declared, only_assigned, only_look, takes, taken}
 
 -- ---- operators
 

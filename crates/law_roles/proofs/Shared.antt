@@ -20,7 +20,7 @@ use Rattle.law_commute.specs.Steady.{IsSteady}
 use Rattle.law_commute.specs.Targets.{KeepsApart}
 use Rattle.law_commute.specs.Commuting.{KeepsToItself, InnerLoopsTurn}
 use Rattle.law_commute.specs.Joining.{DeclaresLocals}
-use Rattle.law_commute.proofs.Lists.{each_left, each_right}
+use Rattle.law_commute.proofs.Lists.{each_left, each_right, first_there, others_there}
 use Rattle.law_commute.proofs.Values.{first_of, second_of}
 use Rattle.law_nests.specs.Walks.{walk}
 use Rattle.law_nests.specs.Merging.{Cells, left_by, NoneChanges, OneChanges, Merges, WalkApart}
@@ -285,21 +285,15 @@ module _ (ps ls : List Variable) (rs : List (Variable × ReduceOp)) (n : ℕ) (s
   walks_of [] (w ∷ ws) k = absurd cc
   walks_of (vs ∷ cs) [] k = absurd cc
   walks_of (vs ∷ cs) (w ∷ ws) k =
-      let one = beside_second (Near vars) start o (walk loops body' vs start) (walk loops own vs o) w (near_walk vars body' (visible_behind body') inside'.names known' loops vs start o near_start) (head k) in
+      let one = beside_second (Near vars) start o (walk loops body' vs start) (walk loops own vs o) w (near_walk vars body' (visible_behind body') inside'.names known' loops vs start o near_start) (first_there (λ (us : List Vector). walk loops own us o) vs cs w ws k) in
       let two = shadow_from rs start start (walk loops body' vs start) (walk loops body vs start) one.effect (walk_shadow rs false never loops body reduced_is vs start start beside_start) one.is in
-      let rest = walks_of cs ws (rest_of k) in
+      let rest = walks_of cs ws (others_there (λ (us : List Vector). walk loops own us o) vs cs w ws k) in
       record {
         effects = two.0 ∷ rest.effects;
         each = λ i. two.1 i ∷ rest.each i;
         facts = (record { shadow = one.effect; shadow_is = one.is; follows = two.2; near = one.after }, rest.facts);
         text = λ i. (two.2.text ∙ sym one.text) i ++ rest.text i;
       }
-    where
-      head : (map (λ vs. walk loops own vs o) (vs ∷ cs) ≡ map Some (w ∷ ws)) → walk loops own vs o ≡ Some w
-      head k = cc
-
-      rest_of : (map (λ vs. walk loops own vs o) (vs ∷ cs) ≡ map Some (w ∷ ws)) → map (λ vs. walk loops own vs o) cs ≡ map Some ws
-      rest_of k = cc
 
   all : Walks chunks merge.effects
   all = walks_of chunks merge.effects merge.each

@@ -48,6 +48,47 @@ keeps_inside box x i body kept own y c = go (x == y) refl c
     go true e h = ap (λ z. assigns_to z body) (sym (eqb-true x y e)) ∙ own
     go false e h = kept y h
 
+-- ---- a local's declaration
+
+module _ (ds : List Declaration) where
+  -- a local that stands behind its declaration
+  pub record IsDeclared (box : List Side) (w : Variable → ℤ) (k : DefinitelyAssigned) (x : Variable) (s : State) : Type 0 where
+    pub behind : IsBehind ds box w k s
+    pub up : stands (s.locals x) ≡ true
+
+  declared_here : (box : List Side) (w : Variable → ℤ) {scope : Scope} {next : ℕ} (slot : Slot) (k : DefinitelyAssigned) (s : State) → stands slot ≡ true → IsPoint ds box w scope next k s
+      → IsDeclared box w (known_with k next (is_held slot)) next (with_local s next slot)
+  declared_here box w {next = next} slot k s up at =
+      record {
+        behind = record { known = local_known ds s next slot up k at.here.known; turn = turn_declared box w s next slot at.below.counters at.here.turn };
+        up = ap stands (local_same s next slot) ∙ up;
+      }
+
+  -- one without a value, and one with
+  pub empty_goes : (box : List Side) (w : Variable → ℤ) {scope : Scope} {next : ℕ} (k : DefinitelyAssigned) (s : State) → IsPoint ds box w scope next k s → Ran ds (IsDeclared box w (known_with k next false) next) s (declared s next None)
+  empty_goes box w {next = next} k s at =
+      let room = at.room in
+      ran_write ds (IsDeclared box w (known_with k next false) next) s (Declared next None)
+      (local_later ds s next Empty refl (λ lt e. omega arith)) (declared_here box w Empty k s refl at)
+
+  pub value_goes : (box : List Side) (w : Variable → ℤ) {scope : Scope} {next : ℕ} (e : Source) (k : DefinitelyAssigned) (s : State) → IsPoint ds box w scope next k s → There (source_value s e)
+      → Ran ds (IsDeclared box w (known_with k next true) next) s (declared s next (Some e))
+  value_goes box w {next = next} e k s at v =
+      let room = at.room in
+      ran_same (ap (declares next) v.1)
+      (ran_write ds (IsDeclared box w (known_with k next true) next) s (Declared next (Some v.0))
+      (local_later ds s next (Holds v.0) refl (λ lt e. omega arith)) (declared_here box w (Holds v.0) k s refl at))
+
+  -- what is known of a local that is declared has a number below the one behind it
+  pub declared_below : {box : List Side} {w : Variable → ℤ} {scope : Scope} {next : ℕ} (b : Bool) (k : DefinitelyAssigned) (s : State) → IsPoint ds box w scope next k s → (y : Variable) → known_with k next b y ≡ true → y < suc next
+  declared_below {next = next} b k s at y h = go (y == next) refl h
+    where
+      go : (t : Bool) → (y == next) ≡ t → cond t b (k y) ≡ true → y < suc next
+      go true e h = let same = eqb-true y next e in omega arith
+      go false e h = let lt = at.below.known y h in omega arith
+
+-- ---- statements
+
 module _ (ds : List Declaration) (short : HaveShort ds) (rs : List (Variable × ReduceOp)) where
   -- a run behind which this is known, at the same turn
   abbrev Goes : List Side → (Variable → ℤ) → DefinitelyAssigned → State → Option Effect → Type 0
@@ -115,41 +156,6 @@ module _ (ds : List Declaration) (short : HaveShort ds) (rs : List (Variable × 
   right_goes : {box : List Side} {w : Variable → ℤ} {s : State} {o : Option Effect} (a b k' : DefinitelyAssigned) → (λ y. a y && b y) ≡ k' → Goes box w b s o → Goes box w k' s o
   right_goes {box} {w} {s} {o} a b k' e r =
       subst (λ q. Goes box w q s o) e (ran_weaker (λ t l h. record { known = known_less ds b (λ y. a y && b y) t (λ y q. second_of (a y) (b y) q) h.known; turn = h.turn }) r)
-
-  -- a local's declaration
-  record IsDeclared (box : List Side) (w : Variable → ℤ) (k : DefinitelyAssigned) (x : Variable) (s : State) : Type 0 where
-    behind : IsBehind ds box w k s
-    up : stands (s.locals x) ≡ true
-
-  declared_here : (box : List Side) (w : Variable → ℤ) {scope : Scope} {next : ℕ} (slot : Slot) (k : DefinitelyAssigned) (s : State) → stands slot ≡ true → IsPoint ds box w scope next k s
-      → IsDeclared box w (known_with k next (is_held slot)) next (with_local s next slot)
-  declared_here box w {next = next} slot k s up at =
-      record {
-        behind = record { known = local_known ds s next slot up k at.here.known; turn = turn_declared box w s next slot at.below.counters at.here.turn };
-        up = ap stands (local_same s next slot) ∙ up;
-      }
-
-  empty_goes : (box : List Side) (w : Variable → ℤ) {scope : Scope} {next : ℕ} (k : DefinitelyAssigned) (s : State) → IsPoint ds box w scope next k s → Ran ds (IsDeclared box w (known_with k next false) next) s (declared s next None)
-  empty_goes box w {next = next} k s at =
-      let room = at.room in
-      ran_write ds (IsDeclared box w (known_with k next false) next) s (Declared next None)
-      (local_later ds s next Empty refl (λ lt e. omega arith)) (declared_here box w Empty k s refl at)
-
-  value_goes : (box : List Side) (w : Variable → ℤ) {scope : Scope} {next : ℕ} (e : Source) (k : DefinitelyAssigned) (s : State) → IsPoint ds box w scope next k s → There (source_value s e)
-      → Ran ds (IsDeclared box w (known_with k next true) next) s (declared s next (Some e))
-  value_goes box w {next = next} e k s at v =
-      let room = at.room in
-      ran_same (ap (declares next) v.1)
-      (ran_write ds (IsDeclared box w (known_with k next true) next) s (Declared next (Some v.0))
-      (local_later ds s next (Holds v.0) refl (λ lt e. omega arith)) (declared_here box w (Holds v.0) k s refl at))
-
-  -- what is known of a local that is declared has a number below the one behind it
-  declared_below : {box : List Side} {w : Variable → ℤ} {scope : Scope} {next : ℕ} (b : Bool) (k : DefinitelyAssigned) (s : State) → IsPoint ds box w scope next k s → (y : Variable) → known_with k next b y ≡ true → y < suc next
-  declared_below {next = next} b k s at y h = go (y == next) refl h
-    where
-      go : (t : Bool) → (y == next) ≡ t → cond t b (k y) ≡ true → y < suc next
-      go true e h = let same = eqb-true y next e in omega arith
-      go false e h = let lt = at.below.known y h in omega arith
 
   -- what a choice assigns
   chosen_goes : (box : List Side) (w : Variable → ℤ) {scope : Scope} {o next next' : ℕ} {ts : List Token} {a : Stmt} → ReadsStmt scope o next ts a next' → (k k' : DefinitelyAssigned) (s : State)
@@ -261,17 +267,17 @@ module _ (ds : List Declaration) (short : HaveShort ds) (rs : List (Variable × 
     items_go box w no_more k k' s h kept red at d = subst (λ q. Goes box w q s (Some nothing)) (same_Some k k' d) (ran_nothing ds (IsBehind ds box w k) s at.here)
     items_go box w (line r) k k' s h kept red at d = items_go box w r k k' s h kept red at d
     items_go box w {scope} (empty_local {next = next} {name = name} {items = items} free r) k k' s h kept red at d =
-        ran_then (run_items (all_operands rs items)) (empty_goes box w k s at)
+        ran_then (run_items (all_operands rs items)) (empty_goes ds box w k s at)
         (λ t l q. items_go box w r (known_with k next false) k' t h.1 kept (second_of (is_plain rs next && true) (all_reduce rs items) red)
-        (point_behind ds box w scope name next k (known_with k next false) s t at l (declared_below false k s at) q.behind q.up) d)
+        (point_behind ds box w scope name next k (known_with k next false) s t at l (declared_below ds false k s at) q.behind q.up) d)
     items_go box w {scope} (first_local {next = next} {name = name} {e = e} {items = items} free re r) k k' s h kept red at d =
         let first = and_then (definite_items no_privates [] items) (declared_known k next (Some e)) k' d in
         let ok = allowed (may_take k e) (known_with k next true) first.0 first.1 in
         let d' = ap (definite_items no_privates [] items) ok.1 ∙ first.2 in
         let v = source_there ds short ((name, AVariable next 0) ∷ scope) (tt, at.small) s at.good box w at.here.turn k at.here.known re ok.0 h.0 in
-        ran_then (run_items (all_operands rs items)) (value_goes box w e k s at v)
+        ran_then (run_items (all_operands rs items)) (value_goes ds box w e k s at v)
         (λ t l q. items_go box w r (known_with k next true) k' t h.1 kept (second_of (is_plain rs next && names_source (is_plain rs) e) (all_reduce rs items) red)
-        (point_behind ds box w scope name next k (known_with k next true) s t at l (declared_below true k s at) q.behind q.up) d')
+        (point_behind ds box w scope name next k (known_with k next true) s t at l (declared_below ds true k s at) q.behind q.up) d')
     items_go box w {scope} (statement {next = next} {next' = middle} {s = a} {items = items} ra r) k k' s h kept red at d =
         let first = and_then (definite_items no_privates [] items) (definite no_privates a k) k' d in
         let up = rises ra in

@@ -12,7 +12,7 @@ use Rattle.semantics.specs.Source.Typing.{typed, constant, not_zero, may_divide,
 use Rattle.semantics.specs.Source.Expressions.{ReadsExpr, literal, enumerator, object, parens, unary, binary, choose, tighter, ReadsCond, numeric, cond_parens, not, compare, both, either, cond_tighter}
 use Rattle.semantics.specs.Source.Statements.{ReadsSource, number, truth, ReadsArguments, argument, Fills}
 use Rattle.semantics.specs.Meaning.State.{State, Slot, Outside, Empty, Holds, look_in, is_there, is_object, is_object_in, no_indexes}
-use Rattle.semantics.specs.Meaning.Value.{value, values, holds, source_value, map_option, by_test, change, operate, if_divisor, if_count}
+use Rattle.semantics.specs.Meaning.Value.{value, values, holds, source_value, map_option, change, operate}
 use Rattle.semantics.specs.Meaning.Value as meaning
 use Rattle.semantics.specs.Meaning.Runs.{print_text}
 use Rattle.semantics.specs.Meaning.Places.{within}
@@ -70,8 +70,8 @@ short_lengths [] x h = tt
 short_lengths (d ∷ ds) zero h = h.0
 short_lengths (d ∷ ds) (suc x) h = short_lengths ds x h.1
 
--- the values that a state gives at a turn
-module _ (ds : List Declaration) (short : HaveShort ds) (scope : Scope) (small : Each IsSmall scope) (s : State) (good : IsGood ds s) (box : List Side) (turn_values : Variable → ℤ) (turn : AtTurn box turn_values s) where
+-- subscripts at a turn
+module _ (s : State) (box : List Side) (turn_values : Variable → ℤ) (turn : AtTurn box turn_values s) where
   -- a subscript is below its length
   index_there : (e : Expr) (n : ℕ) (o : Option Affine) → form_of box e ≡ o → n < 2 ^ 64 → StaysBelow box n o → (i : ℕ) × (value s e ≡ Some i) × (nat_lt i n ≡ true)
   index_there e n None is less h = absurd h
@@ -95,6 +95,8 @@ module _ (ds : List Declaration) (short : HaveShort ds) (scope : Scope) (small :
         ap (λ b. b && within ls js.0) i.2 ∙ js.2,
       )
 
+-- the values that a state gives at a turn
+module _ (ds : List Declaration) (short : HaveShort ds) (scope : Scope) (small : Each IsSmall scope) (s : State) (good : IsGood ds s) (box : List Side) (turn_values : Variable → ℤ) (turn : AtTurn box turn_values s) where
   -- an object that is declared
   declared_there : (x : Variable) (d : Declaration) (js : List ℕ) → slice_get ds x ≡ Some d → within d.lengths js ≡ true → is_there (s.cells x js) ≡ true
   declared_there x d js e h = good.cells x js ∙ ap (λ o. is_declared o js) e ∙ h
@@ -111,9 +113,9 @@ module _ (ds : List Declaration) (short : HaveShort ds) (scope : Scope) (small :
       local_object (inr up) js le e = standing_object (s.locals x) s x js up e
 
       go : (o : Option Declaration) → slice_get ds x ≡ o → AreShort (lengths_of o) → AllStay box (lengths_of o) is → (js : List ℕ) × (values s is ≡ Some js) × (is_object s x js ≡ true)
-      go None e b q = let js = subscripts_there [] is b q in (js.0, js.1, local_object usable js.0 (beyond ds x e) (no_index js.0 js.2))
+      go None e b q = let js = subscripts_there s box turn_values turn [] is b q in (js.0, js.1, local_object usable js.0 (beyond ds x e) (no_index js.0 js.2))
       go (Some d) e b q =
-          let js = subscripts_there d.lengths is b q in
+          let js = subscripts_there s box turn_values turn d.lengths is b q in
           (js.0, js.1, ap (λ slot. is_object_in slot s x js.0) (file_outside x d e) ∙ declared_there x d js.0 e js.2)
 
   -- values of what is known
@@ -123,7 +125,7 @@ module _ (ds : List Declaration) (short : HaveShort ds) (scope : Scope) (small :
       where
         go : (o : Option Declaration) → slice_get ds x ≡ o → AreShort (lengths_of o) → AllStay box (lengths_of o) is → There (value s (Object x is))
         go None e b q =
-            let js = subscripts_there [] is b q in
+            let js = subscripts_there s box turn_values turn [] is b q in
             let held = held_there (s.locals x) (known x (beyond ds x e) have) in (
               held.0,
               ap (λ p. option_and_then (λ ks. look_in (s.locals x) s x ks) p) js.1
@@ -131,7 +133,7 @@ module _ (ds : List Declaration) (short : HaveShort ds) (scope : Scope) (small :
                   ∙ ap (λ b. cond b (Some held.0) None) (no_index js.0 js.2),
             )
         go (Some d) e b q =
-            let js = subscripts_there d.lengths is b q in
+            let js = subscripts_there s box turn_values turn d.lengths is b q in
             let held = found_there (s.cells x js.0) (declared_there x d js.0 e js.2) in (
               held.0,
               ap (λ p. option_and_then (λ ks. look_in (s.locals x) s x ks) p) js.1

@@ -27,6 +27,7 @@ use Rattle.law_scans.specs.Passes.{walks_from}
 use Rattle.law_scans.specs.Scanning.{scan_partials, scan_starts, ScansFrom}
 use Rattle.law_scans.proofs.Beginning.{starts_of, starts_are}
 use Rattle.law_scans.proofs.Steps.{same_slot}
+use Rattle.law_commute.proofs.Lists.{first_there, others_there}
 
 -- ---- the same writes to one object
 
@@ -101,15 +102,9 @@ module _ (privates lasts : List Variable) (x : Variable) (op : ReduceOp) (s : St
   firsts_of (us ∷ cs) [] k = absurd cc
   firsts_of (us ∷ cs) (f ∷ fs) k =
       let both : Both (Moved vars) (begun roles outer) (begun roles o) (walk loops first us (begun roles outer)) (walk loops first us (begun roles o)) = moved_walk vars loops first us (begun roles outer) (begun roles o) begun_moved in
-      let is : walk loops first us (begun roles outer) ≡ Some f = both.same ∙ head k in
-      let rest = firsts_of cs fs (tail k) in
+      let is : walk loops first us (begun roles outer) ≡ Some f = both.same ∙ first_there (λ (vs : List Vector). walk loops first vs (begun roles o)) us cs f fs k in
+      let rest = firsts_of cs fs (others_there (λ (vs : List Vector). walk loops first vs (begun roles o)) us cs f fs k) in
       record { each = λ i. is i ∷ rest.each i; same = (both.left f is, rest.same) }
-    where
-      head : (map (λ us. walk loops first us (begun roles o)) (us ∷ cs) ≡ map Some (f ∷ fs)) → walk loops first us (begun roles o) ≡ Some f
-      head k = cc
-
-      tail : (map (λ us. walk loops first us (begun roles o)) (us ∷ cs) ≡ map Some (f ∷ fs)) → map (λ us. walk loops first us (begun roles o)) cs ≡ map Some fs
-      tail k = cc
 
   firsts : Firsts chunks inner.firsts
   firsts = firsts_of chunks inner.firsts inner.first_pass

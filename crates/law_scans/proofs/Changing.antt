@@ -20,9 +20,9 @@ use Rattle.law_nests.specs.Walks.{entered}
 use Rattle.law_private.proofs.Own.{own_body, DeclaresNone, KnownInside}
 use Rattle.law_private.proofs.Near.{all_inside}
 use Rattle.law_roles.specs.Following.{variables_of}
-use Rattle.law_roles.proofs.Recorded.{declareds, entered_is}
+use Rattle.law_roles.proofs.Recorded.{declareds, entered_is, same_entered, kept_entered}
 use Rattle.law_scans.proofs.Started.{started, named, known, keeps_own}
-use Rattle.law_scans.proofs.Steps.{TouchedBy, IsSet, ready_of, good_of, touch_back, same_entered, kept_entered, behind_at}
+use Rattle.law_scans.proofs.Steps.{TouchedBy, IsSet, ready_of, good_of, touch_back, behind_at}
 
 -- ---- the same locals stand in both
 

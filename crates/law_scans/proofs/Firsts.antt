@@ -29,11 +29,11 @@ use Rattle.law_roles.specs.Reducing.{AgreesBut, AreHeld, AreLocal, joined_with, 
 use Rattle.law_roles.specs.Following.{variables_of}
 use Rattle.law_roles.proofs.Chunked.{each_at}
 use Rattle.law_roles.proofs.Operands.{declared_operands, names_operands, steady_operands, accesses_operands, Less, More, definite_operands}
-use Rattle.law_roles.proofs.Recorded.{Good, Clear, Untouched, TouchesAt, Ready, steps, behind, own_visible, entered_is}
+use Rattle.law_roles.proofs.Recorded.{Good, Clear, Untouched, TouchesAt, Ready, steps, behind, own_visible, entered_is, same_entered, kept_entered}
 use Rattle.law_roles.proofs.Shifting.{go, tell}
 use Rattle.law_scans.proofs.Inputs.{IsInput}
 use Rattle.law_scans.proofs.Started.{own_up}
-use Rattle.law_scans.proofs.Steps.{Apart, Intact, TouchedBy, IsSet, goes, near_self, dropped, drops, kept_entered, same_entered}
+use Rattle.law_scans.proofs.Steps.{Apart, Intact, TouchedBy, IsSet, goes, near_self, dropped, drops}
 use Rattle.law_scans.proofs.Phased.{beside, beside_runs, beside_declares, beside_names, beside_accesses, beside_known, beside_steady}
 use Rattle.law_scans.proofs.Walking.{AllApart, split_of, walk_cons, left_cons}
 

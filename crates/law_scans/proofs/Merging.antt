@@ -18,7 +18,8 @@ use Rattle.law_commute.proofs.Lists.{each_left, each_right}
 use Rattle.law_nests.specs.Walks.{walk, entered, enters}
 use Rattle.law_private.proofs.Own.{DeclaresNone}
 use Rattle.law_roles.specs.Following.{variables_of}
-use Rattle.law_scans.proofs.Steps.{Apart, TouchedBy, IsSet, goes, goes_too, same_slot, kept_entered}
+use Rattle.law_roles.proofs.Recorded.{kept_entered}
+use Rattle.law_scans.proofs.Steps.{Apart, TouchedBy, IsSet, goes, goes_too, same_slot}
 use Rattle.law_scans.proofs.Walking.{AllApart, split_of, left_cons, set_value}
 use Rattle.law_scans.proofs.Changing.{changes}
 

@@ -12,7 +12,8 @@ use Rattle.semantics.specs.Directives.Naming.{named_expr, named_exprs, named_con
 use Rattle.semantics.specs.Loops.Piece.{is_outside}
 use Rattle.law_commute.proofs.Values.{first_of, second_of}
 use Rattle.law_private.proofs.Alike.{Both, both_none, both_some, both_like, both_test, both_steps, both_weaker}
-use Rattle.law_roles.proofs.Seen.{value_seen, values_seen, holds_seen, source_seen, text_seen, look_of}
+use Rattle.law_private.proofs.Seen.{value_seen, values_seen, holds_seen, source_seen, text_seen}
+use Rattle.law_roles.proofs.Seen.{look_of}
 use Rattle.law_scans.specs.Phases.{read_in, read_among}
 
 module _ (R : Variable → Bool) where

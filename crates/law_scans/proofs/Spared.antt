@@ -1,17 +1,17 @@
 -- A variable that a statement does not write.
-use Rattle.std.specs.Prelude.{ℕ, zero, suc, Bool, true, false, ◌≡◌, ◌==◌, ◌&&◌, ◌||◌, List, [], ◌∷◌, ◌++◌, Option, Some, None}
+use Rattle.std.specs.Prelude.{ℕ, Bool, true, false, ◌≡◌, ◌==◌, ◌&&◌, ◌||◌, List, [], ◌∷◌, ◌++◌, Option, Some, None}
 use Rattle.std.specs.List.{list_any}
 use Rattle.std.proofs.Common.{refl, sym, ap, ◌∙◌, cond}
 use Rattle.std.proofs.lemmas.Bool.{true≢false, eqb-true, eq-eqb, or_parts}
 use Rattle.std.proofs.lemmas.List.Folds.{list_any-append}
-use Rattle.std.proofs.lemmas.Option.{none-some, same_Some}
-use Rattle.semantics.specs.Tree.{Variable, Plus, Minus, Literal, Bare, Object, no_exprs, Cond, Increment, Up, Down, Set, Change, Stmt, Assign, Update, If, IfElse, For, Block, Print, Items, no_items, mark, local, stmt}
-use Rattle.semantics.specs.Meaning.State.{State, Slot, Outside, Empty, Holds, Write, Declared, Assigned, renewed, same_indexes, assign_at, is_object, is_there, written, overwritten}
-use Rattle.semantics.specs.Meaning.Value.{map_option, by_test, both_then, operate, value, values, holds, source_value}
-use Rattle.semantics.specs.Meaning.Runs.{Effect, nothing, one_write, joined, then_from, declares, declared, assigned, incremented, turns, greatest_trip_count, run, run_items, print_text}
+use Rattle.semantics.specs.Tree.{Variable, Plus, Minus, Literal, Bare, Object, no_exprs, Increment, Up, Down, Set, Change, Stmt, Assign, Update, If, IfElse, For, Block, Print, Items, no_items, mark, local, stmt}
+use Rattle.semantics.specs.Meaning.State.{State, Slot, Outside, Empty, Holds, Write, Declared, Assigned, renewed, same_indexes, assign_at, is_there, written, overwritten}
+use Rattle.semantics.specs.Meaning.Value.{both_then, operate, value, values, holds, source_value}
+use Rattle.semantics.specs.Meaning.Runs.{Effect, nothing, one_write, declares, declared, assigned, incremented, turns, greatest_trip_count, run, run_items, print_text}
 use Rattle.semantics.specs.Meaning.Agrees.{also, is_among, declared_in, declared_among}
 use Rattle.semantics.specs.Loops.Piece.{is_outside}
 use Rattle.law_commute.specs.Steady.{IsFixedStep, IsSteady, AreSteady}
+use Rattle.law_commute.proofs.Effects.{Composes, IfAny, nothing_holds, some_holds, test_holds, steps_hold, turns_hold, assigned_holds, declares_holds, text_holds}
 use Rattle.law_roles.proofs.Seen.{apart_back}
 use Rattle.law_scans.specs.Phases.{written_in, written_among}
 
@@ -36,63 +36,27 @@ module _ (hidden set : Bool) (one : (hidden || set) ≡ true) (y : Variable) whe
   pub met_two : (ws vs : List Write) → met hidden set y ws ≡ false → met hidden set y vs ≡ false → met hidden set y (ws ++ vs) ≡ false
   met_two ws vs one two = list_any-append (meets hidden set y) ws vs ∙ ap (λ b. b || met hidden set y vs) one ∙ two
 
-  abbrev Spares : Option Effect → Type 0
-  Spares o = (e : Effect) → o ≡ Some e → met hidden set y e.writes ≡ false
+  abbrev Spares : State → Effect → Type 0
+  Spares s e = met hidden set y e.writes ≡ false
 
-  spares_none : Spares None
-  spares_none e h = absurd (none-some e h)
+  sparing : Composes Spares
+  sparing = record { none = λ s. refl; two = λ s d e. met_two d.writes e.writes }
 
-  spares_some : (e : Effect) → met hidden set y e.writes ≡ false → Spares (Some e)
-  spares_some e k f h = ap (λ (g : Effect). met hidden set y g.writes) (sym (same_Some e f h)) ∙ k
+  one_spared : (w : Write) → meets hidden set y w ≡ false → met hidden set y (w ∷ []) ≡ false
+  one_spared w h = ap (λ b. b || false) h
 
-  spares_test : (b : Option Bool) (o p : Option Effect) → Spares o → Spares p → Spares (by_test b o p)
-  spares_test None o p one two = spares_none
-  spares_test (Some true) o p one two = one
-  spares_test (Some false) o p one two = two
+  spares_assigned : (s : State) (z : Variable) (ks : Option (List ℕ)) (o : Option ℕ) → (set && (z == y)) ≡ false → IfAny (Spares s) (assigned s z ks o)
+  spares_assigned s z ks o h = assigned_holds Spares sparing s z ks o (λ is v k there. one_spared (Assigned z is v) h)
 
-  spares_steps : (s : State) (o : Option Effect) (f : State → Option Effect) → Spares o → ((t : State) → Spares (f t)) → Spares (then_from s o f)
-  spares_steps s None f one two = spares_none
-  spares_steps s (Some e) f here two = at (f (overwritten s e.writes)) (two (overwritten s e.writes))
-    where
-      at : (o : Option Effect) → Spares o → Spares (map_option (joined e) o)
-      at None k = spares_none
-      at (Some d) k = spares_some (joined e d) (met_two e.writes d.writes (here e refl) (k d refl))
-
-  one_spared : (w : Write) → meets hidden set y w ≡ false → Spares (Some (one_write w))
-  one_spared w h = spares_some (one_write w) (ap (λ b. b || false) h)
-
-  spares_assigned : (s : State) (z : Variable) (ks : Option (List ℕ)) (o : Option ℕ) → (set && (z == y)) ≡ false → Spares (assigned s z ks o)
-  spares_assigned s z None o h = spares_none
-  spares_assigned s z (Some is) None h = spares_none
-  spares_assigned s z (Some is) (Some v) h = at (is_object s z is)
-    where
-      at : (b : Bool) → Spares (cond b (Some (one_write (Assigned z is v))) None)
-      at true = one_spared (Assigned z is v) h
-      at false = spares_none
-
-  spares_declares : (z : Variable) (o : Option ℕ) → (z == y) ≡ false → Spares (declares z o)
-  spares_declares z None h = spares_none
-  spares_declares z (Some v) h = one_spared (Declared z (Some v)) h
+  spares_declares : (s : State) (z : Variable) (o : Option ℕ) → (z == y) ≡ false → IfAny (Spares s) (declares z o)
+  spares_declares s z o h = declares_holds Spares sparing s z o (λ v. one_spared (Declared z (Some v)) h)
 
   -- its own variable alone
-  spares_step : (F : Variable → Bool) (s : State) (z : Variable) (step : Increment) → (set && (z == y)) ≡ false → IsFixedStep F z step → Spares (incremented s step)
+  spares_step : (F : Variable → Bool) (s : State) (z : Variable) (step : Increment) → (set && (z == y)) ≡ false → IsFixedStep F z step → IfAny (Spares s) (incremented s step)
   spares_step F s z (Up w) h f = spares_assigned s w (Some []) (both_then (operate Plus) (value s (Object w no_exprs)) (value s (Literal 1 Bare))) (ap (λ u. set && (u == y)) f ∙ h)
   spares_step F s z (Down w) h f = spares_assigned s w (Some []) (both_then (operate Minus) (value s (Object w no_exprs)) (value s (Literal 1 Bare))) (ap (λ u. set && (u == y)) f ∙ h)
   spares_step F s z (Set w e) h f = spares_assigned s w (Some []) (source_value s e) (ap (λ u. set && (u == y)) f.0 ∙ h)
   spares_step F s z (Change w op e) h f = spares_assigned s w (Some []) (both_then (operate op) (value s (Object w no_exprs)) (value s e)) (ap (λ u. set && (u == y)) f.0 ∙ h)
-
-  spares_turns : (F : Variable → Bool) (z : Variable) (test : Cond) (step : Increment) (body : State → Option Effect) → (set && (z == y)) ≡ false → IsFixedStep F z step → ((s : State) → Spares (body s)) → (n : ℕ) (s : State)
-      → Spares (turns n (λ t. holds t test) body (λ t. incremented t step) s)
-  spares_turns F z test step body apart fixed goes zero s = spares_test (holds s test) None (Some nothing) spares_none (spares_some nothing refl)
-  spares_turns F z test step body apart fixed goes (suc n) s =
-      spares_test (holds s test) (then_from s (body s) (λ t. then_from t (incremented t step) (turns n (λ t. holds t test) body (λ t. incremented t step)))) (Some nothing)
-      (spares_steps s (body s) (λ t. then_from t (incremented t step) (turns n (λ t. holds t test) body (λ t. incremented t step))) (goes s)
-      (λ t. spares_steps t (incremented t step) (turns n (λ t. holds t test) body (λ t. incremented t step)) (spares_step F t z step apart fixed) (spares_turns F z test step body apart fixed goes n)))
-      (spares_some nothing refl)
-
-  spares_text : (o : Option (List ℕ)) → Spares (map_option (λ t. record { writes = []; text = t }) o)
-  spares_text None = spares_none
-  spares_text (Some t) = spares_some (record { writes = []; text = t }) refl
 
   both_parts : (c : Bool) (xs ys : List Variable) → (c && is_among (xs ++ ys) y) ≡ false → ((c && is_among xs y) ≡ false) × ((c && is_among ys y) ≡ false)
   both_parts true xs ys h = or_parts (is_among xs y) (is_among ys y) (sym (list_any-append (λ z. z == y) xs ys) ∙ h)
@@ -103,36 +67,36 @@ module _ (hidden set : Bool) (one : (hidden || set) ≡ true) (y : Variable) whe
   first_part false z xs h = (refl, refl)
 
   mutual
-    pub run_spares : (a : Stmt) (F : Variable → Bool) → IsSteady F a → (set && is_among (written_in a) y) ≡ false → (hidden && is_among (declared_in a) y) ≡ false → (s : State) → Spares (run a s)
+    pub run_spares : (a : Stmt) (F : Variable → Bool) → IsSteady F a → (set && is_among (written_in a) y) ≡ false → (hidden && is_among (declared_in a) y) ≡ false → (s : State) → IfAny (Spares s) (run a s)
     run_spares (Assign z is e) F f h d s = spares_assigned s z (values s is) (source_value s e) (first_part set z [] h).0
     run_spares (Update z is op e) F f h d s = spares_assigned s z (values s is) (both_then (operate op) (value s (Object z is)) (value s e)) (first_part set z [] h).0
-    run_spares (If c a) F f h d s = spares_test (holds s c) (run a s) (Some nothing) (run_spares a F f.1 h d s) (spares_some nothing refl)
+    run_spares (If c a) F f h d s = test_holds Spares sparing s (holds s c) (run a s) (Some nothing) (run_spares a F f.1 h d s) (nothing_holds Spares sparing s)
     run_spares (IfElse c a b) F f h d s =
         let ws = both_parts set (written_in a) (written_in b) h in
         let ds = both_parts hidden (declared_in a) (declared_in b) d in
-        spares_test (holds s c) (run a s) (run b s) (run_spares a F f.1 ws.0 ds.0 s) (run_spares b F f.2 ws.1 ds.1 s)
+        test_holds Spares sparing s (holds s c) (run a s) (run b s) (run_spares a F f.1 ws.0 ds.0 s) (run_spares b F f.2 ws.1 ds.1 s)
     run_spares (For z name start test step body) F f h d s =
         let ws = first_part set z (written_in body) h in
         let ds = first_part hidden z (declared_in body) d in
-        spares_steps s (declared s z (Some start)) (turns greatest_trip_count (λ t. holds t test) (run body) (λ t. incremented t step)) (spares_declares z (source_value s start) (valued_apart hidden set (z == y) one ws.0 ds.0))
-        (spares_turns (also F z) z test step (run body) ws.0 f.3 (run_spares body (also F z) f.4 ws.1 ds.1) greatest_trip_count)
+        steps_hold Spares sparing s (declared s z (Some start)) (turns greatest_trip_count (λ t. holds t test) (run body) (λ t. incremented t step)) (spares_declares s z (source_value s start) (valued_apart hidden set (z == y) one ws.0 ds.0))
+        (turns_hold Spares sparing test step (run body) (λ t. spares_step (also F z) t z step ws.0 f.3) (run_spares body (also F z) f.4 ws.1 ds.1) greatest_trip_count)
     run_spares (Block items) F f h d s = items_spare items F f h d s
-    run_spares (Print parts) F f h d s = spares_text (print_text s parts)
+    run_spares (Print parts) F f h d s = text_holds Spares sparing s (print_text s parts) (λ t. refl)
 
-    pub items_spare : (items : Items) (F : Variable → Bool) → AreSteady F items → (set && is_among (written_among items) y) ≡ false → (hidden && is_among (declared_among items) y) ≡ false → (s : State) → Spares (run_items items s)
-    items_spare no_items F f h d s = spares_some nothing refl
+    pub items_spare : (items : Items) (F : Variable → Bool) → AreSteady F items → (set && is_among (written_among items) y) ≡ false → (hidden && is_among (declared_among items) y) ≡ false → (s : State) → IfAny (Spares s) (run_items items s)
+    items_spare no_items F f h d s = nothing_holds Spares sparing s
     items_spare (mark line rest) F f h d s = items_spare rest F f h d s
     items_spare (local z name None rest) F f h d s =
         let ds = first_part hidden z (declared_among rest) d in
-        spares_steps s (declared s z None) (run_items rest) (one_spared (Declared z None) ds.0) (items_spare rest F f.2 h ds.1)
+        steps_hold Spares sparing s (declared s z None) (run_items rest) (some_holds Spares sparing s (one_write (Declared z None)) (one_spared (Declared z None) ds.0)) (items_spare rest F f.2 h ds.1)
     items_spare (local z name (Some e) rest) F f h d s =
         let ws = first_part set z (written_among rest) h in
         let ds = first_part hidden z (declared_among rest) d in
-        spares_steps s (declared s z (Some e)) (run_items rest) (spares_declares z (source_value s e) (valued_apart hidden set (z == y) one ws.0 ds.0)) (items_spare rest F f.2 ws.1 ds.1)
+        steps_hold Spares sparing s (declared s z (Some e)) (run_items rest) (spares_declares s z (source_value s e) (valued_apart hidden set (z == y) one ws.0 ds.0)) (items_spare rest F f.2 ws.1 ds.1)
     items_spare (stmt a rest) F f h d s =
         let ws = both_parts set (written_in a) (written_among rest) h in
         let ds = both_parts hidden (declared_in a) (declared_among rest) d in
-        spares_steps s (run a s) (run_items rest) (run_spares a F f.0 ws.0 ds.0 s) (items_spare rest F f.1 ws.1 ds.1)
+        steps_hold Spares sparing s (run a s) (run_items rest) (run_spares a F f.0 ws.0 ds.0 s) (items_spare rest F f.1 ws.1 ds.1)
 
 -- ---- what stays as it was
 

@@ -1,7 +1,7 @@
 -- One iteration, from any state in which the scan variable holds the same.
 use Rattle.std.specs.Prelude.{ℕ, zero, Bool, true, false, not, ◌≡◌, ◌==◌, ◌&&◌, ◌||◌, List, [], ◌∷◌, ◌++◌, length, Option, Some, None, IsSome, Contains}
 use Rattle.std.specs.List.{AllByRecursion as Each}
-use Rattle.std.proofs.Common.{refl, sym, ap, ◌∙◌, subst, cond, arith}
+use Rattle.std.proofs.Common.{refl, sym, ap, ◌∙◌, subst, cond}
 use Rattle.std.proofs.lemmas.Bool.{true≢false, eqb-true, eq-eqb, or_parts}
 use Rattle.std.proofs.lemmas.List.{append-nil}
 use Rattle.std.proofs.lemmas.Option.{same_Some}
@@ -10,7 +10,7 @@ use Rattle.semantics.specs.Meaning.State.{State, Slot, Outside, Empty, Holds, Wr
 use Rattle.semantics.specs.Meaning.Value.{map_option}
 use Rattle.semantics.specs.Meaning.Runs.{Effect, nothing, joined, then_from, run}
 use Rattle.semantics.specs.Meaning.Agrees.{is_among, names_only, visible_behind}
-use Rattle.semantics.specs.Loops.Nest.{Loop, Vector, at_value, at_vector}
+use Rattle.semantics.specs.Loops.Nest.{Loop, Vector, at_vector}
 use Rattle.semantics.specs.Loops.Access.{Access, Mode, Writes, Touches, accesses}
 use Rattle.semantics.specs.Loops.Piece.{is_outside}
 use Rattle.law_commute.specs.Targets.{KeepsApart, AssignsFirst}
@@ -20,8 +20,7 @@ use Rattle.law_nests.specs.Walks.{walk, entered, enters}
 use Rattle.law_private.proofs.Own.{own_body, DeclaresNone, KnownInside}
 use Rattle.law_private.proofs.Near.{Near, Twin, twin_body, all_inside}
 use Rattle.law_roles.specs.Following.{variables_of}
-use Rattle.law_roles.proofs.Recorded.{Good, Clear, Untouched, TouchesAt, Ready, steps, behind, declareds, own_visible, entered_is}
-use Rattle.law_roles.proofs.Seen.{apart_back}
+use Rattle.law_roles.proofs.Recorded.{Good, Clear, Untouched, TouchesAt, Ready, steps, behind, declareds, own_visible, entered_is, same_entered, kept_entered}
 use Rattle.law_starts.proofs.Holding.{walks_keep}
 use Rattle.law_scans.proofs.Started.{started, started_visible, named, known, keeps_own, same_accesses, begun, same_state, started_runs, own_up, own_down}
 
@@ -44,26 +43,6 @@ pub record IsSet (x : Variable) (ps : List Variable) (loops : List Loop) (body :
   pub elements : Each (Intact loops body o a) us
   pub inside : (y : Variable) → is_among ps y ≡ true → is_outside (a.locals y) ≡ false
   pub holds : a.locals x ≡ Holds v
-
--- ---- entering an iteration
-
-pub same_entered : (ls : List Loop) (u : Vector) (s t : State) (y : Variable) → length u ≡ length ls → (is_among (variables_of ls) y ≡ false → s.locals y ≡ t.locals y) → (at_vector ls u s).locals y ≡ (at_vector ls u t).locals y
-same_entered [] u s t y long same = same refl
-same_entered (l ∷ ls) [] s t y long same = absurd (omega (arith, long))
-same_entered (l ∷ ls) (v ∷ vs) s t y long same =
-    same_entered ls vs (at_value s l.variable v) (at_value t l.variable v) y (omega (arith, long)) (λ h. at (y == l.variable) refl h)
-  where
-    at : (c : Bool) → (y == l.variable) ≡ c → is_among (variables_of ls) y ≡ false → cond (y == l.variable) (Holds v) (s.locals y) ≡ cond (y == l.variable) (Holds v) (t.locals y)
-    at true e h = ap (λ c. cond c (Holds v) (s.locals y)) e ∙ sym (ap (λ c. cond c (Holds v) (t.locals y)) e)
-    at false e h =
-        ap (λ c. cond c (Holds v) (s.locals y)) e ∙ same (ap (λ c. c || is_among (variables_of ls) y) (apart_back y l.variable e) ∙ h) ∙ sym (ap (λ c. cond c (Holds v) (t.locals y)) e)
-
-pub kept_entered : (ls : List Loop) (u : Vector) (s : State) (y : Variable) → is_among (variables_of ls) y ≡ false → (at_vector ls u s).locals y ≡ s.locals y
-kept_entered [] u s y h = refl
-kept_entered (l ∷ ls) [] s y h = refl
-kept_entered (l ∷ ls) (v ∷ vs) s y h =
-    let parts = or_parts (l.variable == y) (is_among (variables_of ls) y) h in
-    kept_entered ls vs (at_value s l.variable v) y parts.1 ∙ ap (λ c. cond c (Holds v) (s.locals y)) (apart_back l.variable y parts.0)
 
 -- ---- the same writes to one variable
 

@@ -21,10 +21,10 @@ use Rattle.law_nests.specs.Walks.{walk, entered, enters}
 use Rattle.law_nests.proofs.Nested.{parts_of}
 use Rattle.law_private.proofs.Own.{DeclaresNone}
 use Rattle.law_roles.specs.Following.{variables_of}
-use Rattle.law_roles.proofs.Recorded.{entered_is}
+use Rattle.law_roles.proofs.Recorded.{entered_is, kept_entered}
 use Rattle.law_roles.proofs.Chunked.{each_contains}
 use Rattle.law_scans.specs.Iterations.{StandsAt, ChunksRepeat}
-use Rattle.law_scans.proofs.Steps.{Apart, Intact, IsSet, Sound, goes, goes_too, same_slot, kept_entered}
+use Rattle.law_scans.proofs.Steps.{Apart, Intact, IsSet, Sound, goes, goes_too, same_slot}
 
 -- ---- a walk and one more iteration
 

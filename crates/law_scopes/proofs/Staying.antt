@@ -52,22 +52,12 @@ loop_is_known P x name start test step body k k' d = at (definite P body inside)
 
 -- nothing becomes known behind a loop
 pub loop_knows : (P : Privates) (s : Stmt) (l : Loop) (b : Stmt) (k k' : DefinitelyAssigned) → as_loop s ≡ Some (l, b) → definite P s k ≡ Some k' → IsWithin k' k
-loop_knows P (Assign x is e) l b k k' h d y q = absurd (none-some (l, b) h)
-loop_knows P (Update x is op e) l b k k' h d y q = absurd (none-some (l, b) h)
-loop_knows P (If c a) l b k k' h d y q = absurd (none-some (l, b) h)
-loop_knows P (IfElse c a e) l b k k' h d y q = absurd (none-some (l, b) h)
-loop_knows P (Print parts) l b k k' h d y q = absurd (none-some (l, b) h)
 loop_knows P (For x name start test step body) l b k k' h d y q =
     without_within (privates_in P body) k y (ap (λ (j : DefinitelyAssigned). j y) (loop_is_known P x name start test step body k k' d).behind ∙ q)
-loop_knows P (Block no_items) l b k k' h d y q = absurd (none-some (l, b) h)
-loop_knows P (Block (mark line rest)) l b k k' h d y q = absurd (none-some (l, b) h)
-loop_knows P (Block (local x name start rest)) l b k k' h d y q = absurd (none-some (l, b) h)
-loop_knows P (Block (stmt a (mark line rest))) l b k k' h d y q = absurd (none-some (l, b) h)
-loop_knows P (Block (stmt a (local x name start rest))) l b k k' h d y q = absurd (none-some (l, b) h)
-loop_knows P (Block (stmt a (stmt c rest))) l b k k' h d y q = absurd (none-some (l, b) h)
 loop_knows P (Block (stmt a no_items)) l b k k' h d y q =
     let first = and_then (λ after. definite_items P [] no_items (without after [])) (definite P a k) k' d in
     loop_knows P a l b k k' h (first.1 ∙ first.2) y q
+loop_knows P _ l b k k' h d y q = absurd (none-some (l, b) h)
 
 -- ---- statements
 

@@ -19,6 +19,7 @@ use Rattle.law_commute.specs.Commuting.{KeepsToItself}
 use Rattle.law_commute.proofs.Values.{first_of, second_of}
 use Rattle.law_nests.proofs.Joined.{first_loop, nest_declares, visible_more}
 use Rattle.law_nests.proofs.Steadied.{AreFixedLoops}
+use Rattle.law_nests.proofs.Walked.{loop_own}
 use Rattle.law_private.proofs.Own.{own_body, others, DeclaresNone, innermost, HasReplaced, replaced, fixed_is, own_accesses, replaced_keeps, KnownInside, known_inside}
 use Rattle.law_private.proofs.Chunks.{not_true, own_conflict}
 use Rattle.law_roles.specs.Following.{variables_of, IsWalked}
@@ -36,13 +37,6 @@ use Rattle.law_waves.proofs.Leveled.{all_settled, no_conflict, levels_below}
 use Rattle.law_waves.proofs.Waved.{AreSettled}
 
 -- ---- what a nest declares
-
--- a loop declares its variable, and besides what stands in it
-loop_own : (s : Stmt) (l : Loop) (b : Stmt) → as_loop s ≡ Some (l, b) → (y : Variable) → is_among (declared_in s) y ≡ ((l.variable == y) || is_among (declared_in b) y)
-loop_own (For x name start test step inner) l b h y =
-    ap (λ (p : Loop × Stmt). (p.0.variable == y) || is_among (declared_in p.1) y) (same_Some (record { variable = x; start = start; test = test; step = step }, inner) (l, b) h)
-loop_own (Block (stmt a no_items)) l b h y = ap (λ (ds : List Variable). is_among ds y) (append-nil (declared_in a)) ∙ loop_own a l b h y
-loop_own _ l b h y = absurd (none-some (l, b) h)
 
 -- a nest declares its loops' variables, and besides what its body declares
 nest_own : (n : ℕ) (s : Stmt) (loops : List Loop) (body : Stmt) → nest_of n s ≡ Some (loops, body) → (y : Variable) → is_among (declared_in s) y ≡ (is_among (variables_of loops) y || is_among (declared_in body) y)

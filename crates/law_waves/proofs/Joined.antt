@@ -24,6 +24,7 @@ use Rattle.law_waves.proofs.Silent.{silent_walk}
 use Rattle.law_waves.proofs.Tied.{Tied, tied_cells, tied_locals, Back, back}
 use Rattle.law_waves.proofs.Chunks.{Finds, AllClear, Told, told, Cut, cut, merged_at}
 use Rattle.law_waves.proofs.Grounded as ground
+use Rattle.law_commute.proofs.Lists.{first_there, others_there}
 
 -- a variable that is none of these stands as before
 pub localized_other : (vars : List Variable) (t : State) (x : Variable) → is_among vars x ≡ false → (localized vars t).locals x ≡ t.locals x
@@ -129,8 +130,8 @@ module _ (roles : Roles) (ds : List Distance) (n : ℕ) (s : Stmt) (loops : List
       walks_of [] (g ∷ gs) k = absurd cc
       walks_of (vs ∷ cs) [] k = absurd cc
       walks_of (vs ∷ cs) (g ∷ gs) k =
-          let one = back vars body (ground.named roles ds n s loops body outer us e is) (ground.known roles ds n s loops body outer us e is) loops vs start p g tied_start (head k) in
-          let rest = walks_of cs gs (tail k) in
+          let one = back vars body (ground.named roles ds n s loops body outer us e is) (ground.known roles ds n s loops body outer us e is) loops vs start p g tied_start (first_there (λ (us : List Vector). walk loops own us p) vs cs g gs k) in
+          let rest = walks_of cs gs (others_there (λ (us : List Vector). walk loops own us p) vs cs g gs k) in
           record {
             effects = one.effect ∷ rest.effects;
             each = λ i. one.ran i ∷ rest.each i;
@@ -138,12 +139,6 @@ module _ (roles : Roles) (ds : List Distance) (n : ℕ) (s : Stmt) (loops : List
             many = ap suc rest.many;
             text = λ i. silent_walk loops body is.silent vs start one.effect one.ran i ++ rest.text i;
           }
-        where
-          head : (map (λ vs. walk loops own vs p) (vs ∷ cs) ≡ map Some (g ∷ gs)) → walk loops own vs p ≡ Some g
-          head k = cc
-
-          tail : (map (λ vs. walk loops own vs p) (vs ∷ cs) ≡ map Some (g ∷ gs)) → map (λ vs. walk loops own vs p) cs ≡ map Some gs
-          tail k = cc
 
       all : Walks chunks pieces.effects
       all = walks_of chunks pieces.effects pieces.each

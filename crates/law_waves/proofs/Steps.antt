@@ -16,7 +16,7 @@ use Rattle.law_commute.proofs.Iterations.{cells_at}
 use Rattle.law_commute.proofs.Changes.{acted, hit, hit_touches, Changed, changed_all}
 use Rattle.law_roles.specs.Following.{variables_of}
 use Rattle.law_roles.proofs.Shared.{none_stays}
-use Rattle.law_scans.proofs.Steps.{same_entered, kept_entered}
+use Rattle.law_roles.proofs.Recorded.{same_entered, kept_entered}
 
 -- the same variable in both, by a third
 through_third : (y : Variable) (a b m : State) → SameVariable y a m → SameVariable y b m → SameVariable y a b

@@ -14,6 +14,33 @@ use Rattle.law_nests.specs.Walks.{walk, enters}
 use Rattle.law_scans.proofs.Walking.{walk_cons, left_cons, split_of}
 use Rattle.law_waves.proofs.Steps.{TouchesAt, Clear, Good, Steady, Same, same_itself, same_then, same_of, runs_same, stepped}
 
+-- what none of two touches that the other writes
+module _ {A : Type 0} (Touched : A → Mode → Variable → ℕ → List ℕ → Type 0) where
+  -- what the first writes the second does not touch
+  abbrev IsApart : A → A → Type 0
+  IsApart t u = (y : Variable) (j : ℕ) (js : List ℕ) (mode : Mode) → Touched t Writes y j js → Touched u mode y j js → ⊥
+
+  -- it touches each element that is written
+  abbrev AreHits : A → Effect → Type 0
+  AreHits t e = (y : Variable) (j : ℕ) (js : List ℕ) → hit y (j ∷ js) e.writes ≡ true → Touched t Writes y j js
+
+  pub untouched : (t u : A) (e : Effect) → IsApart t u → AreHits t e → (y : Variable) (j : ℕ) (js : List ℕ) (mode : Mode) → Touched u mode y j js → (k : Option ℕ) → acted y (j ∷ js) e.writes k ≡ k
+  untouched t u e apart hits y j js mode m k = at (hit y (j ∷ js) e.writes) refl
+    where
+      at : (b : Bool) → hit y (j ∷ js) e.writes ≡ b → acted y (j ∷ js) e.writes k ≡ k
+      at true h = absurd (apart y j js mode (hits y j js h) m)
+      at false h = not_hit y (j ∷ js) e.writes k h
+
+  pub commute : (t u : A) (d e : Effect) → IsApart u t → AreHits t d → AreHits u e
+      → (y : Variable) (j : ℕ) (js : List ℕ) (k : Option ℕ) → acted y (j ∷ js) e.writes (acted y (j ∷ js) d.writes k) ≡ acted y (j ∷ js) d.writes (acted y (j ∷ js) e.writes k)
+  commute t u d e apart by_t by_u y j js k = at (hit y (j ∷ js) d.writes) refl
+    where
+      at : (b : Bool) → hit y (j ∷ js) d.writes ≡ b → acted y (j ∷ js) e.writes (acted y (j ∷ js) d.writes k) ≡ acted y (j ∷ js) d.writes (acted y (j ∷ js) e.writes k)
+      at true h =
+          let m = by_t y j js h in
+          untouched u t e apart by_u y j js Writes m (acted y (j ∷ js) d.writes k) ∙ ap (acted y (j ∷ js) d.writes) (sym (untouched u t e apart by_u y j js Writes m k))
+      at false h = ap (acted y (j ∷ js) e.writes) (not_hit y (j ∷ js) d.writes k h) ∙ sym (not_hit y (j ∷ js) d.writes (acted y (j ∷ js) e.writes k) h)
+
 module _ (loops : List Loop) (own : Stmt) (o : State) (keeps : KeepsToItself own) where
   abbrev IsSame : State → State → Type 0
   IsSame = Same loops own o keeps
@@ -92,25 +119,6 @@ module _ (loops : List Loop) (own : Stmt) (o : State) (keeps : KeepsToItself own
 
   -- two neighbours of which none touches what the other writes
   module _ (u v : Vector) (good_u : IsGood u) (good_v : IsGood v) (clear : IsClear u v) (clear_back : IsClear v u) where
-    untouched : (w z : Vector) (e : Effect) (c : IsClear w z) → ((y : Variable) (j : ℕ) (js : List ℕ) → hit y (j ∷ js) e.writes ≡ true → Touching w Writes y j js)
-        → (y : Variable) (j : ℕ) (js : List ℕ) (mode : Mode) → Touching z mode y j js → (k : Option ℕ) → acted y (j ∷ js) e.writes k ≡ k
-    untouched w z e c hits y j js mode t k = at (hit y (j ∷ js) e.writes) refl
-      where
-        at : (b : Bool) → hit y (j ∷ js) e.writes ≡ b → acted y (j ∷ js) e.writes k ≡ k
-        at true h = absurd (c y j js mode (hits y j js h) t)
-        at false h = not_hit y (j ∷ js) e.writes k h
-
-    commute : (d e : Effect) → ((y : Variable) (j : ℕ) (js : List ℕ) → hit y (j ∷ js) d.writes ≡ true → Touching u Writes y j js)
-        → ((y : Variable) (j : ℕ) (js : List ℕ) → hit y (j ∷ js) e.writes ≡ true → Touching v Writes y j js)
-        → (y : Variable) (j : ℕ) (js : List ℕ) (k : Option ℕ) → acted y (j ∷ js) e.writes (acted y (j ∷ js) d.writes k) ≡ acted y (j ∷ js) d.writes (acted y (j ∷ js) e.writes k)
-    commute d e by_u by_v y j js k = at (hit y (j ∷ js) d.writes) refl
-      where
-        at : (b : Bool) → hit y (j ∷ js) d.writes ≡ b → acted y (j ∷ js) e.writes (acted y (j ∷ js) d.writes k) ≡ acted y (j ∷ js) d.writes (acted y (j ∷ js) e.writes k)
-        at true h =
-            let t = by_u y j js h in
-            untouched v u e clear_back by_v y j js Writes t (acted y (j ∷ js) d.writes k) ∙ ap (acted y (j ∷ js) d.writes) (sym (untouched v u e clear_back by_v y j js Writes t k))
-        at false h = ap (acted y (j ∷ js) e.writes) (not_hit y (j ∷ js) d.writes k h) ∙ sym (not_hit y (j ∷ js) d.writes (acted y (j ∷ js) e.writes k) h)
-
     pub swapped : (back : List Vector) → Each IsGood back → Turns (u ∷ (v ∷ back)) (v ∷ (u ∷ back))
     swapped back good a f st ran =
         let p = split_of loops own u (v ∷ back) a f ran in
@@ -120,16 +128,16 @@ module _ (loops : List Loop) (own : Stmt) (o : State) (keeps : KeepsToItself own
         let a2 = after v a1 q.one in
         let s2 = stepped loops own o keeps v good_v a1 q.one s1.steady q.one_is in
         let first : run own (at_vector loops v a) ≡ Some q.one =
-        runs_same loops own o keeps v good_v a a1 st s1.steady (λ y j js mode t. sym (s1.cells y j js ∙ untouched u v p.one clear s1.hits y j js mode t (a.cells y (j ∷ js)))) ∙ q.one_is in
+        runs_same loops own o keeps v good_v a a1 st s1.steady (λ y j js mode t. sym (s1.cells y j js ∙ untouched Touching u v p.one clear s1.hits y j js mode t (a.cells y (j ∷ js)))) ∙ q.one_is in
         let b1 = after v a q.one in
         let t1 = stepped loops own o keeps v good_v a q.one st first in
         let second : run own (at_vector loops u b1) ≡ Some p.one =
-        runs_same loops own o keeps u good_u b1 a t1.steady st (λ y j js mode t. t1.cells y j js ∙ untouched v u q.one clear_back t1.hits y j js mode t (a.cells y (j ∷ js))) ∙ p.one_is in
+        runs_same loops own o keeps u good_u b1 a t1.steady st (λ y j js mode t. t1.cells y j js ∙ untouched Touching v u q.one clear_back t1.hits y j js mode t (a.cells y (j ∷ js))) ∙ p.one_is in
         let b2 = after u b1 p.one in
         let t2 = stepped loops own o keeps u good_u b1 p.one t1.steady second in
         let same : IsSame a2 b2 = same_of loops own o keeps a2 b2 s2.steady t2.steady
         (λ y j js.
-        s2.cells y j js ∙ ap (acted y (j ∷ js) q.one.writes) (s1.cells y j js) ∙ commute p.one q.one s1.hits t1.hits y j js (a.cells y (j ∷ js))
+        s2.cells y j js ∙ ap (acted y (j ∷ js) q.one.writes) (s1.cells y j js) ∙ commute Touching u v p.one q.one clear_back s1.hits t1.hits y j js (a.cells y (j ∷ js))
         ∙ ap (acted y (j ∷ js) p.one.writes) (sym (t1.cells y j js)) ∙ sym (t2.cells y j js)) in
         let rest = along back a2 b2 q.two good same q.two_is in
         let inner : Effect = joined (enters loops u) (joined p.one q.two) in
